@@ -1,0 +1,10 @@
+pub mod ByteLemmas
+pub mod FrontLemmas
+pub mod PartialNames
+pub mod Expanding
+pub mod IdLemmas
+pub mod Scans
+pub mod CategoryLemmas
+pub mod OneCategory
+pub mod RoundTrip
+pub mod Rows

@@ -1,0 +1,8 @@
+//! The values that a Git reference store speaks of: ids of objects, names of references, namespaces and targets.
+#![tactic(auto)]
+
+pub mod bytes;
+pub mod hash;
+pub mod name;
+pub mod namespace;
+pub mod target;

@@ -1,0 +1,236 @@
+//! What a reference points to: an object, or another reference.
+ghost use Rattle.std.specs.Prelude.{◌≡◌, ◌↔◌, IsTrue, IfOk, IfSome, IfNone, IfErr, Some, None, MatchResult, MatchOption, IsSome};
+ghost use Rattle.gix_ref_base.specs.Names.{full_ref_bytes, full_bytes};
+ghost use Rattle.gix_ref_base.specs.Targets.{TargetValue, target_value, target_ref_value, target_kind, target_id, target_name, IsNullTarget, target_text};
+ghost use Rattle.gix_ref_base.specs.Targets.TargetValue.{object_id, symbolic_name};
+
+use crate::hash::ObjectId;
+use crate::name::{FullName, FullNameRef};
+use std::alloc::{AllocError, Global};
+use std::fmt;
+
+/// The kinds of targets.
+#[derive(Clone, Copy, Debug, PartialEq, Eq, PartialOrd, Ord, Hash)]
+pub enum Kind {
+    /// The id of an object.
+    Object,
+    /// The name of another reference.
+    Symbolic,
+}
+
+/// An object's id, or the name of another reference.
+#[derive(Debug, PartialEq, Eq, PartialOrd, Ord, Hash, Drop)]
+pub enum Target {
+    /// The reference points to this object.
+    Object(ObjectId),
+    /// The reference points to the reference of this name.
+    Symbolic(FullName),
+}
+
+/// A lent target.
+#[derive(Clone, Copy, Debug, PartialEq, Eq, PartialOrd, Ord, Hash)]
+pub enum TargetRef<'a> {
+    /// The reference points to this object.
+    Object(ObjectId),
+    /// The reference points to the reference of this name.
+    Symbolic(FullNameRef<'a>),
+}
+
+impl Target {
+    /// Whether the target is an object or a name.
+    pub fn kind(&self) -> Kind
+        ensures { result ≡ target_kind (target_value self.now) }
+    {
+        match self {
+            Target::Object(_) => Kind::Object,
+            Target::Symbolic(_) => Kind::Symbolic,
+        }
+    }
+
+    /// Whether the target is an object whose id is all zeros.
+    pub fn is_null(&self) -> bool
+        ensures { IsTrue result ↔ IsNullTarget (target_value self.now) }
+    {
+        match self {
+            Target::Object(id) => id.is_null(),
+            Target::Symbolic(_) => false,
+        }
+    }
+
+    /// The same target, lent.
+    pub fn to_ref(&self) -> TargetRef<'_>
+        ensures { target_ref_value result ≡ target_value self.now }
+    {
+        match self {
+            Target::Object(id) => TargetRef::Object(*id),
+            Target::Symbolic(name) => TargetRef::Symbolic(name.as_ref()),
+        }
+    }
+
+    /// The id, or `None` of a symbolic target.
+    pub fn try_id(&self) -> Option<ObjectId>
+        ensures { result ≡ target_id (target_value self.now) }
+    {
+        match self {
+            Target::Object(id) => Some(*id),
+            Target::Symbolic(_) => None,
+        }
+    }
+
+    /// The id. The caller sees to it that the target is an object.
+    pub fn id(&self) -> ObjectId
+        requires { target_kind (target_value self.now) ≡ Kind.Object }
+        ensures { target_value self.now ≡ object_id result }
+    {
+        match self {
+            Target::Object(id) => *id,
+            Target::Symbolic(_) => unreachable!(),
+        }
+    }
+
+    /// The id, in place of the target. The caller sees to it that the target is an object.
+    pub fn into_id(self) -> ObjectId
+        requires { target_kind (target_value self) ≡ Kind.Object }
+        ensures { target_value self ≡ object_id result }
+    {
+        match self {
+            Target::Object(id) => id,
+            Target::Symbolic(_) => unreachable!(),
+        }
+    }
+
+    /// The id, in place of the target; the error hands a symbolic target back.
+    pub fn try_into_id(self) -> Result<ObjectId, Target>
+        ensures { MatchResult result (λ id. target_value self ≡ object_id id)
+            (λ target. (target ≡ self) × (target_id (target_value self) ≡ None)) }
+    {
+        match self {
+            Target::Object(id) => Ok(id),
+            Target::Symbolic(name) => Err(Target::Symbolic(name)),
+        }
+    }
+
+    /// The name, or `None` of an object.
+    pub fn try_name(&self) -> Option<FullNameRef<'_>>
+        ensures { MatchOption result (target_kind (target_value self.now) ≡ Kind.Object)
+            (λ name. target_value self.now ≡ symbolic_name (full_ref_bytes name)) }
+    {
+        match self {
+            Target::Object(_) => None,
+            Target::Symbolic(name) => Some(name.as_ref()),
+        }
+    }
+
+    /// Whether a lent target is the same: an equal id, or a name of the same bytes.
+    pub fn eq_ref(&self, other: TargetRef<'_>) -> bool
+        ensures { IsTrue result ↔ (target_value self.now ≡ target_ref_value other.entry) }
+    {
+        self.to_ref() == other
+    }
+}
+
+impl<'a> TargetRef<'a> {
+    /// Whether the target is an object or a name.
+    pub fn kind(self) -> Kind
+        ensures { result ≡ target_kind (target_ref_value self.entry) }
+    {
+        match self {
+            TargetRef::Object(_) => Kind::Object,
+            TargetRef::Symbolic(_) => Kind::Symbolic,
+        }
+    }
+
+    /// The id, or `None` of a symbolic target.
+    pub fn try_id(self) -> Option<ObjectId>
+        ensures { result ≡ target_id (target_ref_value self.entry) }
+    {
+        match self {
+            TargetRef::Object(id) => Some(id),
+            TargetRef::Symbolic(_) => None,
+        }
+    }
+
+    /// The id. The caller sees to it that the target is an object.
+    pub fn id(self) -> ObjectId
+        requires { target_kind (target_ref_value self) ≡ Kind.Object }
+        ensures { target_ref_value self.entry ≡ object_id result }
+    {
+        match self {
+            TargetRef::Object(id) => id,
+            TargetRef::Symbolic(_) => unreachable!(),
+        }
+    }
+
+    /// The name, or `None` of an object.
+    pub fn try_name(self) -> Option<FullNameRef<'a>>
+        ensures { MatchOption result (target_kind (target_ref_value self.entry) ≡ Kind.Object)
+            (λ name. target_ref_value self.entry ≡ symbolic_name (full_ref_bytes name)) }
+    {
+        match self {
+            TargetRef::Object(_) => None,
+            TargetRef::Symbolic(name) => Some(name),
+        }
+    }
+
+    /// A copy with bytes of its own; the error says that there was no memory for it.
+    pub fn into_owned(self, alloc: Global) -> Result<Target, AllocError>
+        ensures { IfOk result (λ target. target_value target ≡ target_ref_value self.entry) }
+    {
+        match self {
+            TargetRef::Object(id) => Ok(Target::Object(id)),
+            TargetRef::Symbolic(name) => Ok(Target::Symbolic(name.to_owned(alloc)?)),
+        }
+    }
+}
+
+impl From<ObjectId> for Target {
+    ghost from_gives = { λ id target. target_value target ≡ object_id id };
+
+    fn from(id: ObjectId) -> Target {
+        Target::Object(id)
+    }
+}
+
+impl From<FullName> for Target {
+    ghost from_gives = { λ name target. target_value target ≡ symbolic_name (full_bytes name) };
+
+    fn from(name: FullName) -> Target {
+        Target::Symbolic(name)
+    }
+}
+
+/// The error hands a symbolic target back.
+impl TryFrom<Target> for ObjectId {
+    type Error = Target;
+
+    ghost try_from_gives = { λ target r. MatchResult r (λ id. target_value target ≡ object_id id)
+        (λ back. (back ≡ target) × (target_id (target_value target) ≡ None)) };
+
+    fn try_from(target: Target) -> Result<ObjectId, Target> {
+        target.try_into_id()
+    }
+}
+
+/// A copy in the allocator of the name; the error says that there was no memory for it.
+impl Clone for Target {
+    ghost is_clone = { λ target copy. target_value copy ≡ target_value target };
+
+    fn clone(&self) -> Result<Target, AllocError> {
+        match self {
+            Target::Object(id) => Ok(Target::Object(*id)),
+            Target::Symbolic(name) => Ok(Target::Symbolic(name.clone()?)),
+        }
+    }
+}
+
+/// Writes the hex digits of an id, or `ref: ` and the name.
+impl fmt::Display for Target {
+    ghost output = { λ target. Some (target_text (target_value target)) };
+
+    fn fmt<W: fmt::Write>(&self, f: &mut fmt::Formatter<W>) -> fmt::Result {
+        match self {
+            Target::Object(id) => write!(f, "{id}"),
+            Target::Symbolic(name) => write!(f, "ref: {name}"),
+        }
+    }
+}
