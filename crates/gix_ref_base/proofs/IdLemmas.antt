@@ -11,9 +11,11 @@ use Rattle.std.proofs.lemmas.Str.Ascii.{IsAscii-from_all}
 use Rattle.std.proofs.lemmas.List.Elements.{All-nil, All-cons, All-weaker}
 use Rattle.hex.specs.Hex.{decode_sized, encode_lower, lower_digits, is_hex_digit}
 use Rattle.hex.specs.declared.error.FromHexError.{FromHexError}
-use Rattle.hex.proofs.HexLemmas.{IsOk-decode_sized, IsAscii-encode_with}
+use Rattle.hex.proofs.HexLemmas.{IsOk-decode_sized, IsAscii-encode_with, length-encode_with, decode_of-same, decode_of-ok, decode_of-encode_lower}
 use Rattle.gix_ref_base.specs.declared.hash.Kind.{Kind}
-use Rattle.gix_ref_base.specs.Ids.{kind_len, IsHexOf, IsHex, HexRun}
+use Rattle.gix_ref_base.specs.declared.hash.ObjectId.{ObjectId}
+use Rattle.gix_ref_base.specs.declared.hash.ObjectId.TheVariants as ids
+use Rattle.gix_ref_base.specs.Ids.{kind_len, id_kind, id_bytes, IsWhole, ReadsId, IsHexOf, IsHex, HexRun}
 
 -- hex digits of the right number are read
 pub no_digits : (text : List ℕ) (n : ℕ) (r : Result (List ℕ) FromHexError) {e : FromHexError} → length text ≡ 2 * n → AllPass is_hex_digit text → r ≡ decode_sized text n → r ≡ Err e → ⊥
@@ -77,3 +79,31 @@ front_not_hex kind text front n sized is bad digits rest h whole =
     let same : front ≡ digits = is ∙ ap (take n) whole ∙ take_at digits rest n (h.len ∙ sym sized) in
     let good : list_all is_hex_digit front ≡ true = ap (list_all is_hex_digit) same ∙ list_all-from_AllPass is_hex_digit digits h.digits in
     absurd (cc)
+
+-- two ids of one kind with the same bytes are one
+same_id : (a b : ObjectId) → kind_len (id_kind a) ≡ kind_len (id_kind b) → id_bytes a ≡ id_bytes b → a ≡ b
+same_id (ids.Sha1 x) (ids.Sha1 y) len same = ap ids.Sha1 same
+same_id (ids.Sha1 x) (ids.Sha256 y) len same = absurd (omega (arith, len))
+same_id (ids.Sha256 x) (ids.Sha1 y) len same = absurd (omega (arith, len))
+same_id (ids.Sha256 x) (ids.Sha256 y) len same = ap ids.Sha256 same
+
+-- digits are those of one id at most
+pub one_id : (text : List ℕ) (a b : ObjectId) → ReadsId text a → ReadsId text b → a ≡ b
+one_id text a b f g =
+    let twice : 2 * kind_len (id_kind a) ≡ 2 * kind_len (id_kind b) = sym f.len ∙ g.len in
+    same_id a b (omega (arith, twice)) (decode_of-same text (id_bytes a) (id_bytes b) f.digits g.digits)
+
+-- the digits in lower case are those of the id
+pub written_reads : (id : ObjectId) → IsWhole id → ReadsId (encode_lower (id_bytes id)) id
+written_reads id h = record {
+  len = length-encode_with lower_digits (id_bytes id) ∙ ap (λ n. 2 * n) h.len;
+  digits = decode_of-encode_lower (id_bytes id) h.bytes;
+}
+
+-- what is read is digits, and the id is whole
+pub reads_whole : (text : List ℕ) (id : ObjectId) → ReadsId text id → IsHexOf (id_kind id) text × IsWhole id
+reads_whole text id h =
+    let read = decode_of-ok text (id_bytes id) h.digits in
+    let twice : length text ≡ 2 * length (id_bytes id) = read.2 in
+    let len : length text ≡ 2 * kind_len (id_kind id) = h.len in
+    (record { len = len; digits = read.1 }, record { len = omega arith; bytes = read.3 })

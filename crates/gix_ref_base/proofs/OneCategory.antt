@@ -110,6 +110,7 @@ no_worktree s h = ap (λ b. if b then before_slash (drop 10 s) else []) (go s h)
   where
     capital : (x : ℕ) (rest : Bool) → (is_pseudo_byte x && rest) ≡ true → eqb 119 x ≡ false
     capital x rest h = ne_eqb 119 x (λ same. let never : (is_pseudo_byte 119 && rest) ≡ true = ap (λ v. is_pseudo_byte v && rest) same ∙ h in absurd cc)
+
     go : (s : List ℕ) → list_all is_pseudo_byte s ≡ true → begins s (codes "worktrees/") ≡ false
     go [] h = refl
     go (x ∷ s) h = ap (λ v. v && begins s (codes "orktrees/")) (capital x (list_all is_pseudo_byte s) h)

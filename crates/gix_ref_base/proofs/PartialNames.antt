@@ -84,19 +84,19 @@ pub name_of_rules : (n : List ℕ) → IsPath n → pointwise nat_eq n (codes "@
 unfolding partial_error
 name_of_rules n p single =
     tells_not _ _ _ p.some (
-      tells_no_byte _ _ p.valid (
-        tells_not _ _ _ p.start (
-          tells_not _ _ _ p.end (
-            tells_not _ _ _ p.slashes (
-              tells_not _ _ _ p.dotted (
-                tells_not _ _ _ p.last_dot (
-                  tells_not _ _ _ p.dots (tells_not _ _ _ p.locked (tells_not _ _ _ p.portion (tells_not _ _ _ single refl)))
-                )
-              )
-            )
-          )
-        )
-      )
+    tells_no_byte _ _ p.valid (
+    tells_not _ _ _ p.start (
+    tells_not _ _ _ p.end (
+    tells_not _ _ _ p.slashes (
+    tells_not _ _ _ p.dotted (
+    tells_not _ _ _ p.last_dot (
+    tells_not _ _ _ p.dots (tells_not _ _ _ p.locked (tells_not _ _ _ p.portion (tells_not _ _ _ single refl)))
+    )
+    )
+    )
+    )
+    )
+    )
     )
 
 or_none : (a b : Bool) → (a || b) ≡ false → (a ≡ false) × (b ≡ false)
@@ -220,6 +220,7 @@ first_component c n none p =
     some_before : (c : List ℕ) → starts_with nat_eq (c ++ 47 ∷ n) (codes "/") ≡ false → is_empty c ≡ false
     some_before [] h = absurd (cc)
     some_before (x ∷ c) h = refl
+
     some_behind : (n : List ℕ) → ends_with nat_eq (c ++ 47 ∷ n) (codes "/") ≡ false → is_empty n ≡ false
     some_behind [] h = let yes : ends_with nat_eq (c ++ 47 ∷ []) (codes "/") ≡ true = last-append c 47 [] 47 in absurd (cc)
     some_behind (x ∷ n) h = refl
@@ -258,9 +259,11 @@ behind_component c n h name =
     some_whole : (c : List ℕ) → is_empty (c ++ 47 ∷ n) ≡ false
     some_whole [] = refl
     some_whole (x ∷ c) = refl
+
     no_start : (c : List ℕ) → is_empty c ≡ false → All (IsApart 47) c → starts_with nat_eq (c ++ 47 ∷ n) (codes "/") ≡ false
     no_start [] some h = absurd (cc)
     no_start (x ∷ c) some h = ap (λ v. v && true) (no_slash_sym x (All-head (IsApart 47) x c h))
+
     not_at : (c : List ℕ) → is_empty c ≡ false → pointwise nat_eq (c ++ 47 ∷ n) (codes "@") ≡ false
     not_at [] some = absurd (cc)
     not_at (x ∷ []) some = and_false (eqb x 64)

@@ -1,7 +1,7 @@
 -- What an object id is: a kind and that many bytes, and its text: twice as many hex digits.
 use Rattle.std.specs.Prelude.{◌≡◌, ◌⊎◌, ℕ, ◌*◌, List, ◌++◌, take, take_while, replicate, length, Ok}
 use Rattle.std.specs.List.{AllPass}
-use Rattle.hex.specs.Hex.{decode_of, is_hex_digit}
+use Rattle.hex.specs.Hex.{decode_of, is_hex_digit, IsBytes}
 use Rattle.gix_ref_base.specs.declared.hash.Kind.{Kind}
 use Rattle.gix_ref_base.specs.declared.hash.Kind.TheVariants as kinds
 use Rattle.gix_ref_base.specs.declared.hash.ObjectId.{ObjectId}
@@ -19,6 +19,11 @@ id_kind (ids.Sha256 bytes) = kinds.Sha256
 abbrev pub id_bytes : ObjectId → List ℕ
 id_bytes (ids.Sha1 bytes) = bytes
 id_bytes (ids.Sha256 bytes) = bytes
+
+-- as many bytes as the kind has, and each a byte: what every id of the program is
+pub record IsWhole (id : ObjectId) : Type 0 where
+  pub len : length (id_bytes id) ≡ kind_len (id_kind id)
+  pub bytes : IsBytes (id_bytes id)
 
 -- all bytes zero
 abbrev pub null_id : Kind → ObjectId

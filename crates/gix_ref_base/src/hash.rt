@@ -1,9 +1,10 @@
 //! Ids of objects and their hex digits.
 ghost use Rattle.std.specs.Prelude.{◌≡◌, ◌↔◌, ◌++◌, List, MatchOption, ◌*◌, ℕ, length, take, take_while, IsTrue, IfSome, IfNone};
 ghost use Rattle.std.specs.List.{list_all};
-ghost use Rattle.hex.specs.Hex.{is_hex_digit};
+ghost use Rattle.hex.specs.Hex.{encode_lower, is_hex_digit};
 ghost use Rattle.gix_ref_base.specs.Bytes.{IsNewline};
-ghost use Rattle.gix_ref_base.specs.Ids.{id_bytes, id_kind, kind_len, null_id, ReadsId, IsHexOf, IsHex, HexRun};
+ghost use Rattle.gix_ref_base.specs.declared.hash.ObjectId.{ObjectId};
+ghost use Rattle.gix_ref_base.specs.Ids.{id_bytes, id_kind, kind_len, null_id, IsWhole, ReadsId, IsHexOf, IsHex, HexRun};
 
 use hex::FromHex;
 use std::fmt;
@@ -125,6 +126,15 @@ impl fmt::Display for ObjectId {
     }
 }
 
+/// An id and its hex digits determine one another: a text is the digits of one id at most, and the bytes of an id, in
+/// lower-case digits, are the digits of that id.
+pub fn digits_of_ids()
+    ensures one_id { (text : List ℕ) (a b : ObjectId) → ReadsId text a → ReadsId text b → a ≡ b }
+    ensures written { (id : ObjectId) → IsWhole id → ReadsId (encode_lower (id_bytes id)) id }
+    ensures read { (text : List ℕ) (id : ObjectId) → ReadsId text id → IsHexOf (id_kind id) text × IsWhole id }
+{
+}
+
 /// Whether a byte is a hex digit, of either case.
 pub fn is_hex(byte: u8) -> bool
     ensures { result ≡ is_hex_digit byte }
@@ -175,7 +185,10 @@ pub fn hex_hash<'a>(input: &mut &'a [u8], kind: Kind) -> Option<&'a [u8]>
 fn hex_run(text: &[u8]) -> usize
     ensures { result ≡ length (take_while is_hex_digit (take 64 text.now)) }
 {
-    text.iter().take(64).take_while(|byte| is_hex(**byte)).count()
+    text.iter()
+        .take(64)
+        .take_while(|byte| is_hex(**byte))
+        .count()
 }
 
 /// The run of hex digits at the front of the text, where it is 40 or 64 digits long, and what follows it.

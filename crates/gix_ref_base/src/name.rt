@@ -13,6 +13,7 @@ mod grammar;
 
 pub use category::Category;
 use category::category_of_bytes;
+pub use convert::shown_names;
 pub use error::Error;
 use grammar::broken_partial_rule;
 
@@ -179,7 +180,11 @@ impl FullName {
 
     /// Puts the namespace in front of the name, unless the name begins with it. The error says that there was no
     /// memory, and leaves the name.
-    pub fn prefix_namespace(&mut self, alloc: Global, namespace: &Namespace) -> Result<(), AllocError>
+    pub fn prefix_namespace(
+        &mut self,
+        alloc: Global,
+        namespace: &Namespace,
+    ) -> Result<(), AllocError>
         ensures ok { OnOk result (full_bytes self.new ≡ with_front (namespace_bytes namespace.now) (full_bytes self.old)) }
         ensures err { OnErr result (full_bytes self.new ≡ full_bytes self.old) }
 
@@ -305,7 +310,7 @@ impl PartialName {
     pub fn join(self, alloc: Global, component: &[u8]) -> Result<PartialName, Error>
         ensures { let joined = partial_bytes self ++ 47 ∷ component.now in
             MatchResult result (λ n. (partial_bytes n ≡ joined) × (partial_error joined ≡ None))
-                (λ e. (e ≡ Memory) ⊎ (partial_error joined ≡ Some e)) }
+            (λ e. (e ≡ Memory) ⊎ (partial_error joined ≡ Some e)) }
     {
         let mut bytes = Vec::from_slice(alloc, self.bytes.as_slice())?;
         bytes.extend_from_slice(b"/")?;

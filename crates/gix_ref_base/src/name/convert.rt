@@ -1,5 +1,7 @@
 //! Conversions into names, copies of names, and how they are shown.
-ghost use Rattle.std.specs.Prelude.{◌≡◌, Some, string_bytes};
+ghost use Rattle.std.specs.Prelude.{◌≡◌, Some, List, ℕ, string_bytes};
+ghost use Rattle.std.specs.Str.{IsUtf8};
+ghost use Rattle.std.specs.Str.Lossy.{utf8_lossy};
 ghost use Rattle.gix_ref_base.specs.NameGrammar.{full_error, partial_error};
 ghost use Rattle.gix_ref_base.specs.Names.{Converts, full_ref_bytes, partial_ref_bytes, full_bytes, partial_bytes, shown};
 
@@ -235,4 +237,11 @@ impl fmt::Display for PartialName {
     fn fmt<W: fmt::Write>(&self, f: &mut fmt::Formatter<W>) -> fmt::Result {
         self.as_ref().fmt(f)
     }
+}
+
+/// What is shown of a name: its bytes where they are UTF-8, and else their text with U+FFFD for each piece that is none.
+pub fn shown_names()
+    ensures text { (bytes : List ℕ) → IsUtf8 bytes → shown bytes ≡ bytes }
+    ensures lossy { (bytes : List ℕ) → shown bytes ≡ utf8_lossy bytes }
+{
 }
