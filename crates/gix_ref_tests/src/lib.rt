@@ -6,6 +6,8 @@ mod bytes;
 #[cfg(test)]
 mod categories;
 #[cfg(test)]
+mod files;
+#[cfg(test)]
 mod ids;
 #[cfg(test)]
 mod made;
@@ -13,6 +15,7 @@ mod made;
 mod names;
 #[cfg(test)]
 mod namespaces;
+pub mod publish;
 #[cfg(test)]
 mod targets;
 pub mod uses;

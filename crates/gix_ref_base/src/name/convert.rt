@@ -243,5 +243,4 @@ impl fmt::Display for PartialName {
 pub fn shown_names()
     ensures text { (bytes : List ℕ) → IsUtf8 bytes → shown bytes ≡ bytes }
     ensures lossy { (bytes : List ℕ) → shown bytes ≡ utf8_lossy bytes }
-{
-}
+{}

@@ -1,0 +1,15 @@
+pub mod Writes
+pub mod ReadingLemmas
+pub mod Plans
+pub mod Logs
+pub mod Stops
+pub mod Whole
+pub mod Locks
+pub mod SpotLemmas
+pub mod PlaceLaws
+pub mod WorkedExample
+pub mod Carrying
+pub mod Headline
+pub mod Trees
+pub mod SharedLogs
+pub mod MergedRecords

@@ -1,0 +1,19 @@
+use Rattle.gix_ref.proofs.SpotLemmas.{has_row, row_is_table, safe_is_tested, tested_is_safe}
+use Rattle.gix_ref.proofs.PlaceLaws.{laws_hold, one_log}
+use Rattle.gix_ref.proofs.SharedLogs.{shared_logs}
+use Rattle.gix_ref.proofs.theorems.places_keep_the_laws.Goals as goal
+
+pub returns-clause-table : goal.returns-clause-table
+returns-clause-table c f name = (has_row f name, row_is_table f name)
+
+pub returns-clause-safe : goal.returns-clause-safe
+returns-clause-safe c name = (safe_is_tested name, tested_is_safe name)
+
+pub returns-clause-laws : goal.returns-clause-laws
+returns-clause-laws c = laws_hold
+
+pub returns-clause-one_log : goal.returns-clause-one_log
+returns-clause-one_log c = one_log
+
+pub returns-clause-one_place : goal.returns-clause-one_place
+returns-clause-one_place c = shared_logs

@@ -1,0 +1,11 @@
+pub mod Views
+pub mod Places
+pub mod Spots
+pub mod Readings
+pub mod Stores
+pub mod Edits
+pub mod Plan
+pub mod Between
+pub mod Theorems
+pub mod Example
+pub mod Carried

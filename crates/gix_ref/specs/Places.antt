@@ -1,0 +1,109 @@
+-- Where a store keeps each name: the table of places, logs and packed keys (`git worktree`, `gitnamespaces`). G is the
+-- git folder, C the common folder of all worktrees, N the namespace with its last slash, or nothing.
+use Rattle.std.specs.Prelude.{◌≡◌, ◌≢◌, ℕ, List, [], ◌∷◌, ◌++◌, Option, Some, None, Bool, ◌||◌, if◌then◌else◌, codes, nat_eq, ◌⊎◌}
+use Rattle.std.specs.List.{starts_with}
+use Rattle.gix_ref_files.specs.Tree.{Path}
+use Rattle.gix_ref_base.specs.Bytes.{BeginsWith, NoByte}
+use Rattle.gix_ref_base.specs.Categories.{HasCategory, NoCategory}
+use Rattle.gix_ref_base.specs.declared.name.category.Category.{Category}
+use Rattle.gix_ref_base.specs.declared.name.category.Category.TheVariants.{Tag, LocalBranch, RemoteBranch, Note, PseudoRef, MainPseudoRef, MainRef, LinkedPseudoRef, LinkedRef, Bisect, Rewritten, WorktreePrivate}
+
+-- The folders of a store, and its namespace.
+pub record Folders : Type 0 where
+  pub git : Path
+  pub common : Path
+  pub namespace : List ℕ
+
+-- a path in a folder
+abbrev pub below : Path → List ℕ → Path
+below folder path = folder ++ 47 ∷ path
+
+-- C/n, with N directly before n; and so before n or s in all of these
+abbrev pub in_common : Folders → List ℕ → Path
+in_common f n = below f.common (f.namespace ++ n)
+
+-- C/logs/n
+abbrev pub common_log : Folders → List ℕ → Path
+common_log f n = below f.common (codes "logs/" ++ (f.namespace ++ n))
+
+-- G/n
+abbrev pub in_git : Folders → List ℕ → Path
+in_git f n = below f.git (f.namespace ++ n)
+
+-- G/logs/n
+abbrev pub git_log : Folders → List ℕ → Path
+git_log f n = below f.git (codes "logs/" ++ (f.namespace ++ n))
+
+-- C/worktrees/w/logs/s
+abbrev pub linked_log : Folders → List ℕ → List ℕ → Path
+linked_log f w s = below f.common (codes "worktrees/" ++ (w ++ 47 ∷ (codes "logs/" ++ (f.namespace ++ s))))
+
+-- n, as a key
+abbrev pub packed_key : Folders → List ℕ → Option (List ℕ)
+packed_key f n = Some (f.namespace ++ n)
+
+-- C/packed-refs
+abbrev pub packed_refs : Folders → Path
+packed_refs f = below f.common (codes "packed-refs")
+
+-- The loose place, the log and the packed key of a name.
+pub record Row : Type 0 where
+  pub place : Path
+  pub log : Path
+  pub key : Option (List ℕ)
+
+-- a row: the place, the log, the key
+abbrev pub row : Path → Path → Option (List ℕ) → Row
+row place log key = record { place = place; log = log; key = key }
+
+-- a name below `refs/` of which each worktree has its own
+abbrev pub is_private_ref : List ℕ → Bool
+is_private_ref s =
+    starts_with nat_eq s (codes "refs/bisect/") || starts_with nat_eq s (codes "refs/rewritten/") || starts_with nat_eq s (codes "refs/worktree/")
+
+-- the table, for a name `n` of the category with the short name `s`
+abbrev pub row_in : Folders → Category → (n s : List ℕ) → Row
+row_in f Tag n s = row (in_common f n) (common_log f n) (packed_key f n)
+row_in f LocalBranch n s = row (in_common f n) (common_log f n) (packed_key f n)
+row_in f RemoteBranch n s = row (in_common f n) (common_log f n) (packed_key f n)
+row_in f Note n s = row (in_common f n) (common_log f n) (packed_key f n)
+row_in f PseudoRef n s = row (in_git f n) (git_log f n) None
+row_in f Bisect n s = row (in_git f n) (git_log f n) None
+row_in f Rewritten n s = row (in_git f n) (git_log f n) None
+row_in f WorktreePrivate n s = row (in_git f n) (git_log f n) None
+row_in f MainRef n s = row (in_common f s) (common_log f s) (if is_private_ref s then None else packed_key f s)
+row_in f MainPseudoRef n s = row (in_common f s) (common_log f s) None
+row_in f (LinkedPseudoRef w) n s = row (in_common f n) (linked_log f w.now s) None
+row_in f (LinkedRef w) n s =
+    if is_private_ref s then row (in_common f n) (linked_log f w.now s) None
+    else row (in_common f s) (common_log f s) (packed_key f s)
+
+-- the row of a name without a category
+abbrev pub row_of_others : Folders → List ℕ → Row
+row_of_others f n = row (in_common f n) (common_log f n) (packed_key f n)
+
+-- the row that the table gives a name
+abbrev pub HasRow : Folders → List ℕ → Row → Type 0
+HasRow f n r = ((c : Category) × (s : List ℕ) × HasCategory n c s × (r ≡ row_in f c n s)) ⊎ (NoCategory n × (r ≡ row_of_others f n))
+
+-- a safe name begins with `refs/` or has a category: no other may be the name of a reference
+abbrev pub IsSafe : List ℕ → Type 0
+IsSafe n = BeginsWith n (codes "refs/") ⊎ ((c : Category) × (s : List ℕ) × HasCategory n c s)
+
+-- one folder lies in another
+abbrev pub LiesIn : Path → Path → Type 0
+LiesIn inner outer = (rest : List ℕ) × (inner ≡ below outer rest)
+
+-- neither is the other or lies in it
+pub record AreApart (left right : Path) : Type 0 where
+  pub differ : left ≢ right
+  pub left_outside : LiesIn left right → ⊥
+  pub right_outside : LiesIn right left → ⊥
+
+-- G is C, or a linked worktree's folder C/worktrees/w, or the two are apart; a namespace begins with `refs/namespaces/`
+abbrev pub AreFolders : Folders → Type 0
+AreFolders f =
+    ((f.git ≡ f.common)
+    ⊎ (((w : List ℕ) × NoByte 47 w × (f.git ≡ below f.common (codes "worktrees/" ++ w)))
+    ⊎ AreApart f.git f.common))
+    × ((f.namespace ≡ []) ⊎ BeginsWith f.namespace (codes "refs/namespaces/"))

@@ -1,0 +1,69 @@
+-- What files hold, the writes of a commit, and what a stop among the writes leaves. A file is changed in three ways: by
+-- an append, which may stop after any beginning of its bytes, and by a rename and a removal, which are whole.
+use Rattle.std.specs.Prelude.{◌≡◌, ℕ, List, [], ◌∷◌, ◌++◌, Option, Some, None, if◌then◌else◌, bytes_eq, ◌⊎◌, codes}
+use Rattle.gix_ref_files.specs.Tree.{Path}
+
+-- the bytes of the file at each path; none where a folder or nothing stands
+abbrev pub View : Type 0
+View = Path → Option (List ℕ)
+
+-- the same files but for one path
+abbrev pub changed_at : Path → Option (List ℕ) → View → View
+changed_at path file view other = if bytes_eq path other then file else view other
+
+-- the bytes of a file that may be missing
+abbrev pub file_bytes : Option (List ℕ) → List ℕ
+file_bytes None = []
+file_bytes (Some bytes) = bytes
+
+-- One write. `Put` is the rename of the path's lock, which holds these bytes.
+pub data Write : Type 0 where
+  Append : (path : Path) (bytes : List ℕ) → Write
+  Put : (path : Path) (bytes : List ℕ) → Write
+  Remove : (path : Path) → Write
+
+-- what a write makes of the files; an append makes a file that is missing
+abbrev pub after_write : Write → View → View
+after_write (Append path bytes) view = changed_at path (Some (file_bytes (view path) ++ bytes)) view
+after_write (Put path bytes) view = changed_at path (Some bytes) view
+after_write (Remove path) view = changed_at path None view
+
+-- what all of the writes make of the files
+abbrev pub after : List Write → View → View
+after [] view = view
+after (write ∷ writes) view = after writes (after_write write view)
+
+-- the same file at each path
+abbrev pub IsSameView : View → View → Type 0
+IsSameView left right = (path : Path) → left path ≡ right path
+
+-- a stop inside a write leaves all as it was, or of an append a beginning of its bytes
+abbrev pub Begins : Write → View → View → Type 0
+Begins (Append path bytes) view left =
+    IsSameView left view ⊎ ((front rest : List ℕ) × (front ++ rest ≡ bytes) × IsSameView left (after_write (Append path front) view))
+Begins (Put path bytes) view left = IsSameView left view
+Begins (Remove path) view left = IsSameView left view
+
+-- a stop among the writes: some of them are done, and the next one is perhaps begun
+abbrev pub IsLeftBy : List Write → View → View → Type 0
+IsLeftBy [] view left = IsSameView left view
+IsLeftBy (write ∷ writes) view left = Begins write view left ⊎ IsLeftBy writes (after_write write view) left
+
+-- the lock of a path
+abbrev pub lock_of : Path → Path
+lock_of path = path ++ codes ".lock"
+
+-- the lock of one of these paths
+abbrev pub IsOwnLock : List Path → Path → Type 0
+IsOwnLock [] path = ⊥
+IsOwnLock (locked ∷ others) path = (path ≡ lock_of locked) ⊎ IsOwnLock others path
+
+-- the same files but for these locks
+abbrev pub IsSameButLocks : List Path → View → View → Type 0
+IsSameButLocks locked left right = (path : Path) → (IsOwnLock locked path → ⊥) → left path ≡ right path
+
+-- A stop among the writes leaves these files, whatever it leaves of the locks of these paths.
+pub record IsLeft (locked : List Path) (writes : List Write) (view left : View) : Type 0 where
+  pub without_locks : View
+  pub stopped : IsLeftBy writes view without_locks
+  pub same : IsSameButLocks locked left without_locks

@@ -1,0 +1,65 @@
+use Rattle.std.proofs.Common.{◌≡◌, ℕ, ◌+◌, ◌<◌, List, ◌∷◌, suc, length, drop, get_or, refl, sym, ◌∙◌, ap, subst, inl, inr, arith}
+use Rattle.std.proofs.lemmas.List.{drop_more}
+use Rattle.gix_ref_files.specs.Steps.{Step, IsAfter, IsLeftBy, EndsAt, step_of, steps_of}
+use Rattle.gix_ref_files.specs.declared.steps.Planned.{Planned}
+use Rattle.gix_ref_files.proofs.Moments.{starts, weaken, joins}
+use Rattle.gix_ref_files.proofs.Between.{none_begun}
+use Rattle.gix_ref_files.proofs.steps.run_steps.Goals as goal
+
+pub loop-at-init : goal.loop-at-init
+loop-at-init g c =
+    let first = g.F.Files.means c.args.files.now in
+    record {
+      count = refl;
+      leaves = λ h. starts first _ (none_begun (steps_of c.args.plan.now) first.tree);
+      done = λ h T after. after;
+      stops = λ h T left. left;
+      ended = λ h k cause T ends. subst (λ (n : ℕ). EndsAt (steps_of c.args.plan.now) n cause first.tree T) (omega arith) ends;
+    }
+
+-- the rest of a plan is its next step and what follows that
+split : {E : Type 0} (plan : List (Planned E)) (i : ℕ) (planned : Planned E) → i < length plan → planned ≡ get_or plan i planned → step_of planned.action ∷ steps_of (drop (i + 1) plan) ≡ steps_of (drop i plan)
+split plan i planned lt is =
+    ap (λ (p : Planned _). step_of p.action ∷ steps_of (drop (i + 1) plan)) is ∙ sym (ap steps_of (drop_more plan i planned lt))
+
+pub returns-in-Err-clause-ended : goal.returns-in-Err-clause-ended
+returns-in-Err-clause-ended g c h =
+    let plan = c.args.plan.now in
+    let i = c.loop-at.at in
+    let planned = c.index-plan-at.result in
+    let mid = (g.F.Files.means c.loop-at.files).tree in
+    let now = (g.F.Files.means c.run_step.new.files).tree in
+    let here : EndsAt (steps_of (drop i plan)) 0 c.in-Err.cause mid now =
+    subst (λ (steps : List Step). EndsAt steps 0 c.in-Err.cause mid now) (split plan i planned c.loop-at-test.true c.index-plan-at.is) (c.in-Err.ensures.ended h) in
+    subst (λ (n : ℕ). EndsAt (steps_of plan) n c.in-Err.cause (g.F.Files.means c.args.files.now).tree now) (omega arith) (c.loop-at.invariant.ended h 0 c.in-Err.cause now here)
+
+pub returns-in-Err-clause-leaves : goal.returns-in-Err-clause-leaves
+returns-in-Err-clause-leaves g c h =
+    let plan = c.args.plan.now in
+    let i = c.loop-at.at in
+    let planned = c.index-plan-at.result in
+    let mid = (g.F.Files.means c.loop-at.files).tree in
+    joins (c.loop-at.invariant.leaves h) (weaken (c.run_step.ensures.leaves h)
+    (λ T begun. c.loop-at.invariant.stops h T (subst (λ (steps : List Step). IsLeftBy steps mid T) (split plan i planned c.loop-at-test.true c.index-plan-at.is) (inl begun))))
+
+pub loop-at-preserved : goal.loop-at-preserved
+loop-at-preserved g c =
+    let plan = c.args.plan.now in
+    let i = c.loop-at.at in
+    let planned = c.index-plan-at.result in
+    let rest = steps_of (drop (i + 1) plan) in
+    let mid = (g.F.Files.means c.loop-at.files).tree in
+    let now = (g.F.Files.means c.run_step.new.files).tree in
+    let so_far = c.loop-at.invariant in
+    let steps_are : step_of planned.action ∷ rest ≡ steps_of (drop i plan) = split plan i planned c.loop-at-test.true c.index-plan-at.is in
+    let counted : g.F.Files.faults c.run_step.new.files ≡ g.F.Files.faults c.loop-at.files = c.in_default.ensures.count in
+    record {
+      count = counted ∙ so_far.count;
+      leaves = λ h. joins (so_far.leaves h) (weaken (c.run_step.ensures.leaves h)
+          (λ T begun. so_far.stops h T (subst (λ (steps : List Step). IsLeftBy steps mid T) steps_are (inl begun))));
+      done = λ h T after. so_far.done h T (subst (λ (steps : List Step). IsAfter steps mid T) steps_are (now, c.in_default.ensures.done h, after));
+      stops = λ h T left. so_far.stops h T (subst (λ (steps : List Step). IsLeftBy steps mid T) steps_are (inr (now, c.in_default.ensures.done h, left)));
+      ended = λ h k cause T ends.
+          subst (λ (n : ℕ). EndsAt (steps_of plan) n cause (g.F.Files.means c.args.files.now).tree T) (omega arith)
+          (so_far.ended h (suc k) cause T (subst (λ (steps : List Step). EndsAt steps (suc k) cause mid T) steps_are (now, c.in_default.ensures.done h, ends)));
+    }

@@ -1,0 +1,61 @@
+-- A lock: a file beside a place, which is renamed to the place.
+use Rattle.std.specs.Prelude.{◌≡◌, ◌⊎◌, ℕ, zero, suc, List, [], ◌++◌, take, codes, Bool, true, false, Result, Ok, Err}
+use Rattle.gix_ref_files.specs.Tree.{Tree, Path, is_blocked, fronts, folders_to, with_folders}
+use Rattle.gix_ref_files.specs.Files.{count_with}
+use Rattle.gix_ref_files.specs.Calls.{Creates, Creating, Renames}
+use Rattle.gix_ref_files.specs.declared.files.Create.{Create}
+use Rattle.gix_ref_files.specs.declared.files.Create.TheVariants.{Made, Standing as FileStanding, Blocked as FileBlocked}
+use Rattle.gix_ref_files.specs.declared.files.Rename.TheVariants.{Moved as FileMoved, FolderStands as FileFolderStands}
+use Rattle.gix_ref_files.specs.declared.lock.Acquire.{Acquire}
+use Rattle.gix_ref_files.specs.declared.lock.Acquire.TheVariants.{Held, Standing, Blocked}
+use Rattle.gix_ref_files.specs.declared.lock.Commit.{Commit}
+use Rattle.gix_ref_files.specs.declared.lock.Commit.TheVariants.{Moved, FolderStands}
+use Rattle.gix_ref_files.specs.declared.lock.Unspent.{Unspent}
+
+-- where the lock of a place stands
+abbrev pub lock_of : Path → Path
+lock_of place = place ++ codes ".lock"
+
+-- the tree with the folders that lead to a path
+abbrev pub readied : Tree → Path → Tree
+readied before path = with_folders before (fronts path)
+
+-- the folders that lead to a path are made, or a file stands in it
+abbrev pub Readies : Tree → Path → Tree → Bool → Type 0
+Readies before path T true = (is_blocked before path ≡ false) × (T ≡ readied before path)
+Readies before path T false = (is_blocked before path ≡ true) × (T ≡ before)
+
+-- what a stop could leave meanwhile: a beginning of these folders
+abbrev pub Readying : Tree → Path → Tree → Type 0
+Readying before path T = (T ≡ before) ⊎ ((is_blocked before path ≡ false) × ((n : ℕ) × (T ≡ with_folders before (take n (fronts path)))))
+
+-- the folders that lead to a path are made, and then its lock, where nothing stands
+abbrev pub MakesLock : Tree → Path → Tree → Create → Type 0
+MakesLock before path T Made = (is_blocked before path ≡ false) × Creates (readied before path) (lock_of path) T Made
+MakesLock before path T FileStanding = (is_blocked before path ≡ false) × Creates (readied before path) (lock_of path) T FileStanding
+MakesLock before path T FileBlocked = (is_blocked before path ≡ true) × (T ≡ before)
+
+-- The answers of `acquire`: the folders that lead to the place are made, and then the lock, where nothing stands.
+abbrev pub Acquires : Tree → Path → Tree → Acquire → Type 0
+Acquires before path T (Held lock) = (lock ≡ path) × MakesLock before path T Made
+Acquires before path T Standing = MakesLock before path T FileStanding
+Acquires before path T Blocked = MakesLock before path T FileBlocked
+
+-- what a stop in `acquire` could leave
+abbrev pub Acquiring : Tree → Path → Tree → Type 0
+Acquiring before path T = Readying before path T ⊎ ((is_blocked before path ≡ false) × Creating (readied before path) (lock_of path) T)
+
+-- the answers of `commit`: one rename to the place, or the lock given back
+abbrev pub Commits : Tree → Path → Tree → Commit → Type 0
+Commits before place T Moved = Renames before (lock_of place) place T FileMoved
+Commits before place T (FolderStands lock) = (lock ≡ place) × Renames before (lock_of place) place T FileFolderStands
+
+-- the count of faults after a call that gives the lock back where it fails
+abbrev pub count_unspent : {T : Type 0} → Result T Unspent → ℕ → ℕ
+count_unspent (Ok value) n = n
+count_unspent (Err unspent) n = count_with unspent.error n
+
+-- the folders up to a slash of the path; none where there is no such slash
+abbrev pub folders_up_to : Path → ℕ → List Path
+folders_up_to path zero = []
+folders_up_to path (suc end) = folders_to (take (suc end) path)

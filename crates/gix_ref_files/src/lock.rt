@@ -1,0 +1,191 @@
+//! Locks: a text is written to a file beside its place and then renamed to the place, so that the place holds the old
+//! text or the whole new one at every moment.
+ghost use Rattle.std.specs.Prelude.{◌≡◌, ◌≤◌, IfOk, IfErr, OnOk, IsErrOf, length};
+ghost use Rattle.gix_ref_files.specs.Tree.{fronts};
+ghost use Rattle.gix_ref_files.specs.Files.{Leaves, Adds, count_after};
+ghost use Rattle.gix_ref_files.specs.Calls.{Appends, Appending, Renaming, RemovesFile, RemovingFile};
+ghost use Rattle.gix_ref_files.specs.Lock.{lock_of, Readies, Readying, MakesLock, Acquires, Acquiring, Commits, count_unspent, folders_up_to};
+
+use crate::files::{Create, FileError, Files, Rename};
+use std::alloc::{AllocError, Global};
+use std::marker::Model;
+
+/// A lock that is held. A contract sees it as the path of its place. It must be spent by `commit` or `remove`.
+#[derive(Debug)]
+pub struct Lock {
+    place: Vec<u8>,
+    lock: Vec<u8>,
+}
+
+impl Model for Lock {
+    ghost use Rattle.std.specs.Prelude.{ℕ, List, ◌≡◌, ◌++◌, codes};
+
+    ghost Value = { List ℕ };
+
+    ghost view = { λ a. a.place.items };
+
+    ghost invariant = { λ a. a.lock.items ≡ a.place.items ++ codes ".lock" };
+}
+
+/// The answers of `Lock::acquire`.
+#[derive(Debug)]
+pub enum Acquire {
+    /// The lock was made, and is held.
+    Held(Lock),
+    /// Something stands at the lock's path.
+    Standing,
+    /// A file stands in the path.
+    Blocked,
+}
+
+/// The answers of `Lock::commit`.
+#[derive(Debug)]
+pub enum Commit {
+    /// The lock is now the file at the place.
+    Moved,
+    /// A folder stands at the place. The lock is still held.
+    FolderStands(Lock),
+}
+
+/// A lock whose last call failed. The lock's file may be gone.
+#[derive(Debug)]
+pub struct Unspent {
+    /// Why it failed.
+    pub error: FileError,
+    /// The lock, which must still be spent.
+    pub lock: Lock,
+}
+
+/// The last slash of a path that is not its first byte; 0 where there is none.
+fn folder_end(path: &[u8]) -> usize
+    ensures folders { fronts path.now ≡ folders_up_to path.now result }
+    ensures within { result ≤ length path.now }
+{
+    let mut end = 0;
+    for i in 1..path.len() {
+        if path[i] == b'/' {
+            end = i;
+        }
+    }
+    end
+}
+
+/// Makes the folders that lead to a path; false where a file stands in it.
+fn ready<F: Files>(files: &mut F, path: &[u8]) -> Result<bool, FileError>
+    ensures answer { F.honest → IfOk result (Readies (F.means files.old).tree path.now (F.means files.new).tree) }
+    ensures leaves { F.honest → Leaves (F.means files.old) (F.means files.new) (Readying (F.means files.old).tree path.now) }
+    ensures count { F.faults files.new ≡ count_after result (F.faults files.old) }
+    ensures memory { IsErrOf result FileError.Memory → ⊥ }
+{
+    let end = folder_end(path);
+    if end == 0 {
+        return Ok(true);
+    }
+    files.make_folders(&path[..end])
+}
+
+/// A path, and that of its lock.
+fn names(alloc: Global, path: &[u8]) -> Result<(Vec<u8>, Vec<u8>), AllocError>
+    ensures place { IfOk result (λ names. names.0.items ≡ path.now) }
+    ensures lock { IfOk result (λ names. names.1.items ≡ lock_of path.now) }
+{
+    let place = path.to_vec(alloc)?;
+    let mut lock = path.to_vec(alloc)?;
+    lock.extend_from_slice(b".lock")?;
+    Ok((place, lock))
+}
+
+/// Makes the folders that lead to a path, and the file of its lock.
+fn make_lock<F: Files>(files: &mut F, path: &[u8], lock: &[u8]) -> Result<Create, FileError>
+    requires { lock.now ≡ lock_of path.now }
+    ensures answer { F.honest → IfOk result (MakesLock (F.means files.old).tree path.now (F.means files.new).tree) }
+    ensures leaves { F.honest → Leaves (F.means files.old) (F.means files.new) (Acquiring (F.means files.old).tree path.now) }
+    ensures count { F.faults files.new ≡ count_after result (F.faults files.old) }
+    ensures memory { IsErrOf result FileError.Memory → ⊥ }
+{
+    if !ready(files, path)? {
+        return Ok(Create::Blocked);
+    }
+    files.create_new(lock)
+}
+
+impl Lock {
+    /// Takes the lock of a path: makes the folders that lead there, and then the file with `.lock` after the path.
+    /// `Memory` where a growth was refused, before anything was done. After another error folders may have been made.
+    pub fn acquire<F: Files>(
+        alloc: Global,
+        files: &mut F,
+        path: &[u8],
+    ) -> Result<Acquire, FileError>
+        ensures answer { F.honest → IfOk result (Acquires (F.means files.old).tree path.now (F.means files.new).tree) }
+        ensures leaves { F.honest → Leaves (F.means files.old) (F.means files.new) (Acquiring (F.means files.old).tree path.now) }
+        ensures count { F.faults files.new ≡ count_after result (F.faults files.old) }
+        ensures memory { IsErrOf result FileError.Memory → files.new ≡ files.old }
+    {
+        let Ok((place, lock)) = names(alloc, path) else {
+            return Err(FileError::Memory);
+        };
+        match make_lock(files, path, &lock)? {
+            Create::Made => Ok(Acquire::Held(Lock { place, lock })),
+            Create::Standing => Ok(Acquire::Standing),
+            Create::Blocked => Ok(Acquire::Blocked),
+        }
+    }
+
+    /// Adds bytes to the file of the lock; false where it does not stand. A fault leaves any beginning of them there,
+    /// and the lock held.
+    pub fn write<F: Files>(&self, files: &mut F, bytes: &[u8]) -> Result<bool, FileError>
+        ensures answer { F.honest → IfOk result (Appends (F.means files.old).tree (lock_of self.now) bytes.now (F.means files.new).tree) }
+        ensures leaves { F.honest → Leaves (F.means files.old) (F.means files.new) (Appending (F.means files.old).tree (lock_of self.now) bytes.now) }
+        ensures adds { F.honest → OnOk result (Adds (F.means files.old) (F.means files.new) (Appending (F.means files.old).tree (lock_of self.now) bytes.now)) }
+        ensures count { F.faults files.new ≡ count_after result (F.faults files.old) }
+        ensures memory { IsErrOf result FileError.Memory → ⊥ }
+    {
+        files.append(&self.lock, bytes)
+    }
+
+    /// Renames the file of the lock to the place. A fault gives the lock back; its file stands where it was, or at
+    /// the place.
+    pub fn commit<F: Files>(self, files: &mut F) -> Result<Commit, Unspent>
+        ensures answer { F.honest → IfOk result (Commits (F.means files.old).tree self (F.means files.new).tree) }
+        ensures leaves { F.honest → Leaves (F.means files.old) (F.means files.new) (Renaming (F.means files.old).tree (lock_of self) self) }
+        ensures back { IfErr result (λ unspent. unspent.lock ≡ self) }
+        ensures count { F.faults files.new ≡ count_unspent result (F.faults files.old) }
+        ensures memory { IfErr result (λ unspent. unspent.error ≡ FileError.Memory → ⊥) }
+    {
+        match files.rename(&self.lock, &self.place) {
+            Ok(Rename::Moved) => {
+                let Lock { place: _, lock: _ } = self;
+                Ok(Commit::Moved)
+            }
+            Ok(Rename::FolderStands) => Ok(Commit::FolderStands(self)),
+            Err(error) => Err(Unspent { error, lock: self }),
+        }
+    }
+
+    /// Removes the file of the lock; false where it does not stand. A fault gives the lock back; its file stands, or
+    /// it is gone.
+    pub fn remove<F: Files>(self, files: &mut F) -> Result<bool, Unspent>
+        ensures answer { F.honest → IfOk result (RemovesFile (F.means files.old).tree (lock_of self) (F.means files.new).tree) }
+        ensures leaves { F.honest → Leaves (F.means files.old) (F.means files.new) (RemovingFile (F.means files.old).tree (lock_of self)) }
+        ensures back { IfErr result (λ unspent. unspent.lock ≡ self) }
+        ensures count { F.faults files.new ≡ count_unspent result (F.faults files.old) }
+        ensures memory { IfErr result (λ unspent. unspent.error ≡ FileError.Memory → ⊥) }
+    {
+        match files.remove_file(&self.lock) {
+            Ok(removed) => {
+                let Lock { place: _, lock: _ } = self;
+                Ok(removed)
+            }
+            Err(error) => Err(Unspent { error, lock: self }),
+        }
+    }
+
+    /// Gives the lock up and leaves its file as it is: for a lock that could not be removed, whose path is to be told.
+    pub fn into_path(self) -> Vec<u8>
+        ensures { result.items ≡ lock_of self }
+    {
+        let Lock { place: _, lock } = self;
+        lock
+    }
+}

@@ -1,0 +1,78 @@
+//! The disk, in folders of the tests' own, which put and look with std's files themselves.
+
+use crate::files::table;
+use gix_ref_files::disk::Disk;
+use gix_ref_files::files::{FileError, Files, Node};
+use std::fs;
+use std::os::unix::fs::symlink;
+use std::test::Fail;
+
+#[test]
+fn answers_as_the_table_says(rt: HostRuntime) -> Result<(), Fail> {
+    let alloc = rt.alloc();
+    fs::create_dir_all(&rt, "t/full")?;
+    fs::create_dir_all(&rt, "t/empty")?;
+    fs::write(&rt, "t/full/x", b"")?;
+    fs::write(&rt, "t/file", b"abc")?;
+    let mut disk = Disk::new(rt.clone()?);
+    table::look_at_all(&rt, alloc, &mut disk)?;
+    let left = fs::read(&rt, "t/new")?;
+    fs::remove_dir_all(&rt, "t")?;
+    assert_eq!(rt;
+        left.as_slice(),
+        b"abcde".as_slice(),
+        "what std's files see"
+    );
+    Ok(())
+}
+
+#[test]
+fn sees_what_others_put(rt: HostRuntime) -> Result<(), Fail> {
+    let alloc = rt.alloc();
+    fs::create_dir_all(&rt, "u/folder")?;
+    fs::write(&rt, "u/file", b"abc")?;
+    symlink(&rt, "file", "u/link")?;
+    let mut disk = Disk::new(rt.clone()?);
+    let mut buf = Vec::new(alloc);
+    let through = disk.read(alloc, b"u/link", &mut buf);
+    let listed = disk.list(alloc, b"u");
+    let no_text = disk.kind(b"u/\xff");
+    fs::write(&rt, "u/file", b"other")?;
+    let mut new = Vec::new(alloc);
+    let again = disk.read(alloc, b"u/file", &mut new);
+    fs::remove_dir_all(&rt, "u")?;
+    assert_eq!(rt; through, Ok(Node::File), "a link is followed");
+    assert_eq!(rt;
+        buf.as_slice(),
+        b"abc".as_slice(),
+        "to the bytes of its file"
+    );
+    let listed = listed?.ok_or("no listing")?;
+    assert_eq!(rt; listed.len(), 2, "and it is no entry");
+    assert_eq!(rt;
+        no_text,
+        Err(FileError::NotUtf8),
+        "a name that is not UTF-8"
+    );
+    assert_eq!(rt; again, Ok(Node::File));
+    assert_eq!(rt;
+        new.as_slice(),
+        b"other".as_slice(),
+        "what was written meanwhile"
+    );
+    Ok(())
+}
+
+#[test]
+fn reads_a_large_file_whole(rt: HostRuntime) -> Result<(), Fail> {
+    let alloc = rt.alloc();
+    let bytes = vec![in alloc; 7u8; 5000]?;
+    fs::write(&rt, "large", &bytes)?;
+    let mut disk = Disk::new(rt.clone()?);
+    let mut buf = Vec::new(alloc);
+    let read = disk.read(alloc, b"large", &mut buf);
+    fs::remove_file(&rt, "large")?;
+    assert_eq!(rt; read, Ok(Node::File));
+    assert_eq!(rt; buf.as_slice(), bytes.as_slice());
+    Ok(())
+}
