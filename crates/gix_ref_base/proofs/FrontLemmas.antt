@@ -14,7 +14,7 @@ pub begins_true : (p s r : List ℕ) → s ≡ p ++ r → starts_with nat_eq s p
 begins_true p s r e = (starts_is Decides-eqb s p (starts_with nat_eq s p) refl).1 r e
 
 -- a text that begins with no front
-begins_false : (p s : List ℕ) → ((r : List ℕ) → s ≢ p ++ r) → starts_with nat_eq s p ≡ false
+pub begins_false : (p s : List ℕ) → ((r : List ℕ) → s ≢ p ++ r) → starts_with nat_eq s p ≡ false
 begins_false p s never = go (starts_with nat_eq s p) refl
   where
     go : (b : Bool) → starts_with nat_eq s p ≡ b → starts_with nat_eq s p ≡ false

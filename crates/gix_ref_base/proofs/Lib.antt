@@ -8,3 +8,7 @@ pub mod CategoryLemmas
 pub mod OneCategory
 pub mod RoundTrip
 pub mod Rows
+pub mod SignatureLemmas
+pub mod SignaturesAgain
+pub mod Appending
+pub mod NumberLemmas

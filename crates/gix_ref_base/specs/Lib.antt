@@ -5,3 +5,5 @@ pub mod Names
 pub mod Categories
 pub mod Namespaces
 pub mod Targets
+pub mod Digits
+pub mod Signatures

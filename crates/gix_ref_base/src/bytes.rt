@@ -19,6 +19,7 @@ pub fn begins_with(text: &[u8], front: &[u8]) -> bool
 }
 
 /// What stands before the first such byte and behind it, or `None` where the text has none.
+#[inline(always)]
 pub fn cut(text: &[u8], byte: u8) -> Option<(&[u8], &[u8])>
     ensures { MatchOption result (NoByte byte text.now) (λ p. Cuts byte text.now p.0.now p.1.now) }
 {
@@ -29,6 +30,7 @@ pub fn cut(text: &[u8], byte: u8) -> Option<(&[u8], &[u8])>
 }
 
 /// What stands before the last such byte and behind it, or `None` where the text has none.
+#[inline(always)]
 pub fn cut_last(text: &[u8], byte: u8) -> Option<(&[u8], &[u8])>
     ensures { MatchOption result (NoByte byte text.now) (λ p. CutsLast byte text.now p.0.now p.1.now) }
 {

@@ -1,13 +1,17 @@
 //! Ids of objects and their hex digits.
 ghost use Rattle.std.specs.Prelude.{◌≡◌, ◌↔◌, ◌++◌, List, MatchOption, ◌*◌, ℕ, length, take, take_while, IsTrue, IfSome, IfNone};
 ghost use Rattle.std.specs.List.{list_all};
-ghost use Rattle.hex.specs.Hex.{encode_lower, is_hex_digit};
+ghost use Rattle.hex.specs.Hex.{encode_lower, is_hex_digit, IsBytes};
 ghost use Rattle.gix_ref_base.specs.Bytes.{IsNewline};
 ghost use Rattle.gix_ref_base.specs.declared.hash.ObjectId.{ObjectId};
 ghost use Rattle.gix_ref_base.specs.Ids.{id_bytes, id_kind, kind_len, null_id, IsWhole, ReadsId, IsHexOf, IsHex, HexRun};
 
 use hex::FromHex;
 use std::fmt;
+
+mod digits;
+
+pub use digits::sha1_of_digits;
 
 /// The hash functions whose ids are known.
 #[derive(Clone, Copy, Debug, PartialEq, Eq, PartialOrd, Ord, Hash)]
@@ -25,6 +29,14 @@ pub enum ObjectId {
     Sha1([u8; 20]),
     /// The 32 bytes of a SHA-256.
     Sha256([u8; 32]),
+}
+
+/// The same bytes, each of which is one: a fact that a slice has, and that an array in an enum does not tell.
+fn as_read(bytes: &[u8]) -> &[u8]
+    ensures same { result.now ≡ bytes.now }
+    ensures bytes { IsBytes bytes.now }
+{
+    bytes
 }
 
 impl Kind {
@@ -95,10 +107,11 @@ impl ObjectId {
     pub fn as_bytes(&self) -> &[u8]
         ensures bytes { result.now ≡ id_bytes self.now }
         ensures len { length result.now ≡ kind_len (id_kind self.now) }
+        ensures whole { IsWhole self.now }
     {
         match self {
-            ObjectId::Sha1(bytes) => &bytes[..],
-            ObjectId::Sha256(bytes) => bytes,
+            ObjectId::Sha1(bytes) => as_read(&bytes[..]),
+            ObjectId::Sha256(bytes) => as_read(&bytes[..]),
         }
     }
 
@@ -141,8 +154,9 @@ pub fn is_hex(byte: u8) -> bool
     matches!(byte, b'0'..=b'9' | b'A'..=b'F' | b'a'..=b'f')
 }
 
-/// Whether all bytes are hex digits. All are looked at, which is faster here than to stop at the first that is none.
-fn are_hex(text: &[u8]) -> bool
+/// Whether all bytes are hex digits, of either case. All are looked at, which is faster here than to stop at the first
+/// that is none.
+pub fn are_hex(text: &[u8]) -> bool
     ensures { result ≡ list_all is_hex_digit text.now }
 {
     let mut are_digits = true;

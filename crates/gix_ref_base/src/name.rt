@@ -16,6 +16,7 @@ use category::category_of_bytes;
 pub use convert::shown_names;
 pub use error::Error;
 use grammar::broken_partial_rule;
+pub use grammar::is_pseudo_name;
 
 /// A lent full name. It always holds a valid partial name; one that was made from a text is a valid full name.
 #[derive(Clone, Copy, Debug, PartialEq, Eq, PartialOrd, Ord, Hash)]
@@ -47,7 +48,9 @@ pub struct PartialName {
 }
 
 impl<'a> FullNameRef<'a> {
-    ghost use Rattle.std.specs.Prelude.{◌≡◌, ◌↔◌, IsTrue, IfOk, IfSome, IfNone, List, ℕ, false};
+    ghost use Rattle.std.specs.Prelude.{◌≡◌, ◌≢◌, ◌++◌, ◌↔◌, IsTrue, IfOk, IfSome, IfNone, MatchOption, List, ℕ, false};
+    ghost use Rattle.gix_ref_base.specs.NameGrammar.{IsPartialName};
+    ghost use Rattle.gix_ref_base.specs.Namespaces.{namespace_bytes};
     ghost use Rattle.bstr.specs.BStr.{bstr_bytes};
     ghost use Rattle.gix_ref_base.specs.Categories.{HasCategory, NoCategory, SameCategory, begins_again, text_of};
     ghost use Rattle.gix_ref_base.specs.Names.{full_ref_bytes, partial_ref_bytes, full_bytes, IsLastComponent};
@@ -118,6 +121,22 @@ impl<'a> FullNameRef<'a> {
         match cut_last(self.bytes, b'/') {
             Some((_, name)) => name,
             None => self.bytes,
+        }
+    }
+
+    /// The name inside of the namespace: what follows that. `None` where the name does not begin with it, and where the
+    /// rest is no valid partial name.
+    pub fn without_namespace(self, namespace: &Namespace) -> Option<FullNameRef<'a>>
+        ensures { MatchOption result
+            ((rest : List ℕ) → IsPartialName rest → full_ref_bytes self.entry ≢ namespace_bytes namespace.now ++ rest)
+            (λ n. full_ref_bytes self.entry ≡ namespace_bytes namespace.now ++ full_ref_bytes n) }
+    {
+        let Some(rest) = strip_front(self.bytes, namespace.to_path()) else {
+            return None;
+        };
+        match broken_partial_rule(rest) {
+            None => Some(FullNameRef { bytes: rest }),
+            Some(_) => None,
         }
     }
 

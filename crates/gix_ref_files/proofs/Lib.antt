@@ -1,9 +1,9 @@
 pub mod Between
-mod Folders
-mod Fronts
+pub mod Folders
+pub mod Fronts
 mod Grows
 mod ListingLemmas
-mod LockLemmas
+pub mod LockLemmas
 mod MakingLemmas
 pub mod Moments
 mod Placed

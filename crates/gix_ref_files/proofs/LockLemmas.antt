@@ -63,7 +63,7 @@ if_ok (Ok x) wider holds = wider x holds
 if_ok (Err e) wider holds = holds
 
 -- folders are no new files
-no_new_file : (T : Tree) (fs : List Path) (f : Path) → is_file (with_folders T fs f) ≡ true → is_file (T f) ≡ true
+pub no_new_file : (T : Tree) (fs : List Path) (f : Path) → is_file (with_folders T fs f) ≡ true → is_file (T f) ≡ true
 no_new_file T [] f file = file
 no_new_file T (p ∷ ps) f file = by_path (bytes_eq p f) (no_new_file (put T p (Some Folder)) ps f file)
   where
@@ -90,7 +90,7 @@ after_plain seen [] (c ∷ rest) plain = by_byte (c == 47) (list_any (λ b. b ==
     by_byte false more none later = later none
 after_plain seen (x ∷ xs) rest plain = ap (λ (l : List Path). if x == 47 then seen ∷ l else l) (after_plain (seen ++ x ∷ []) xs rest plain)
 
-lock_fronts : (path : Path) → fronts (lock_of path) ≡ fronts path
+pub lock_fronts : (path : Path) → fronts (lock_of path) ≡ fronts path
 lock_fronts [] = refl
 lock_fronts (b ∷ path) = after_plain (b ∷ []) path (codes ".lock") refl
 

@@ -1,6 +1,6 @@
 //! Locks: a text is written to a file beside its place and then renamed to the place, so that the place holds the old
 //! text or the whole new one at every moment.
-ghost use Rattle.std.specs.Prelude.{◌≡◌, ◌≤◌, IfOk, IfErr, OnOk, IsErrOf, length};
+ghost use Rattle.std.specs.Prelude.{◌≡◌, ◌≤◌, IfOk, IfErr, OnOk, OnErr, IsErrOf, length};
 ghost use Rattle.gix_ref_files.specs.Tree.{fronts};
 ghost use Rattle.gix_ref_files.specs.Files.{Leaves, Adds, count_after};
 ghost use Rattle.gix_ref_files.specs.Calls.{Appends, Appending, Renaming, RemovesFile, RemovingFile};
@@ -95,10 +95,12 @@ fn names(alloc: Global, path: &[u8]) -> Result<(Vec<u8>, Vec<u8>), AllocError>
     Ok((place, lock))
 }
 
-/// Makes the folders that lead to a path, and the file of its lock.
-fn make_lock<F: Files>(files: &mut F, path: &[u8], lock: &[u8]) -> Result<Create, FileError>
+/// Makes the folders that lead to a path, and the file of its lock: `Lock::acquire` for a caller who has the lock's path
+/// already, and who sees to the lock's removal. An error leaves no lock.
+pub fn make_lock<F: Files>(files: &mut F, path: &[u8], lock: &[u8]) -> Result<Create, FileError>
     requires { lock.now ≡ lock_of path.now }
     ensures answer { F.honest → IfOk result (MakesLock (F.means files.old).tree path.now (F.means files.new).tree) }
+    ensures failed { F.honest → OnErr result (Readying (F.means files.old).tree path.now (F.means files.new).tree) }
     ensures leaves { F.honest → Leaves (F.means files.old) (F.means files.new) (Acquiring (F.means files.old).tree path.now) }
     ensures count { F.faults files.new ≡ count_after result (F.faults files.old) }
     ensures memory { IsErrOf result FileError.Memory → ⊥ }
@@ -118,6 +120,10 @@ impl Lock {
         path: &[u8],
     ) -> Result<Acquire, FileError>
         ensures answer { F.honest → IfOk result (Acquires (F.means files.old).tree path.now (F.means files.new).tree) }
+
+        // An error leaves no lock, and no more than a beginning of the folders that lead to it.
+        ensures failed { F.honest → OnErr result (Readying (F.means files.old).tree path.now (F.means files.new).tree) }
+
         ensures leaves { F.honest → Leaves (F.means files.old) (F.means files.new) (Acquiring (F.means files.old).tree path.now) }
         ensures count { F.faults files.new ≡ count_after result (F.faults files.old) }
         ensures memory { IsErrOf result FileError.Memory → files.new ≡ files.old }

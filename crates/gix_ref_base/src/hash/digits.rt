@@ -1,0 +1,27 @@
+//! Hex digits that are known to be such, made into bytes without a test.
+ghost use Rattle.std.specs.Prelude.{◌≡◌, true, Ok};
+ghost use Rattle.std.specs.List.{list_all};
+ghost use Rattle.hex.specs.Hex.{decode_of, is_hex_digit};
+ghost use Rattle.gix_ref_base.specs.Digits.{IsPair};
+
+/// The byte of two hex digits, of either case: the low four bits of a digit, and nine more for a letter.
+#[inline(always)]
+fn pair(high: u8, low: u8) -> u8
+    ensures { IsPair high low result }
+{
+    let high = high % 16 + high / 64 * 9;
+    let low = low % 16 + low / 64 * 9;
+    high.wrapping_mul(16).wrapping_add(low)
+}
+
+/// The bytes of a SHA-1 of which these are the hex digits, of either case. Other bytes than digits give some bytes.
+#[inline(always)]
+pub fn sha1_of_digits(digits: &[u8; 40]) -> [u8; 20]
+    ensures { list_all is_hex_digit digits.now ≡ true → decode_of digits.now ≡ Ok result }
+{
+    let mut bytes = [0u8; 20];
+    for i in 0..20 {
+        bytes[i] = pair(digits[2 * i], digits[2 * i + 1]);
+    }
+    bytes
+}
