@@ -1,0 +1,5 @@
+use Rattle.std.proofs.Common.{◌≡◌}
+use Rattle.gix_ref_formats.proofs.packed.opening.file_heading.Given as goal
+
+abbrev pub invariant-windows : goal.invariant-windows
+invariant-windows g l = g.R.ReadAt.bytes l.reader ≡ g.R.ReadAt.bytes l.fn.reader

@@ -1,0 +1,6 @@
+//! Reflogs: one line, and the lines of a log from either end (`git reflog`).
+
+pub mod iter;
+pub mod line;
+
+pub use line::{AppendError, Line, LineRef, WriteError, appended_line, lines_read_back};

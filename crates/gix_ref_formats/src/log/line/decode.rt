@@ -1,0 +1,139 @@
+//! Reading a line of a reflog.
+ghost use Rattle.std.specs.Prelude.{◌≡◌, List, ℕ, MatchOption};
+ghost use Rattle.std.specs.List.{list_all};
+ghost use Rattle.hex.specs.Hex.{is_hex_digit};
+ghost use Rattle.gix_ref_base.specs.Bytes.{NoByte};
+ghost use Rattle.gix_ref_base.specs.Ids.{ReadsId};
+ghost use Rattle.gix_ref_formats.specs.LogIds.{IsIdText, IdFront, IsIdPlace};
+ghost use Rattle.gix_ref_formats.specs.LogLines.{IsLine, NoLine, IsFirstLine, CutsOrAll, line_ref_parts};
+
+use super::LineRef;
+use bstr::BStr;
+use gix_ref_base::actor::SignatureRef;
+use gix_ref_base::bytes::cut;
+use gix_ref_base::hash::{ObjectId, are_hex, is_hex, sha1_of_digits};
+use thiserror::Error;
+
+/// The bytes are no line of a reflog.
+#[derive(Clone, Copy, Debug, PartialEq, Eq, Error)]
+#[error("{0:?} is not '<old id> <new id> <name> <<email>> <seconds> <zone>\\t<message>'", BStr::new(self.input))]
+pub struct Error<'a> {
+    /// The first line of the bytes, without its LF.
+    pub input: &'a [u8],
+}
+
+/// What stands before the first such byte, or all, and what stands behind it.
+#[inline(always)]
+fn cut_or_all(text: &[u8], byte: u8) -> (&[u8], &[u8])
+    ensures { CutsOrAll byte text.now result.0.now result.1.now }
+{
+    match cut(text, byte) {
+        Some(parts) => parts,
+        None => (text, &[]),
+    }
+}
+
+/// The text before its first LF, or all of it.
+pub(super) fn first_line(text: &[u8]) -> &[u8]
+    ensures { IsFirstLine text.now result.now }
+{
+    cut_or_all(text, b'\n').0
+}
+
+/// How many digits the id in front has, if there is one: the place of the space.
+#[inline(always)]
+fn id_len(text: &[u8]) -> usize
+    ensures { IsIdPlace text.now result }
+{
+    if text.len() > 40 && text[40] == b' ' {
+        40
+    } else {
+        64
+    }
+}
+
+/// Whether all bytes are hex digits. Those of a SHA-1 are looked at as an array, which is faster.
+#[inline(always)]
+fn are_id_digits(id: &[u8]) -> bool
+    ensures { result ≡ list_all is_hex_digit id.now }
+{
+    match <&[u8; 40]>::try_from(id) {
+        Ok(digits) => are_sha1_digits(digits),
+        Err(_) => are_hex(id),
+    }
+}
+
+/// The same for the digits of a SHA-1.
+#[inline(always)]
+fn are_sha1_digits(digits: &[u8; 40]) -> bool
+    ensures { result ≡ list_all is_hex_digit digits.now }
+{
+    let mut are_digits = true;
+    for digit in digits {
+        are_digits &= is_hex(*digit);
+    }
+    are_digits
+}
+
+/// The id in front, and what follows its space.
+#[inline(always)]
+fn id_front(text: &[u8]) -> Option<(&[u8], &[u8])>
+    ensures { MatchOption result ((id rest : List ℕ) → IdFront text.now id rest → ⊥) (λ p. IdFront text.now p.0.now p.1.now) }
+{
+    let len = id_len(text);
+    if text.len() <= len || text[len] != b' ' {
+        return None;
+    }
+    let (id, rest) = (&text[..len], &text[len + 1..]);
+    if !are_id_digits(id) {
+        return None;
+    }
+    Some((id, rest))
+}
+
+/// The line at the front of the text.
+pub(super) fn decoded<'a>(text: &'a [u8]) -> Option<LineRef<'a>>
+    ensures { MatchOption result (NoLine text.now) (λ line. IsLine text.now (line_ref_parts line)) }
+{
+    let (previous_oid, ids) = id_front(text)?;
+    let (new_oid, rest) = id_front(ids)?;
+    let (line, _) = cut_or_all(rest, b'\n');
+    let (head, message) = cut_or_all(line, b'\t');
+    let signature = SignatureRef::decode(head)?;
+    Some(LineRef {
+        previous_oid,
+        new_oid,
+        signature,
+        message,
+    })
+}
+
+/// The line that a text without LF is.
+#[inline(always)]
+pub(crate) fn decoded_line<'a>(text: &'a [u8]) -> Option<LineRef<'a>>
+    requires { NoByte 10 text.now }
+    ensures { MatchOption result (NoLine text.now) (λ line. IsLine text.now (line_ref_parts line)) }
+{
+    let (previous_oid, ids) = id_front(text)?;
+    let (new_oid, rest) = id_front(ids)?;
+    let (head, message) = cut_or_all(rest, b'\t');
+    let signature = SignatureRef::decode(head)?;
+    Some(LineRef {
+        previous_oid,
+        new_oid,
+        signature,
+        message,
+    })
+}
+
+/// The id of which these are the hex digits.
+#[inline(always)]
+pub(super) fn id_of(digits: &[u8]) -> ObjectId
+    requires { IsIdText digits.now }
+    ensures { ReadsId digits.now result }
+{
+    match <&[u8; 40]>::try_from(digits) {
+        Ok(digits) => ObjectId::Sha1(sha1_of_digits(digits)),
+        Err(_) => ObjectId::from_hex(digits).unwrap(),
+    }
+}
