@@ -13,3 +13,14 @@ pub mod Headline
 pub mod Trees
 pub mod SharedLogs
 pub mod MergedRecords
+pub mod LooseLemmas
+pub mod FolderLemmas
+pub mod LookupLemmas
+pub mod Firsts
+pub mod Adds
+pub mod Locking
+pub mod Taking
+pub mod Rounds
+pub mod Removing
+pub mod OneEdit
+pub mod Settings

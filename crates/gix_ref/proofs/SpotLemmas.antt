@@ -363,3 +363,36 @@ has_row f name = by (spot name) refl
       | inl s ↦ shared (e ∙ ap Some s.0) s.1
       | inr c ↦ of_category c.0 c.1 c.2
     ]
+
+-- What the code asks: the category, and else whether the name begins with `refs/`.
+
+-- the name is safe, and this is its row
+abbrev pub IsFound : List ℕ → Spot → Type 0
+IsFound name x = (is_safe name ≡ true) × ((f : Folders) → row_at f name ≡ row_of f x)
+
+pub found_category : (name n : List ℕ) (c : Category) (s : List ℕ) (x : Spot) → n ≡ name → HasCategory name c s → ((f : Folders) → row_in f c n s ≡ row_of f x) → IsFound name x
+found_category name n c s x same h row =
+    (safe_is_tested name (inr (c, s, h)), λ f. row_is_in f name c s h ∙ (ap (λ (m : List ℕ). row_in f c m s) (sym same) ∙ row f))
+
+pub found_refs : (name n m : List ℕ) → n ≡ name → m ≡ name → NoCategory name → starts_with nat_eq n (codes "refs/") ≡ true → IsFound name (Shared m)
+found_refs name n m same also none begins = (
+  safe_is_tested name (inl (drop 5 n, sym same ∙ begun n (codes "refs/") begins)),
+  λ f. row_is_table f name (row_of_others f name) (inr (none, refl)) ∙ ap (row_of_others f) (sym also),
+)
+
+pub not_found : (name n : List ℕ) → n ≡ name → NoCategory name → starts_with nat_eq n (codes "refs/") ≡ false → is_safe name ≡ false
+not_found name n same none apart = elim (cases_Bool (is_safe name)) [
+  | inl safe ↦ elim (tested_is_safe name safe) [
+    | inl refs ↦ absurd (false≢true (sym apart ∙ begins_so n (codes "refs/") refs.0 (same ∙ refs.1)))
+    | inr c ↦ absurd (none c.0 c.1 c.2)
+  ]
+  | inr unsafe ↦ unsafe
+]
+
+-- a name that is not safe is shared as it is
+pub unsafe_row : (name n : List ℕ) → n ≡ name → is_safe name ≡ false → (f : Folders) → row_at f name ≡ row_of f (Shared n)
+unsafe_row name n same unsafe f = by (spot name) refl
+  where
+    by : (o : Option Spot) → spot name ≡ o → row_of f (unwrap_or (spot name) (Shared name)) ≡ row_of f (Shared n)
+    by None e = ap (λ o. row_of f (unwrap_or o (Shared name))) e ∙ ap (λ (m : List ℕ). row_of f (Shared m)) (sym same)
+    by (Some x) e = absurd (false≢true (sym unsafe ∙ ap is_some e))

@@ -9,3 +9,15 @@ pub mod Between
 pub mod Theorems
 pub mod Example
 pub mod Carried
+pub mod LooseText
+pub mod CleanPaths
+pub mod Folders
+pub mod Store
+pub mod Lookup
+pub mod First
+pub mod Transactions
+pub mod AddedLocks
+pub mod Causes
+pub mod Taken
+pub mod Prepared
+pub mod Transacted

@@ -100,10 +100,13 @@ pub record AreApart (left right : Path) : Type 0 where
   pub left_outside : LiesIn left right → ⊥
   pub right_outside : LiesIn right left → ⊥
 
--- G is C, or a linked worktree's folder C/worktrees/w, or the two are apart; a namespace begins with `refs/namespaces/`
+-- G is C, or a linked worktree's folder C/worktrees/w, or the two are apart
+abbrev pub AreLaid : Path → Path → Type 0
+AreLaid git common =
+    (git ≡ common)
+    ⊎ (((w : List ℕ) × NoByte 47 w × (git ≡ below common (codes "worktrees/" ++ w)))
+    ⊎ AreApart git common)
+
+-- and a namespace begins with `refs/namespaces/`
 abbrev pub AreFolders : Folders → Type 0
-AreFolders f =
-    ((f.git ≡ f.common)
-    ⊎ (((w : List ℕ) × NoByte 47 w × (f.git ≡ below f.common (codes "worktrees/" ++ w)))
-    ⊎ AreApart f.git f.common))
-    × ((f.namespace ≡ []) ⊎ BeginsWith f.namespace (codes "refs/namespaces/"))
+AreFolders f = AreLaid f.git f.common × ((f.namespace ≡ []) ⊎ BeginsWith f.namespace (codes "refs/namespaces/"))

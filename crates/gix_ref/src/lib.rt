@@ -1,4 +1,9 @@
-//! The reference store: for now its definitions and the theorem about what a stop inside a commit leaves.
+//! The reference store: where names are kept, what they read, and transactions that change them.
 #![tactic(auto)]
 
+pub mod file;
+pub mod store;
 pub mod theorems;
+pub mod transaction;
+
+pub use gix_ref_formats::raw;

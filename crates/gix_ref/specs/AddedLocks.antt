@@ -1,0 +1,32 @@
+-- What the locks of a transaction add to a tree, and what is left of it when they are removed again.
+use Rattle.std.specs.Prelude.{◌≡◌, ◌⊎◌, ℕ, List, Bool, true, Option, Some, None, bytes_eq, map, Vec}
+use Rattle.std.specs.List.{list_any}
+use Rattle.std.specs.declared.alloc.Global.{Global}
+use Rattle.gix_ref_files.specs.Tree.{Tree, Path, Content, fronts}
+use Rattle.gix_ref_files.specs.Tree.Content.{File, Folder}
+
+-- q is one of these
+abbrev pub is_in : List Path → Path → Bool
+is_in paths q = list_any (λ p. bytes_eq p q) paths
+
+-- q is on the way to one of these
+abbrev pub leads_to : List Path → Path → Bool
+leads_to paths q = list_any (λ p. is_in (fronts p) q) paths
+
+-- the bytes of owned paths
+abbrev pub paths_of : List (Vec ℕ Global) → List Path
+paths_of paths = map (λ (p : Vec ℕ Global). p.items) paths
+
+-- what a transaction adds: a file at a lock that it took, a folder on the way to one of its locks
+abbrev pub IsOurs : (taken all : List Path) → Path → Option Content → Type 0
+IsOurs taken all q (Some (File bytes)) = is_in taken q ≡ true
+IsOurs taken all q (Some Folder) = leads_to all q ≡ true
+IsOurs taken all q None = ⊥
+
+-- All that stood before stands as it was, and no more stands but what the transaction adds.
+abbrev pub AddsLocks : (taken all : List Path) → Tree → Tree → Type 0
+AddsLocks taken all before T = (q : Path) → (T q ≡ before q) ⊎ ((before q ≡ None) × IsOurs taken all q (T q))
+
+-- Nothing changed but that some of these locks are gone.
+abbrev pub RemovesLocks : List Path → Tree → Tree → Type 0
+RemovesLocks locks before T = (q : Path) → (T q ≡ before q) ⊎ ((is_in locks q ≡ true) × (T q ≡ None))

@@ -1,0 +1,9 @@
+//! The store over files: its folders, loose references and their places.
+pub mod find;
+mod folders;
+pub mod loose;
+mod place;
+pub mod store;
+pub mod transaction;
+
+pub use store::Store;

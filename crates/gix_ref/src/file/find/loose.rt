@@ -1,0 +1,53 @@
+//! What the loose file at a place tells.
+ghost use Rattle.std.specs.Prelude.{◌≡◌, IfOk, IfErr, Some};
+ghost use Rattle.gix_ref_files.specs.Files.{Leaves, count_after};
+ghost use Rattle.gix_ref_files.specs.Calls.{Only};
+ghost use Rattle.gix_ref.specs.Carried.{view_of};
+ghost use Rattle.gix_ref.specs.Lookup.{Tells};
+
+use crate::file::loose::{Error, decode};
+use gix_ref_base::hash::Kind;
+use gix_ref_base::target::Target;
+use gix_ref_files::files::{FileError, Files, Node};
+use std::alloc::Global;
+
+/// What the loose file at a place tells.
+#[derive(Debug, Drop)]
+pub(crate) enum Loose {
+    /// There is no file.
+    Absent,
+    /// It holds this target.
+    Holds(Target),
+    /// It holds none.
+    Undecodable(Error),
+}
+
+/// The target that a text holds, if it does.
+fn loose_in(alloc: Global, text: &[u8], kind: Kind) -> Result<Loose, FileError>
+    ensures told { IfOk result (Tells kind (Some text.now)) }
+    ensures error { IfErr result (λ error. error ≡ FileError.Memory) }
+{
+    match decode(alloc, text, kind) {
+        Ok(target) => Ok(Loose::Holds(target)),
+        Err(Error::Memory) => Err(FileError::Memory),
+        Err(error) => Ok(Loose::Undecodable(error)),
+    }
+}
+
+/// Reads the loose file at a place: one call of files.
+pub(crate) fn loose_at<F: Files>(
+    alloc: Global,
+    files: &mut F,
+    place: &[u8],
+    kind: Kind,
+) -> Result<Loose, FileError>
+    ensures told { F.honest → IfOk result (Tells kind (view_of (F.means files.old).tree place.now)) }
+    ensures leaves { F.honest → Leaves (F.means files.old) (F.means files.new) (Only (F.means files.old).tree) }
+    ensures count { F.faults files.new ≡ count_after result (F.faults files.old) }
+{
+    let mut text = Vec::new(alloc);
+    match files.read(alloc, place, &mut text)? {
+        Node::File => loose_in(alloc, &text, kind),
+        Node::Folder | Node::Nothing | Node::Blocked => Ok(Loose::Absent),
+    }
+}
