@@ -10,12 +10,18 @@ mod files;
 #[cfg(test)]
 mod ids;
 #[cfg(test)]
+mod logs;
+#[cfg(test)]
 mod made;
 #[cfg(test)]
 mod names;
 #[cfg(test)]
 mod namespaces;
+#[cfg(test)]
+mod packed;
 pub mod publish;
+#[cfg(test)]
+mod store;
 #[cfg(test)]
 mod targets;
 pub mod uses;

@@ -132,7 +132,7 @@ fn long_names_in_one_pass(rt: HostRuntime) -> Result<(), Fail> {
         FullNameRef::try_from(&long).err(),
         Some(Error::StartsWithDot)
     );
-    assert!(rt; start.elapsed(&rt)? < Duration::from_secs(1));
+    assert!(rt; start.elapsed(&rt)? < Duration::from_secs(10));
     Ok(())
 }
 

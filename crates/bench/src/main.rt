@@ -1,0 +1,47 @@
+//! Measures the formats: `bench MODE FOLDER TURNS` does the work of the mode so many times on the files of the folder. It
+//! prints the number of hits, and on standard error the nanoseconds that this took. The work of the modes that end in
+//! `-make` is to write the files that the others read; `tiny` does a little of each.
+#![tactic(auto)]
+
+mod logs;
+mod packed;
+
+use anyhow::{Context, Result, bail};
+use gix_ref_files::disk::Disk;
+use gix_ref_files::memory::Memory;
+use std::env;
+use std::time::Instant;
+
+/// A little of each: packed references in memory, and the log of the folder.
+fn tiny(rt: &HostRuntime, folder: &str, turns: u64) -> Result<u64> {
+    let mut files = Memory::new(rt.alloc());
+    let packed = packed::tiny(rt.alloc(), &mut files, turns);
+    let logs = logs::run(rt, "log-forward", folder, turns)?;
+    Ok(packed.saturating_add(logs.unwrap_or(0)))
+}
+
+/// The work of a mode.
+fn hits_of(rt: &HostRuntime, mode: &str, folder: &str, turns: u64) -> Result<u64> {
+    if mode == "tiny" {
+        return tiny(rt, folder, turns);
+    }
+    if let Some(hits) = logs::run(rt, mode, folder, turns)? {
+        return Ok(hits);
+    }
+    let mut files = Disk::new(rt.clone()?);
+    Ok(packed::run(rt.alloc(), &mut files, mode, folder, turns))
+}
+
+fn main(rt: HostRuntime) -> Result<()> {
+    let mut words = env::args(&rt)?.skip(1);
+    let (Some(mode), Some(folder), Some(turns)) = (words.next(), words.next(), words.next()) else {
+        bail!("bench MODE FOLDER TURNS")
+    };
+    let turns = turns.parse::<u64>().context("TURNS")?;
+    let start = Instant::now(&rt)?;
+    let hits = hits_of(&rt, mode.as_str(), folder.as_str(), turns)?;
+    let nanoseconds = start.elapsed(&rt)?.as_nanos();
+    println!(rt; "{hits}")?;
+    eprintln!(rt; "{nanoseconds}")?;
+    Ok(())
+}

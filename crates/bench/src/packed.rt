@@ -1,0 +1,178 @@
+//! The modes that measure packed references. A record is a line of 70 bytes.
+ghost use Rattle.std.specs.Prelude.{◌≡◌, ◌<◌};
+
+use gix_ref_base::hash::Kind;
+use gix_ref_base::name::FullNameRef;
+use gix_ref_files::files::{Files, ReadAt};
+use gix_ref_formats::packed::source::Source;
+use gix_ref_formats::packed::written::{push_header, push_record};
+use gix_ref_formats::packed::{Buffer, Probes};
+use std::alloc::{AllocError, Global};
+use std::marker::Brand;
+use std::sync::ledger::{Blank, Ledger};
+
+const ID: &[u8] = b"0123456789abcdef0123456789abcdef01234567";
+
+/// The bytes of the header that is written, and of a record.
+const HEADER: u64 = 46;
+
+const RECORD: u64 = 70;
+
+/// The name of a record: 28 bytes.
+fn name_of(alloc: Global, number: u64) -> Result<String, AllocError> {
+    format!(in alloc; "refs/heads/branch-{number:010}")
+}
+
+/// The text of so many records; where they are not sorted it says so, and the last name comes first.
+fn text_of(alloc: Global, count: u64, sorted: bool) -> Result<Vec<u8>, AllocError> {
+    let mut text = Vec::new(alloc);
+    if sorted {
+        push_header(&mut text)?;
+    }
+    for i in 0..count {
+        let number = if sorted { i } else { count - 1 - i };
+        let name = name_of(alloc, number)?;
+        push_record(&mut text, name.as_bytes(), ID, None)?;
+    }
+    Ok(text)
+}
+
+/// Writes the file; the hits are its records.
+fn make<F: Files>(alloc: Global, files: &mut F, path: &[u8], count: u64, sorted: bool) -> u64 {
+    let Ok(text) = text_of(alloc, count, sorted) else {
+        return 0;
+    };
+    let _ = files.remove_file(path);
+    let _ = files.create_new(path);
+    match files.append(path, text.as_slice()) {
+        Ok(true) => count,
+        _ => 0,
+    }
+}
+
+/// Opens the file so many times; a hit is a buffer.
+fn open<F: Files>(alloc: Global, files: &mut F, path: &[u8], turns: u64) -> u64 {
+    let mut hits: u64 = 0;
+    for _ in 0..turns {
+        if let Ok(Some(_)) = Buffer::open(alloc, files, path, 32_768, Kind::Sha1) {
+            hits = hits.saturating_add(1);
+        }
+    }
+    hits
+}
+
+/// Goes over all records so many times; a hit is a record.
+fn list<F: Files>(alloc: Global, files: &mut F, path: &[u8], turns: u64) -> u64 {
+    let Ok(Some(packed)) = Buffer::open(alloc, files, path, 32_768, Kind::Sha1) else {
+        return 0;
+    };
+    let mut hits: u64 = 0;
+    for _ in 0..turns {
+        for item in packed.iter() {
+            if item.is_ok() {
+                hits = hits.saturating_add(1);
+            }
+        }
+    }
+    hits
+}
+
+/// The number of the record that a turn asks for, among so many.
+fn asked(turn: u64, count: u64) -> u64 {
+    if count == 0 {
+        return 0;
+    }
+    turn.saturating_mul(7_919) % count
+}
+
+/// Asks a buffer for a name in each turn.
+fn find<F: Files>(alloc: Global, files: &mut F, path: &[u8], turns: u64) -> u64 {
+    let Ok(Some(packed)) = Buffer::open(alloc, files, path, 32_768, Kind::Sha1) else {
+        return 0;
+    };
+    let count = packed.as_bytes().len() as u64 / RECORD;
+    let mut hits: u64 = 0;
+    for turn in 0..turns {
+        let Ok(name) = name_of(alloc, asked(turn, count)) else {
+            continue;
+        };
+        let Ok(name) = FullNameRef::try_from(name.as_bytes()) else {
+            continue;
+        };
+        if let Ok(Some(_)) = packed.try_find_key(name) {
+            hits = hits.saturating_add(1);
+        }
+    }
+    hits
+}
+
+/// Whether a source has the name.
+fn is_found<R: ReadAt + Drop, L: Ledger>(
+    source: &mut Source<R>,
+    name: FullNameRef<'_>,
+    blank: Blank,
+) -> bool
+    requires name { blank.name ≡ L.name }
+    requires parts { blank.parts ≡ L.parts }
+    requires some { 0 < blank.parts }
+{
+    let mut probes = Probes::<L>::new(blank);
+    matches!(
+        source.try_find_full(Kind::Sha1, name, &mut probes),
+        Ok(Some(_))
+    )
+}
+
+fn found<R: ReadAt + Drop>(source: &mut Source<R>, name: FullNameRef<'_>) -> bool {
+    is_found::<R, Brand>(source, name, Blank::new(1))
+}
+
+/// Asks a file for a name in each turn, and opens it each time.
+fn find_in_file<F: Files>(alloc: Global, files: &mut F, path: &[u8], turns: u64) -> u64 {
+    let mut hits: u64 = 0;
+    for turn in 0..turns {
+        let Ok(Some(reader)) = files.open(alloc, path) else {
+            continue;
+        };
+        let count = reader.len().saturating_sub(HEADER) / RECORD;
+        let mut source = Source::new(alloc, reader, HEADER);
+        let Ok(name) = name_of(alloc, asked(turn, count)) else {
+            continue;
+        };
+        let Ok(name) = FullNameRef::try_from(name.as_bytes()) else {
+            continue;
+        };
+        if found(&mut source, name) {
+            hits = hits.saturating_add(1);
+        }
+    }
+    hits
+}
+
+/// The modes over the `packed-refs` of a folder. An unknown mode, or a file that is not there, has no hit.
+pub fn run<F: Files>(alloc: Global, files: &mut F, mode: &str, folder: &str, turns: u64) -> u64 {
+    let Ok(path) = format!(in alloc; "{folder}/packed-refs") else {
+        return 0;
+    };
+    let path = path.as_bytes();
+    match mode {
+        "packed-make" => make(alloc, files, path, turns, true),
+        "packed-make-unsorted" => make(alloc, files, path, turns, false),
+        "packed-open" => open(alloc, files, path, turns),
+        "packed-list" => list(alloc, files, path, turns),
+        "packed-find" => find(alloc, files, path, turns),
+        "packed-file" => find_in_file(alloc, files, path, turns),
+        _ => 0,
+    }
+}
+
+/// Each mode once, over so many records and turns: five hits for each.
+pub fn tiny<F: Files>(alloc: Global, files: &mut F, turns: u64) -> u64 {
+    let _ = files.make_folders(b"r");
+    let path = b"r/packed-refs";
+    let mut hits = make(alloc, files, path, turns, true);
+    hits = hits.saturating_add(open(alloc, files, path, turns));
+    hits = hits.saturating_add(list(alloc, files, path, 1));
+    hits = hits.saturating_add(find(alloc, files, path, turns));
+    hits.saturating_add(find_in_file(alloc, files, path, turns))
+}

@@ -1,0 +1,18 @@
+use Rattle.std.proofs.Common.{◌≡◌, [], ◌∷◌, ◌++◌, List, refl, ◌∙◌, ap, subst, false, IfOk, if◌then◌else◌}
+use Rattle.std.specs.Result.{is_ok}
+use Rattle.gix_ref.specs.declared.transaction.Change.TheVariants.{Update}
+use Rattle.gix_ref.specs.declared.transaction.RefEdit.{RefEdit}
+use Rattle.gix_ref_tests.proofs.store.prepare.update.Goals as goal
+
+-- the list holds the one edit that was put into it
+pub returns : goal.returns
+returns g c =
+    let edit : RefEdit = record { change = Update c.new_in.result c.args.expected c.args.new; name = c.args.name; deref = false } in
+    let room = c.expect-edits.result.items in
+    let empty : room ≡ [] = subst (λ r. IfOk r (λ v. v.items ≡ [])) c.expect-edits.ensures c.with_capacity.ensures.items in
+    record {
+      edit = edit;
+      one = c.push.ensures.items ∙ (ap (λ r. if is_ok r then room ++ edit ∷ [] else room) c.expect.ensures ∙ ap (λ (xs : List RefEdit). xs ++ edit ∷ []) empty);
+      update = refl;
+      no_deref = refl;
+    }

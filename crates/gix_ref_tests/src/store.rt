@@ -1,0 +1,6 @@
+//! The store: loose texts, folders, places and lookups.
+mod find;
+mod folders;
+mod loose;
+mod prepare;
+mod transaction;
