@@ -1,5 +1,5 @@
 -- Locks that a transaction adds to a tree.
-use Rattle.std.proofs.Common.{◌≡◌, ◌⊎◌, inl, inr, ⊎_elim, List, [], ◌∷◌, ◌++◌, Bool, true, false, Option, Some, None, refl, sym, ◌∙◌, ap, subst}
+use Rattle.std.proofs.Common.{◌≡◌, ◌<◌, ◌⊎◌, inl, inr, ⊎_elim, ℕ, zero, suc, length, get_or, arith, List, [], ◌∷◌, ◌++◌, Bool, true, false, Option, Some, None, refl, sym, ◌∙◌, ap, subst}
 use Rattle.std.specs.Prelude.{bytes_eq, ◌||◌}
 use Rattle.std.specs.List.{list_any}
 use Rattle.std.proofs.lemmas.Slice.Eq.{bytes_eq-Decides}
@@ -59,6 +59,12 @@ in_one p q h = ⊎_elim (λ here. same_path p q here) (λ none. false_is_true no
 
 pub in_here : (p q : Path) (ps : List Path) → p ≡ q → is_in (p ∷ ps) q ≡ true
 in_here p q ps e = or_left (bytes_eq p q) (is_in ps q) (is_same_path p q e)
+
+-- what stands at a place of a list is in it
+pub in_at : (ps : List Path) (k : ℕ) (d : Path) → k < length ps → is_in ps (get_or ps k d) ≡ true
+in_at [] k d lt = absurd (omega (arith, lt))
+in_at (p ∷ ps) zero d lt = in_here p p ps refl
+in_at (p ∷ ps) (suc k) d lt = or_right (bytes_eq p (get_or ps k d)) (is_in ps (get_or ps k d)) (in_at ps k d (omega (arith, lt)))
 
 -- two tests that agree at each path of a list
 pub any_same : (P Q : Path → Bool) (ps : List Path) → ((p : Path) → is_in ps p ≡ true → P p ≡ Q p) → list_any P ps ≡ list_any Q ps

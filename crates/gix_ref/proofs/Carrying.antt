@@ -60,7 +60,7 @@ moved_views : (T : Tree) (view : View) (from to : Path) → Views T view → Vie
 moved_views T view from to views =
     put_views (put T from None) (changed_at from None view) to (T from) (view from) (put_views T view from None None views refl) (views.at from)
 
-no_file : (node : Option Content) → is_file node ≡ false → file_of node ≡ None
+pub no_file : (node : Option Content) → is_file node ≡ false → file_of node ≡ None
 no_file (Some (File bytes)) h = absurd (false≢true (sym h))
 no_file (Some Folder) h = refl
 no_file None h = refl

@@ -22,5 +22,9 @@ pub mod Locking
 pub mod Taking
 pub mod Rounds
 pub mod Removing
+pub mod Renames
+pub mod Committing
+pub mod OneUpdate
+pub mod Commits
 pub mod OneEdit
 pub mod Settings

@@ -45,7 +45,7 @@ abbrev pub file_reading : Store → Option (List ℕ) → Reading
 file_reading s None = Absent
 file_reading s (Some bytes) = reading_of_loose s (s.target_of bytes)
 
-no_device : (parts : List (List ℕ)) → list_any (λ (name : List ℕ). false) parts ≡ false
+pub no_device : (parts : List (List ℕ)) → list_any (λ (name : List ℕ). false) parts ≡ false
 no_device [] = refl
 no_device (part ∷ parts) = no_device parts
 

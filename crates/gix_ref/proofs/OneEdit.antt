@@ -36,7 +36,7 @@ not_own_way p = is_false (is_in (fronts p) p) (λ within. nothing (sym (own_unto
     nothing : None ≡ Some Folder → ⊥
     nothing e = cc
 
-no_own_lock : (p : Path) → lock_of p ≢ p
+pub no_own_lock : (p : Path) → lock_of p ≢ p
 no_own_lock p e = let len = ap length e in omega (arith, len, length-append p (codes ".lock"))
 
 pub apart_one : (f : Folders) (o : Options) → AreFolders f → (edits : List RefEdit) → IsOneUpdate edits → AreApart (store_of f o) edits

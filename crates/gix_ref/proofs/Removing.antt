@@ -43,9 +43,13 @@ lock_cases paths path q h =
 pub removes_then : (locks : List Path) (lock : Path) (S T U : Tree) → is_in locks lock ≡ true → RemovesLocks locks S T → RemovesLocks (lock ∷ []) T U → RemovesLocks locks S U
 removes_then locks lock S T U within first second q =
     ⊎_elim
-    (λ same. ⊎_elim (λ old. inl (same ∙ old)) (λ gone. inr (gone.0, same ∙ gone.1)) (first q))
-    (λ gone. inr (subst (λ (p : Path). is_in locks p ≡ true) (in_one lock q gone.0) within, gone.1))
+    (λ same. ⊎_elim (λ old. inl (same ∙ old)) (λ gone. inr (gone.0, same ∙ gone.1, gone.2)) (first q))
+    (λ gone. inr (subst (λ (p : Path). is_in locks p ≡ true) (in_one lock q gone.0) within, gone.1, stood gone.2 (first q)))
     (second q)
+  where
+    stood : is_file (T q) ≡ true → (T q ≡ S q) ⊎ ((is_in locks q ≡ true) × (T q ≡ None) × (is_file (S q) ≡ true)) → is_file (S q) ≡ true
+    stood file (inl same) = ap is_file (sym same) ∙ file
+    stood file (inr gone) = gone.2
 
 pub no_file_then : (lock : Path) (T U : Tree) (q : Path) → RemovesLocks (lock ∷ []) T U → is_file (T q) ≡ false → is_file (U q) ≡ false
 no_file_then lock T U q removes no_file = ⊎_elim (λ same. ap is_file same ∙ no_file) (λ gone. ap is_file gone.1) (removes q)

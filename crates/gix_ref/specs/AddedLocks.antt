@@ -2,7 +2,7 @@
 use Rattle.std.specs.Prelude.{◌≡◌, ◌⊎◌, ℕ, List, Bool, true, Option, Some, None, bytes_eq, map, Vec}
 use Rattle.std.specs.List.{list_any}
 use Rattle.std.specs.declared.alloc.Global.{Global}
-use Rattle.gix_ref_files.specs.Tree.{Tree, Path, Content, fronts}
+use Rattle.gix_ref_files.specs.Tree.{Tree, Path, Content, fronts, is_file}
 use Rattle.gix_ref_files.specs.Tree.Content.{File, Folder}
 
 -- q is one of these
@@ -27,6 +27,6 @@ IsOurs taken all q None = ⊥
 abbrev pub AddsLocks : (taken all : List Path) → Tree → Tree → Type 0
 AddsLocks taken all before T = (q : Path) → (T q ≡ before q) ⊎ ((before q ≡ None) × IsOurs taken all q (T q))
 
--- Nothing changed but that some of these locks are gone.
+-- Nothing changed but that files at some of these locks are gone.
 abbrev pub RemovesLocks : List Path → Tree → Tree → Type 0
-RemovesLocks locks before T = (q : Path) → (T q ≡ before q) ⊎ ((is_in locks q ≡ true) × (T q ≡ None))
+RemovesLocks locks before T = (q : Path) → (T q ≡ before q) ⊎ ((is_in locks q ≡ true) × (T q ≡ None) × (is_file (before q) ≡ true))

@@ -1,6 +1,6 @@
 -- Why `prepare` refuses edits: each cause as a statement on the tree before the call, and the order in which they are told.
 use Rattle.std.specs.Prelude.{◌≡◌, ◌≢◌, ◌⊎◌, ℕ, List, [], true, false, Option, Some, None, IsSome, map, All}
-use Rattle.gix_ref_base.specs.Ids.{id_kind, null_id}
+use Rattle.gix_ref_base.specs.Ids.{id_kind, null_id, IsWhole}
 use Rattle.gix_ref_base.specs.NameGrammar.{IsFullName}
 use Rattle.gix_ref_base.specs.Names.{full_bytes}
 use Rattle.gix_ref_base.specs.Targets.{TargetValue, target_value}
@@ -57,6 +57,11 @@ abbrev pub IsOfKind : Kind → Option TargetValue → Type 0
 IsOfKind kind (Some (object_id id)) = id_kind id ≡ kind
 IsOfKind kind other = Unit {0}
 
+-- a target whose id, if it has one, has as many bytes as its kind says: every target
+abbrev pub IsWholeTarget : Option TargetValue → Type 0
+IsWholeTarget (Some (object_id id)) = IsWhole id
+IsWholeTarget other = Unit {0}
+
 -- both ids of an edit, the new and the expected one
 abbrev pub HasKind : Kind → RefEdit → Type 0
 HasKind kind edit = IsOfKind kind (new_of edit.change) × IsOfKind kind (previous_of (expected_of edit.change))
@@ -65,6 +70,7 @@ pub record IsSound (kind : Kind) (edit : RefEdit) : Type 0 where
   pub safe : is_safe (name_of edit) ≡ true
   pub target : IsFullTarget (new_of edit.change)
   pub kinds : HasKind kind edit
+  pub whole : IsWholeTarget (new_of edit.change)
 
 -- the first of these that does not hold
 abbrev pub IsUnsound : Kind → RefEdit → Error → Type 0

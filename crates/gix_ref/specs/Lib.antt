@@ -20,4 +20,6 @@ pub mod AddedLocks
 pub mod Causes
 pub mod Taken
 pub mod Prepared
+pub mod Committed
+pub mod Committing
 pub mod Transacted

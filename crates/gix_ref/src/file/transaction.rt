@@ -1,19 +1,26 @@
-//! Transactions of references: prepared, with all locks held, and then rolled back. (A commit comes next.)
+//! Transactions of references: prepared, with all locks held, and then committed or rolled back.
 ghost use Rattle.std.specs.Prelude.{◌≡◌, ◌≤◌, ◌⊎◌, [], IfOk, IfErr, vec_len, length};
 ghost use Rattle.std.specs.Vec.{vec_capacity};
 ghost use Rattle.std.specs.Borrow.{sem, RestsIfErr};
+ghost use Rattle.gix_ref_files.specs.Files.{HasRisen};
 ghost use Rattle.gix_ref.specs.AddedLocks.{paths_of};
 ghost use Rattle.gix_ref.specs.Prepared.{IsOneUpdate, RefusesFrom, PreparesFrom, RollsBackFrom};
 
+pub mod commit;
 pub mod prepare;
 pub(crate) mod setting;
 
 use crate::file::store::Store;
+use crate::file::transaction::commit::failure::{failure, take_place};
+use crate::file::transaction::commit::publish::{Unpublished, publish};
+use crate::file::transaction::commit::release::release_locks;
 use crate::file::transaction::prepare::carry::carry_edits;
 use crate::file::transaction::prepare::hold::{Taken, Untaken};
 use crate::file::transaction::prepare::remove::remove_locks;
 use crate::file::transaction::setting::Paths;
+use crate::store::WriteReflog;
 use crate::transaction::RefEdit;
+use gix_ref_base::actor::SignatureRef;
 use gix_ref_files::files::Files;
 use std::alloc::Global;
 use std::fmt;
@@ -47,9 +54,10 @@ pub struct Plan {
     left: Vec<Vec<u8>>,
     pub ghost room: { vec_len paths ≤ vec_capacity left },
     pub ghost none: { vec_len left ≡ 0 },
+    pub ghost len: { vec_len paths ≡ vec_len edits },
 }
 
-/// A transaction whose locks are held. It must be spent, by `rollback`.
+/// A transaction whose locks are held. It must be spent, by `commit` or `rollback`.
 pub struct Prepared<'s, F: Files, P = Plan> {
     store: &'s mut Store<F>,
     plan: P,
@@ -63,6 +71,28 @@ pub struct Refused {
     /// As it was given.
     pub packed_refs: PackedRefs,
     /// The paths of locks that could not be removed again.
+    pub locks_left: Vec<Vec<u8>>,
+}
+
+/// A transaction that was committed.
+#[derive(Debug, Drop)]
+pub struct Done {
+    /// The edits as they were prepared.
+    pub edits: Vec<RefEdit>,
+    /// As it was given.
+    pub packed_refs: PackedRefs,
+    /// The paths of locks that could not be removed.
+    pub locks_left: Vec<Vec<u8>>,
+}
+
+/// A transaction whose commit failed on its way.
+#[derive(Debug, Drop)]
+pub struct Failed {
+    /// Why it ended.
+    pub error: commit::Error,
+    /// As it was given.
+    pub packed_refs: PackedRefs,
+    /// The paths of locks that could not be removed.
     pub locks_left: Vec<Vec<u8>>,
 }
 
@@ -155,8 +185,50 @@ impl<F: Files> Transaction<'_, F> {
 }
 
 impl<F: Files> Prepared<'_, F> {
+    ghost use Rattle.gix_ref.specs.Committing.{left_of, EndsFrom, CommitsFrom, FailsFor};
     ghost use Rattle.gix_ref.specs.Taken.{lock_paths};
     ghost use Rattle.gix_ref.specs.Transacted.{prepared_edits, prepared_paths};
+    ghost use Rattle.gix_ref.specs.Store.{files_of, IsSameStore};
+
+    /// Renames the lock of each reference that changes to its place, in the order of the edits, and removes the other locks.
+    /// At every stop on the way each reference reads as before or as edited. Takes no memory; costs one rename for a
+    /// reference that changes, and one removal for one that has its new object already.
+    ///
+    /// `LockCommit` where a rename failed, `FolderInPlace` where a folder stands at the place of a reference. The edits
+    /// before that one are done then, and the locks are removed but for those that are named. No log line is written yet,
+    /// so the store must write none, and the committer is not looked at.
+    pub fn commit(self, alloc: Global, _committer: Option<SignatureRef<'_>>) -> Result<Done, Failed>
+        requires quiet { self.store.now.write_reflog ≡ WriteReflog.Disable }
+        ensures edits { IfOk result (λ done. done.edits.items ≡ prepared_edits self.entry.plan) }
+        ensures committed { IfOk result (λ done. CommitsFrom F.honest F.means F.faults self.entry.store.now self.exit.0.now (prepared_edits self.entry.plan) (prepared_paths self.entry.plan) (paths_of done.locks_left.items)) }
+        ensures failed { IfErr result (λ f. FailsFor F.honest F.means F.faults self.entry.store.now self.exit.0.now (prepared_edits self.entry.plan) (prepared_paths self.entry.plan) f.error) }
+        ensures ended { EndsFrom F.honest F.means F.faults self.entry.store.now self.exit.0.now (prepared_edits self.entry.plan) (prepared_paths self.entry.plan) (left_of result) }
+        ensures named { (left_of result ≡ []) ⊎ HasRisen (F.faults (files_of self.entry.store.now)) (F.faults (files_of self.exit.0.now)) }
+        ensures same { IsSameStore self.entry.store.now self.exit.0.now }
+    {
+        let Prepared { store, plan } = self;
+        let Plan {
+            edits,
+            packed_refs,
+            mut paths,
+            left,
+        } = plan;
+        if let Err(Unpublished { at, source }) = publish(&mut store.files, &edits, &paths) {
+            let place = take_place(alloc, &mut paths, at);
+            let locks_left = release_locks(&mut store.files, &edits, at, paths, left);
+            return Err(Failed {
+                error: failure(edits, at, place, source),
+                packed_refs,
+                locks_left,
+            });
+        }
+        let locks_left = release_locks(&mut store.files, &edits, edits.len(), paths, left);
+        Ok(Done {
+            edits,
+            packed_refs,
+            locks_left,
+        })
+    }
 
     /// Gives the transaction up: removes its locks, and hands the edits back as they were prepared. A lock that could not
     /// be removed is named. Takes no memory.

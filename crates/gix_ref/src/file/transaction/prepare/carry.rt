@@ -22,7 +22,8 @@ fn carry_edit(edit: &mut RefEdit, was: Option<Target>)
 /// Each edit whose reference was found expects just that.
 pub(crate) fn carry_edits(mut edits: Vec<RefEdit>, mut found: Vec<Option<Target>>) -> Vec<RefEdit>
     requires { vec_len found ≡ vec_len edits }
-    ensures { AreCarried edits.items (map value_of found.items) result.items }
+    ensures len { vec_len result ≡ vec_len edits }
+    ensures carried { AreCarried edits.items (map value_of found.items) result.items }
 {
     for i in 0..edits.len() {
         let was = found[i].take();

@@ -1,15 +1,16 @@
 //! What each edit has to meet by itself.
 ghost use Rattle.std.specs.Prelude.{◌≡◌, ◌↔◌, [], IsTrue, MatchResult, IfErr, Option, Some, None};
 ghost use Rattle.std.specs.Option.{option_map};
+ghost use Rattle.gix_ref_base.specs.Ids.{id_kind, IsWhole};
 ghost use Rattle.gix_ref_base.specs.Targets.{target_ref_value};
-ghost use Rattle.gix_ref.specs.Causes.{IsSound, IsUnsound, AllSound, IsFirstUnsound, IsFullTarget, IsOfKind, HasKind, IsInside};
+ghost use Rattle.gix_ref.specs.Causes.{IsSound, IsUnsound, AllSound, IsFirstUnsound, IsFullTarget, IsOfKind, IsWholeTarget, HasKind, IsInside};
 ghost use Rattle.gix_ref.specs.Spots.{is_safe};
 ghost use Rattle.gix_ref.specs.Transactions.{name_of, new_of};
 
 use crate::file::place::spot_of;
 use crate::file::transaction::prepare::Error;
 use crate::transaction::RefEdit;
-use gix_ref_base::hash::Kind;
+use gix_ref_base::hash::{Kind, ObjectId};
 use gix_ref_base::name::FullNameRef;
 use gix_ref_base::target::TargetRef;
 
@@ -23,19 +24,29 @@ fn is_full_target(new: Option<TargetRef<'_>>) -> bool
     }
 }
 
+/// Whether an id is of the kind: it has as many bytes.
+fn is_id_of(id: &ObjectId, kind: Kind) -> bool
+    ensures of_kind { IsTrue result ↔ (id_kind id.now ≡ kind) }
+    ensures whole { IsWhole id.now }
+{
+    id.as_bytes().len() == kind.len_in_bytes()
+}
+
 /// Whether the id of a target is of the kind.
 fn is_of_kind(target: Option<TargetRef<'_>>, kind: Kind) -> bool
-    ensures { IsTrue result ↔ IsOfKind kind (option_map target_ref_value target.entry) }
+    ensures of_kind { IsTrue result ↔ IsOfKind kind (option_map target_ref_value target.entry) }
+    ensures whole { IsWholeTarget (option_map target_ref_value target.entry) }
 {
     match target {
-        Some(TargetRef::Object(id)) => id.kind() == kind,
+        Some(TargetRef::Object(id)) => is_id_of(&id, kind),
         _ => true,
     }
 }
 
 /// Whether both ids of an edit are of the kind.
 fn has_kind(edit: &RefEdit, kind: Kind) -> bool
-    ensures { IsTrue result ↔ HasKind kind edit.now }
+    ensures kinds { IsTrue result ↔ HasKind kind edit.now }
+    ensures whole { IsWholeTarget (new_of edit.now.change) }
 {
     is_of_kind(edit.change.new_value(), kind) && is_of_kind(edit.change.previous_value(), kind)
 }

@@ -38,6 +38,7 @@ pub(crate) fn reserve(
     setting: &Setting<'_>,
     edits: &[RefEdit],
 ) -> Result<(Vec<Paths>, Vec<Vec<u8>>), AllocError>
+    ensures len { IfOk result (λ r. vec_len r.0 ≡ length edits.now) }
     ensures places { IfOk result (λ r. place_paths r.0.items ≡ places_of (setting_of setting.now) edits.now) }
     ensures locks { IfOk result (λ r. lock_paths r.0.items ≡ locks_of (setting_of setting.now) edits.now) }
     ensures room { IfOk result (λ r. vec_len r.0 ≤ vec_capacity r.1) }

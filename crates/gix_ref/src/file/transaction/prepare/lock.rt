@@ -1,5 +1,5 @@
 //! One lock of a transaction: its paths, taking it, and giving it its text.
-ghost use Rattle.std.specs.Prelude.{◌≡◌, ◌≤◌, ◌⊎◌, ℕ, List, [], ◌∷◌, OnOk, OnErr, IfOk, IfErr, IsSome, Some, true};
+ghost use Rattle.std.specs.Prelude.{◌≡◌, ◌≤◌, ◌⊎◌, ℕ, List, [], ◌∷◌, OnOk, OnErr, IfOk, IfErr, IsSome, Some, true, length, vec_len};
 ghost use Rattle.gix_ref_files.specs.Tree.{Tree, Path, is_blocked, put};
 ghost use Rattle.gix_ref_files.specs.Tree.Content.{File};
 ghost use Rattle.gix_ref_files.specs.Files.{Leaves};
@@ -45,6 +45,7 @@ pub(crate) fn paths_of_edits(
     setting: &Setting<'_>,
     edits: &[RefEdit],
 ) -> Result<Vec<Paths>, AllocError>
+    ensures len { IfOk result (λ paths. vec_len paths ≡ length edits.now) }
     ensures places { IfOk result (λ paths. place_paths paths.items ≡ places_of (setting_of setting.now) edits.now) }
     ensures locks { IfOk result (λ paths. lock_paths paths.items ≡ locks_of (setting_of setting.now) edits.now) }
 {

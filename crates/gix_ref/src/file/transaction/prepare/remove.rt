@@ -1,33 +1,20 @@
 //! The locks of a transaction, removed again.
-ghost use Rattle.std.specs.Prelude.{◌≡◌, ◌≤◌, ◌⊎◌, [], ◌∷◌, IsTrue, true, false, vec_len};
+ghost use Rattle.std.specs.Prelude.{◌≡◌, ◌≤◌, ◌⊎◌, [], true, false, vec_len};
 ghost use Rattle.std.specs.Vec.{vec_capacity};
-ghost use Rattle.std.specs.Bool.{OnFalse};
 ghost use Rattle.gix_ref_files.specs.Tree.{Path, is_file};
 ghost use Rattle.gix_ref_files.specs.Files.{Leaves, HasRisen};
 ghost use Rattle.gix_ref.specs.AddedLocks.{paths_of, RemovesLocks, is_in};
 ghost use Rattle.gix_ref.specs.Taken.{lock_paths};
 
+use crate::file::transaction::commit::release::release_locks;
 use crate::file::transaction::setting::Paths;
 use gix_ref_files::files::Files;
-
-/// Removes one lock; false where it could not.
-fn remove_lock<F: Files>(files: &mut F, lock: &[u8]) -> bool
-    ensures gone { F.honest → IsTrue result → is_file ((F.means files.new).tree lock.now) ≡ false }
-    ensures leaves { F.honest → Leaves (F.means files.old) (F.means files.new) (RemovesLocks (lock.now ∷ []) (F.means files.old).tree) }
-    ensures no_fewer { F.faults files.old ≤ F.faults files.new }
-    ensures counted { OnFalse result (HasRisen (F.faults files.old) (F.faults files.new)) }
-{
-    match files.remove_file(lock) {
-        Ok(_) => true,
-        Err(_) => false,
-    }
-}
 
 /// Removes these locks, and hands back in `left`, which has room for all of them, those that it could not remove.
 pub(crate) fn remove_locks<F: Files>(
     files: &mut F,
-    mut locks: Vec<Paths>,
-    mut left: Vec<Vec<u8>>,
+    locks: Vec<Paths>,
+    left: Vec<Vec<u8>>,
 ) -> Vec<Vec<u8>>
     requires room { vec_len locks ≤ vec_capacity left }
     requires none { left.items ≡ [] }
@@ -37,10 +24,5 @@ pub(crate) fn remove_locks<F: Files>(
     ensures no_fewer { F.faults files.old ≤ F.faults files.new }
     ensures counted { (result.items ≡ []) ⊎ HasRisen (F.faults files.old) (F.faults files.new) }
 {
-    while let Some(lock) = locks.pop() {
-        if !remove_lock(files, &lock.lock) {
-            let _ = left.push(lock.lock);
-        }
-    }
-    left
+    release_locks(files, &[], 0, locks, left)
 }

@@ -1,0 +1,21 @@
+//! Why a transaction is not committed.
+use gix_ref_base::name::FullName;
+use gix_ref_files::files::FileError;
+use thiserror::Error;
+
+/// Why a commit ended. The edits before the one that is told are done.
+#[derive(Debug, Drop, Error)]
+pub enum Error {
+    /// A call of files failed where the lock of the reference was renamed to its place. The reference reads as before or
+    /// as edited.
+    #[error("the lock of {full_name} could not be renamed: {source}")]
+    LockCommit {
+        source: FileError,
+        full_name: FullName,
+    },
+    /// A folder stands where the loose file of a reference goes.
+    #[error("a folder stands in the place of a reference")]
+    FolderInPlace {
+        path: Vec<u8>,
+    },
+}
