@@ -1,5 +1,5 @@
 -- What `prepare` answers and leaves.
-use Rattle.std.specs.Prelude.{◌≡◌, ◌⊎◌, ℕ, List, [], ◌∷◌, true, false, Option, IsSome}
+use Rattle.std.specs.Prelude.{◌≡◌, ◌≤◌, ◌⊎◌, ℕ, List, [], ◌∷◌, true, false, Option, IsSome}
 use Rattle.gix_ref_base.specs.Targets.{TargetValue}
 use Rattle.gix_ref_files.specs.Tree.{Tree, Path, is_file}
 use Rattle.gix_ref_files.specs.Files.{Meaning, Leaves, HasRisen}
@@ -47,6 +47,7 @@ module _ {F : Type 0} (honest : Type 0) (means : F → Meaning) (faults : F → 
     pub texts : honest → HoldTexts (meaning_of old) (tree_of old) (tree_of new) edits
     pub adds : honest → AddsLocks (locks_in old edits) (locks_in old edits) (tree_of old) (tree_of new)
     pub leaves : honest → Leaves (means (files_of old)) (means (files_of new)) (AddsLocks (locks_in old edits) (locks_in old edits) (tree_of old))
+    pub no_fewer : faults (files_of old) ≤ faults (files_of new)
     pub same : IsSameStore old new
 
   -- A transaction that is prepared: its locks are held, its edits carry what was found, and its paths are those of the edits.

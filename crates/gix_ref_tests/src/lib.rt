@@ -19,6 +19,8 @@ mod names;
 mod namespaces;
 #[cfg(test)]
 mod packed;
+#[cfg(test)]
+mod program;
 pub mod publish;
 #[cfg(test)]
 mod store;

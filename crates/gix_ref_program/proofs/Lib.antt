@@ -1,0 +1,4 @@
+pub mod Updating
+pub mod WordLemmas
+pub mod LockLines
+pub mod RunLemmas

@@ -1,0 +1,4 @@
+pub mod Updates
+pub mod Outcomes
+pub mod Words
+pub mod Runs

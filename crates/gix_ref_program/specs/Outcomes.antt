@@ -1,0 +1,95 @@
+-- What the program prints, and its status.
+use Rattle.std.specs.Prelude.{ℕ, List, ◌++◌, codes, Vec}
+use Rattle.std.specs.List.{flat_map}
+use Rattle.std.specs.declared.alloc.Global.{Global}
+use Rattle.hex.specs.Hex.{encode_lower}
+use Rattle.gix_ref_base.specs.Ids.{id_bytes}
+use Rattle.gix_ref_base.specs.Names.{full_bytes}
+use Rattle.gix_ref_base.specs.Targets.{TargetValue, target_value}
+use Rattle.gix_ref_base.specs.Targets.TargetValue.{object_id, symbolic_name}
+use Rattle.gix_ref_base.specs.declared.name.error.Error as names
+use Rattle.gix_ref_base.specs.declared.name.error.Error.TheVariants as name
+use Rattle.gix_ref.specs.declared.file.transaction.prepare.error.Error as prepares
+use Rattle.gix_ref.specs.declared.file.transaction.prepare.error.Error.TheVariants as prepare
+use Rattle.gix_ref.specs.declared.file.transaction.commit.error.Error as commits
+use Rattle.gix_ref.specs.declared.file.transaction.commit.error.Error.TheVariants as commit
+use Rattle.gix_ref.specs.declared.file.find.error.Error as finds
+use Rattle.gix_ref.specs.declared.file.find.error.Error.TheVariants as find
+use Rattle.gix_ref_program.specs.declared.update.Refusal.TheVariants as unmade
+use Rattle.gix_ref_program.specs.declared.refusal.Refusal.{Refusal}
+use Rattle.gix_ref_program.specs.declared.refusal.Refusal.TheVariants as refusals
+use Rattle.gix_ref_program.specs.declared.outcome.Outcome.{Outcome}
+use Rattle.gix_ref_program.specs.declared.outcome.Outcome.TheVariants as outcomes
+
+-- The variants of errors.
+
+abbrev pub name_word : names.Error → List ℕ
+name_word name.Empty = codes "Empty"
+name_word (name.InvalidByte byte) = codes "InvalidByte"
+name_word name.Asterisk = codes "Asterisk"
+name_word name.StartsWithSlash = codes "StartsWithSlash"
+name_word name.EndsWithSlash = codes "EndsWithSlash"
+name_word name.RepeatedSlash = codes "RepeatedSlash"
+name_word name.StartsWithDot = codes "StartsWithDot"
+name_word name.EndsWithDot = codes "EndsWithDot"
+name_word name.RepeatedDot = codes "RepeatedDot"
+name_word name.LockFileSuffix = codes "LockFileSuffix"
+name_word name.ReflogPortion = codes "ReflogPortion"
+name_word name.SingleAt = codes "SingleAt"
+name_word name.SomeLowercase = codes "SomeLowercase"
+name_word name.Memory = codes "Memory"
+
+abbrev pub prepare_word : prepares.Error → List ℕ
+prepare_word prepare.UnsafeName = codes "UnsafeName"
+prepare_word prepare.TargetNotFull = codes "TargetNotFull"
+prepare_word prepare.OtherHashKind = codes "OtherHashKind"
+prepare_word (prepare.PathCollision name) = codes "PathCollision"
+prepare_word (prepare.LockAcquire name) = codes "LockAcquire"
+prepare_word (prepare.MustExist name expected) = codes "MustExist"
+prepare_word (prepare.MustNotExist name actual new) = codes "MustNotExist"
+prepare_word (prepare.ReferenceOutOfDate name expected actual) = codes "ReferenceOutOfDate"
+prepare_word (prepare.Io error) = codes "Io"
+prepare_word prepare.Memory = codes "Memory"
+
+abbrev pub commit_word : commits.Error → List ℕ
+commit_word (commit.LockCommit source name) = codes "LockCommit"
+commit_word (commit.FolderInPlace path) = codes "FolderInPlace"
+
+abbrev pub find_word : finds.Error → List ℕ
+find_word (find.RefnameValidation error) = codes "RefnameValidation"
+find_word (find.ReadFileContents source path) = codes "ReadFileContents"
+find_word (find.ReferenceCreation source path) = codes "ReferenceCreation"
+find_word find.Memory = codes "Memory"
+
+abbrev pub word_of : Refusal → List ℕ
+word_of refusals.PathNotClean = codes "PathNotClean"
+word_of (refusals.Name error) = name_word error
+word_of (refusals.Update (unmade.Prepare error)) = prepare_word error
+word_of (refusals.Update (unmade.Commit error)) = commit_word error
+word_of (refusals.Find error) = find_word error
+word_of refusals.NotFound = codes "NotFound"
+word_of refusals.Memory = codes "Memory"
+
+-- What is printed.
+
+-- a line for each lock that could not be removed
+abbrev pub lock_lines : List (Vec ℕ Global) → List ℕ
+lock_lines locks = flat_map (λ (lock : Vec ℕ Global). codes "lock left: " ++ (lock.items ++ codes "\n")) locks
+
+-- the digits of an id, or `ref: ` and a name
+abbrev pub shown_target : TargetValue → List ℕ
+shown_target (object_id id) = encode_lower (id_bytes id)
+shown_target (symbolic_name name) = codes "ref: " ++ name
+
+abbrev pub printed : Outcome → List ℕ
+printed outcomes.WrongWords = codes "wrong words\n"
+printed (outcomes.Updated locks) = lock_lines locks.items
+printed (outcomes.Shown reference) = shown_target (target_value reference.target) ++ (codes " " ++ (full_bytes reference.name ++ codes "\n"))
+printed (outcomes.Refused refusal locks) = codes "refused: " ++ (word_of refusal ++ (codes "\n" ++ lock_lines locks.items))
+
+-- the status: 0 for what is done, 1 for a refusal, 2 for wrong words
+abbrev pub status_of : Outcome → ℕ
+status_of outcomes.WrongWords = 2
+status_of (outcomes.Updated locks) = 0
+status_of (outcomes.Shown reference) = 0
+status_of (outcomes.Refused refusal locks) = 1

@@ -1,0 +1,168 @@
+-- What a run of the program comes to.
+use Rattle.std.specs.Prelude.{◌≡◌, ◌⊎◌, ℕ, List, [], ◌∷◌, false, codes, Option, Some, None, Result, IfOk}
+use Rattle.std.specs.Io.KnownBytes.{Appends}
+use Rattle.gix_ref_base.specs.Ids.{null_id}
+use Rattle.gix_ref_base.specs.NameGrammar.{full_error, partial_error}
+use Rattle.gix_ref_base.specs.Namespaces.{expanded}
+use Rattle.gix_ref_base.specs.Targets.TargetValue.{object_id}
+use Rattle.gix_ref_base.specs.declared.hash.Kind.{Kind}
+use Rattle.gix_ref_base.specs.declared.hash.ObjectId.{ObjectId}
+use Rattle.gix_ref_files.specs.Tree.{Tree}
+use Rattle.gix_ref_files.specs.Files.{Meaning, Leaves}
+use Rattle.gix_ref.specs.AddedLocks.{paths_of}
+use Rattle.gix_ref.specs.Carried.{view_of}
+use Rattle.gix_ref.specs.Committing.{AreCommitted}
+use Rattle.gix_ref.specs.Lookup.{Finds, FailsBy}
+use Rattle.gix_ref.specs.Prepared.{tree_of}
+use Rattle.gix_ref.specs.Store.{files_of, folders, kind_of, meaning_of}
+use Rattle.gix_ref.specs.Transactions.{name_of, new_of, mode_of, expected_of, matched}
+use Rattle.gix_ref.specs.declared.file.store.Store.{Store}
+use Rattle.gix_ref.specs.declared.store.WriteReflog.TheVariants.{Disable}
+use Rattle.gix_ref.specs.declared.transaction.PreviousValue.{PreviousValue}
+use Rattle.gix_ref.specs.declared.transaction.PreviousValue.TheVariants.{Any, MustNotExist}
+use Rattle.gix_ref.specs.declared.transaction.RefEdit.{RefEdit}
+use Rattle.gix_ref.specs.declared.transaction.RefLog.TheVariants.{AndReference}
+use Rattle.gix_ref_program.specs.Outcomes.{printed, status_of}
+use Rattle.gix_ref_program.specs.Updates.{IsRefusal, IsStopOf}
+use Rattle.gix_ref_program.specs.Words.{Asked, Update, Show, Line, IsLine}
+use Rattle.gix_ref_program.specs.declared.outcome.Outcome.{Outcome}
+use Rattle.gix_ref_program.specs.declared.outcome.Outcome.TheVariants as outcomes
+use Rattle.gix_ref_program.specs.declared.refusal.Refusal.{Refusal}
+use Rattle.gix_ref_program.specs.declared.refusal.Refusal.TheVariants as refusals
+
+-- what an update with this OLD expects: nothing; with the null id, that there is no reference; else this target
+abbrev pub IsExpected : Kind → Option ObjectId → PreviousValue → Type 0
+IsExpected kind None expected = expected ≡ Any
+IsExpected kind (Some old) expected =
+    ((old ≡ null_id kind) × (expected ≡ MustNotExist)) ⊎ ((old ≡ null_id kind → ⊥) × (matched expected ≡ Some (object_id old)))
+
+-- the edit of an update
+pub record IsEditOf (name : List ℕ) (id : ObjectId) (expected : PreviousValue) (edit : RefEdit) : Type 0 where
+  pub name_is : name_of edit ≡ name
+  pub new : new_of edit.change ≡ Some (object_id id)
+  pub mode : mode_of edit.change ≡ AndReference
+  pub no_deref : edit.deref ≡ false
+  pub expects : expected_of edit.change ≡ expected
+
+-- and of one with this OLD
+pub record IsAskedFor (kind : Kind) (name : List ℕ) (id : ObjectId) (old : Option ObjectId) (edit : RefEdit) : Type 0 where
+  pub expected : PreviousValue
+  pub is_expected : IsExpected kind old expected
+  pub is_edit : IsEditOf name id expected edit
+
+-- the namespace that a NAME expands to
+abbrev pub namespace_of : Option (List ℕ) → List ℕ
+namespace_of None = []
+namespace_of (Some name) = expanded name
+
+-- why there is no namespace
+abbrev pub NoNamespace : Option (List ℕ) → Refusal → Type 0
+NoNamespace (Some name) (refusals.Name error) = partial_error name ≡ Some error
+NoNamespace name refusals.Memory = Unit {0}
+NoNamespace name refusal = ⊥
+
+-- why there is no edit
+abbrev pub NoEdit : List ℕ → Refusal → Type 0
+NoEdit name (refusals.Name error) = full_error name ≡ Some error
+NoEdit name refusals.Memory = Unit {0}
+NoEdit name refusal = ⊥
+
+-- why there is no store in a folder
+abbrev pub IsNoFolder : Refusal → Type 0
+IsNoFolder refusals.PathNotClean = Unit {0}
+IsNoFolder refusals.Memory = Unit {0}
+IsNoFolder refusal = ⊥
+
+-- why a line is not begun: its folder, its namespace, or no memory
+abbrev pub IsUnopened : Line → Refusal → Type 0
+IsUnopened line refusal = IsNoFolder refusal ⊎ NoNamespace line.namespace refusal
+
+module _ {F : Type 0} where
+  -- a store in a folder, without a namespace, which writes no log lines
+  pub record IsAt (files : F) (dir : List ℕ) (kind : Kind) (store : Store F) : Type 0 where
+    pub files_are : files_of store ≡ files
+    pub git : (folders store).git ≡ dir
+    pub common : (folders store).common ≡ dir
+    pub of_kind : kind_of store ≡ kind
+    pub quiet : store.write_reflog ≡ Disable
+
+  -- the store of a line, which writes no log lines
+  pub record IsOpened (files : F) (line : Line) (store : Store F) : Type 0 where
+    pub files_are : files_of store ≡ files
+    pub git : (folders store).git ≡ line.dir
+    pub common : (folders store).common ≡ line.dir
+    pub namespace : (folders store).namespace ≡ namespace_of line.namespace
+    pub of_kind : kind_of store ≡ line.kind
+    pub quiet : store.write_reflog ≡ Disable
+
+  module _ (honest : Type 0) (means : F → Meaning) (faults : F → ℕ) where
+    -- An update: it is committed, but for locks that stay; or its name is no full name; or it was refused; or there was no memory.
+    abbrev pub UpdateComesTo : (old new : Store F) → Kind → (name : List ℕ) → ObjectId → Option ObjectId → Outcome → Type 0
+    UpdateComesTo old new kind name id before (outcomes.Updated locks) =
+        (edit : RefEdit) × IsAskedFor kind name id before edit
+        × (honest → AreCommitted (meaning_of old) (edit ∷ []) (tree_of honest means faults old) (paths_of locks.items) (tree_of honest means faults new))
+    UpdateComesTo old new kind name id before (outcomes.Refused (refusals.Update unmade) locks) =
+        (edit : RefEdit) × IsAskedFor kind name id before edit
+        × IsRefusal honest means faults old new (edit ∷ []) unmade
+    UpdateComesTo old new kind name id before (outcomes.Refused (refusals.Name error) locks) = (full_error name ≡ Some error) × (new ≡ old)
+    UpdateComesTo old new kind name id before (outcomes.Refused refusals.Memory locks) = new ≡ old
+    UpdateComesTo old new kind name id before outcome = ⊥
+
+    -- A lookup: what it finds is shown; or there is nothing; or it fails; or its name breaks a rule.
+    abbrev pub ShowComesTo : (old new : Store F) → (name : List ℕ) → Outcome → Type 0
+    ShowComesTo old new name (outcomes.Shown reference) = honest → Finds (meaning_of old) (view_of (tree_of honest means faults old)) name (Some reference)
+    ShowComesTo old new name (outcomes.Refused refusals.NotFound locks) = honest → Finds (meaning_of old) (view_of (tree_of honest means faults old)) name None
+    ShowComesTo old new name (outcomes.Refused (refusals.Find error) locks) =
+        FailsBy honest (meaning_of old) (view_of (tree_of honest means faults old)) name (faults (files_of old)) (faults (files_of new)) error
+    ShowComesTo old new name (outcomes.Refused (refusals.Name error) locks) = partial_error name ≡ Some error
+    ShowComesTo old new name outcome = ⊥
+
+    abbrev pub ComesTo : (old new : Store F) → Kind → Asked → Outcome → Type 0
+    ComesTo old new kind (Update name id before) outcome = UpdateComesTo old new kind name id before outcome
+    ComesTo old new kind (Show name) outcome = ShowComesTo old new name outcome
+
+    -- a stop in a command leaves this tree: as before; or of an update what a stop in it leaves
+    abbrev pub IsStop : Store F → Kind → Asked → Tree → Type 0
+    IsStop old kind (Update name id before) T =
+        (T ≡ tree_of honest means faults old)
+        ⊎ ((edit : RefEdit) × IsAskedFor kind name id before edit × IsStopOf (meaning_of old) (edit ∷ []) (tree_of honest means faults old) T)
+    IsStop old kind (Show name) T = T ≡ tree_of honest means faults old
+
+    -- a line that is not begun
+    abbrev pub NotBegun : Line → Outcome → Type 0
+    NotBegun line (outcomes.Refused refusal locks) = IsUnopened line refusal
+    NotBegun line outcome = ⊥
+
+    -- what a line comes to: it is begun in its store, or it is not, and the files are as before
+    abbrev pub LineComesTo : (files after : F) → Line → Outcome → Type 0
+    LineComesTo files after line outcome =
+        ((old : Store F) × (new : Store F) × IsOpened files line old × (files_of new ≡ after) × ComesTo old new line.kind line.asked outcome)
+        ⊎ ((after ≡ files) × NotBegun line outcome)
+
+    -- an update that was asked for comes to this
+    abbrev pub EditComesTo : (old new : Store F) → RefEdit → Outcome → Type 0
+    EditComesTo old new edit (outcomes.Updated locks) =
+        honest → AreCommitted (meaning_of old) (edit ∷ []) (tree_of honest means faults old) (paths_of locks.items) (tree_of honest means faults new)
+    EditComesTo old new edit (outcomes.Refused (refusals.Update unmade) locks) = IsRefusal honest means faults old new (edit ∷ []) unmade
+    EditComesTo old new edit (outcomes.Refused refusals.Memory locks) = new ≡ old
+    EditComesTo old new edit outcome = ⊥
+
+    -- a stop in a line leaves this tree: as before, or what a stop in its command leaves
+    abbrev pub IsStopIn : F → Line → Tree → Type 0
+    IsStopIn files line T =
+        (T ≡ (means files).tree) ⊎ ((old : Store F) × IsOpened files line old × IsStop old line.kind line.asked T)
+
+    -- A run of words that are no line: nothing changes, and it says so.
+    pub record RunsWrong {E : Type 0} (files after : F) (words : List (List ℕ)) (out now : Option (List ℕ)) (status : Result ℕ E) : Type 0 where
+      pub no_line : (line : Line) → IsLine words line → ⊥
+      pub same : after ≡ files
+      pub told : IfOk status (λ s. (s ≡ 2) × Appends out now (codes "wrong words\n"))
+
+    -- A run of a line: what it comes to is printed, and told by the status; and each stop leaves what a stop in the line leaves.
+    pub record RunsLine {E : Type 0} (files after : F) (words : List (List ℕ)) (out now : Option (List ℕ)) (status : Result ℕ E) : Type 0 where
+      pub line : Line
+      pub outcome : Outcome
+      pub is_line : IsLine words line
+      pub comes_to : LineComesTo files after line outcome
+      pub told : IfOk status (λ s. (s ≡ status_of outcome) × Appends out now (printed outcome))
+      pub leaves : honest → Leaves (means files) (means after) (IsStopIn files line)

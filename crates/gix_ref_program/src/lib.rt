@@ -1,0 +1,8 @@
+//! What the program `refs` does: its words, its commands and what it prints.
+#![tactic(auto)]
+
+pub mod outcome;
+pub mod refusal;
+pub mod run;
+pub mod update;
+pub mod words;

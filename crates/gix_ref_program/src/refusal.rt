@@ -1,0 +1,104 @@
+//! Why a line is refused, and the name under which that is told: the variant of the error.
+ghost use Rattle.std.specs.Prelude.{◌≡◌};
+ghost use Rattle.gix_ref_program.specs.Outcomes.{name_word, prepare_word, commit_word, find_word, word_of};
+
+use crate::update::Refusal as Unmade;
+use gix_ref::file::find;
+use gix_ref::file::transaction::{commit, prepare};
+use gix_ref_base::name;
+
+/// Why a line is refused.
+#[derive(Debug, Drop)]
+pub enum Refusal {
+    /// The folder is not a clean path.
+    PathNotClean,
+    /// A NAME breaks a rule of names.
+    Name(name::Error),
+    /// The update was not made.
+    Update(Unmade),
+    /// The lookup failed.
+    Find(find::Error),
+    /// There is no such reference.
+    NotFound,
+    /// A growth of memory was refused.
+    Memory,
+}
+
+/// The variant of an error of names.
+fn name_variant(error: &name::Error) -> &'static str
+    ensures { result.now ≡ name_word error.now }
+{
+    match error {
+        name::Error::Empty => "Empty",
+        name::Error::InvalidByte { .. } => "InvalidByte",
+        name::Error::Asterisk => "Asterisk",
+        name::Error::StartsWithSlash => "StartsWithSlash",
+        name::Error::EndsWithSlash => "EndsWithSlash",
+        name::Error::RepeatedSlash => "RepeatedSlash",
+        name::Error::StartsWithDot => "StartsWithDot",
+        name::Error::EndsWithDot => "EndsWithDot",
+        name::Error::RepeatedDot => "RepeatedDot",
+        name::Error::LockFileSuffix => "LockFileSuffix",
+        name::Error::ReflogPortion => "ReflogPortion",
+        name::Error::SingleAt => "SingleAt",
+        name::Error::SomeLowercase => "SomeLowercase",
+        name::Error::Memory => "Memory",
+    }
+}
+
+/// The variant of a refusal of `prepare`.
+fn prepare_variant(error: &prepare::Error) -> &'static str
+    ensures { result.now ≡ prepare_word error.now }
+{
+    match error {
+        prepare::Error::UnsafeName => "UnsafeName",
+        prepare::Error::TargetNotFull => "TargetNotFull",
+        prepare::Error::OtherHashKind => "OtherHashKind",
+        prepare::Error::PathCollision { .. } => "PathCollision",
+        prepare::Error::LockAcquire { .. } => "LockAcquire",
+        prepare::Error::MustExist { .. } => "MustExist",
+        prepare::Error::MustNotExist { .. } => "MustNotExist",
+        prepare::Error::ReferenceOutOfDate { .. } => "ReferenceOutOfDate",
+        prepare::Error::Io(_) => "Io",
+        prepare::Error::Memory => "Memory",
+    }
+}
+
+/// The variant of an error of `commit`.
+fn commit_variant(error: &commit::Error) -> &'static str
+    ensures { result.now ≡ commit_word error.now }
+{
+    match error {
+        commit::Error::LockCommit { .. } => "LockCommit",
+        commit::Error::FolderInPlace { .. } => "FolderInPlace",
+    }
+}
+
+/// The variant of an error of a lookup.
+fn find_variant(error: &find::Error) -> &'static str
+    ensures { result.now ≡ find_word error.now }
+{
+    match error {
+        find::Error::RefnameValidation(_) => "RefnameValidation",
+        find::Error::ReadFileContents { .. } => "ReadFileContents",
+        find::Error::ReferenceCreation { .. } => "ReferenceCreation",
+        find::Error::Memory => "Memory",
+    }
+}
+
+impl Refusal {
+    /// The variant of the error, as the program tells it.
+    pub fn variant(&self) -> &'static str
+        ensures { result.now ≡ word_of self.now }
+    {
+        match self {
+            Refusal::PathNotClean => "PathNotClean",
+            Refusal::Name(error) => name_variant(error),
+            Refusal::Update(Unmade::Prepare(error)) => prepare_variant(error),
+            Refusal::Update(Unmade::Commit(error)) => commit_variant(error),
+            Refusal::Find(error) => find_variant(error),
+            Refusal::NotFound => "NotFound",
+            Refusal::Memory => "Memory",
+        }
+    }
+}

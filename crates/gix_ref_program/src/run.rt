@@ -1,0 +1,269 @@
+//! One run of the program, over any files.
+ghost use Rattle.std.specs.Prelude.{◌≡◌, ◌⊎◌, [], ◌∷◌, false, IsSome, IfOk, MatchResult};
+ghost use Rattle.std.specs.Option.{option_map};
+ghost use Rattle.gix_ref.specs.Folders.{namespace_text};
+ghost use Rattle.gix_ref.specs.Store.{files_of, meaning_of};
+ghost use Rattle.gix_ref.specs.Prepared.{tree_of};
+ghost use Rattle.gix_ref.specs.Transactions.{new_of};
+ghost use Rattle.gix_ref_files.specs.Calls.{Only};
+ghost use Rattle.gix_ref_files.specs.Files.{Leaves};
+ghost use Rattle.gix_ref_program.specs.Runs.{IsExpected, IsEditOf, NoNamespace, NoEdit, IsNoFolder, IsAt, namespace_of, IsOpened, EditComesTo, ShowComesTo, ComesTo, IsStop, IsUnopened, LineComesTo, IsStopIn, RunsWrong, RunsLine};
+ghost use Rattle.gix_ref_program.specs.Updates.{IsStopOf};
+ghost use Rattle.gix_ref_program.specs.Words.{texts, line_of, asked_of};
+
+use crate::outcome::{Outcome, print};
+use crate::refusal::Refusal;
+use crate::update::{Updated, update};
+use crate::words::{Command, Line, parse};
+use gix_ref::file::transaction::PackedRefs;
+use gix_ref::file::{Store, store};
+use gix_ref::store::{Options, WriteReflog};
+use gix_ref::transaction::{Change, LogChange, PreviousValue, RefEdit};
+use gix_ref_base::hash::{Kind, ObjectId};
+use gix_ref_base::name::{FullNameRef, PartialNameRef};
+use gix_ref_base::namespace::{Namespace, expand};
+use gix_ref_base::target::Target;
+use gix_ref_files::files::Files;
+use std::alloc::{AllocError, Global};
+use std::io;
+use std::io::Write;
+
+/// What a run hands back.
+#[derive(Drop)]
+pub struct Ran<F> {
+    /// The files, as the run left them.
+    pub files: F,
+    /// As it was given.
+    pub packed_refs: PackedRefs,
+    /// The status with which the program ends, or the error of the writer.
+    pub status: io::Result<u8>,
+}
+
+/// The namespace that a NAME expands to, if there is one.
+fn expanded(alloc: Global, name: Option<&[u8]>) -> Result<Option<Namespace>, Refusal>
+    ensures { MatchResult result (λ n. namespace_text n ≡ namespace_of (option_map (λ text. text.now) name.entry)) (NoNamespace (option_map (λ text. text.now) name.entry)) }
+{
+    let Some(name) = name else {
+        return Ok(None);
+    };
+    match PartialNameRef::try_from(name) {
+        Ok(name) => match expand(alloc, name) {
+            Ok(namespace) => Ok(Some(namespace)),
+            Err(_) => Err(Refusal::Memory),
+        },
+        Err(error) => Err(Refusal::Name(error)),
+    }
+}
+
+/// The store of a folder, which writes no log lines. A refusal hands the files back.
+fn at<F>(alloc: Global, files: F, dir: &[u8], kind: Kind) -> Result<Store<F>, (F, Refusal)>
+    ensures { MatchResult result (IsAt files dir.now kind) (λ r. (r.0 ≡ files) × IsNoFolder r.1) }
+{
+    let Ok(git_dir) = dir.to_vec(alloc) else {
+        return Err((files, Refusal::Memory));
+    };
+    let options = Options {
+        write_reflog: WriteReflog::Disable,
+        precompose_unicode: false,
+        prohibit_windows_device_names: false,
+    };
+    match Store::at_opts(files, git_dir, kind, options) {
+        Ok(store) => Ok(store),
+        Err(store::Error::PathNotClean { files }) => Err((files, Refusal::PathNotClean)),
+        Err(store::Error::FoldersMeet { files }) => Err((files, Refusal::PathNotClean)),
+    }
+}
+
+/// The store of a line, in its namespace. A refusal hands the files back.
+fn open<F>(alloc: Global, files: F, line: &Line<'_>) -> Result<Store<F>, (F, Refusal)>
+    ensures { MatchResult result (IsOpened files (line_of line.now)) (λ r. (r.0 ≡ files) × IsUnopened (line_of line.now) r.1) }
+{
+    let mut store = at(alloc, files, line.dir, line.object_hash)?;
+    match expanded(alloc, line.namespace) {
+        Ok(namespace) => {
+            store.namespace = namespace;
+            Ok(store)
+        }
+        Err(refusal) => Err((store.into_files(), refusal)),
+    }
+}
+
+/// What an update with this OLD expects: the null id that there is no reference, another id that the reference has it.
+fn expected(old: Option<ObjectId>, kind: Kind) -> PreviousValue
+    ensures { IsExpected kind old result }
+{
+    match old {
+        None => PreviousValue::Any,
+        Some(id) if id == kind.null() => PreviousValue::MustNotExist,
+        Some(id) => PreviousValue::MustExistAndMatch(Target::Object(id)),
+    }
+}
+
+/// The edit of an update.
+fn edit_of(
+    alloc: Global,
+    name: &[u8],
+    id: ObjectId,
+    expected: PreviousValue,
+) -> Result<RefEdit, Refusal>
+    ensures { MatchResult result (IsEditOf name.now id expected) (NoEdit name.now) }
+{
+    let name = match FullNameRef::try_from(name) {
+        Ok(name) => name,
+        Err(error) => return Err(Refusal::Name(error)),
+    };
+    let Ok(name) = name.to_owned(alloc) else {
+        return Err(Refusal::Memory);
+    };
+    Ok(RefEdit {
+        change: Change::Update {
+            log: LogChange::new_in(alloc),
+            expected,
+            new: Target::Object(id),
+        },
+        name,
+        deref: false,
+    })
+}
+
+/// A refusal that leaves no lock.
+fn refused(alloc: Global, refusal: Refusal) -> Outcome
+    ensures { (locks : _) × (result ≡ Outcome.Refused refusal locks) × (locks.items ≡ []) }
+{
+    Outcome::Refused {
+        refusal,
+        locks_left: Vec::new(alloc),
+    }
+}
+
+/// The list of one edit.
+fn alone(alloc: Global, edit: RefEdit) -> Result<Vec<RefEdit>, AllocError>
+    ensures { IfOk result (λ edits. edits.items ≡ edit ∷ []) }
+{
+    let mut edits = Vec::with_capacity(alloc, 1)?;
+    edits.push(edit).map_err(AllocError::from)?;
+    Ok(edits)
+}
+
+/// Makes an update.
+fn make_update<F: Files>(
+    alloc: Global,
+    store: &mut Store<F>,
+    packed_refs: PackedRefs,
+    edit: RefEdit,
+) -> (PackedRefs, Outcome)
+    requires quiet { store.old.write_reflog ≡ WriteReflog.Disable }
+    requires update { IsSome (new_of edit.change) }
+    requires no_deref { edit.deref ≡ false }
+    ensures outcome { EditComesTo F.honest F.means F.faults store.old store.new edit result.1 }
+    ensures leaves { F.honest → Leaves (F.means (files_of store.old)) (F.means (files_of store.new)) (λ T. (T ≡ tree_of F.honest F.means F.faults store.old) ⊎ IsStopOf (meaning_of store.old) (edit ∷ []) (tree_of F.honest F.means F.faults store.old) T) }
+{
+    let Ok(edits) = alone(alloc, edit) else {
+        return (packed_refs, refused(alloc, Refusal::Memory));
+    };
+    let Updated {
+        refusal,
+        packed_refs,
+        locks_left,
+    } = update(alloc, store, packed_refs, edits);
+    let outcome = match refusal {
+        None => Outcome::Updated { locks_left },
+        Some(unmade) => Outcome::Refused {
+            refusal: Refusal::Update(unmade),
+            locks_left,
+        },
+    };
+    (packed_refs, outcome)
+}
+
+/// Shows a reference.
+fn show<F: Files>(alloc: Global, store: &mut Store<F>, name: &[u8]) -> Outcome
+    ensures outcome { ShowComesTo F.honest F.means F.faults store.old store.new name.now result }
+    ensures leaves { F.honest → Leaves (F.means (files_of store.old)) (F.means (files_of store.new)) (Only (F.means (files_of store.old)).tree) }
+{
+    let name = match PartialNameRef::try_from(name) {
+        Ok(name) => name,
+        Err(error) => return refused(alloc, Refusal::Name(error)),
+    };
+    match store.try_find(alloc, name) {
+        Ok(Some(reference)) => Outcome::Shown(reference),
+        Ok(None) => refused(alloc, Refusal::NotFound),
+        Err(error) => refused(alloc, Refusal::Find(error)),
+    }
+}
+
+/// Does what a command asks for.
+fn perform<F: Files>(
+    alloc: Global,
+    store: &mut Store<F>,
+    packed_refs: PackedRefs,
+    kind: Kind,
+    command: &Command<'_>,
+) -> (PackedRefs, Outcome)
+    requires quiet { store.old.write_reflog ≡ WriteReflog.Disable }
+    ensures outcome { ComesTo F.honest F.means F.faults store.old store.new kind (asked_of command.now) result.1 }
+    ensures leaves { F.honest → Leaves (F.means (files_of store.old)) (F.means (files_of store.new)) (IsStop F.honest F.means F.faults store.old kind (asked_of command.now)) }
+{
+    match command {
+        Command::Show { name } => (packed_refs, show(alloc, store, name)),
+        Command::Update { name, id, old } => match edit_of(alloc, name, *id, expected(*old, kind)) {
+            Ok(edit) => make_update(alloc, store, packed_refs, edit),
+            Err(refusal) => (packed_refs, refused(alloc, refusal)),
+        },
+    }
+}
+
+/// Does what a line asks for, and hands the files back.
+fn follow<F: Files>(
+    alloc: Global,
+    files: F,
+    packed_refs: PackedRefs,
+    line: &Line<'_>,
+) -> (F, PackedRefs, Outcome)
+    ensures outcome { LineComesTo F.honest F.means F.faults files result.0 (line_of line.now) result.2 }
+    ensures leaves { F.honest → Leaves (F.means files) (F.means result.0) (IsStopIn F.honest F.means F.faults files (line_of line.now)) }
+{
+    match open(alloc, files, line) {
+        Ok(mut store) => {
+            let (packed_refs, outcome) = perform(
+                alloc,
+                &mut store,
+                packed_refs,
+                line.object_hash,
+                &line.command,
+            );
+            (store.into_files(), packed_refs, outcome)
+        }
+        Err((files, refusal)) => (files, packed_refs, refused(alloc, refusal)),
+    }
+}
+
+/// Does what the words ask for, and prints what it came to in one write: nothing for an update that was made, a target
+/// and a name for a reference that is shown, else `refused: ` and the variant of the error, or `wrong words`; and a
+/// line for each lock that could not be removed. The status is 0, 1 for a refusal, 2 for wrong words.
+pub fn run<F: Files, W: Write>(
+    alloc: Global,
+    files: F,
+    packed_refs: PackedRefs,
+    words: &[String],
+    out: &mut W,
+) -> Ran<F>
+    ensures { RunsWrong F.honest F.means F.faults files result.files (texts words.now) (W.contents out.old) (W.contents out.new) result.status
+        ⊎ RunsLine F.honest F.means F.faults files result.files (texts words.now) (W.contents out.old) (W.contents out.new) result.status }
+{
+    let Some(line) = parse(words) else {
+        let status = print(alloc, Outcome::WrongWords, out);
+        return Ran {
+            files,
+            packed_refs,
+            status,
+        };
+    };
+    let (files, packed_refs, outcome) = follow(alloc, files, packed_refs, &line);
+    let status = print(alloc, outcome, out);
+    Ran {
+        files,
+        packed_refs,
+        status,
+    }
+}

@@ -1,0 +1,103 @@
+//! An update from its preparation to its commit.
+ghost use Rattle.std.specs.Prelude.{◌≡◌, ◌⊎◌, [], None, IfSome};
+ghost use Rattle.gix_ref_files.specs.Files.{Leaves, HasRisen};
+ghost use Rattle.gix_ref.specs.AddedLocks.{paths_of};
+ghost use Rattle.gix_ref.specs.Committing.{AreCommitted, left_of};
+ghost use Rattle.gix_ref.specs.Prepared.{IsOneUpdate, tree_of};
+ghost use Rattle.gix_ref.specs.Store.{files_of, meaning_of, IsSameStore};
+ghost use Rattle.gix_ref_program.specs.Updates.{IsStopOf, IsRefusal, refusal_of};
+
+use gix_ref::file::Store;
+use gix_ref::file::transaction::{Done, Failed, PackedRefs, Refused, commit, prepare};
+use gix_ref::store::WriteReflog;
+use gix_ref::transaction::RefEdit;
+use gix_ref_files::files::Files;
+use std::alloc::Global;
+
+/// Why an update was not made.
+#[derive(Debug, Drop)]
+pub enum Refusal {
+    /// It was not prepared.
+    Prepare(prepare::Error),
+    /// Its commit failed.
+    Commit(commit::Error),
+}
+
+/// What became of an update.
+#[derive(Debug, Drop)]
+pub struct Updated {
+    /// Why it was not made; none where it was.
+    pub refusal: Option<Refusal>,
+    /// What the transaction was to do with `packed-refs`.
+    pub packed_refs: PackedRefs,
+    /// The paths of locks that could not be removed.
+    pub locks_left: Vec<Vec<u8>>,
+}
+
+/// Prepares one update, and commits it. The store writes no log line.
+///
+/// The answer tells why it was not made: the first cause against it, or what stopped its commit. Each lock that could not
+/// be removed is named. Costs what `prepare` and `commit` do.
+pub fn update<F: Files>(
+    alloc: Global,
+    store: &mut Store<F>,
+    packed_refs: PackedRefs,
+    edits: Vec<RefEdit>,
+) -> Updated
+    requires one { IsOneUpdate edits.items }
+    requires quiet { store.old.write_reflog ≡ WriteReflog.Disable }
+    ensures done { F.honest → result.refusal ≡ None → AreCommitted (meaning_of store.old) edits.items (tree_of F.honest F.means F.faults store.old) (paths_of result.locks_left.items) (tree_of F.honest F.means F.faults store.new) }
+    ensures refused { IfSome result.refusal (IsRefusal F.honest F.means F.faults store.old store.new edits.items) }
+    ensures leaves { F.honest → Leaves (F.means (files_of store.old)) (F.means (files_of store.new)) (IsStopOf (meaning_of store.old) edits.items (tree_of F.honest F.means F.faults store.old)) }
+    ensures named { (result.locks_left.items ≡ []) ⊎ HasRisen (F.faults (files_of store.old)) (F.faults (files_of store.new)) }
+    ensures same { IsSameStore store.old store.new }
+{
+    match store.transaction(packed_refs).prepare(alloc, edits) {
+        Err(refused) => {
+            let Refused {
+                error,
+                packed_refs,
+                locks_left,
+            } = refused;
+            Updated {
+                refusal: Some(Refusal::Prepare(error)),
+                packed_refs,
+                locks_left,
+            }
+        }
+        Ok(prepared) => told(prepared.commit(alloc, None)),
+    }
+}
+
+/// What a commit answers.
+fn told(answer: Result<Done, Failed>) -> Updated
+    ensures refusal { result.refusal ≡ refusal_of answer }
+    ensures left { paths_of result.locks_left.items ≡ left_of answer }
+{
+    match answer {
+        Ok(done) => {
+            let Done {
+                edits: _edits,
+                packed_refs,
+                locks_left,
+            } = done;
+            Updated {
+                refusal: None,
+                packed_refs,
+                locks_left,
+            }
+        }
+        Err(failed) => {
+            let Failed {
+                error,
+                packed_refs,
+                locks_left,
+            } = failed;
+            Updated {
+                refusal: Some(Refusal::Commit(error)),
+                packed_refs,
+                locks_left,
+            }
+        }
+    }
+}

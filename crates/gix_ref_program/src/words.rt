@@ -1,0 +1,144 @@
+//! The words of the program: `DIR [--sha256] [--namespace NAME] COMMAND`, where a command is `update NAME ID [OLD]` or
+//! `show NAME`.
+ghost use Rattle.std.specs.Prelude.{◌≡◌, ◌++◌, ℕ, List, MatchOption, Option, codes, ◌∷◌, [], false};
+ghost use Rattle.std.specs.Option.{option_map};
+ghost use Rattle.gix_ref_base.specs.declared.hash.ObjectId.{ObjectId};
+ghost use Rattle.gix_ref_program.specs.Words.{Asked, Line as AskedLine, texts, first_is, IsOld, IsUpdate, IsCommand, HasOptions, IsLine, kind_words, asked_of, line_of};
+
+use gix_ref_base::hash::{Kind, ObjectId};
+
+/// What a line asks for.
+#[derive(Clone, Copy, Debug)]
+pub enum Command<'w> {
+    /// `update NAME ID [OLD]`
+    Update {
+        name: &'w [u8],
+        id: ObjectId,
+        old: Option<ObjectId>,
+    },
+    /// `show NAME`
+    Show {
+        name: &'w [u8],
+    },
+}
+
+/// The words of a line.
+#[derive(Clone, Copy, Debug)]
+pub struct Line<'w> {
+    /// The git folder, which is the common folder too.
+    pub dir: &'w [u8],
+    /// The kind of the store's ids: SHA-256 with `--sha256`.
+    pub object_hash: Kind,
+    /// The NAME of `--namespace`.
+    pub namespace: Option<&'w [u8]>,
+    pub command: Command<'w>,
+}
+
+/// The words behind the first, if that is this one.
+fn strip_word<'w>(words: &'w [String], word: &[u8]) -> Option<&'w [String]>
+    ensures { MatchOption result (first_is (texts words.now) word.now ≡ false) (λ rest. texts words.now ≡ word.now ∷ texts rest.now) }
+{
+    match words.split_first() {
+        Some((first, rest)) if first.as_bytes() == word => Some(rest),
+        _ => None,
+    }
+}
+
+/// `[OLD]`: the first `None` is for other words.
+fn old_of(words: &[String]) -> Option<Option<ObjectId>>
+    ensures { MatchOption result ((old : Option ObjectId) → IsOld (texts words.now) old → ⊥) (IsOld (texts words.now)) }
+{
+    let Some((digits, rest)) = words.split_first() else {
+        return Some(None);
+    };
+    if !rest.is_empty() {
+        return None;
+    }
+    let Some(id) = ObjectId::from_hex(digits.as_bytes()) else {
+        return None;
+    };
+    Some(Some(id))
+}
+
+/// `NAME ID [OLD]`, where NAME is not the option `--deref`.
+fn update_of(words: &[String]) -> Option<Command<'_>>
+    ensures { MatchOption result ((name : List ℕ) (id : ObjectId) (old : Option ObjectId) → IsUpdate (texts words.now) name id old → ⊥) (λ command. IsCommand (codes "update" ∷ texts words.now) (asked_of command)) }
+{
+    let (name, rest) = words.split_first()?;
+    if name.as_bytes() == b"--deref".as_slice() {
+        return None;
+    }
+    let (digits, rest) = rest.split_first()?;
+    let Some(id) = ObjectId::from_hex(digits.as_bytes()) else {
+        return None;
+    };
+    let old = old_of(rest)?;
+    Some(Command::Update {
+        name: name.as_bytes(),
+        id,
+        old,
+    })
+}
+
+/// `NAME`.
+fn show_of(words: &[String]) -> Option<Command<'_>>
+    ensures { MatchOption result ((name : List ℕ) → texts words.now ≡ name ∷ [] → ⊥) (λ command. IsCommand (codes "show" ∷ texts words.now) (asked_of command)) }
+{
+    let (name, rest) = words.split_first()?;
+    if !rest.is_empty() {
+        return None;
+    }
+    Some(Command::Show {
+        name: name.as_bytes(),
+    })
+}
+
+/// The command of these words.
+fn command_of(words: &[String]) -> Option<Command<'_>>
+    ensures { MatchOption result ((asked : Asked) → IsCommand (texts words.now) asked → ⊥) (λ command. IsCommand (texts words.now) (asked_of command)) }
+{
+    if let Some(rest) = strip_word(words, b"update") {
+        return update_of(rest);
+    }
+    show_of(strip_word(words, b"show")?)
+}
+
+/// The NAME of `--namespace`, if that comes first, and the command that follows.
+fn options_of(words: &[String]) -> Option<(Option<&[u8]>, Command<'_>)>
+    ensures { MatchOption result ((namespace : Option (List ℕ)) (asked : Asked) → HasOptions (texts words.now) namespace asked → ⊥) (λ options. HasOptions (texts words.now) (option_map (λ name. name.now) options.0) (asked_of options.1)) }
+{
+    let Some(rest) = strip_word(words, b"--namespace") else {
+        return Some((None, command_of(words)?));
+    };
+    let (name, rest) = rest.split_first()?;
+    Some((Some(name.as_bytes()), command_of(rest)?))
+}
+
+/// The kind of ids, and the words behind the option for it.
+fn kind_of(words: &[String]) -> (Kind, &[String])
+    ensures words { texts words.now ≡ kind_words result.0 ++ texts result.1.now }
+    ensures option { result.0 ≡ Kind.Sha1 → first_is (texts words.now) (codes "--sha256") ≡ false }
+{
+    match strip_word(words, b"--sha256") {
+        Some(rest) => (Kind::Sha256, rest),
+        None => (Kind::Sha1, words),
+    }
+}
+
+/// The line of these words; `None` where they are wrong. An ID and an OLD have 40 or 64 hex digits; the names are not
+/// looked at. Takes no memory, and looks at each word a few times.
+pub fn parse(words: &[String]) -> Option<Line<'_>>
+    ensures { MatchOption result ((line : AskedLine) → IsLine (texts words.now) line → ⊥) (λ line. IsLine (texts words.now) (line_of line)) }
+{
+    let (dir, rest) = words.split_first()?;
+    let (object_hash, rest) = kind_of(rest);
+    let Some((namespace, command)) = options_of(rest) else {
+        return None;
+    };
+    Some(Line {
+        dir: dir.as_bytes(),
+        object_hash,
+        namespace,
+        command,
+    })
+}

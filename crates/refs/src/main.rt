@@ -1,0 +1,33 @@
+//! `refs DIR [--sha256] [--namespace NAME] COMMAND`: updates and shows references of a folder of the disk. A command is
+//! `update NAME ID [OLD]` or `show NAME`. All is printed on standard output; the status is 0, 1 for a refusal, 2 for wrong
+//! words.
+#![tactic(auto)]
+
+use gix_ref::file::transaction::PackedRefs;
+use gix_ref_files::disk::Disk;
+use gix_ref_program::run::run;
+use std::process::ExitCode;
+use std::{env, io};
+
+/// The words of the command line, without the name of the program.
+fn read_words(rt: &HostRuntime, words: &mut Vec<String>) -> io::Result<()> {
+    for word in env::args(rt)?.skip(1) {
+        words.push(word)?;
+    }
+    Ok(())
+}
+
+fn main(rt: HostRuntime) -> ExitCode {
+    let alloc = rt.alloc();
+    let mut words = Vec::new(alloc);
+    // Arguments that are no text are wrong words, as none at all are.
+    if read_words(&rt, &mut words).is_err() {
+        words.clear();
+    }
+    let mut out = io::writer(&rt);
+    let ran = run(alloc, Disk::new(rt), PackedRefs::default(), &words, &mut out);
+    match ran.status {
+        Ok(status) => ExitCode::from(status),
+        Err(_) => ExitCode::from(1),
+    }
+}
