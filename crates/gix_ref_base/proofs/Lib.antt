@@ -1,6 +1,7 @@
 pub mod ByteLemmas
 pub mod FrontLemmas
 pub mod PartialNames
+pub mod PlainNames
 pub mod Expanding
 pub mod IdLemmas
 pub mod Scans

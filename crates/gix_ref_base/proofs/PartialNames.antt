@@ -99,11 +99,11 @@ name_of_rules n p single =
     )
     )
 
-or_none : (a b : Bool) → (a || b) ≡ false → (a ≡ false) × (b ≡ false)
+pub or_none : (a b : Bool) → (a || b) ≡ false → (a ≡ false) × (b ≡ false)
 or_none true b h = absurd (cc)
 or_none false b h = (refl, h)
 
-none_or : (a b : Bool) → a ≡ false → b ≡ false → (a || b) ≡ false
+pub none_or : (a b : Bool) → a ≡ false → b ≡ false → (a || b) ≡ false
 none_or true b h k = absurd (cc)
 none_or false b h k = k
 
@@ -129,7 +129,7 @@ append-find p (x ∷ c) n h k = go (p x) refl (λ h. append-find p c n h k)
         ∙ rest (sym (ap (λ v. cond v (Some x) (find p c)) other) ∙ h)
 
 -- the last byte is that of what stands behind
-last-cons : (x y : ℕ) (n : List ℕ) (z : ℕ) → ends_with nat_eq (x ∷ y ∷ n) (z ∷ []) ≡ ends_with nat_eq (y ∷ n) (z ∷ [])
+pub last-cons : (x y : ℕ) (n : List ℕ) (z : ℕ) → ends_with nat_eq (x ∷ y ∷ n) (z ∷ []) ≡ ends_with nat_eq (y ∷ n) (z ∷ [])
 last-cons x y n z =
     let long : length (x ∷ y ∷ n) - 1 ≡ suc (length n) = omega arith in
     let short : length (y ∷ n) - 1 ≡ length n = omega arith in

@@ -17,6 +17,34 @@ struct Faults {
     reflog_portion: bool,
 }
 
+/// For each byte a letter, whose bits say what the byte is, in the low ones, and behind what it may not stand, in the
+/// high ones: `Q` for a slash, `r` for a dot, "`" for the byte with which `lock` begins, `D` for the bytes that no name
+/// has and for `@`, and `@` for all others. Nothing may stand behind a `D`.
+static LETTERS: [u8; 256] = *b"\
+    DDDDDDDDDDDDDDDDDDDDDDDDDDDDDDDD\
+    D@@@@@@@@@D@@@rQ@@@@@@@@@@D@@@@D\
+    D@@@@@@@@@@@@@@@@@@@@@@@@@@DD@D@\
+    @@@@@@@@@@@@`@@@@@@@@@@@@@@@@@DD\
+    @@@@@@@@@@@@@@@@@@@@@@@@@@@@@@@@\
+    @@@@@@@@@@@@@@@@@@@@@@@@@@@@@@@@\
+    @@@@@@@@@@@@@@@@@@@@@@@@@@@@@@@@\
+    @@@@@@@@@@@@@@@@@@@@@@@@@@@@@@@@";
+
+/// Whether a name keeps all rules for partial names, as far as two bytes in a row tell that: most names do. There is no
+/// early exit, which makes this some three times as fast as the scan.
+fn is_plainly_partial(name: &[u8]) -> bool
+    ensures { OnTrue result (IsPartialName name.now) }
+{
+    let mut clashes = 0;
+    let mut before = LETTERS[b'/' as usize];
+    for byte in name {
+        let letter = LETTERS[*byte as usize];
+        clashes |= letter & (before << 4);
+        before = letter;
+    }
+    clashes == 0 && before & 7 == 0
+}
+
 /// Whether no name has this byte.
 fn is_invalid_byte(byte: u8) -> bool
     ensures { result ≡ is_invalid byte }
@@ -118,6 +146,9 @@ fn scan(name: &[u8]) -> Result<Faults, u8>
 pub fn broken_partial_rule(name: &[u8]) -> Option<Error>
     ensures { result ≡ partial_error name.now }
 {
+    if is_plainly_partial(name) {
+        return None;
+    }
     if name.is_empty() {
         return Some(Error::Empty);
     }
