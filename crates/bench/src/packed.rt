@@ -2,7 +2,7 @@
 ghost use Rattle.std.specs.Prelude.{◌≡◌, ◌<◌};
 
 use gix_ref_base::hash::Kind;
-use gix_ref_base::name::FullNameRef;
+use gix_ref_base::name::{self, FullName, FullNameRef};
 use gix_ref_files::files::{Files, ReadAt};
 use gix_ref_formats::packed::source::Source;
 use gix_ref_formats::packed::written::{push_header, push_record};
@@ -17,6 +17,9 @@ const ID: &[u8] = b"0123456789abcdef0123456789abcdef01234567";
 const HEADER: u64 = 46;
 
 const RECORD: u64 = 70;
+
+/// How many names are asked for before the first is asked for again.
+const ASKED: u64 = 1_000;
 
 /// The name of a record: 28 bytes.
 fn name_of(alloc: Global, number: u64) -> Result<String, AllocError> {
@@ -77,12 +80,26 @@ fn list<F: Files>(alloc: Global, files: &mut F, path: &[u8], turns: u64) -> u64 
     hits
 }
 
-/// The number of the record that a turn asks for, among so many.
-fn asked(turn: u64, count: u64) -> u64 {
+/// The names that are asked for in turn, of records all over a file of so many. They are made and checked before the
+/// turns, whose work is the search alone.
+fn asked_names(alloc: Global, count: u64) -> Result<Vec<FullName>, name::Error> {
+    let mut names = Vec::new(alloc);
     if count == 0 {
-        return 0;
+        return Ok(names);
     }
-    turn.saturating_mul(7_919) % count
+    for i in 0..ASKED {
+        let text = name_of(alloc, i * 7_919 % count)?;
+        if names.push(FullName::try_from(text)?).is_err() {
+            return Err(name::Error::Memory);
+        }
+    }
+    Ok(names)
+}
+
+/// The name that is asked for in a turn.
+fn asked(names: &[FullName], turn: u64) -> Option<FullNameRef<'_>> {
+    let name = names.get((turn % ASKED) as usize)?;
+    Some(name.as_ref())
 }
 
 /// Asks a buffer for a name in each turn.
@@ -90,13 +107,12 @@ fn find<F: Files>(alloc: Global, files: &mut F, path: &[u8], turns: u64) -> u64 
     let Ok(Some(packed)) = Buffer::open(alloc, files, path, 32_768, Kind::Sha1) else {
         return 0;
     };
-    let count = packed.as_bytes().len() as u64 / RECORD;
+    let Ok(names) = asked_names(alloc, packed.as_bytes().len() as u64 / RECORD) else {
+        return 0;
+    };
     let mut hits: u64 = 0;
     for turn in 0..turns {
-        let Ok(name) = name_of(alloc, asked(turn, count)) else {
-            continue;
-        };
-        let Ok(name) = FullNameRef::try_from(name.as_bytes()) else {
+        let Some(name) = asked(&names, turn) else {
             continue;
         };
         if let Ok(Some(_)) = packed.try_find_key(name) {
@@ -127,21 +143,28 @@ fn found<R: ReadAt + Drop>(source: &mut Source<R>, name: FullNameRef<'_>) -> boo
     is_found::<R, Brand>(source, name, Blank::new(1))
 }
 
+/// How many records the file has.
+fn count_in_file<F: Files>(alloc: Global, files: &mut F, path: &[u8]) -> u64 {
+    match files.open(alloc, path) {
+        Ok(Some(reader)) => reader.len().saturating_sub(HEADER) / RECORD,
+        _ => 0,
+    }
+}
+
 /// Asks a file for a name in each turn, and opens it each time.
 fn find_in_file<F: Files>(alloc: Global, files: &mut F, path: &[u8], turns: u64) -> u64 {
+    let Ok(names) = asked_names(alloc, count_in_file(alloc, files, path)) else {
+        return 0;
+    };
     let mut hits: u64 = 0;
     for turn in 0..turns {
+        let Some(name) = asked(&names, turn) else {
+            continue;
+        };
         let Ok(Some(reader)) = files.open(alloc, path) else {
             continue;
         };
-        let count = reader.len().saturating_sub(HEADER) / RECORD;
         let mut source = Source::new(alloc, reader, HEADER);
-        let Ok(name) = name_of(alloc, asked(turn, count)) else {
-            continue;
-        };
-        let Ok(name) = FullNameRef::try_from(name.as_bytes()) else {
-            continue;
-        };
         if found(&mut source, name) {
             hits = hits.saturating_add(1);
         }

@@ -4,6 +4,7 @@ ghost use Rattle.gix_ref_formats.specs.PackedText.{Newline, Line};
 ghost use Rattle.gix_ref_formats.specs.PackedLookup.{LineOf, SameLine};
 
 use memchr::{memchr, memchr2, memrchr};
+use std::cmp::Ordering;
 
 /// What follows a newline at the front of the text.
 pub fn after_newline(text: &[u8]) -> Option<&[u8]>
@@ -50,5 +51,20 @@ pub fn line_end(text: &[u8], offset: usize) -> usize
     match memchr(b'\n', &text[offset..]) {
         Some(after) => offset + after + 1,
         None => text.len(),
+    }
+}
+
+/// The same, for a search that compared the name there: only behind a name that is not found too high it goes on at the
+/// line's end, so for the others that is not looked for.
+#[inline(always)]
+pub fn next_place(text: &[u8], offset: usize, order: Option<Ordering>) -> usize
+    requires { offset < length text.now }
+    ensures beyond { offset < result }
+    ensures within { result ≤ length text.now }
+    ensures line { SameLine text.now offset result }
+{
+    match order {
+        Some(Ordering::Equal | Ordering::Greater) => offset + 1,
+        Some(Ordering::Less) | None => line_end(text, offset),
     }
 }

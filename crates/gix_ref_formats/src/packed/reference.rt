@@ -1,8 +1,8 @@
 //! A record of `packed-refs`, lent from the text that it stands in.
 ghost use Rattle.std.specs.Prelude.{◌≡◌, true};
-ghost use Rattle.gix_ref_base.specs.Ids.{ReadsId};
 ghost use Rattle.gix_ref_formats.specs.PackedIds.{is_id_text, is_id_if_any};
 
+use crate::log::line::decode::id_of;
 use gix_ref_base::hash::ObjectId;
 use gix_ref_base::name::FullNameRef;
 
@@ -29,7 +29,7 @@ impl<'a> Reference<'a> {
     pub fn target(self) -> ObjectId
         ensures { ReadsId self.entry.target.now result }
     {
-        read_id(self.target)
+        id_of(self.target)
     }
 
     /// The id of the object that a tag ends at, and the id itself where the record tells none.
@@ -37,8 +37,8 @@ impl<'a> Reference<'a> {
         ensures { ReadsId (object_or self.entry.object self.entry.target.now) result }
     {
         match self.object {
-            Some(object) => read_id(object),
-            None => read_id(self.target),
+            Some(object) => id_of(object),
+            None => id_of(self.target),
         }
     }
 
@@ -47,7 +47,7 @@ impl<'a> Reference<'a> {
         ensures { ReadsIfAny self.entry.object result }
     {
         match self.object {
-            Some(object) => Some(read_id(object)),
+            Some(object) => Some(id_of(object)),
             None => None,
         }
     }
@@ -57,16 +57,5 @@ impl<'a> Reference<'a> {
         ensures { IsTrue result ↔ (full_ref_bytes self.entry.name ≡ bytes.now) }
     {
         self.name.eq_bytes(bytes)
-    }
-}
-
-/// The id of digits that were checked.
-fn read_id(digits: &[u8]) -> ObjectId
-    requires { is_id_text digits.now ≡ true }
-    ensures { ReadsId digits.now result }
-{
-    match ObjectId::from_hex(digits) {
-        Some(id) => id,
-        None => unreachable!(),
     }
 }

@@ -3,7 +3,7 @@ ghost use Rattle.std.specs.Prelude.{◌≡◌, ◌<◌, ◌≤◌, ℕ, List, dr
 ghost use Rattle.gix_ref_formats.specs.PackedLookup.{RecordOf, Compares, SameLine};
 
 use crate::packed::decode::{name_order, record_start_at_offset};
-use crate::packed::lines::line_end;
+use crate::packed::lines::next_place;
 use gix_ref_base::hash::Kind;
 use std::cmp::Ordering;
 use std::convert::Infallible;
@@ -72,7 +72,7 @@ impl<'a> Text for Whole<'a> {
     fn look(&mut self, kind: Kind, offset: u64, asked: &[u8]) -> Result<Look, Infallible> {
         let start = record_start_at_offset(self.bytes, offset as usize);
         let order = name_order(&self.bytes[start..], kind, asked);
-        let next = line_end(self.bytes, offset as usize);
+        let next = next_place(self.bytes, offset as usize, order);
         Ok(Look {
             start: start as u64,
             order,

@@ -1,17 +1,20 @@
 //! Looking at a record in a window of a text, where the window has enough of it.
 ghost use Rattle.std.specs.Prelude.{◌≡◌, ◌≤◌, ◌<◌, ◌+◌, ◌^◌, ℕ, List, true, length, take, drop, IfSome};
 ghost use Rattle.std.specs.Option.{option_map};
+ghost use Rattle.std.specs.Cmp.Lexicographic.{slice_cmp};
+ghost use Rattle.std.specs.Ordering.{nat_cmp};
 ghost use Rattle.gix_ref_formats.specs.PackedText.{Shape};
 ghost use Rattle.gix_ref_formats.specs.PackedLookup.{NameAt};
 ghost use Rattle.gix_ref_formats.specs.PackedWindows.{TellsLine, TellsRecord, TellsName, IsWindow, LooksAt, IsFound, FrontIs};
 ghost use Rattle.gix_ref_formats.specs.PackedViews.{record_of};
 
 use crate::packed::decode::{take_record, take_shape};
-use crate::packed::lines::line_end;
+use crate::packed::lines::next_place;
 use crate::packed::reference::Reference;
 use crate::packed::text::Look;
 use gix_ref_base::hash::{Kind, ObjectId};
 use memchr::{memchr2, memrchr};
+use std::cmp::Ordering;
 
 /// The ids of a record that was found.
 #[derive(Clone, Copy, Debug, PartialEq, Eq)]
@@ -91,8 +94,20 @@ pub fn name_in(part: &[u8], kind: Kind, whole: bool) -> Option<Option<&[u8]>>
     }
 }
 
+/// How a name compares with the one that is asked.
+#[inline(always)]
+fn order_of(name: Option<&[u8]>, asked: &[u8]) -> Option<Ordering>
+    ensures { result ≡ option_map (λ n. slice_cmp nat_cmp n.now asked.now) name.entry }
+{
+    match name {
+        Some(name) => Some(name.cmp(asked)),
+        None => None,
+    }
+}
+
 /// What a look at a byte of the window sees, if the window tells it. The window begins at the place `from` of the text,
 /// and the text ends with it where `last` holds.
+#[inline(always)]
 pub fn look_in(
     window: &[u8],
     from: u64,
@@ -114,20 +129,10 @@ pub fn look_in(
     let Some(name) = name_in(&window[start..], kind, last) else {
         return None;
     };
-    let next = from + line_end(window, at) as u64;
+    let order = order_of(name, asked);
+    let next = from + next_place(window, at, order) as u64;
     let start = from + start as u64;
-    match name {
-        Some(name) => Some(Look {
-            start,
-            order: Some(name.cmp(asked)),
-            next,
-        }),
-        None => Some(Look {
-            start,
-            order: None,
-            next,
-        }),
-    }
+    Some(Look { start, order, next })
 }
 
 /// The ids of a record.

@@ -128,7 +128,7 @@ pub(crate) fn decoded_line<'a>(text: &'a [u8]) -> Option<LineRef<'a>>
 
 /// The id of which these are the hex digits.
 #[inline(always)]
-pub(super) fn id_of(digits: &[u8]) -> ObjectId
+pub(crate) fn id_of(digits: &[u8]) -> ObjectId
     requires { IsIdText digits.now }
     ensures { ReadsId digits.now result }
 {
