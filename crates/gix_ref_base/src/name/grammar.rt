@@ -17,9 +17,9 @@ struct Faults {
     reflog_portion: bool,
 }
 
-/// For each byte a letter, whose bits say what the byte is, in the low ones, and behind what it may not stand, in the
-/// high ones: `Q` for a slash, `r` for a dot, "`" for the byte with which `lock` begins, `D` for the bytes that no name
-/// has and for `@`, and `@` for all others. Nothing may stand behind a `D`.
+/// For each byte a letter. Its low bits say what the byte is: 1 a slash, 2 a dot, 4 a byte that no name has, or `@`. The
+/// same bits four places higher say behind which of these it may not stand, or only the scan can tell. So the slash has
+/// `Q`, the dot `r`, the byte with which `lock` begins "`", a byte that no name has `D`, and any other `@`.
 static LETTERS: [u8; 256] = *b"\
     DDDDDDDDDDDDDDDDDDDDDDDDDDDDDDDD\
     D@@@@@@@@@D@@@rQ@@@@@@@@@@D@@@@D\
@@ -30,8 +30,8 @@ static LETTERS: [u8; 256] = *b"\
     @@@@@@@@@@@@@@@@@@@@@@@@@@@@@@@@\
     @@@@@@@@@@@@@@@@@@@@@@@@@@@@@@@@";
 
-/// Whether a name keeps all rules for partial names, as far as two bytes in a row tell that: most names do. There is no
-/// early exit, which makes this some three times as fast as the scan.
+/// Whether a name keeps all rules for partial names, as far as two bytes in a row tell that: most names do. It looks at
+/// all bytes without an early exit, and takes less than half of the time of the scan.
 fn is_plainly_partial(name: &[u8]) -> bool
     ensures { OnTrue result (IsPartialName name.now) }
 {

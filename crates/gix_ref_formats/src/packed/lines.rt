@@ -54,8 +54,8 @@ pub fn line_end(text: &[u8], offset: usize) -> usize
     }
 }
 
-/// The same, for a search that compared the name there: only behind a name that is not found too high it goes on at the
-/// line's end, so for the others that is not looked for.
+/// Where a search may go on behind the byte, once it has compared the name there: no line begins between. It goes on there
+/// only where the name is too low or none stands there; else this is the next byte, which costs nothing.
 #[inline(always)]
 pub fn next_place(text: &[u8], offset: usize, order: Option<Ordering>) -> usize
     requires { offset < length text.now }

@@ -27,7 +27,7 @@ fn heading_in(part: &[u8], whole: bool) -> Option<Option<Heading>>
 }
 
 /// The header of a file, and where its records begin: a `Source` from there on is searched where the header says sorted.
-/// `None` where the file begins with `#` and has no header. Reads the first 4 KB, and more only where the header's line is
+/// `None` where the file begins with `#` and has no header. Reads the first 1 KB, and more only where the header's line is
 /// longer. The error tells that the file cannot be read, or that there was no memory for its beginning.
 pub fn file_heading<R: ReadAt>(
     alloc: Global,

@@ -26,11 +26,12 @@ pub enum SourceError {
     Changed,
 }
 
-/// How many bytes a window has, if no line is longer than half of that.
-pub(crate) const WINDOW: u64 = 4096;
+/// How many bytes a window has, if no line is longer than half of that. A larger one costs more to make than the reads
+/// that it saves: four times the size saves two of them.
+pub(crate) const WINDOW: u64 = 1024;
 
 /// How often a window is read anew, each time twice as large: till it holds any file.
-pub(crate) const GROWTHS: u32 = 53;
+pub(crate) const GROWTHS: u32 = 55;
 
 impl From<AllocError> for SourceError {
     ghost use Rattle.std.specs.Prelude.{◌≡◌};
@@ -180,8 +181,8 @@ impl<R: ReadAt + Drop> Source<R> {
     }
 
     /// The record of a full name, by halving, for a file whose header says that it is sorted. Each look is counted as a
-    /// probe; a look reads a window of 4 KB, or none where the last window has the place, and grows it for a longer
-    /// line. So a name among a million costs some sixteen reads. `None` where the records have no such name. `Source`
+    /// probe; a look reads a window of 1 KB, or none where the last window has the place, and grows it for a longer
+    /// line. So a name among a million costs some seventeen reads. `None` where the records have no such name. `Source`
     /// tells that the file could not be read, `Parse` that its text is not well formed.
     pub fn try_find_full<L: Ledger>(
         &mut self,

@@ -26,6 +26,7 @@ pub struct Found {
 }
 
 /// Where the line that the byte is in begins, if that is in the window, which begins with the text where `first` holds.
+#[inline(always)]
 fn line_start_in(window: &[u8], at: usize, first: bool) -> Option<usize>
     requires { at ≤ length window.now }
     ensures below { IfSome result (λ start. start ≤ at) }
@@ -38,6 +39,7 @@ fn line_start_in(window: &[u8], at: usize, first: bool) -> Option<usize>
 }
 
 /// Where the record that the byte is in begins, if that is in the window.
+#[inline(always)]
 pub fn record_start_in(window: &[u8], at: usize, first: bool) -> Option<usize>
     requires { at < length window.now }
     ensures below { IfSome result (λ start. start ≤ at) }
