@@ -1,4 +1,4 @@
-use Rattle.std.proofs.Common.{◌≡◌, ◌+◌, ◌≤◌, ℕ, List, length, drop, eqb-true, arith, refl, sym, subst, Option, Some, None}
+use Rattle.std.proofs.Common.{◌+◌, ◌≤◌, ℕ, List, length, drop, eqb-true, arith, refl, sym, subst, Option, Some, None}
 use Rattle.std.proofs.lemmas.List.{take_rest}
 use Rattle.std.specs.Option.{option_map}
 use Rattle.std.specs.Prelude.{MatchOption}
