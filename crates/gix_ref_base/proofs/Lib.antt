@@ -1,3 +1,4 @@
+pub mod ByteSearches
 pub mod ByteLemmas
 pub mod FrontLemmas
 pub mod PartialNames
@@ -11,5 +12,6 @@ pub mod RoundTrip
 pub mod Rows
 pub mod SignatureLemmas
 pub mod SignaturesAgain
+pub mod Stamps
 pub mod Appending
 pub mod NumberLemmas

@@ -37,10 +37,10 @@ pub record IsApart (b : ℕ) : Type 0 where
 pub below : (b : ℕ) → b < 43 → IsApart b
 below b small = record { plus = omega arith; minus = omega arith; digit = λ d l h. omega arith }
 
-above : (b : ℕ) → 57 < b → IsApart b
+pub above : (b : ℕ) → 57 < b → IsApart b
 above b large = record { plus = omega arith; minus = omega arith; digit = λ d l h. omega arith }
 
-none_digits : (b : ℕ) (ds : List ℕ) → IsApart b → AllDigits 10 ds → NoByte b ds
+pub none_digits : (b : ℕ) (ds : List ℕ) → IsApart b → AllDigits 10 ds → NoByte b ds
 none_digits b ds apart h k l = let d = digit_at ds k h l in apart.digit (slice_index ds k) (omega arith) (omega arith)
 
 none_signed : (b : ℕ) (z : ℤ) → IsApart b → FitsSigned w64 z → NoByte b (signed_decimal z)

@@ -63,6 +63,16 @@ pub record IsSignature (text : List ℕ) (who : Who) : Type 0 where
   pub seconds : IsSeconds digits who.seconds
   pub offset : IsZone zone who.offset
 
+-- how most signatures end: `> `, the digits of the seconds, a space and the zone
+pub record IsStamp (text : List ℕ) (seconds offset : ℤ) : Type 0 where
+  pub digits : List ℕ
+  pub zone : List ℕ
+  pub whole : text ≡ 62 ∷ 32 ∷ (digits ++ 32 ∷ zone)
+  pub no_space : NoByte 32 digits
+  pub no_bracket : NoByte 62 (32 ∷ (digits ++ 32 ∷ zone))
+  pub seconds_are : IsSeconds digits seconds
+  pub offset_is : IsZone zone offset
+
 -- no `<`, no `>` and no LF
 abbrev pub IsPlain : List ℕ → Type 0
 IsPlain text = NoByte 60 text × NoByte 62 text × NoByte 10 text

@@ -1,7 +1,7 @@
 //! Who made a change, and when: the signatures that stand in reflogs, as `git commit-tree` writes them.
-ghost use Rattle.std.specs.Prelude.{◌≡◌, ◌+◌, ◌-◌, ◌*◌, ◌↔◌, IsTrue, ℕ, ℤ, pos, List, MatchOption, FitsSigned};
+ghost use Rattle.std.specs.Prelude.{◌≡◌, ◌+◌, ◌-◌, ◌*◌, ◌↔◌, IsTrue, ℕ, ℤ, pos, List, MatchOption, IfSome, FitsSigned};
 ghost use Rattle.std.specs.Int.{w64};
-ghost use Rattle.gix_ref_base.specs.Signatures.{Who, IsSeconds, IsZone, IsDigit, IsPlain, IsSignature, IsWritableOffset, CanWrite, offset_text, signature_text, trimmed, without_space};
+ghost use Rattle.gix_ref_base.specs.Signatures.{Who, IsSeconds, IsZone, IsStamp, IsDigit, IsPlain, IsSignature, IsWritableOffset, CanWrite, offset_text, signature_text, trimmed, without_space};
 
 use crate::bytes::{cut, cut_last};
 use bstr::ByteSlice;
@@ -108,6 +108,22 @@ fn zone(text: &[u8]) -> Option<i32>
     }
 }
 
+/// The time that `> `, seconds of ten digits, as they are from 2001 to 2286, a space and a zone tell; none for other bytes.
+#[inline(always)]
+fn stamp(text: &[u8; 18]) -> Option<Time>
+    ensures { IfSome result (λ time. IsStamp text.now time.seconds time.offset) }
+{
+    if text[0] != b'>' || text[1] != b' ' || text[12] != b' ' {
+        return None;
+    }
+    let seconds = small_number(&text[2..12])?;
+    let offset = zone(&text[13..])?;
+    Some(Time {
+        seconds: seconds as i64,
+        offset,
+    })
+}
+
 /// A name less one space at its end.
 #[inline(always)]
 fn before_space(name: &[u8]) -> &[u8]
@@ -186,6 +202,33 @@ impl<'a> SignatureRef<'a> {
     /// and the email lies between that and the last `>`. `None` for any other text; nothing may follow.
     #[inline(always)]
     pub fn decode(text: &'a [u8]) -> Option<SignatureRef<'a>>
+        ensures { MatchOption result ((who : Who) → IsSignature text.now who → ⊥) (λ s. IsSignature text.now (signature_ref_who s)) }
+    {
+        match SignatureRef::stamped(text) {
+            Some(signature) => Some(signature),
+            None => SignatureRef::searched(text),
+        }
+    }
+
+    /// The signature, where a stamp of the usual length ends it. Its place is known then, and nothing is searched for but
+    /// the `<`. Of a text that ends otherwise this tells nothing.
+    #[inline(always)]
+    fn stamped(text: &'a [u8]) -> Option<SignatureRef<'a>>
+        ensures { IfSome result (λ s. IsSignature text.now (signature_ref_who s)) }
+    {
+        let (front, end) = text.split_last_chunk::<18>()?;
+        let time = stamp(end)?;
+        let (name, email) = cut(front, b'<')?;
+        Some(SignatureRef {
+            name: before_space(name),
+            email,
+            time,
+        })
+    }
+
+    /// The signature, whatever the length of its parts.
+    #[inline(never)]
+    fn searched(text: &'a [u8]) -> Option<SignatureRef<'a>>
         ensures { MatchOption result ((who : Who) → IsSignature text.now who → ⊥) (λ s. IsSignature text.now (signature_ref_who s)) }
     {
         let (front, behind_name) = cut(text, b'<')?;

@@ -4,6 +4,10 @@ ghost use Rattle.gix_ref_base.specs.Bytes.{BeginsWith, NoByte, Cuts, CutsLast, S
 
 use bstr::ByteSlice;
 
+mod search;
+
+pub use search::{first_place, last_place};
+
 /// What follows `front` in the text, or `None` where the text does not begin with it.
 pub fn strip_front<'a>(text: &'a [u8], front: &[u8]) -> Option<&'a [u8]>
     ensures { MatchOption result ((rest : List ℕ) → text.now ≢ front.now ++ rest) (λ rest. text.now ≡ front.now ++ rest.now) }
@@ -23,7 +27,7 @@ pub fn begins_with(text: &[u8], front: &[u8]) -> bool
 pub fn cut(text: &[u8], byte: u8) -> Option<(&[u8], &[u8])>
     ensures { MatchOption result (NoByte byte text.now) (λ p. Cuts byte text.now p.0.now p.1.now) }
 {
-    match text.find_byte(byte) {
+    match first_place(text, byte) {
         Some(i) => Some((&text[..i], &text[i + 1..])),
         None => None,
     }
@@ -34,7 +38,7 @@ pub fn cut(text: &[u8], byte: u8) -> Option<(&[u8], &[u8])>
 pub fn cut_last(text: &[u8], byte: u8) -> Option<(&[u8], &[u8])>
     ensures { MatchOption result (NoByte byte text.now) (λ p. CutsLast byte text.now p.0.now p.1.now) }
 {
-    match text.rfind_byte(byte) {
+    match last_place(text, byte) {
         Some(i) => Some((&text[..i], &text[i + 1..])),
         None => None,
     }
