@@ -1,6 +1,6 @@
 -- One more digit of a number, and pairs of hex digits.
-use Rattle.std.proofs.Common.{◌≡◌, ◌≢◌, ℕ, zero, suc, ◌+◌, ◌-◌, ◌*◌, ◌/◌, ◌%◌, ◌^◌, ◌<◌, ◌≤◌, ◌⊎◌, inl, inr, ⊎_elim, true, false, Bool, cond, ◌&&◌, List, [], ◌∷◌, ◌++◌, length, slice_index, get_or, take, drop, refl, sym, ◌∙◌, ap, subst, arith, ℤ, pos, FitsSigned, Ok, Result}
-use Rattle.std.specs.Int.{w64, IsInRange}
+use Rattle.std.proofs.Common.{◌≡◌, ◌≢◌, ℕ, suc, ◌+◌, ◌-◌, ◌*◌, ◌%◌, ◌^◌, ◌<◌, ◌≤◌, true, false, Bool, ◌&&◌, List, [], ◌∷◌, ◌++◌, length, slice_index, get_or, take, refl, sym, ◌∙◌, ap, subst, arith, ℤ, pos, FitsSigned, Ok, Result}
+use Rattle.std.specs.Int.{w64}
 use Rattle.std.specs.List.{list_all}
 use Rattle.std.specs.Char.{digit_value}
 use Rattle.std.specs.Str.Parse.{AllDigits, IsNumeral, digits_value, digits_value_after, without_leading_sign, starts_with_minus, signed_digits_value}

@@ -1,9 +1,9 @@
 -- Signatures that end with `> `, seconds of ten digits, a space and a zone.
-use Rattle.std.proofs.Common.{◌≡◌, ◌≢◌, ℕ, ◌+◌, ◌<◌, ◌≤◌, ◌⊎◌, ⊎_elim, List, [], ◌∷◌, ◌++◌, length, get_or, take, drop, refl, sym, ◌∙◌, ap, subst, arith, ℤ, pos}
+use Rattle.std.proofs.Common.{◌≡◌, ◌≢◌, ℕ, ◌+◌, ◌<◌, ⊎_elim, List, [], ◌∷◌, ◌++◌, length, get_or, take, drop, refl, sym, ◌∙◌, ap, subst, arith, ℤ, pos}
 use Rattle.std.proofs.lemmas.List.{take-append-drop, drop_more, drop-drop, take_all, length-drop, append_assoc}
-use Rattle.gix_ref_base.specs.Bytes.{NoByte, Cuts, CutsLast}
+use Rattle.gix_ref_base.specs.Bytes.{NoByte, Cuts}
 use Rattle.gix_ref_base.specs.Digits.{IsNumber}
-use Rattle.gix_ref_base.specs.Signatures.{Who, IsSignature, IsSeconds, IsStamp, IsZone, without_space}
+use Rattle.gix_ref_base.specs.Signatures.{IsSignature, IsSeconds, IsStamp, IsZone, without_space}
 use Rattle.gix_ref_base.proofs.NumberLemmas.{number_seconds}
 use Rattle.gix_ref_base.proofs.SignaturesAgain.{IsApart, below, above, none_append, none_cons, none_nil, none_digits}
 

@@ -156,7 +156,7 @@ pub fn is_hex(byte: u8) -> bool
 
 /// Whether all bytes are hex digits, of either case. All are looked at, which is faster here than to stop at the first
 /// that is none.
-pub fn are_hex(text: &[u8]) -> bool
+fn are_hex_of_any_length(text: &[u8]) -> bool
     ensures { result ≡ list_all is_hex_digit text.now }
 {
     let mut are_digits = true;
@@ -164,6 +164,17 @@ pub fn are_hex(text: &[u8]) -> bool
         are_digits &= is_hex(*byte);
     }
     are_digits
+}
+
+/// Whether all bytes are hex digits, of either case. Those of a SHA-1 are looked at as an array, which is faster.
+#[inline(always)]
+pub fn are_hex(text: &[u8]) -> bool
+    ensures { result ≡ list_all is_hex_digit text.now }
+{
+    match <&[u8; 40]>::try_from(text) {
+        Ok(digits) => digits::are_sha1_digits(digits),
+        Err(_) => are_hex_of_any_length(text),
+    }
 }
 
 /// The hex digits of an id of the kind at the front of the text, and what follows them.

@@ -1,8 +1,31 @@
-//! Hex digits that are known to be such, made into bytes without a test.
+//! The hex digits of a SHA-1: whether they are such, and the bytes that they are.
 ghost use Rattle.std.specs.Prelude.{◌≡◌, true, Ok};
 ghost use Rattle.std.specs.List.{list_all};
 ghost use Rattle.hex.specs.Hex.{decode_of, is_hex_digit};
 ghost use Rattle.gix_ref_base.specs.Digits.{IsPair};
+
+/// Whether a byte is a hex digit, of either case, by two ranges: the bit that is set here is all that sets the cases apart.
+#[inline(always)]
+fn is_folded_hex(byte: u8) -> bool
+    ensures { result ≡ is_hex_digit byte }
+{
+    byte.wrapping_sub(b'0') < 10 || (byte | 0x20).wrapping_sub(b'a') < 6
+}
+
+/// Whether these are hex digits, of either case. Three runs of 16 cover them, of which the last two overlap, so that all
+/// is done in vectors.
+#[inline(always)]
+pub fn are_sha1_digits(digits: &[u8; 40]) -> bool
+    ensures { result ≡ list_all is_hex_digit digits.now }
+{
+    let mut are_digits = true;
+    for i in 0..16 {
+        are_digits &= is_folded_hex(digits[i]);
+        are_digits &= is_folded_hex(digits[i + 16]);
+        are_digits &= is_folded_hex(digits[i + 24]);
+    }
+    are_digits
+}
 
 /// The byte of two hex digits, of either case: the low four bits of a digit, and nine more for a letter.
 #[inline(always)]

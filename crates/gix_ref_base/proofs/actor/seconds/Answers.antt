@@ -1,4 +1,4 @@
-use Rattle.std.proofs.Common.{◌≡◌, ◌<◌, ◌^◌, ℤ, sym, subst, arith}
+use Rattle.std.proofs.Common.{ℤ, sym, subst, arith}
 use Rattle.std.specs.Int.{w64}
 use Rattle.std.proofs.lemmas.Int.{to_z_pos}
 use Rattle.gix_ref_base.specs.Signatures.{IsSeconds}

@@ -1,6 +1,6 @@
-use Rattle.std.proofs.Common.{◌≡◌, ℕ, ◌-◌, ◌++◌, List, length, take, drop, sym, ◌∙◌, ap, subst}
+use Rattle.std.proofs.Common.{◌≡◌, ℕ, ◌-◌, ◌++◌, List, length, drop, sym, ◌∙◌, ap, subst}
 use Rattle.std.proofs.lemmas.List.{take-append-drop}
-use Rattle.gix_ref_base.specs.Signatures.{IsSignature, without_space}
+use Rattle.gix_ref_base.specs.Signatures.{IsSignature}
 use Rattle.gix_ref_base.proofs.Stamps.{stamped_signature}
 use Rattle.gix_ref_base.proofs.actor.SignatureRef.stamped.Goals as goal
 

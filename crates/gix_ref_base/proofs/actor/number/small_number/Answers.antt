@@ -1,5 +1,5 @@
-use Rattle.std.proofs.Common.{◌≡◌, ℕ, zero, suc, false, ◌==◌, ◌+◌, ◌*◌, ◌<◌, ◌≤◌, ◌^◌, List, length, take, get_or, refl, sym, ◌∙◌, ap, subst, arith}
-use Rattle.std.specs.Str.Parse.{AllDigits, IsNumeral, digits_value}
+use Rattle.std.proofs.Common.{◌≡◌, ℕ, zero, suc, false, ◌==◌, ◌<◌, ◌≤◌, ◌^◌, List, length, take, ◌∙◌, ap, subst, arith}
+use Rattle.std.specs.Str.Parse.{AllDigits, digits_value}
 use Rattle.std.proofs.lemmas.List.{length-take-le, take_all}
 use Rattle.gix_ref_base.specs.Digits.{IsNumber}
 use Rattle.gix_ref_base.proofs.NumberLemmas.{few_digits, one_digit_more}

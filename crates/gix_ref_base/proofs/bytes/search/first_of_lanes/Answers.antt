@@ -1,4 +1,4 @@
-use Rattle.std.proofs.Common.{◌≡◌, eqb, arith, w8}
+use Rattle.std.proofs.Common.{eqb, arith, w8}
 use Rattle.std.specs.Simd.Lanes.{chunk}
 use Rattle.std.proofs.lemmas.Simd.{length-chunk, bitmask_splat}
 use Rattle.gix_ref_base.proofs.ByteSearches.{no_marks, first_mark}

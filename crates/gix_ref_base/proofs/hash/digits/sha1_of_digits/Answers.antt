@@ -1,4 +1,4 @@
-use Rattle.std.proofs.Common.{◌≡◌, ℕ, ◌%◌, ◌==◌, ◌<◌, ◌≤◌, length, ◌∙◌, ap, arith}
+use Rattle.std.proofs.Common.{ℕ, ◌%◌, ◌==◌, ◌∙◌, ap, arith}
 use Rattle.std.proofs.lemmas.Bool.{cond-false}
 use Rattle.gix_ref_base.proofs.NumberLemmas.{pairs_decode}
 use Rattle.gix_ref_base.proofs.hash.digits.sha1_of_digits.Goals as goal
