@@ -42,8 +42,12 @@ fn first_by_one(text: &[u8], start: usize, byte: u8) -> Option<usize>
 pub fn first_place(text: &[u8], byte: u8) -> Option<usize>
     ensures { IsFirstByte (is_byte byte) text.now result }
 {
+    if text.len() < LANES {
+        return first_by_one(text, 0, byte);
+    }
+    let last = text.len() - LANES;
     let mut start = 0;
-    while LANES <= text.len() - start {
+    while start <= last {
         let found = first_of_lanes(text, start, byte);
         if found.is_some() {
             return found;

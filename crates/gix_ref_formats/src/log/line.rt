@@ -75,6 +75,7 @@ impl<'a> LineRef<'a> {
     }
 
     /// The same line with bytes of its own.
+    #[inline(always)]
     pub fn to_owned(&self, alloc: Global) -> Result<Line, AllocError>
         ensures { IfOk result (IsOwned (line_ref_parts self.now)) }
     {

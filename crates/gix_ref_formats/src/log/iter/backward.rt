@@ -15,8 +15,8 @@ use super::error::{EmptyBuffer, ReverseError};
 use super::stage::{Stage, lesser, stage_after, without_return};
 use crate::log::line::Line;
 use crate::log::line::owned::{LineError, line_from};
+use gix_ref_base::bytes::last_place;
 use gix_ref_files::files::{FileError, ReadAt};
-use memchr::memrchr;
 use std::alloc::Global;
 
 /// The lines of a log, newest first.
@@ -101,7 +101,7 @@ impl<'a, F: ReadAt> Reverse<'a, F> {
     fn last_feed(&self) -> Option<usize>
         ensures { IsLastByte (is_byte 10) (take self.now.end self.now.buf.now) result }
     {
-        memrchr(b'\n', &self.buf[..self.end])
+        last_place(&self.buf[..self.end], b'\n')
     }
 
     /// Whether the window ends with a line feed.
@@ -157,6 +157,7 @@ impl<'a, F: ReadAt> Reverse<'a, F> {
     }
 
     /// The line that the window holds from a place on.
+    #[inline(always)]
     fn line_at(&self, start: usize, ends: bool) -> Result<Line, ReverseError>
         requires within { start ≤ self.now.end }
         requires one_line { NoByte 10 (slice_range self.now.buf.now start self.now.end) }
@@ -172,6 +173,7 @@ impl<'a, F: ReadAt> Reverse<'a, F> {
     }
 
     /// The next line, which a line feed follows or not.
+    #[inline(always)]
     fn next_line(&mut self, ends: bool) -> Result<Line, ReverseError>
         ensures same_reference { self.new.buf.ghost_name ≡ self.old.buf.ghost_name }
         ensures bytes { F.bytes self.new.reader ≡ F.bytes self.old.reader }
@@ -213,6 +215,7 @@ impl<'a, F: ReadAt + Drop> Iterator for Reverse<'a, F> {
 
     ghost next_gives = { λ s r t. NextStep F.honest F.bytes F.faults s r t };
 
+    #[inline(always)]
     fn next(&mut self) -> Option<Result<Line, ReverseError>> {
         match self.stage {
             Stage::Done => None,

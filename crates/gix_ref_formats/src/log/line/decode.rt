@@ -1,7 +1,5 @@
 //! Reading a line of a reflog.
 ghost use Rattle.std.specs.Prelude.{◌≡◌, List, ℕ, MatchOption};
-ghost use Rattle.std.specs.List.{list_all};
-ghost use Rattle.hex.specs.Hex.{is_hex_digit};
 ghost use Rattle.gix_ref_base.specs.Bytes.{NoByte};
 ghost use Rattle.gix_ref_base.specs.Ids.{ReadsId};
 ghost use Rattle.gix_ref_formats.specs.LogIds.{IsIdText, IdFront, IsIdPlace};
@@ -11,7 +9,7 @@ use super::LineRef;
 use bstr::BStr;
 use gix_ref_base::actor::SignatureRef;
 use gix_ref_base::bytes::cut;
-use gix_ref_base::hash::{ObjectId, are_hex, is_hex, sha1_of_digits};
+use gix_ref_base::hash::{ObjectId, are_hex, sha1_of_digits};
 use thiserror::Error;
 
 /// The bytes are no line of a reflog.
@@ -52,29 +50,6 @@ fn id_len(text: &[u8]) -> usize
     }
 }
 
-/// Whether all bytes are hex digits. Those of a SHA-1 are looked at as an array, which is faster.
-#[inline(always)]
-fn are_id_digits(id: &[u8]) -> bool
-    ensures { result ≡ list_all is_hex_digit id.now }
-{
-    match <&[u8; 40]>::try_from(id) {
-        Ok(digits) => are_sha1_digits(digits),
-        Err(_) => are_hex(id),
-    }
-}
-
-/// The same for the digits of a SHA-1.
-#[inline(always)]
-fn are_sha1_digits(digits: &[u8; 40]) -> bool
-    ensures { result ≡ list_all is_hex_digit digits.now }
-{
-    let mut are_digits = true;
-    for digit in digits {
-        are_digits &= is_hex(*digit);
-    }
-    are_digits
-}
-
 /// The id in front, and what follows its space.
 #[inline(always)]
 fn id_front(text: &[u8]) -> Option<(&[u8], &[u8])>
@@ -85,7 +60,7 @@ fn id_front(text: &[u8]) -> Option<(&[u8], &[u8])>
         return None;
     }
     let (id, rest) = (&text[..len], &text[len + 1..]);
-    if !are_id_digits(id) {
+    if !are_hex(id) {
         return None;
     }
     Some((id, rest))

@@ -16,6 +16,7 @@ pub enum LineError {
 }
 
 /// The line that a text without LF is, with bytes of its own.
+#[inline(always)]
 pub fn line_from(alloc: Global, text: &[u8]) -> Result<Line, LineError>
     requires { NoByte 10 text.now }
     ensures { Answers text.now result }

@@ -10,8 +10,8 @@ returns-then-text-len c =
       | then-text-len-via-else-text-len+then-text-len-ne32 w ↦ no_space c.args.text.now c.id_len-len.result c.id_len-len.ensures (inr w.if-text-len-ne32.true)
     ]
 
-pub returns-then-not-are_id_digits : goal.returns-then-not-are_id_digits
-returns-then-not-are_id_digits c = no_digits c.args.text.now c.id_len-len.result c.id_len-len.ensures (sym c.if-not-are_id_digits.ensures)
+pub returns-then-not-are_hex : goal.returns-then-not-are_hex
+returns-then-not-are_hex c = no_digits c.args.text.now c.id_len-len.result c.id_len-len.ensures (sym c.if-not-are_hex.ensures)
 
 pub returns : goal.returns
-returns c = front_is c.args.text.now c.id_len-len.result c.id_len-len.ensures c.if-text-len.false c.if-text-len-ne32.false (sym c.if-not-are_id_digits.ensures)
+returns c = front_is c.args.text.now c.id_len-len.result c.id_len-len.ensures c.if-text-len.false c.if-text-len-ne32.false (sym c.if-not-are_hex.ensures)
