@@ -1,9 +1,11 @@
 //! The modes of reflogs, which read the file `log` of the folder: `log-forward`, `log-backward`, `log-newest` (ten lines),
 //! and `log-make`, which makes that file of TURNS lines of 150 bytes.
 use anyhow::{Context, Result, bail};
+use gix_ref_base::actor::Time;
 use gix_ref_files::disk::Disk;
 use gix_ref_files::files::{Files, ReadAt};
-use gix_ref_formats::log::iter::{forward, reverse};
+use gix_ref_formats::log::iter::{ReverseError, decode, forward, reverse};
+use gix_ref_formats::log::{Line, LineRef};
 use std::alloc::Global;
 use std::fs;
 
@@ -14,11 +16,41 @@ const WINDOW: usize = 65536;
 const LINE: &[u8] =
     b"1111111111111111111111111111111111111111 2222222222222222222222222222222222222222 C O Mitter <committer@example.com> 1618030561 +0800\tcommit: a thing\n";
 
+/// Whether a line tells anything: its lengths and its time are not all zero. Each field has a part in the answer, so that
+/// the making of none is left out of what is measured.
+fn tells(name: &[u8], email: &[u8], time: Time, message: &[u8]) -> bool {
+    let lengths = name.len() | email.len() | message.len();
+    lengths as u64 | time.seconds.unsigned_abs() | u64::from(time.offset.unsigned_abs()) != 0
+}
+
+/// Whether a lent line was read that tells anything.
+fn is_read(line: &Result<LineRef<'_>, decode::Error>) -> bool {
+    match line {
+        Ok(line) => {
+            let who = line.signature;
+            tells(who.name, who.email, who.time, line.message)
+        }
+        Err(_) => false,
+    }
+}
+
+/// Whether a line with bytes of its own was read that tells anything.
+fn is_owned(line: &Result<Line, ReverseError>) -> bool {
+    match line {
+        Ok(line) => {
+            let who = &line.signature;
+            let tells = tells(&who.name, &who.email, who.time, &line.message);
+            tells && !(line.previous_oid.is_null() & line.new_oid.is_null())
+        }
+        Err(_) => false,
+    }
+}
+
 /// How many lines of the log were read, oldest first.
 fn read_forward(log: &[u8]) -> u64 {
     let mut hits = 0u64;
     for line in forward(log) {
-        if line.is_ok() {
+        if is_read(&line) {
             hits = hits.wrapping_add(1);
         }
     }
@@ -35,7 +67,7 @@ fn read_backward<F: ReadAt + Drop>(alloc: Global, log: F, buf: &mut [u8], most: 
         if hits >= most {
             return hits;
         }
-        if line.is_ok() {
+        if is_owned(&line) {
             hits = hits.wrapping_add(1);
         }
     }

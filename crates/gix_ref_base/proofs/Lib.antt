@@ -13,6 +13,8 @@ pub mod RoundTrip
 pub mod Rows
 pub mod SignatureLemmas
 pub mod SignaturesAgain
+pub mod DigitLanes
+pub mod StampNumbers
 pub mod Stamps
 pub mod Appending
 pub mod NumberLemmas

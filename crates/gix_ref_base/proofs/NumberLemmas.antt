@@ -24,7 +24,7 @@ digits_append [] c h d = (d, tt)
 digits_append (x ∷ ds) c h d = (h.0, digits_append ds c h.1 d)
 
 -- the value of an ASCII digit
-digit_is : (c d : ℕ) → c < 256 → d ≡ (c + (256 - 48)) % 256 → d ≤ 9 → (digit_value c ≡ d) × (c ≡ d + 48)
+pub digit_is : (c d : ℕ) → c < 256 → d ≡ (c + (256 - 48)) % 256 → d ≤ 9 → (digit_value c ≡ d) × (c ≡ d + 48)
 digit_is c d byte is small = grind arith
 
 -- a number of few digits is small

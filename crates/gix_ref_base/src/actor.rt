@@ -1,7 +1,7 @@
 //! Who made a change, and when: the signatures that stand in reflogs, as `git commit-tree` writes them.
 ghost use Rattle.std.specs.Prelude.{◌≡◌, ◌+◌, ◌-◌, ◌*◌, ◌↔◌, IsTrue, ℕ, ℤ, pos, List, MatchOption, IfSome, FitsSigned};
 ghost use Rattle.std.specs.Int.{w64};
-ghost use Rattle.gix_ref_base.specs.Signatures.{Who, IsSeconds, IsZone, IsStamp, IsDigit, IsPlain, IsSignature, IsWritableOffset, CanWrite, offset_text, signature_text, trimmed, without_space};
+ghost use Rattle.gix_ref_base.specs.Signatures.{Who, IsSeconds, IsZone, IsDigit, IsPlain, IsSignature, IsWritableOffset, CanWrite, offset_text, signature_text, trimmed, without_space};
 
 use crate::bytes::{cut, cut_last};
 use bstr::ByteSlice;
@@ -10,8 +10,10 @@ use std::io;
 use thiserror::Error;
 
 mod number;
+mod stamp;
 
 use number::small_number;
+use stamp::time_of;
 
 /// A moment, and the zone in which it was told.
 #[derive(Clone, Copy, Debug, PartialEq, Eq, PartialOrd, Ord, Hash)]
@@ -108,22 +110,6 @@ fn zone(text: &[u8]) -> Option<i32>
     }
 }
 
-/// The time that `> `, seconds of ten digits, as they are from 2001 to 2286, a space and a zone tell; none for other bytes.
-#[inline(always)]
-fn stamp(text: &[u8; 18]) -> Option<Time>
-    ensures { IfSome result (λ time. IsStamp text.now time.seconds time.offset) }
-{
-    if text[0] != b'>' || text[1] != b' ' || text[12] != b' ' {
-        return None;
-    }
-    let seconds = small_number(&text[2..12])?;
-    let offset = zone(&text[13..])?;
-    Some(Time {
-        seconds: seconds as i64,
-        offset,
-    })
-}
-
 /// A name less one space at its end.
 #[inline(always)]
 fn before_space(name: &[u8]) -> &[u8]
@@ -217,7 +203,7 @@ impl<'a> SignatureRef<'a> {
         ensures { IfSome result (λ s. IsSignature text.now (signature_ref_who s)) }
     {
         let (front, end) = text.split_last_chunk::<18>()?;
-        let time = stamp(end)?;
+        let time = time_of(end)?;
         let (name, email) = cut(front, b'<')?;
         Some(SignatureRef {
             name: before_space(name),
