@@ -1,5 +1,5 @@
 -- Texts as lists of bytes: fronts, components, cuts at a byte, longest fronts and line ends.
-use Rattle.std.specs.Prelude.{◌≡◌, ◌≢◌, ℕ, ◌<◌, ◌==◌, nat_eq, Bool, true, false, not, ◌||◌, ◌⊎◌, List, [], ◌∷◌, ◌++◌, length, drop, slice_index, if◌then◌else◌}
+use Rattle.std.specs.Prelude.{◌≡◌, ◌≢◌, ℕ, ◌<◌, ◌==◌, nat_eq, nat_lt, Bool, true, false, not, ◌||◌, ◌⊎◌, List, [], ◌∷◌, ◌++◌, length, drop, slice_index, if◌then◌else◌}
 use Rattle.std.specs.List.{AllPass, starts_with, slice_split}
 
 -- `front` stands at the front
@@ -33,6 +33,10 @@ components = slice_split is_slash
 -- the byte is not in the text
 abbrev pub NoByte : ℕ → List ℕ → Type 0
 NoByte b text = (k : ℕ) → k < length text → slice_index text k ≢ b
+
+-- LF or less, as a tab is
+abbrev pub is_break : ℕ → Bool
+is_break b = nat_lt b 11
 
 -- cut at the first such byte
 pub record Cuts (b : ℕ) (text before after : List ℕ) : Type 0 where

@@ -6,7 +6,7 @@ use bstr::ByteSlice;
 
 mod search;
 
-pub use search::{first_place, last_place};
+pub use search::{first_place, last_place, some_first_break};
 
 /// What follows `front` in the text, or `None` where the text does not begin with it.
 pub fn strip_front<'a>(text: &'a [u8], front: &[u8]) -> Option<&'a [u8]>

@@ -4,6 +4,7 @@ pub mod LinesAgain
 pub mod WindowLemmas
 pub mod LastLines
 pub mod FirstLines
+pub mod UsualLines
 pub mod BackwardSteps
 pub mod LogRuns
 pub mod PackedReadings

@@ -5,6 +5,7 @@ pub mod LogStages
 pub mod LogItems
 pub mod LogWindows
 pub mod LogForward
+pub mod LogUsual
 pub mod LogAnswers
 pub mod PackedText
 pub mod PackedLookup

@@ -1,7 +1,8 @@
 //! The place of a byte in a text of some tens of bytes, as a line is or a field of one. It looks at 16 bytes at a time, in
 //! place; the searches of the crate `memchr`, which are made for long texts, cost more before they begin.
-ghost use Rattle.std.specs.Prelude.{◌+◌, ◌≤◌, length};
+ghost use Rattle.std.specs.Prelude.{◌+◌, ◌≤◌, length, IfSome, Some};
 ghost use Rattle.memchr.specs.Find.{IsFirst, IsLast, IsFirstByte, IsLastByte, Passes, is_byte};
+ghost use Rattle.gix_ref_base.specs.Bytes.{is_break};
 
 use std::simd::prelude::*;
 
@@ -55,6 +56,39 @@ pub fn first_place(text: &[u8], byte: u8) -> Option<usize>
         start += LANES;
     }
     first_by_one(text, start, byte)
+}
+
+/// The first of the 16 bytes from `start` on that is LF or less.
+#[inline(always)]
+fn first_break_of_lanes(text: &[u8], start: usize) -> Option<usize>
+    requires { start + 16 ≤ length text.now }
+    ensures { IsFirst (Passes is_break text.now) start (start + 16) result }
+{
+    let marks = u8x16::from_slice(&text[start..])
+        .simd_lt(u8x16::splat(11))
+        .to_bitmask();
+    if marks == 0 {
+        return None;
+    }
+    Some(start + marks.trailing_zeros() as usize)
+}
+
+/// The place of the first byte that is LF or less, as a tab is. Only whole runs of 16 bytes are looked at, so `None` tells
+/// nothing. It stays a call: among the code of a caller, its loop would keep more places in step than the call costs.
+#[inline(never)]
+pub fn some_first_break(text: &[u8]) -> Option<usize>
+    ensures { IfSome result (λ place. IsFirstByte is_break text.now (Some place)) }
+{
+    let last = text.len().checked_sub(LANES)?;
+    let mut start = 0;
+    while start <= last {
+        let found = first_break_of_lanes(text, start);
+        if found.is_some() {
+            return found;
+        }
+        start += LANES;
+    }
+    None
 }
 
 /// The last such byte of the 16 from `start` on.

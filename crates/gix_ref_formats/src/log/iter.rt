@@ -14,6 +14,7 @@ pub mod decode;
 mod error;
 mod forwards;
 mod stage;
+mod usual;
 
 pub use backward::Reverse;
 pub use error::{EmptyBuffer, ReverseError};

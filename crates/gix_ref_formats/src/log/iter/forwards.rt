@@ -7,6 +7,7 @@ ghost use Rattle.gix_ref_formats.specs.LogCuts.{log_lines};
 
 use super::decode::{Error, LineNumber};
 use super::stage::without_return;
+use super::usual::usual_line;
 use crate::log::line::LineRef;
 use crate::log::line::decode::decoded_line;
 use gix_ref_base::bytes::cut;
@@ -56,7 +57,13 @@ impl<'a> Iterator for Forward<'a> {
 
     ghost next_gives = { ForwardStep };
 
+    #[inline(always)]
     fn next(&mut self) -> Option<Result<LineRef<'a>, Error>> {
+        if let Some((line, rest)) = usual_line(self.rest) {
+            self.rest = rest;
+            self.count += 1;
+            return Some(Ok(line));
+        }
         if self.rest.is_empty() {
             return None;
         }

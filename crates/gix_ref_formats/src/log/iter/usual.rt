@@ -1,0 +1,60 @@
+//! The first line of a log, where it is as most are: with a tab, and an LF behind it.
+ghost use Rattle.std.specs.Prelude.{◌<◌, ℕ, List, length, IfSome};
+ghost use Rattle.gix_ref_base.specs.Bytes.{NoByte, Cuts};
+ghost use Rattle.gix_ref_formats.specs.LogIds.{IdFront};
+ghost use Rattle.gix_ref_formats.specs.LogUsual.{BeginsWithLine};
+
+use super::stage::without_return;
+use crate::log::line::LineRef;
+use gix_ref_base::actor::SignatureRef;
+use gix_ref_base::bytes::{cut, some_first_break};
+use gix_ref_base::hash::are_hex;
+
+/// The ids of a SHA-1 at the front, and what follows the space behind them. `None` tells nothing.
+#[inline(always)]
+fn sha1_ids(text: &[u8]) -> Option<(&[u8], &[u8], &[u8])>
+    ensures { IfSome result (λ p. (ids : List ℕ) × IdFront text.now p.0.now ids × IdFront ids p.1.now p.2.now) }
+{
+    if text.len() < 82 || text[40] != b' ' || text[81] != b' ' {
+        return None;
+    }
+    let previous = &text[..40];
+    let new = &text[41..81];
+    let rest = &text[82..];
+    if !(are_hex(previous) & are_hex(new)) {
+        return None;
+    }
+    Some((previous, new, rest))
+}
+
+/// What stands before the first tab and behind it, where no LF stands before it. `None` tells nothing.
+#[inline(always)]
+fn cut_at_tab(text: &[u8]) -> Option<(&[u8], &[u8])>
+    ensures { IfSome result (λ p. Cuts 9 text.now p.0.now p.1.now × NoByte 10 p.0.now) }
+{
+    let place = some_first_break(text)?;
+    if text[place] != b'\t' {
+        return None;
+    }
+    Some((&text[..place], &text[place + 1..]))
+}
+
+/// The first line, where it is as most are, and what follows it. The ids are read first, and then the signature up to its
+/// tab, so that no byte of them is looked at for LF. `None` tells nothing.
+#[inline(always)]
+pub(super) fn usual_line<'a>(log: &'a [u8]) -> Option<(LineRef<'a>, &'a [u8])>
+    ensures line { IfSome result (λ p. BeginsWithLine log.now p.0 p.1.now) }
+    ensures shorter { IfSome result (λ p. length p.1.now < length log.now) }
+{
+    let (previous_oid, new_oid, text) = sha1_ids(log)?;
+    let (head, tail) = cut_at_tab(text)?;
+    let signature = SignatureRef::decode(head)?;
+    let (message, rest) = cut(tail, b'\n')?;
+    let line = LineRef {
+        previous_oid,
+        new_oid,
+        signature,
+        message: without_return(message, true),
+    };
+    Some((line, rest))
+}
