@@ -20,7 +20,7 @@ const LINE: &[u8] =
 /// the making of none is left out of what is measured.
 fn tells(name: &[u8], email: &[u8], time: Time, message: &[u8]) -> bool {
     let lengths = name.len() | email.len() | message.len();
-    lengths as u64 | time.seconds.unsigned_abs() | u64::from(time.offset.unsigned_abs()) != 0
+    (lengths != 0) | (time.seconds != 0) | (time.offset != 0)
 }
 
 /// Whether a lent line was read that tells anything.

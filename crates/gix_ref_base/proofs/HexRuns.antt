@@ -1,5 +1,6 @@
 -- Hex digits looked at in three runs of 16, of which the last two overlap, and a byte by two ranges.
-use Rattle.std.proofs.Common.{◌≡◌, ℕ, ◌+◌, ◌%◌, ◌<◌, Bool, true, false, not, cond, ◌&&◌, ◌||◌, List, ◌++◌, length, get_or, take, drop, refl, sym, ◌∙◌, ap, subst, arith, bit_or, nat_lt}
+use Rattle.std.proofs.Common.{◌≡◌, ℕ, ◌+◌, ◌%◌, ◌<◌, Bool, true, false, not, cond, ◌&&◌, ◌||◌, List, ◌++◌, length, get_or, take, drop, refl, sym, ◌∙◌, ap, subst, arith, bit_or, ℤ, pos, to_z, of_z, w8}
+use lib.Signed.{lt_z}
 use Rattle.std.specs.List.{list_all, range_with_len}
 use Rattle.std.proofs.lemmas.List.{take-append-drop, drop-drop, take_all, length-drop, get_or-drop}
 use Rattle.std.proofs.lemmas.List.Elements.{All-get_or}
@@ -11,7 +12,7 @@ use Rattle.hex.specs.Hex.{is_hex_digit}
 
 -- the two tests agree, as each of the 256 bytes shows
 
-all_agree : list_all (λ b. cond (nat_lt ((b + 208) % 256) 10 || nat_lt ((bit_or b 32 + 159) % 256) 6) (is_hex_digit b) (not (is_hex_digit b))) (range_with_len 0 256) ≡ true
+all_agree : list_all (λ b. cond (lt_z (pos 117) (to_z w8 (of_z w8 (to_z w8 ((b + 70) % 256)))) || lt_z (pos 121) (to_z w8 (of_z w8 (to_z w8 ((bit_or b 32 + 25) % 256))))) (is_hex_digit b) (not (is_hex_digit b))) (range_with_len 0 256) ≡ true
 all_agree = refl
 
 same_bools : (x y : Bool) → cond x y (not y) ≡ true → x ≡ y
@@ -20,13 +21,16 @@ same_bools true false h = absurd (cc)
 same_bools false true h = absurd (cc)
 same_bools false false h = refl
 
-pub folded_hex : (b : ℕ) → b < 256 → (nat_lt ((b + 208) % 256) 10 || nat_lt ((bit_or b 32 + 159) % 256) 6) ≡ is_hex_digit b
-folded_hex b byte =
-    let test = λ (b : ℕ). cond (nat_lt ((b + 208) % 256) 10 || nat_lt ((bit_or b 32 + 159) % 256) 6) (is_hex_digit b) (not (is_hex_digit b)) in
+pub folded_hex : (b : ℕ) (digit letter : ℤ) → b < 256 → digit ≡ to_z w8 ((b + 70) % 256) → letter ≡ to_z w8 ((bit_or b 32 + 25) % 256)
+    → (lt_z (pos 117) (to_z w8 (of_z w8 digit)) || lt_z (pos 121) (to_z w8 (of_z w8 letter))) ≡ is_hex_digit b
+folded_hex b digit letter byte digit_is letter_is =
+    let test = λ (b : ℕ). cond (lt_z (pos 117) (to_z w8 (of_z w8 (to_z w8 ((b + 70) % 256)))) || lt_z (pos 121) (to_z w8 (of_z w8 (to_z w8 ((bit_or b 32 + 25) % 256))))) (is_hex_digit b) (not (is_hex_digit b)) in
     let here = All-get_or (λ (b : ℕ). test b ≡ true) (range_with_len 0 256) b 0 byte (AllPass-from_list_all test (range_with_len 0 256) all_agree) in
     let plain : 0 + b ≡ b = omega arith in
     let at : get_or (range_with_len 0 256) b 0 ≡ b = get_or-range_with_len 0 256 b 0 byte ∙ plain in
-    same_bools _ _ (subst (λ (n : ℕ). test n ≡ true) at here)
+    ap (λ (z : ℤ). lt_z (pos 117) (to_z w8 (of_z w8 z)) || lt_z (pos 121) (to_z w8 (of_z w8 letter))) digit_is
+    ∙ ap (λ (z : ℤ). lt_z (pos 117) (to_z w8 (of_z w8 (to_z w8 ((b + 70) % 256)))) || lt_z (pos 121) (to_z w8 (of_z w8 z))) letter_is
+    ∙ same_bools _ _ (subst (λ (n : ℕ). test n ≡ true) at here)
 
 regroup : (a b c x y z : Bool) → ((((a && (b && c)) && x) && y) && z) ≡ ((a && x) && ((b && y) && (c && z)))
 regroup false b c x y z = refl

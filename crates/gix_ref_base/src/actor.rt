@@ -196,10 +196,10 @@ impl<'a> SignatureRef<'a> {
         }
     }
 
-    /// The signature, where a stamp of the usual length ends it. Its place is known then, and nothing is searched for but
-    /// the `<`. Of a text that ends otherwise this tells nothing.
+    /// The same where a stamp of the usual length ends the signature. Its place is known then, and nothing is searched for
+    /// but the `<`. Of a text that ends otherwise `None` tells nothing.
     #[inline(always)]
-    fn stamped(text: &'a [u8]) -> Option<SignatureRef<'a>>
+    pub fn stamped(text: &'a [u8]) -> Option<SignatureRef<'a>>
         ensures { IfSome result (λ s. IsSignature text.now (signature_ref_who s)) }
     {
         let (front, end) = text.split_last_chunk::<18>()?;

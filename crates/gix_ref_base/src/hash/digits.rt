@@ -4,12 +4,15 @@ ghost use Rattle.std.specs.List.{list_all};
 ghost use Rattle.hex.specs.Hex.{decode_of, is_hex_digit};
 ghost use Rattle.gix_ref_base.specs.Digits.{IsPair};
 
-/// Whether a byte is a hex digit, of either case, by two ranges: the bit that is set here is all that sets the cases apart.
+/// Whether a byte is a hex digit, of either case. The bit that is set here is all that sets the cases apart, and each range
+/// is moved to the greatest signed bytes, so that one comparison of vectors tests it.
 #[inline(always)]
 fn is_folded_hex(byte: u8) -> bool
     ensures { result ≡ is_hex_digit byte }
 {
-    byte.wrapping_sub(b'0') < 10 || (byte | 0x20).wrapping_sub(b'a') < 6
+    let digit = byte.wrapping_add(127 - b'9').cast_signed();
+    let letter = (byte | 0x20).wrapping_add(127 - b'f').cast_signed();
+    digit > 127 - 10 || letter > 127 - 6
 }
 
 /// Whether these are hex digits, of either case. Three runs of 16 cover them, of which the last two overlap, so that all

@@ -48,7 +48,7 @@ pub(super) fn usual_line<'a>(log: &'a [u8]) -> Option<(LineRef<'a>, &'a [u8])>
 {
     let (previous_oid, new_oid, text) = sha1_ids(log)?;
     let (head, tail) = cut_at_tab(text)?;
-    let signature = SignatureRef::decode(head)?;
+    let signature = SignatureRef::stamped(head)?;
     let (message, rest) = cut(tail, b'\n')?;
     let line = LineRef {
         previous_oid,

@@ -1,7 +1,9 @@
-use Rattle.std.proofs.Common.{◌%◌, ◌+◌, nat_lt, sym, ◌∙◌, ap, ◌||◌, bit_or, Bool}
-use Rattle.std.proofs.lemmas.Bool.{le-ltb}
+use Rattle.std.proofs.Common.{sym, ◌∙◌, ap, ◌||◌, Bool, ℤ, pos, to_z, of_z, w8}
+use lib.Signed.{lt_z}
 use Rattle.gix_ref_base.proofs.HexRuns.{folded_hex}
 use Rattle.gix_ref_base.proofs.hash.digits.is_folded_hex.Goals as goal
 
-pub returns-else-byte-lt10 : goal.returns-else-byte-lt10
-returns-else-byte-lt10 c = ap (λ (w : Bool). w || nat_lt ((bit_or c.args.byte 32 + 159) % 256) 6) (sym (le-ltb ((c.args.byte + 208) % 256) 10 c.if-byte-lt10.false)) ∙ folded_hex c.args.byte c.ranges.byte.fits
+pub returns-else-digit : goal.returns-else-digit
+returns-else-digit c =
+    ap (λ (w : Bool). w || lt_z (pos 121) (to_z w8 (of_z w8 c.cast_signed-letter.result))) (sym c.if-digit.false)
+    ∙ folded_hex c.args.byte c.cast_signed-digit.result c.cast_signed-letter.result c.ranges.byte.fits c.cast_signed-digit.ensures c.cast_signed-letter.ensures
