@@ -1,5 +1,5 @@
 -- Lemmas on searches of a byte that look at 16 places at a time: bit k of a mask tells of place k.
-use Rattle.std.proofs.Common.{◌≡◌, ℕ, ◌+◌, ◌-◌, ◌*◌, ◌^◌, ◌<◌, ◌≤◌, ⊎_elim, Bool, true, false, cond, List, length, get_or, map, refl, sym, ◌∙◌, ap, subst, eqb, arith, w64}
+use Rattle.std.proofs.Common.{◌≡◌, ℕ, ◌+◌, ◌-◌, ◌*◌, ◌^◌, ◌<◌, ◌≤◌, ⊎_elim, Bool, true, false, cond, List, length, get_or, map, refl, sym, ◌∙◌, ap, subst, arith, w64}
 use Rattle.std.specs.Int.{bit_at, trailing_zeros}
 use Rattle.std.specs.Simd.Lanes.{mask_l, chunk}
 use Rattle.std.proofs.lemmas.Bool.{cases_lt}
@@ -7,7 +7,7 @@ use Rattle.std.proofs.lemmas.List.{get_or-map, get_or_past, length-map}
 use Rattle.std.proofs.lemmas.Nat.Bits.{bit_at-zero, bit_at-trailing_zeros}
 use Rattle.std.proofs.lemmas.Simd.{length-chunk, get_or-chunk, bit_mask_l, mask_l-lt}
 use Rattle.memchr.proofs.lemmas.BitLemmas.{bit_at_top, bit_at_above}
-use Rattle.memchr.specs.Find.{Nowhere, NoneBefore, NoneAfter, Passes, is_byte}
+use Rattle.memchr.specs.Find.{Nowhere, NoneBefore, NoneAfter, Passes}
 
 -- the mask of the places, among 16, whose byte passes a test
 abbrev pub marks_of : (ℕ → Bool) → List ℕ → ℕ → ℕ

@@ -1,11 +1,11 @@
 -- Sixteen bytes looked at as lanes: which of them are digits, and the numbers of their pairs.
-use Rattle.std.proofs.Common.{◌≡◌, ℕ, zero, suc, ◌+◌, ◌-◌, ◌*◌, ◌/◌, ◌%◌, ◌^◌, ◌<◌, ◌≤◌, Bool, true, false, cond, List, [], ◌∷◌, length, get_or, map, replicate, take, drop, refl, sym, ◌∙◌, ap, subst, arith, ltb, bit_and, w8}
-use Rattle.std.specs.Int.{bit_at, IsInRange}
+use Rattle.std.proofs.Common.{◌≡◌, ℕ, ◌+◌, ◌-◌, ◌*◌, ◌/◌, ◌%◌, ◌^◌, ◌<◌, ◌≤◌, Bool, true, false, cond, List, ◌∷◌, length, get_or, map, replicate, take, drop, refl, sym, ◌∙◌, ap, subst, arith, ltb, bit_and, w8}
+use Rattle.std.specs.Int.{bit_at}
 use Rattle.std.specs.Simd.Lanes.{zip2, mask_l, top, chunk, number_l, digits_l, Each1}
 use Rattle.std.proofs.lemmas.Bool.{ltb-true}
-use Rattle.std.proofs.lemmas.List.{get_or-map, get_or-take, get_or-drop, length-map, length-drop, take_all, length-take-le, drop_more}
+use Rattle.std.proofs.lemmas.List.{get_or-map, get_or-drop, length-map, length-drop, take_all, drop_more}
 use Rattle.std.proofs.lemmas.Nat.{and_mask}
-use Rattle.std.proofs.lemmas.Simd.{zip2_splat, bitmask_splat, bit_mask_l, length-zip2, get_or_wider, Each1-from_get_or}
+use Rattle.std.proofs.lemmas.Simd.{zip2_splat, bitmask_splat, bit_mask_l, get_or_wider, Each1-from_get_or}
 use Rattle.gix_ref_base.specs.Signatures.{IsDigit}
 
 by : (A : Type 0) → A → A

@@ -1,6 +1,6 @@
 -- A log whose first line has a tab and ends with LF: where the line ends, and its parts.
-use Rattle.std.proofs.Common.{◌≡◌, ◌≢◌, ℕ, suc, ◌+◌, ◌-◌, ◌<◌, ◌≤◌, Bool, true, false, cond, ◌&&◌, ◌==◌, nat_lt, List, [], ◌∷◌, ◌++◌, length, slice_index, get_or, take, drop, inl, inr, refl, sym, ◌∙◌, ap, subst, arith, ne_eqb}
-use Rattle.std.proofs.lemmas.Bool.{lt-ltb, le-ltb}
+use Rattle.std.proofs.Common.{◌≡◌, ℕ, suc, ◌+◌, ◌-◌, ◌<◌, ◌≤◌, Bool, true, false, cond, ◌&&◌, ◌==◌, nat_lt, List, [], ◌∷◌, ◌++◌, length, slice_index, get_or, take, drop, inl, inr, refl, sym, ◌∙◌, ap, subst, arith}
+use Rattle.std.proofs.lemmas.Bool.{lt-ltb}
 use Rattle.std.proofs.lemmas.List.{append_assoc, take-append-drop, drop_more, drop-drop, get_or-take, length-take-le, length-drop}
 use Rattle.std.specs.List.{list_all}
 use Rattle.bstr.specs.Text.{no_cr}
@@ -11,7 +11,7 @@ use Rattle.gix_ref_base.proofs.SignaturesAgain.{none_append, none_cons}
 use Rattle.memchr.specs.Find.{NoneBefore, Passes}
 use Rattle.gix_ref_formats.specs.LogCuts.{log_lines}
 use Rattle.gix_ref_formats.specs.LogIds.{IdFront}
-use Rattle.gix_ref_formats.specs.LogLines.{LogLine, IsLine}
+use Rattle.gix_ref_formats.specs.LogLines.{IsLine}
 use Rattle.gix_ref_formats.proofs.FirstLines.{first_of_lines}
 use Rattle.gix_ref_formats.proofs.LineIds.{id_text, no_byte_in_id}
 

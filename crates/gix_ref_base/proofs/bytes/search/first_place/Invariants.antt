@@ -1,4 +1,4 @@
-use Rattle.std.proofs.Common.{◌≤◌, ◌+◌, ◌-◌, length}
+use Rattle.std.proofs.Common.{◌≤◌, ◌-◌, length}
 use Rattle.memchr.specs.Find.{Nowhere, Passes, is_byte}
 use Rattle.gix_ref_base.proofs.bytes.search.first_place.Given as goal
 

@@ -1,4 +1,4 @@
-use Rattle.std.proofs.Common.{◌≤◌, ◌+◌, ◌-◌, length}
+use Rattle.std.proofs.Common.{◌≤◌, ◌-◌, length}
 use Rattle.memchr.specs.Find.{Nowhere, Passes}
 use Rattle.gix_ref_base.specs.Bytes.{is_break}
 use Rattle.gix_ref_base.proofs.bytes.search.some_first_break.Given as goal

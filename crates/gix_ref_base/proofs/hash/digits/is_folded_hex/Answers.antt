@@ -1,4 +1,4 @@
-use Rattle.std.proofs.Common.{sym, ◌∙◌, ap, ◌||◌, Bool, ℤ, pos, to_z, of_z, w8}
+use Rattle.std.proofs.Common.{sym, ◌∙◌, ap, ◌||◌, Bool, pos, to_z, of_z, w8}
 use lib.Signed.{lt_z}
 use Rattle.gix_ref_base.proofs.HexRuns.{folded_hex}
 use Rattle.gix_ref_base.proofs.hash.digits.is_folded_hex.Goals as goal
