@@ -1,9 +1,9 @@
 -- What a commit of one update leaves, over what `prepare` gave.
-use Rattle.std.proofs.Common.{◌≡◌, ◌⊎◌, inl, ⊎_elim, ℕ, ◌<◌, List, [], ◌∷◌, ◌++◌, Bool, true, false, not, ◌&&◌, Option, Some, None, IsSome, refl, sym, ◌∙◌, ap, subst, if◌then◌else◌, length, arith}
+use Rattle.std.proofs.Common.{◌≡◌, ◌≢◌, ◌⊎◌, inl, inr, ⊎_elim, ℕ, ◌<◌, List, [], ◌∷◌, ◌++◌, Bool, true, false, not, ◌&&◌, Option, Some, None, IsSome, refl, sym, ◌∙◌, ap, subst, if◌then◌else◌, length, arith}
 use Rattle.std.proofs.lemmas.Bool.{le-ltb}
 use Rattle.gix_ref_base.specs.Targets.{TargetValue}
 use Rattle.gix_ref_base.specs.declared.hash.Kind.{Kind}
-use Rattle.gix_ref_files.specs.Tree.{Tree, Path, is_file, put}
+use Rattle.gix_ref_files.specs.Tree.{Tree, Path, is_file, put, moved}
 use Rattle.gix_ref_files.specs.Files.{Meaning, Leaves}
 use Rattle.gix_ref_files.specs.Steps.{Step, IsAfter, IsLeftBy}
 use Rattle.gix_ref_files.specs.Steps.Step.{Rename}
@@ -166,19 +166,41 @@ module _ (f : Folders) (kind : Kind) (laid : AreFolders f) (before : Tree) (firs
   but_locks : (T U : Tree) → RemovesLocks (lock_paths (p ∷ [])) T U → IsSameButLocks (place ∷ []) (view_of U) (view_of T)
   but_locks T U removes path n = ⊎_elim (λ same. ap file_of same) (λ gone. absurd (n (inl (sym (in_one p.lock.items path gone.0) ∙ lock_here)))) (removes path)
 
+  -- the renames change nothing but the place and the lock
+  apart_from : (T : Tree) → IsLeftBy steps start T → (q : Path) → place ≢ q → lock ≢ q → T q ≡ start q
+  apart_from T left q no_place no_lock = by written (subst (λ l. IsLeftBy l start T) renames_are left)
+    where
+      moved_same : moved start lock place q ≡ start q
+      moved_same = put_other (put start lock None) place q (start lock) no_place ∙ put_other start lock q None no_lock
+
+      by : (w : Bool) → IsLeftBy ((if w then Rename lock place ∷ [] else []) ++ []) start T → T q ≡ start q
+      by true (inl (inl same)) = ap (λ (R : Tree). R q) same
+      by true (inl (inr moves)) = ap (λ (R : Tree). R q) moves.1 ∙ moved_same
+      by true (inr (m, does, same)) = ap (λ (R : Tree). R q) (same ∙ does.1) ∙ moved_same
+      by false same = ap (λ (R : Tree). R q) same
+
+  elsewhere : (T : Tree) → IsLeftBy steps start T → (q : Path) → is_in (place ∷ []) q ≡ false → is_in (lock ∷ []) q ≡ false → view_of T q ≡ view_of before q
+  elsewhere T left q no_place no_lock =
+      ap file_of (apart_from T left q (λ same. clash (in_here place q [] same) no_place) (λ same. clash (in_here lock q [] same) no_lock))
+      ∙ same_view file_of refl (lock ∷ []) (lock ∷ []) before start q ready.adds no_lock
+
   left_then : (T U : Tree) → AreLeftWell s (e ∷ []) before T → RemovesLocks (lock_paths (p ∷ [])) T U → AreLeftWell s (e ∷ []) before U
   left_then T U left removes = record {
-    between = locks.between s laws DeletionsOnly (place ∷ []) (view_of before) edits run.prepared.apart (view_of T) (view_of U) (but_locks T U removes) left.between;
-    no_deletion_first = λ keeps. locks.no_deletion_first s laws DeletionsOnly (place ∷ []) (view_of before) edits run.prepared.apart (view_of T) (view_of U) (but_locks T U removes) (left.no_deletion_first keeps);
-    in_order = λ keeps. locks.in_order s laws DeletionsOnly (place ∷ []) (view_of before) edits run.prepared.apart (view_of T) (view_of U) (but_locks T U removes) (left.in_order keeps)
-        (λ seen u later all. subst (IsEdit u) all (edit_behind seen u later))
-        (λ x u seen later all he. subst (IsEdit x) all (edit_in_front x seen (u ∷ later) he));
+    well = record {
+      between = locks.between s laws DeletionsOnly (place ∷ []) (view_of before) edits run.prepared.apart (view_of T) (view_of U) (but_locks T U removes) left.well.between;
+      no_deletion_first = λ keeps. locks.no_deletion_first s laws DeletionsOnly (place ∷ []) (view_of before) edits run.prepared.apart (view_of T) (view_of U) (but_locks T U removes) (left.well.no_deletion_first keeps);
+      in_order = λ keeps. locks.in_order s laws DeletionsOnly (place ∷ []) (view_of before) edits run.prepared.apart (view_of T) (view_of U) (but_locks T U removes) (left.well.in_order keeps)
+          (λ seen u later all. subst (IsEdit u) all (edit_behind seen u later))
+          (λ x u seen later all he. subst (IsEdit x) all (edit_in_front x seen (u ∷ later) he));
+    };
+    elsewhere = λ q no_place no_lock.
+        but_locks T U removes q (λ own. ⊎_elim (λ (at : q ≡ lock). clash (in_here lock q [] (sym at)) no_lock) (λ other. absurd other) own) ∙ left.elsewhere q no_place no_lock;
   }
 
   ends_well : (mid now : Meaning) → Leaves first mid (IsLeftBy steps start) → Leaves mid now (RemovesLocks (lock_paths (p ∷ [])) mid.tree) → Leaves first now (AreLeftWell s (e ∷ []) before)
   ends_well mid now renames releases =
       let well : Leaves first mid (AreLeftWell s (e ∷ []) before) =
-      weaken renames (λ T left. trees.left_well s laws DeletionsOnly (place ∷ []) edits before start T steps run left) in
+      weaken renames (λ T left. record { well = trees.left_well s laws DeletionsOnly (place ∷ []) edits before start T steps run left; elsewhere = elsewhere T left }) in
       joins well (weaken releases (λ T removes. left_then mid.tree T well.tree removes))
 
   -- the lock was renamed

@@ -6,6 +6,7 @@ use Rattle.gix_ref_files.specs.Files.{Meaning, Leaves, HasRisen}
 use Rattle.gix_ref.specs.AddedLocks.{is_in, paths_of}
 use Rattle.gix_ref.specs.Between.{IsCommitted}
 use Rattle.gix_ref.specs.Carried.{view_of, IsLeftWell}
+use Rattle.gix_ref.specs.Causes.{locks_of}
 use Rattle.gix_ref.specs.Edits as plan
 use Rattle.gix_ref.specs.Edits.Mode.{DeletionsOnly}
 use Rattle.gix_ref.specs.Prepared.{IsOneUpdate, PreparesFrom, tree_of, locks_in}
@@ -33,9 +34,11 @@ AreCommitted s edits before left T =
     (staying : List Path) → ((q : Path) → is_in left q ≡ true → IsOwnLock staying q) →
     IsCommitted s DeletionsOnly staying (planned edits) (view_of before) (view_of T)
 
--- every reference reads as before or as edited in T, and every file is as before or as edited
-abbrev pub AreLeftWell : readings.Store → List RefEdit → (before T : Tree) → Type 0
-AreLeftWell s edits before T = IsLeftWell s DeletionsOnly (places_of s edits) (planned edits) before T
+-- In T every reference reads as before or as edited, and every file is as before or as edited; one that is at no place and no lock of the
+-- edits is as before, and so is all that lies outside of the store's namespace.
+pub record AreLeftWell (s : readings.Store) (edits : List RefEdit) (before T : Tree) : Type 0 where
+  pub well : IsLeftWell s DeletionsOnly (places_of s edits) (planned edits) before T
+  pub elsewhere : (q : Path) → is_in (places_of s edits) q ≡ false → is_in (locks_of s edits) q ≡ false → view_of T q ≡ view_of before q
 
 -- the names of edits
 abbrev pub names_of : List RefEdit → List (List ℕ)

@@ -1,5 +1,5 @@
 //! The theorems of the store, as contracts of functions that do nothing.
-ghost use Rattle.gix_ref.specs.Theorems.{EveryStopIsBetween, NoDeletionShowsFirst, UpdatesShowInOrder, WholePlanCommits, PlanSeesNoLocks, MergedRecordsAreOne, RowsAreTheTable, SafeNamesAreTested, PlacesKeepTheLaws, OnePlaceHasOneLog, OneLogHasOnePlace};
+ghost use Rattle.gix_ref.specs.Theorems.{EveryStopIsBetween, NoDeletionShowsFirst, UpdatesShowInOrder, WholePlanCommits, PlanSeesNoLocks, MergedRecordsAreOne, RowsAreTheTable, SafeNamesAreTested, PlacesKeepTheLaws, OnePlaceHasOneLog, OneLogHasOnePlace, PlacesLieInTheNamespace};
 ghost use Rattle.gix_ref.specs.Carried.{EveryTreeIsBetween, EveryEndIsBetween, EveryWholeRunCommits, FoldersHoldNoFile};
 ghost use Rattle.gix_ref.specs.Example.{ExampleIsPrepared, PlanIsFiveWrites, FourRows, PackedTextsAreThese, PackedFirstIsWrong, ReverseIsWrong, RemovedFirstIsWrong, RemovingModeShowsDeletionFirst, RemovingModeShowsOutOfOrder, StepsCarryOutThePlan, PlacesInLinked};
 
@@ -23,13 +23,15 @@ pub fn every_tree()
     ensures folders { FoldersHoldNoFile }
 {}
 
-/// The places of references are those of the table, and they keep the laws that `every_stop` asks for.
+/// The places of references are those of the table, they keep the laws that `every_stop` asks for, and each lies in the
+/// namespace.
 pub fn places_keep_the_laws()
     ensures table { RowsAreTheTable }
     ensures safe { SafeNamesAreTested }
     ensures laws { PlacesKeepTheLaws }
     ensures one_log { OnePlaceHasOneLog }
     ensures one_place { OneLogHasOnePlace }
+    ensures namespaces { PlacesLieInTheNamespace }
 {}
 
 /// Two updates and a deletion: what each stop shows, why other orders are wrong, and what the removing mode does not

@@ -25,7 +25,13 @@ fn main(rt: HostRuntime) -> ExitCode {
         words.clear();
     }
     let mut out = io::writer(&rt);
-    let ran = run(alloc, Disk::new(rt), PackedRefs::default(), &words, &mut out);
+    let ran = run(
+        alloc,
+        Disk::new(rt),
+        PackedRefs::default(),
+        &words,
+        &mut out,
+    );
     match ran.status {
         Ok(status) => ExitCode::from(status),
         Err(_) => ExitCode::from(1),

@@ -1,3 +1,9 @@
+use Rattle.std.proofs.Common.{◌≡◌, ◌∷◌, ◌++◌, codes, refl}
+use Rattle.std.specs.Prelude.{unwrap_or}
+use Rattle.gix_ref_files.specs.Tree.{Path}
+use Rattle.gix_ref.specs.Places.{Folders, below}
+use Rattle.gix_ref.specs.Spots.{Spot, spot, row_of}
+use Rattle.gix_ref.specs.Spots.Spot.{Shared, Here, Main, Linked}
 use Rattle.gix_ref.proofs.SpotLemmas.{has_row, row_is_table, safe_is_tested, tested_is_safe}
 use Rattle.gix_ref.proofs.PlaceLaws.{laws_hold, one_log}
 use Rattle.gix_ref.proofs.SharedLogs.{shared_logs}
@@ -17,3 +23,12 @@ returns-clause-one_log c = one_log
 
 pub returns-clause-one_place : goal.returns-clause-one_place
 returns-clause-one_place c = shared_logs
+
+pub returns-clause-namespaces : goal.returns-clause-namespaces
+returns-clause-namespaces c f o name = in_namespace f (unwrap_or (spot name) (Shared name))
+  where
+    in_namespace : (f : Folders) (x : Spot) → (folder rest : Path) × ((row_of f x).place ≡ below folder (f.namespace ++ rest))
+    in_namespace f (Shared n) = (f.common, n, refl)
+    in_namespace f (Here n) = (f.git, n, refl)
+    in_namespace f (Main n) = (f.common, n, refl)
+    in_namespace f (Linked w n) = (f.common, codes "worktrees/" ++ (w ++ 47 ∷ n), refl)
