@@ -70,6 +70,7 @@ fn at<F>(alloc: Global, files: F, dir: &[u8], kind: Kind) -> Result<Store<F>, (F
     match Store::at_opts(files, git_dir, kind, options) {
         Ok(store) => Ok(store),
         Err(store::Error::PathNotClean { files }) => Err((files, Refusal::PathNotClean)),
+        // The git folder is the common folder too, so these do not meet.
         Err(store::Error::FoldersMeet { files }) => Err((files, Refusal::PathNotClean)),
     }
 }
@@ -240,7 +241,11 @@ fn follow<F: Files>(
 
 /// Does what the words ask for, and prints what it came to in one write: nothing for an update that was made, a target
 /// and a name for a reference that is shown, else `refused: ` and the variant of the error, or `wrong words`; and a
-/// line for each lock that could not be removed. The status is 0, 1 for a refusal, 2 for wrong words.
+/// line for each lock that could not be removed. The status is 0, 1 for a refusal, 2 for wrong words; it is an error where
+/// the writer failed, or where there was no memory for the text. (`git update-ref`, `git show-ref`)
+///
+/// The words are those behind the name of the program. Costs five calls of files for an update, one for a reference that
+/// is shown.
 pub fn run<F: Files, W: Write>(
     alloc: Global,
     files: F,

@@ -37,7 +37,8 @@ pub struct Updated {
 /// Prepares one update, and commits it. The store writes no log line.
 ///
 /// The answer tells why it was not made: the first cause against it, or what stopped its commit. Each lock that could not
-/// be removed is named. Costs what `prepare` and `commit` do.
+/// be removed is named. Costs what `prepare` and `commit` do: five calls of files for a reference that changes.
+/// (`git update-ref`)
 pub fn update<F: Files>(
     alloc: Global,
     store: &mut Store<F>,
