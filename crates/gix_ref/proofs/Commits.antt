@@ -1,5 +1,6 @@
 -- A commit from the store before its `prepare`, from what its renames and the release of its locks leave.
 use Rattle.std.proofs.Common.{◌≡◌, ◌⊎◌, inl, inr, ⊎_elim, ℕ, ◌<◌, ◌≤◌, List, [], true, false, Option, Some, None, refl, sym, ◌∙◌, ap, subst, length, get_or, arith}
+use Rattle.std.proofs.lemmas.List.{length-map}
 use Rattle.gix_ref_files.specs.declared.files.FileError.{FileError}
 use Rattle.gix_ref_files.specs.Tree.{Tree, Path, is_file, is_folder, Content}
 use Rattle.gix_ref_files.specs.Tree.Content.{File, Folder}
@@ -7,7 +8,7 @@ use Rattle.gix_ref_files.specs.Files.{Meaning, Leaves}
 use Rattle.gix_ref_files.specs.Steps.{IsAfter, IsLeftBy}
 use Rattle.gix_ref.specs.AddedLocks.{is_in, RemovesLocks}
 use Rattle.gix_ref.specs.Committed.{renames_of, lock_at, stays_at, IsRaised}
-use Rattle.gix_ref.specs.Committing.{AreCommitted, LeavesWell, TellsOf, FailsFor}
+use Rattle.gix_ref.specs.Committing.{AreCommitted, LeavesWell, TellsOf, FailsFor, names_of}
 use Rattle.gix_ref.specs.Prepared.{IsOneUpdate, PreparesFrom, tree_of}
 use Rattle.gix_ref.specs.Store.{files_of, folders, kind_of, meaning_of}
 use Rattle.gix_ref.specs.Taken.{lock_paths, place_paths}
@@ -17,7 +18,7 @@ use Rattle.gix_ref.specs.declared.file.store.Store.{Store}
 use Rattle.gix_ref.specs.declared.file.transaction.setting.Paths.{Paths}
 use Rattle.gix_ref.specs.declared.file.transaction.commit.error.Error.{Error}
 use Rattle.gix_ref.specs.declared.file.transaction.commit.error.Error.TheVariants.{LockCommit, FolderInPlace}
-use Rattle.gix_ref.proofs.Adds.{clash}
+use Rattle.gix_ref.proofs.Adds.{clash, in_at}
 use Rattle.gix_ref.proofs.OneUpdate.{IsReady, ends, gone, commits}
 use Rattle.gix_ref.proofs.Settings.{folders_laid}
 
@@ -82,16 +83,19 @@ folder_stays locks T U q removes folder = ⊎_elim (λ same. ap is_folder same �
     no_both None file folder = clash file refl
 
 -- why a commit failed
-pub fails : {F : Type 0} (honest : Type 0) (means : F → Meaning) (faults : F → ℕ) (start new : Store F) (edits : List RefEdit) (paths : List Paths) (place : Path) (source : Option FileError) (error : Error) →
-    TellsOf edits place source error → is_in (place_paths paths) place ≡ true → (honest → source ≡ None → is_folder (tree_of honest means faults new place) ≡ true) →
+pub fails : {F : Type 0} (honest : Type 0) (means : F → Meaning) (faults : F → ℕ) (start new : Store F) (edits : List RefEdit) (paths : List Paths) (at : ℕ) (place : Path) (source : Option FileError) (error : Error) →
+    TellsOf edits at place source error → at < length edits → is_in (place_paths paths) place ≡ true → (honest → source ≡ None → is_folder (tree_of honest means faults new place) ≡ true) →
     IsRaised (faults (files_of start)) (faults (files_of new)) source → FailsFor honest means faults start new edits paths error
-fails honest means faults start new edits paths place None (FolderInPlace path) tells within folder raised = (
+fails honest means faults start new edits paths at place None (FolderInPlace path) tells lt within folder raised = (
   subst (λ (p : Path). is_in (place_paths paths) p ≡ true) (sym tells) within,
   λ h. subst (λ (p : Path). is_folder (tree_of honest means faults new p) ≡ true) (sym tells) (folder h refl),
 )
-fails honest means faults start new edits paths place (Some fault) (LockCommit source name) tells within folder raised = (raised, tells.1)
-fails honest means faults start new edits paths place None (LockCommit source name) tells within folder raised = absurd tells
-fails honest means faults start new edits paths place (Some fault) (FolderInPlace path) tells within folder raised = absurd tells
+fails honest means faults start new edits paths at place (Some fault) (LockCommit source name) tells lt within folder raised = (
+  raised,
+  subst (λ (n : List ℕ). is_in (names_of edits) n ≡ true) (sym tells.1) (in_at (names_of edits) at [] (simp length-map lt)),
+)
+fails honest means faults start new edits paths at place None (LockCommit source name) tells lt within folder raised = absurd tells
+fails honest means faults start new edits paths at place (Some fault) (FolderInPlace path) tells lt within folder raised = absurd tells
 
 pub raised_on : (a b d : ℕ) (source : Option FileError) → b ≤ d → IsRaised a b source → IsRaised a d source
 raised_on a b d None le raised = tt

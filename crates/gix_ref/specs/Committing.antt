@@ -1,5 +1,5 @@
 -- What `commit` answers and leaves.
-use Rattle.std.specs.Prelude.{◌≡◌, ℕ, List, true, false, map, Option, Some, None, Result, Ok, Err}
+use Rattle.std.specs.Prelude.{◌≡◌, ℕ, List, true, false, map, get_or, [], Option, Some, None, Result, Ok, Err}
 use Rattle.gix_ref_base.specs.Names.{full_bytes}
 use Rattle.gix_ref_files.specs.Tree.{Tree, Path, is_file, is_folder}
 use Rattle.gix_ref_files.specs.Files.{Meaning, Leaves, HasRisen}
@@ -49,11 +49,11 @@ abbrev pub left_of : Result Done Failed → List Path
 left_of (Ok done) = paths_of done.locks_left.items
 left_of (Err failed) = paths_of failed.locks_left.items
 
--- what an error tells of the renames of these edits, where they ended by this fault, or by a folder at this place
-abbrev pub TellsOf : List RefEdit → Path → Option FileError → Error → Type 0
-TellsOf edits place None (FolderInPlace path) = path.items ≡ place
-TellsOf edits place (Some fault) (LockCommit source name) = (source ≡ fault) × (is_in (names_of edits) (full_bytes name) ≡ true)
-TellsOf edits place fault error = ⊥
+-- what an error tells of the renames of these edits, where they ended at one of them, by this fault or by a folder at this place
+abbrev pub TellsOf : List RefEdit → (at : ℕ) → Path → Option FileError → Error → Type 0
+TellsOf edits at place None (FolderInPlace path) = path.items ≡ place
+TellsOf edits at place (Some fault) (LockCommit source name) = (source ≡ fault) × (full_bytes name ≡ get_or (names_of edits) at [])
+TellsOf edits at place fault error = ⊥
 
 module _ {F : Type 0} (honest : Type 0) (means : F → Meaning) (faults : F → ℕ) where
   -- A commit, from the store `start` with these edits and paths of a `prepare` that began with the store `old`: every stop leaves each

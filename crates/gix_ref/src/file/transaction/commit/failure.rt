@@ -29,7 +29,7 @@ pub(crate) fn failure(
     source: Option<FileError>,
 ) -> Error
     requires { at < vec_len edits }
-    ensures { TellsOf edits.items place.items source result }
+    ensures { TellsOf edits.items at place.items source result }
 {
     match source {
         None => Error::FolderInPlace { path: place },

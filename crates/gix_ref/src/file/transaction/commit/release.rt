@@ -29,6 +29,7 @@ fn remove_lock<F: Files>(files: &mut F, lock: &[u8]) -> bool
 /// Removes the lock at a place of the list, unless it was renamed: another may hold it by now. False where it could not.
 fn release<F: Files>(files: &mut F, edits: &[RefEdit], done: usize, at: usize, lock: &[u8]) -> bool
     requires { done ≤ length edits.now }
+    ensures renamed { stays_at edits.now done at ≡ false → files.new ≡ files.old }
     ensures gone { F.honest → stays_at edits.now done at ≡ true → IsTrue result → is_file ((F.means files.new).tree lock.now) ≡ false }
     ensures leaves { F.honest → Leaves (F.means files.old) (F.means files.new) (RemovesLocks (lock.now ∷ []) (F.means files.old).tree) }
     ensures no_fewer { F.faults files.old ≤ F.faults files.new }
@@ -41,7 +42,7 @@ fn release<F: Files>(files: &mut F, edits: &[RefEdit], done: usize, at: usize, l
 }
 
 /// Removes the locks of these paths but for those that were renamed, where the edits before `done` are done. Hands back in
-/// `left`, which has room for all of them, those that it could not remove.
+/// `left`, which has room for all of them, those that it could not remove. Where all were renamed no call is made.
 pub(crate) fn release_locks<F: Files>(
     files: &mut F,
     edits: &[RefEdit],
@@ -52,6 +53,7 @@ pub(crate) fn release_locks<F: Files>(
     requires done { done ≤ length edits.now }
     requires room { vec_len paths ≤ vec_capacity left }
     requires none { left.items ≡ [] }
+    ensures renamed { ((k : ℕ) → k < vec_len paths → stays_at edits.now done k ≡ false) → files.new ≡ files.old }
     ensures gone { F.honest → (k : ℕ) → k < vec_len paths → stays_at edits.now done k ≡ true → is_in (paths_of result.items) (lock_at paths.items k) ≡ false → is_file ((F.means files.new).tree (lock_at paths.items k)) ≡ false }
     ensures ours { (q : Path) → is_in (paths_of result.items) q ≡ true → is_in (lock_paths paths.items) q ≡ true }
     ensures leaves { F.honest → Leaves (F.means files.old) (F.means files.new) (RemovesLocks (lock_paths paths.items) (F.means files.old).tree) }

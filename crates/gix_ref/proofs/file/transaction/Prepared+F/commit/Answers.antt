@@ -57,8 +57,9 @@ returns-in-Err-clause-failed g c =
     let place = c.take_place-place.result.items in
     let here : place ≡ place_at paths c.in-Err.field-0.at = c.take_place-place.ensures.place in
     let lt : c.in-Err.field-0.at < length paths = omega (arith, rw c.deref.ensures.value at c.in-Err.ensures.place, c.args.self.plan.len) in
-    fails g.F.Files.honest g.F.Files.means g.F.Files.faults c.args.self.store.now (with_files c.args.self.store.now c.release_locks-locks_left.new.files) c.args.self.plan.edits.items paths place c.in-Err.field-0.source c.failure.result
+    fails g.F.Files.honest g.F.Files.means g.F.Files.faults c.args.self.store.now (with_files c.args.self.store.now c.release_locks-locks_left.new.files) c.args.self.plan.edits.items paths c.in-Err.field-0.at place c.in-Err.field-0.source c.failure.result
     c.failure.ensures
+    (rw c.deref.ensures.value at c.in-Err.ensures.place)
     (subst (λ (p : Path). is_in (place_paths paths) p ≡ true) (sym here) (in_at (place_paths paths) c.in-Err.field-0.at [] (simp length-map lt)))
     (λ h none. folder_stays _ _ _ place (c.release_locks-locks_left.ensures.leaves h).tree (subst (λ (p : Path). is_folder ((g.F.Files.means c.publish.new.files).tree p) ≡ true) (sym here) (rw c.deref-2.ensures.value at (c.in-Err.ensures.folder h none))))
     (raised_on _ _ _ c.in-Err.field-0.source c.release_locks-locks_left.ensures.no_fewer c.in-Err.ensures.counted)
