@@ -30,11 +30,12 @@ module _ {F : Type 0} (honest : Type 0) (means : F → Meaning) (faults : F → 
   locks_in store edits = locks_of (meaning_of store) edits
 
   -- A refusal: its error is the first cause that stands; `Io` came with a fault; all is as before but for the locks that are named, and
-  -- folders that lead to locks; and one is named only where a fault came.
+  -- folders that lead to locks; those that are named are locks of the edits, and one is named only where a fault came.
   pub record RefusesFrom (old new : Store F) (edits : List RefEdit) (error : Error) (left : List Path) : Type 0 where
     pub cause : honest → Refuses (meaning_of old) (kind_of old) (tree_of old) edits error
     pub counted : IsCounted (faults (files_of old)) (faults (files_of new)) error
     pub as_before : honest → AddsLocks left (locks_in old edits) (tree_of old) (tree_of new)
+    pub ours : (q : Path) → is_in left q ≡ true → is_in (locks_in old edits) q ≡ true
     pub named : (left ≡ []) ⊎ HasRisen (faults (files_of old)) (faults (files_of new))
     pub leaves : honest → Leaves (means (files_of old)) (means (files_of new)) (AddsLocks (locks_in old edits) (locks_in old edits) (tree_of old))
     pub same : IsSameStore old new

@@ -84,7 +84,7 @@ OneLogHasOnePlace =
     (f : Folders) (o : Options) → AreFolders f → (m n : List ℕ) → (store_of f o).is_reference m ≡ true → (store_of f o).is_reference n ≡ true →
     (store_of f o).log m ≡ (store_of f o).log n → ((store_of f o).place m ≡ (store_of f o).place n) ⊎ (SharesLog f m n ⊎ SharesLog f n m)
 
--- each place lies in the namespace: below one of the two folders, the namespace and then more
+-- each place lies in the namespace: below the common folder or the git folder, the namespace and then more
 abbrev pub PlacesLieInTheNamespace : Type 0
 PlacesLieInTheNamespace =
-    (f : Folders) (o : Options) (name : List ℕ) → (folder rest : Path) × ((store_of f o).place name ≡ below folder (f.namespace ++ rest))
+    (f : Folders) (o : Options) (name : List ℕ) → (folder rest : Path) × ((folder ≡ f.common) ⊎ (folder ≡ f.git)) × ((store_of f o).place name ≡ below folder (f.namespace ++ rest))

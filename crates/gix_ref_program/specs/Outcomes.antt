@@ -15,7 +15,7 @@ use Rattle.gix_ref.specs.declared.file.transaction.commit.error.Error as commits
 use Rattle.gix_ref.specs.declared.file.transaction.commit.error.Error.TheVariants as commit
 use Rattle.gix_ref.specs.declared.file.find.error.Error as finds
 use Rattle.gix_ref.specs.declared.file.find.error.Error.TheVariants as find
-use Rattle.gix_ref_program.specs.declared.update.Refusal.TheVariants as unmade
+use Rattle.gix_ref_program.specs.declared.update.Unmade.TheVariants as unmade
 use Rattle.gix_ref_program.specs.declared.refusal.Refusal.{Refusal}
 use Rattle.gix_ref_program.specs.declared.refusal.Refusal.TheVariants as refusals
 use Rattle.gix_ref_program.specs.declared.outcome.Outcome.{Outcome}

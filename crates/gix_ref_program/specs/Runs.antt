@@ -1,5 +1,5 @@
 -- What a run of the program comes to.
-use Rattle.std.specs.Prelude.{◌≡◌, ◌⊎◌, ℕ, List, [], ◌∷◌, false, codes, Option, Some, None, Result, IfOk}
+use Rattle.std.specs.Prelude.{◌≡◌, ◌⊎◌, ℕ, List, [], ◌∷◌, true, false, codes, Option, Some, None, Result, IfOk}
 use Rattle.std.specs.Io.KnownBytes.{Appends}
 use Rattle.gix_ref_base.specs.Ids.{null_id}
 use Rattle.gix_ref_base.specs.NameGrammar.{full_error, partial_error}
@@ -11,6 +11,7 @@ use Rattle.gix_ref_files.specs.Tree.{Tree}
 use Rattle.gix_ref_files.specs.Files.{Meaning, Leaves}
 use Rattle.gix_ref.specs.AddedLocks.{paths_of}
 use Rattle.gix_ref.specs.Carried.{view_of}
+use Rattle.gix_ref.specs.CleanPaths.{is_clean}
 use Rattle.gix_ref.specs.Committing.{AreCommitted}
 use Rattle.gix_ref.specs.Lookup.{Finds, FailsBy}
 use Rattle.gix_ref.specs.Prepared.{tree_of}
@@ -23,7 +24,7 @@ use Rattle.gix_ref.specs.declared.transaction.PreviousValue.TheVariants.{Any, Mu
 use Rattle.gix_ref.specs.declared.transaction.RefEdit.{RefEdit}
 use Rattle.gix_ref.specs.declared.transaction.RefLog.TheVariants.{AndReference}
 use Rattle.gix_ref_program.specs.Outcomes.{printed, status_of}
-use Rattle.gix_ref_program.specs.Updates.{IsRefusal, IsStopOf}
+use Rattle.gix_ref_program.specs.Updates.{IsUnmade, AreNamed, IsStopOf}
 use Rattle.gix_ref_program.specs.Words.{Asked, Update, Show, Line, IsLine}
 use Rattle.gix_ref_program.specs.declared.outcome.Outcome.{Outcome}
 use Rattle.gix_ref_program.specs.declared.outcome.Outcome.TheVariants as outcomes
@@ -68,19 +69,20 @@ NoEdit name refusals.Memory = Unit {0}
 NoEdit name refusal = ⊥
 
 -- why there is no store in a folder
-abbrev pub IsNoFolder : Refusal → Type 0
-IsNoFolder refusals.PathNotClean = Unit {0}
-IsNoFolder refusals.Memory = Unit {0}
-IsNoFolder refusal = ⊥
+abbrev pub IsNoFolder : List ℕ → Refusal → Type 0
+IsNoFolder dir refusals.PathNotClean = is_clean dir ≡ false
+IsNoFolder dir refusals.Memory = Unit {0}
+IsNoFolder dir refusal = ⊥
 
--- why a line is not begun: its folder, its namespace, or no memory
+-- why a line is not begun: its folder; or its namespace, in a folder that is clean
 abbrev pub IsUnopened : Line → Refusal → Type 0
-IsUnopened line refusal = IsNoFolder refusal ⊎ NoNamespace line.namespace refusal
+IsUnopened line refusal = IsNoFolder line.dir refusal ⊎ ((is_clean line.dir ≡ true) × NoNamespace line.namespace refusal)
 
 module _ {F : Type 0} where
   -- a store in a folder, without a namespace, which writes no log lines
   pub record IsAt (files : F) (dir : List ℕ) (kind : Kind) (store : Store F) : Type 0 where
     pub files_are : files_of store ≡ files
+    pub clean : is_clean dir ≡ true
     pub git : (folders store).git ≡ dir
     pub common : (folders store).common ≡ dir
     pub of_kind : kind_of store ≡ kind
@@ -89,6 +91,7 @@ module _ {F : Type 0} where
   -- the store of a line, which writes no log lines
   pub record IsOpened (files : F) (line : Line) (store : Store F) : Type 0 where
     pub files_are : files_of store ≡ files
+    pub clean : is_clean line.dir ≡ true
     pub git : (folders store).git ≡ line.dir
     pub common : (folders store).common ≡ line.dir
     pub namespace : (folders store).namespace ≡ namespace_of line.namespace
@@ -96,25 +99,32 @@ module _ {F : Type 0} where
     pub quiet : store.write_reflog ≡ Disable
 
   module _ (honest : Type 0) (means : F → Meaning) (faults : F → ℕ) where
-    -- An update: it is committed, but for locks that stay; or its name is no full name; or it was refused; or there was no memory.
+    -- An edit: it is committed, but for locks that stay; or it was not made, and locks may stay; or there was no memory for it.
+    abbrev pub EditComesTo : (old new : Store F) → RefEdit → Outcome → Type 0
+    EditComesTo old new edit (outcomes.Updated locks) =
+        (honest → AreCommitted (meaning_of old) (edit ∷ []) (tree_of honest means faults old) (paths_of locks.items) (tree_of honest means faults new))
+        × AreNamed honest means faults old new (edit ∷ []) (paths_of locks.items)
+    EditComesTo old new edit (outcomes.Refused (refusals.Update unmade) locks) =
+        IsUnmade honest means faults old new (edit ∷ []) unmade (paths_of locks.items)
+        × AreNamed honest means faults old new (edit ∷ []) (paths_of locks.items)
+    EditComesTo old new edit (outcomes.Refused refusals.Memory locks) = (new ≡ old) × (locks.items ≡ [])
+    EditComesTo old new edit outcome = ⊥
+
+    -- An update: what its edit comes to; or its name is no full name; or there was no memory.
     abbrev pub UpdateComesTo : (old new : Store F) → Kind → (name : List ℕ) → ObjectId → Option ObjectId → Outcome → Type 0
-    UpdateComesTo old new kind name id before (outcomes.Updated locks) =
-        (edit : RefEdit) × IsAskedFor kind name id before edit
-        × (honest → AreCommitted (meaning_of old) (edit ∷ []) (tree_of honest means faults old) (paths_of locks.items) (tree_of honest means faults new))
-    UpdateComesTo old new kind name id before (outcomes.Refused (refusals.Update unmade) locks) =
-        (edit : RefEdit) × IsAskedFor kind name id before edit
-        × IsRefusal honest means faults old new (edit ∷ []) unmade
-    UpdateComesTo old new kind name id before (outcomes.Refused (refusals.Name error) locks) = (full_error name ≡ Some error) × (new ≡ old)
-    UpdateComesTo old new kind name id before (outcomes.Refused refusals.Memory locks) = new ≡ old
-    UpdateComesTo old new kind name id before outcome = ⊥
+    UpdateComesTo old new kind name id before (outcomes.Refused (refusals.Name error) locks) =
+        (full_error name ≡ Some error) × (new ≡ old) × (locks.items ≡ [])
+    UpdateComesTo old new kind name id before (outcomes.Refused refusals.Memory locks) = (new ≡ old) × (locks.items ≡ [])
+    UpdateComesTo old new kind name id before outcome = (edit : RefEdit) × IsAskedFor kind name id before edit × EditComesTo old new edit outcome
 
     -- A lookup: what it finds is shown; or there is nothing; or it fails; or its name breaks a rule.
     abbrev pub ShowComesTo : (old new : Store F) → (name : List ℕ) → Outcome → Type 0
     ShowComesTo old new name (outcomes.Shown reference) = honest → Finds (meaning_of old) (view_of (tree_of honest means faults old)) name (Some reference)
-    ShowComesTo old new name (outcomes.Refused refusals.NotFound locks) = honest → Finds (meaning_of old) (view_of (tree_of honest means faults old)) name None
+    ShowComesTo old new name (outcomes.Refused refusals.NotFound locks) =
+        (honest → Finds (meaning_of old) (view_of (tree_of honest means faults old)) name None) × (locks.items ≡ [])
     ShowComesTo old new name (outcomes.Refused (refusals.Find error) locks) =
-        FailsBy honest (meaning_of old) (view_of (tree_of honest means faults old)) name (faults (files_of old)) (faults (files_of new)) error
-    ShowComesTo old new name (outcomes.Refused (refusals.Name error) locks) = partial_error name ≡ Some error
+        FailsBy honest (meaning_of old) (view_of (tree_of honest means faults old)) name (faults (files_of old)) (faults (files_of new)) error × (locks.items ≡ [])
+    ShowComesTo old new name (outcomes.Refused (refusals.Name error) locks) = (partial_error name ≡ Some error) × (new ≡ old) × (locks.items ≡ [])
     ShowComesTo old new name outcome = ⊥
 
     abbrev pub ComesTo : (old new : Store F) → Kind → Asked → Outcome → Type 0
@@ -130,7 +140,7 @@ module _ {F : Type 0} where
 
     -- a line that is not begun
     abbrev pub NotBegun : Line → Outcome → Type 0
-    NotBegun line (outcomes.Refused refusal locks) = IsUnopened line refusal
+    NotBegun line (outcomes.Refused refusal locks) = IsUnopened line refusal × (locks.items ≡ [])
     NotBegun line outcome = ⊥
 
     -- what a line comes to: it is begun in its store, or it is not, and the files are as before
@@ -138,14 +148,6 @@ module _ {F : Type 0} where
     LineComesTo files after line outcome =
         ((old : Store F) × (new : Store F) × IsOpened files line old × (files_of new ≡ after) × ComesTo old new line.kind line.asked outcome)
         ⊎ ((after ≡ files) × NotBegun line outcome)
-
-    -- an update that was asked for comes to this
-    abbrev pub EditComesTo : (old new : Store F) → RefEdit → Outcome → Type 0
-    EditComesTo old new edit (outcomes.Updated locks) =
-        honest → AreCommitted (meaning_of old) (edit ∷ []) (tree_of honest means faults old) (paths_of locks.items) (tree_of honest means faults new)
-    EditComesTo old new edit (outcomes.Refused (refusals.Update unmade) locks) = IsRefusal honest means faults old new (edit ∷ []) unmade
-    EditComesTo old new edit (outcomes.Refused refusals.Memory locks) = new ≡ old
-    EditComesTo old new edit outcome = ⊥
 
     -- a stop in a line leaves this tree: as before, or what a stop in its command leaves
     abbrev pub IsStopIn : F → Line → Tree → Type 0

@@ -1,21 +1,23 @@
 -- An update from its preparation to its commit, over any files.
-use Rattle.std.specs.Prelude.{◌≡◌, ◌⊎◌, ℕ, List, true, Option, Some, None, Result, Ok, Err}
-use Rattle.gix_ref_files.specs.Tree.{Tree, is_folder}
+use Rattle.std.specs.Prelude.{◌≡◌, ◌⊎◌, ℕ, List, [], true, false, Option, Some, None, Result, Ok, Err}
+use Rattle.gix_ref_base.specs.Names.{full_bytes}
+use Rattle.gix_ref_files.specs.Tree.{Tree, Path, is_file, is_folder}
 use Rattle.gix_ref_files.specs.Files.{Meaning, HasRisen}
 use Rattle.gix_ref.specs.AddedLocks.{is_in, AddsLocks}
-use Rattle.gix_ref.specs.Causes.{Refuses, IsCounted, locks_of}
-use Rattle.gix_ref.specs.Committing.{AreLeftWell}
-use Rattle.gix_ref.specs.Prepared.{tree_of}
+use Rattle.gix_ref.specs.Causes.{locks_of}
+use Rattle.gix_ref.specs.Committing.{AreLeftWell, names_of}
+use Rattle.gix_ref.specs.Prepared.{RefusesFrom, tree_of, locks_in}
 use Rattle.gix_ref.specs.Readings as readings
-use Rattle.gix_ref.specs.Store.{files_of, kind_of, meaning_of}
+use Rattle.gix_ref.specs.Store.{files_of, meaning_of}
 use Rattle.gix_ref.specs.Taken.{places_of}
 use Rattle.gix_ref.specs.declared.file.store.Store.{Store}
 use Rattle.gix_ref.specs.declared.transaction.RefEdit.{RefEdit}
 use Rattle.gix_ref.specs.declared.file.transaction.Done.{Done}
 use Rattle.gix_ref.specs.declared.file.transaction.Failed.{Failed}
+use Rattle.gix_ref.specs.declared.file.transaction.commit.error.Error as commits
 use Rattle.gix_ref.specs.declared.file.transaction.commit.error.Error.TheVariants.{LockCommit, FolderInPlace}
-use Rattle.gix_ref_program.specs.declared.update.Refusal.{Refusal}
-use Rattle.gix_ref_program.specs.declared.update.Refusal.TheVariants.{Prepare, Commit}
+use Rattle.gix_ref_program.specs.declared.update.Unmade.{Unmade}
+use Rattle.gix_ref_program.specs.declared.update.Unmade.TheVariants.{Prepare, Commit}
 
 -- A stop in an update: before its commit nothing is added but its locks and folders on the way to them; in it each reference reads as
 -- before or as edited.
@@ -23,16 +25,30 @@ abbrev pub IsStopOf : readings.Store → List RefEdit → (before T : Tree) → 
 IsStopOf s edits before T = AddsLocks (locks_of s edits) (locks_of s edits) before T ⊎ AreLeftWell s edits before T
 
 -- why a commit did not do it, if it did not
-abbrev pub refusal_of : Result Done Failed → Option Refusal
-refusal_of (Ok done) = None
-refusal_of (Err failed) = Some (Commit failed.error)
+abbrev pub unmade_of : Result Done Failed → Option Unmade
+unmade_of (Ok done) = None
+unmade_of (Err failed) = Some (Commit failed.error)
 
 module _ {F : Type 0} (honest : Type 0) (means : F → Meaning) (faults : F → ℕ) where
-  -- Why an update was not made: by the first cause against it; or its rename failed, only where a fault came; or a folder stands at its place.
-  abbrev pub IsRefusal : (old new : Store F) → List RefEdit → Refusal → Type 0
-  IsRefusal old new edits (Prepare error) =
-      (honest → Refuses (meaning_of old) (kind_of old) (tree_of honest means faults old) edits error)
-      × IsCounted (faults (files_of old)) (faults (files_of new)) error
-  IsRefusal old new edits (Commit (LockCommit source name)) = HasRisen (faults (files_of old)) (faults (files_of new))
-  IsRefusal old new edits (Commit (FolderInPlace path)) =
+  -- Locks that are told to stay: they are locks of the edits, and there is one only where a fault came.
+  pub record AreNamed (old new : Store F) (edits : List RefEdit) (left : List Path) : Type 0 where
+    pub ours : (q : Path) → is_in left q ≡ true → is_in (locks_in honest means faults old edits) q ≡ true
+    pub named : (left ≡ []) ⊎ HasRisen (faults (files_of old)) (faults (files_of new))
+
+  -- of the locks of the edits only these stay
+  abbrev pub OnlyStay : (old new : Store F) → List RefEdit → (left : List Path) → Type 0
+  OnlyStay old new edits left =
+      (q : Path) → is_in (locks_in honest means faults old edits) q ≡ true → is_in left q ≡ false → is_file (tree_of honest means faults new q) ≡ false
+
+  -- why a commit failed: a rename failed, only where a fault came; or a folder stands at the place of an edit
+  abbrev pub HasFailed : (old new : Store F) → List RefEdit → commits.Error → Type 0
+  HasFailed old new edits (LockCommit source name) =
+      HasRisen (faults (files_of old)) (faults (files_of new)) × (is_in (names_of edits) (full_bytes name) ≡ true)
+  HasFailed old new edits (FolderInPlace path) =
       (is_in (places_of (meaning_of old) edits) path.items ≡ true) × (honest → is_folder (tree_of honest means faults new path.items) ≡ true)
+
+  -- Why an update was not made, and the locks that stay: it was refused by the first cause against it, and all is as before but for
+  -- these locks; or its commit failed.
+  abbrev pub IsUnmade : (old new : Store F) → List RefEdit → Unmade → (left : List Path) → Type 0
+  IsUnmade old new edits (Prepare error) left = RefusesFrom honest means faults old new edits error left
+  IsUnmade old new edits (Commit error) left = HasFailed old new edits error × (honest → OnlyStay old new edits left)

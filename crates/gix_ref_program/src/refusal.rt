@@ -2,7 +2,7 @@
 ghost use Rattle.std.specs.Prelude.{◌≡◌};
 ghost use Rattle.gix_ref_program.specs.Outcomes.{name_word, prepare_word, commit_word, find_word, word_of};
 
-use crate::update::Refusal as Unmade;
+use crate::update::Unmade;
 use gix_ref::file::find;
 use gix_ref::file::transaction::{commit, prepare};
 use gix_ref_base::name;

@@ -56,8 +56,8 @@ fn expanded(alloc: Global, name: Option<&[u8]>) -> Result<Option<Namespace>, Ref
 }
 
 /// The store of a folder, which writes no log lines. A refusal hands the files back.
-fn at<F>(alloc: Global, files: F, dir: &[u8], kind: Kind) -> Result<Store<F>, (F, Refusal)>
-    ensures { MatchResult result (IsAt files dir.now kind) (λ r. (r.0 ≡ files) × IsNoFolder r.1) }
+fn store_at<F>(alloc: Global, files: F, dir: &[u8], kind: Kind) -> Result<Store<F>, (F, Refusal)>
+    ensures { MatchResult result (IsAt files dir.now kind) (λ r. (r.0 ≡ files) × IsNoFolder dir.now r.1) }
 {
     let Ok(git_dir) = dir.to_vec(alloc) else {
         return Err((files, Refusal::Memory));
@@ -70,16 +70,16 @@ fn at<F>(alloc: Global, files: F, dir: &[u8], kind: Kind) -> Result<Store<F>, (F
     match Store::at_opts(files, git_dir, kind, options) {
         Ok(store) => Ok(store),
         Err(store::Error::PathNotClean { files }) => Err((files, Refusal::PathNotClean)),
-        // The git folder is the common folder too, so these do not meet.
-        Err(store::Error::FoldersMeet { files }) => Err((files, Refusal::PathNotClean)),
+        // The git folder is the common folder too.
+        Err(store::Error::FoldersMeet { .. }) => unreachable!(),
     }
 }
 
 /// The store of a line, in its namespace. A refusal hands the files back.
-fn open<F>(alloc: Global, files: F, line: &Line<'_>) -> Result<Store<F>, (F, Refusal)>
+fn store_in<F>(alloc: Global, files: F, line: &Line<'_>) -> Result<Store<F>, (F, Refusal)>
     ensures { MatchResult result (IsOpened files (line_of line.now)) (λ r. (r.0 ≡ files) × IsUnopened (line_of line.now) r.1) }
 {
-    let mut store = at(alloc, files, line.dir, line.object_hash)?;
+    let mut store = store_at(alloc, files, line.dir, line.object_hash)?;
     match expanded(alloc, line.namespace) {
         Ok(namespace) => {
             store.namespace = namespace;
@@ -138,7 +138,7 @@ fn refused(alloc: Global, refusal: Refusal) -> Outcome
 }
 
 /// The list of one edit.
-fn alone(alloc: Global, edit: RefEdit) -> Result<Vec<RefEdit>, AllocError>
+fn one_edit(alloc: Global, edit: RefEdit) -> Result<Vec<RefEdit>, AllocError>
     ensures { IfOk result (λ edits. edits.items ≡ edit ∷ []) }
 {
     let mut edits = Vec::with_capacity(alloc, 1)?;
@@ -159,15 +159,15 @@ fn make_update<F: Files>(
     ensures outcome { EditComesTo F.honest F.means F.faults store.old store.new edit result.1 }
     ensures leaves { F.honest → Leaves (F.means (files_of store.old)) (F.means (files_of store.new)) (λ T. (T ≡ tree_of F.honest F.means F.faults store.old) ⊎ IsStopOf (meaning_of store.old) (edit ∷ []) (tree_of F.honest F.means F.faults store.old) T) }
 {
-    let Ok(edits) = alone(alloc, edit) else {
+    let Ok(edits) = one_edit(alloc, edit) else {
         return (packed_refs, refused(alloc, Refusal::Memory));
     };
     let Updated {
-        refusal,
+        unmade,
         packed_refs,
         locks_left,
     } = update(alloc, store, packed_refs, edits);
-    let outcome = match refusal {
+    let outcome = match unmade {
         None => Outcome::Updated { locks_left },
         Some(unmade) => Outcome::Refused {
             refusal: Refusal::Update(unmade),
@@ -224,7 +224,7 @@ fn follow<F: Files>(
     ensures outcome { LineComesTo F.honest F.means F.faults files result.0 (line_of line.now) result.2 }
     ensures leaves { F.honest → Leaves (F.means files) (F.means result.0) (IsStopIn F.honest F.means F.faults files (line_of line.now)) }
 {
-    match open(alloc, files, line) {
+    match store_in(alloc, files, line) {
         Ok(mut store) => {
             let (packed_refs, outcome) = perform(
                 alloc,

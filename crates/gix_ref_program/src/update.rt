@@ -1,11 +1,11 @@
 //! An update from its preparation to its commit.
-ghost use Rattle.std.specs.Prelude.{◌≡◌, ◌⊎◌, [], None, IfSome};
-ghost use Rattle.gix_ref_files.specs.Files.{Leaves, HasRisen};
+ghost use Rattle.std.specs.Prelude.{◌≡◌, None, IfSome};
+ghost use Rattle.gix_ref_files.specs.Files.{Leaves};
 ghost use Rattle.gix_ref.specs.AddedLocks.{paths_of};
 ghost use Rattle.gix_ref.specs.Committing.{AreCommitted, left_of};
 ghost use Rattle.gix_ref.specs.Prepared.{IsOneUpdate, tree_of};
 ghost use Rattle.gix_ref.specs.Store.{files_of, meaning_of, IsSameStore};
-ghost use Rattle.gix_ref_program.specs.Updates.{IsStopOf, IsRefusal, refusal_of};
+ghost use Rattle.gix_ref_program.specs.Updates.{IsStopOf, IsUnmade, AreNamed, unmade_of};
 
 use gix_ref::file::Store;
 use gix_ref::file::transaction::{Done, Failed, PackedRefs, Refused, commit, prepare};
@@ -16,7 +16,7 @@ use std::alloc::Global;
 
 /// Why an update was not made.
 #[derive(Debug, Drop)]
-pub enum Refusal {
+pub enum Unmade {
     /// It was not prepared.
     Prepare(prepare::Error),
     /// Its commit failed.
@@ -27,7 +27,7 @@ pub enum Refusal {
 #[derive(Debug, Drop)]
 pub struct Updated {
     /// Why it was not made; none where it was.
-    pub refusal: Option<Refusal>,
+    pub unmade: Option<Unmade>,
     /// What the transaction was to do with `packed-refs`.
     pub packed_refs: PackedRefs,
     /// The paths of locks that could not be removed.
@@ -47,10 +47,10 @@ pub fn update<F: Files>(
 ) -> Updated
     requires one { IsOneUpdate edits.items }
     requires quiet { store.old.write_reflog ≡ WriteReflog.Disable }
-    ensures done { F.honest → result.refusal ≡ None → AreCommitted (meaning_of store.old) edits.items (tree_of F.honest F.means F.faults store.old) (paths_of result.locks_left.items) (tree_of F.honest F.means F.faults store.new) }
-    ensures refused { IfSome result.refusal (IsRefusal F.honest F.means F.faults store.old store.new edits.items) }
+    ensures done { F.honest → result.unmade ≡ None → AreCommitted (meaning_of store.old) edits.items (tree_of F.honest F.means F.faults store.old) (paths_of result.locks_left.items) (tree_of F.honest F.means F.faults store.new) }
+    ensures unmade { IfSome result.unmade (λ unmade. IsUnmade F.honest F.means F.faults store.old store.new edits.items unmade (paths_of result.locks_left.items)) }
     ensures leaves { F.honest → Leaves (F.means (files_of store.old)) (F.means (files_of store.new)) (IsStopOf (meaning_of store.old) edits.items (tree_of F.honest F.means F.faults store.old)) }
-    ensures named { (result.locks_left.items ≡ []) ⊎ HasRisen (F.faults (files_of store.old)) (F.faults (files_of store.new)) }
+    ensures named { AreNamed F.honest F.means F.faults store.old store.new edits.items (paths_of result.locks_left.items) }
     ensures same { IsSameStore store.old store.new }
 {
     match store.transaction(packed_refs).prepare(alloc, edits) {
@@ -61,7 +61,7 @@ pub fn update<F: Files>(
                 locks_left,
             } = refused;
             Updated {
-                refusal: Some(Refusal::Prepare(error)),
+                unmade: Some(Unmade::Prepare(error)),
                 packed_refs,
                 locks_left,
             }
@@ -72,7 +72,7 @@ pub fn update<F: Files>(
 
 /// What a commit answers.
 fn told(answer: Result<Done, Failed>) -> Updated
-    ensures refusal { result.refusal ≡ refusal_of answer }
+    ensures unmade { result.unmade ≡ unmade_of answer }
     ensures left { paths_of result.locks_left.items ≡ left_of answer }
 {
     match answer {
@@ -83,7 +83,7 @@ fn told(answer: Result<Done, Failed>) -> Updated
                 locks_left,
             } = done;
             Updated {
-                refusal: None,
+                unmade: None,
                 packed_refs,
                 locks_left,
             }
@@ -95,7 +95,7 @@ fn told(answer: Result<Done, Failed>) -> Updated
                 locks_left,
             } = failed;
             Updated {
-                refusal: Some(Refusal::Commit(error)),
+                unmade: Some(Unmade::Commit(error)),
                 packed_refs,
                 locks_left,
             }

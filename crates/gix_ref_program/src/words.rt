@@ -54,9 +54,7 @@ fn old_of(words: &[String]) -> Option<Option<ObjectId>>
     if !rest.is_empty() {
         return None;
     }
-    let Some(id) = ObjectId::from_hex(digits.as_bytes()) else {
-        return None;
-    };
+    let id = ObjectId::from_hex(digits.as_bytes())?;
     Some(Some(id))
 }
 
@@ -69,9 +67,7 @@ fn update_of(words: &[String]) -> Option<Command<'_>>
         return None;
     }
     let (digits, rest) = rest.split_first()?;
-    let Some(id) = ObjectId::from_hex(digits.as_bytes()) else {
-        return None;
-    };
+    let id = ObjectId::from_hex(digits.as_bytes())?;
     let old = old_of(rest)?;
     Some(Command::Update {
         name: name.as_bytes(),
@@ -132,9 +128,7 @@ pub fn parse(words: &[String]) -> Option<Line<'_>>
 {
     let (dir, rest) = words.split_first()?;
     let (object_hash, rest) = kind_of(rest);
-    let Some((namespace, command)) = options_of(rest) else {
-        return None;
-    };
+    let (namespace, command) = options_of(rest)?;
     Some(Line {
         dir: dir.as_bytes(),
         object_hash,

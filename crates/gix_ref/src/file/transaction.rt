@@ -8,15 +8,15 @@ ghost use Rattle.gix_ref.specs.Prepared.{IsOneUpdate, RefusesFrom, PreparesFrom,
 
 pub mod commit;
 pub mod prepare;
+pub(crate) mod release;
 pub(crate) mod setting;
 
 use crate::file::store::Store;
 use crate::file::transaction::commit::failure::{failure, take_place};
 use crate::file::transaction::commit::publish::{Unpublished, publish};
-use crate::file::transaction::commit::release::release_locks;
 use crate::file::transaction::prepare::carry::carry_edits;
 use crate::file::transaction::prepare::hold::{Taken, Untaken};
-use crate::file::transaction::prepare::remove::remove_locks;
+use crate::file::transaction::release::{release_locks, remove_locks};
 use crate::file::transaction::setting::Paths;
 use crate::store::WriteReflog;
 use crate::transaction::RefEdit;
@@ -196,7 +196,7 @@ impl<F: Files> Prepared<'_, F> {
     ///
     /// `LockCommit` where a rename failed, `FolderInPlace` where a folder stands at the place of a reference. The edits
     /// before that one are done then, and the locks are removed but for those that are named. No log line is written yet,
-    /// so the store must write none, and the committer is not looked at.
+    /// so the store must write none, and the committer is not looked at. The allocator is for an empty list.
     pub fn commit(self, alloc: Global, _committer: Option<SignatureRef<'_>>) -> Result<Done, Failed>
         requires quiet { self.store.now.write_reflog ≡ WriteReflog.Disable }
         ensures edits { IfOk result (λ done. done.edits.items ≡ prepared_edits self.entry.plan) }

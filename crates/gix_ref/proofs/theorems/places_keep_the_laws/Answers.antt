@@ -1,4 +1,4 @@
-use Rattle.std.proofs.Common.{◌≡◌, ◌∷◌, ◌++◌, codes, refl}
+use Rattle.std.proofs.Common.{◌≡◌, ◌⊎◌, inl, inr, ◌∷◌, ◌++◌, codes, refl}
 use Rattle.std.specs.Prelude.{unwrap_or}
 use Rattle.gix_ref_files.specs.Tree.{Path}
 use Rattle.gix_ref.specs.Places.{Folders, below}
@@ -27,8 +27,8 @@ returns-clause-one_place c = shared_logs
 pub returns-clause-namespaces : goal.returns-clause-namespaces
 returns-clause-namespaces c f o name = in_namespace f (unwrap_or (spot name) (Shared name))
   where
-    in_namespace : (f : Folders) (x : Spot) → (folder rest : Path) × ((row_of f x).place ≡ below folder (f.namespace ++ rest))
-    in_namespace f (Shared n) = (f.common, n, refl)
-    in_namespace f (Here n) = (f.git, n, refl)
-    in_namespace f (Main n) = (f.common, n, refl)
-    in_namespace f (Linked w n) = (f.common, codes "worktrees/" ++ (w ++ 47 ∷ n), refl)
+    in_namespace : (f : Folders) (x : Spot) → (folder rest : Path) × ((folder ≡ f.common) ⊎ (folder ≡ f.git)) × ((row_of f x).place ≡ below folder (f.namespace ++ rest))
+    in_namespace f (Shared n) = (f.common, n, inl refl, refl)
+    in_namespace f (Here n) = (f.git, n, inr refl, refl)
+    in_namespace f (Main n) = (f.common, n, inl refl, refl)
+    in_namespace f (Linked w n) = (f.common, codes "worktrees/" ++ (w ++ 47 ∷ n), inl refl, refl)

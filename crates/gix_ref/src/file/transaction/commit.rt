@@ -1,7 +1,6 @@
-//! Committing a prepared transaction: its renames in their order, and the locks that are left.
+//! Committing a prepared transaction: its renames in their order, and why it ended early.
 mod error;
 pub(crate) mod failure;
 pub(crate) mod publish;
-pub(crate) mod release;
 
 pub use error::Error;

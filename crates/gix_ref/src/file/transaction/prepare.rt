@@ -6,7 +6,6 @@ mod error;
 mod expect;
 pub(crate) mod hold;
 mod lock;
-pub(crate) mod remove;
 mod take;
 
 pub use error::Error;

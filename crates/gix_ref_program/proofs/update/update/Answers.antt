@@ -1,12 +1,11 @@
-use Rattle.std.proofs.Common.{rules, ◌≡◌, ◌⊎◌, [], None, IfSome}
-use Rattle.gix_ref_files.specs.Files.{Leaves, HasRisen}
+use Rattle.std.proofs.Common.{rules, ◌≡◌, None, IfSome}
+use Rattle.gix_ref_files.specs.Files.{Leaves}
 use Rattle.gix_ref.specs.AddedLocks.{paths_of}
 use Rattle.gix_ref.specs.Committing.{AreCommitted, left_of}
 use Rattle.gix_ref.specs.Prepared.{PreparesFrom, RefusesFrom, tree_of}
 use Rattle.gix_ref.specs.Store.{files_of, meaning_of}
-use Rattle.gix_ref_program.specs.Updates.{IsStopOf, IsRefusal}
-use Rattle.gix_ref_program.specs.declared.update.Refusal.TheVariants.{Prepare}
-use Rattle.gix_ref_program.proofs.Updating.{at_same, refused, refused_stops, done, told, stops, named}
+use Rattle.gix_ref_program.specs.Updates.{IsStopOf, IsUnmade, AreNamed}
+use Rattle.gix_ref_program.proofs.Updating.{at_same, refused_named, refused_stops, done, told, stops, named}
 use Rattle.gix_ref_program.proofs.update.update.Goals as goal
 
 pub returns-in-Ok-clause-named : goal.returns-in-Ok-clause-named
@@ -14,19 +13,21 @@ returns-in-Ok-clause-named g c =
     let F = g.F.Files in
     let edits = c.in-Ok.prepared.plan.edits.items in
     let paths = c.in-Ok.prepared.plan.paths.items in
+    let left = paths_of c.told.result.locks_left.items in
     let from : PreparesFrom F.honest F.means F.faults c.args.store.now c.in-Ok.prepared.store.now c.args.edits.items edits paths = rw c.transaction.ensures.value at c.in-Ok.ensures.prepared in
-    let found : (c.told.result.locks_left.items ≡ []) ⊎ HasRisen (F.faults (files_of c.args.store.now)) (F.faults (files_of c.commit.new.self.0)) =
-    named F.honest F.means F.faults c.args.store.now c.in-Ok.prepared.store.now c.commit.new.self.0 c.args.edits.items edits paths c.requires.one from c.told.result.locks_left.items (left_of c.commit.result) c.told.ensures.left c.commit.ensures.named in
+    let found : AreNamed F.honest F.means F.faults c.args.store.now c.commit.new.self.0 c.args.edits.items left =
+    named F.honest F.means F.faults c.args.store.now c.in-Ok.prepared.store.now c.commit.new.self.0 c.args.edits.items edits paths c.requires.one from left (left_of c.commit.result) c.told.ensures.left c.commit.ensures.named c.commit.ensures.ended in
     search rules
 
-pub returns-in-Ok-clause-refused : goal.returns-in-Ok-clause-refused
-returns-in-Ok-clause-refused g c =
+pub returns-in-Ok-clause-unmade : goal.returns-in-Ok-clause-unmade
+returns-in-Ok-clause-unmade g c =
     let F = g.F.Files in
     let edits = c.in-Ok.prepared.plan.edits.items in
     let paths = c.in-Ok.prepared.plan.paths.items in
+    let left = paths_of c.told.result.locks_left.items in
     let from : PreparesFrom F.honest F.means F.faults c.args.store.now c.in-Ok.prepared.store.now c.args.edits.items edits paths = rw c.transaction.ensures.value at c.in-Ok.ensures.prepared in
-    let found : IfSome c.told.result.refusal (IsRefusal F.honest F.means F.faults c.args.store.now c.commit.new.self.0 c.args.edits.items) =
-    told F.honest F.means F.faults c.args.store.now c.in-Ok.prepared.store.now c.commit.new.self.0 c.args.edits.items edits paths c.requires.one from c.commit.result c.told.result.refusal c.told.ensures.refusal c.commit.ensures.failed in
+    let found : IfSome c.told.result.unmade (λ unmade. IsUnmade F.honest F.means F.faults c.args.store.now c.commit.new.self.0 c.args.edits.items unmade left) =
+    told F.honest F.means F.faults c.args.store.now c.in-Ok.prepared.store.now c.commit.new.self.0 c.args.edits.items edits paths c.requires.one from c.commit.result c.told.result.unmade left c.told.ensures.unmade c.told.ensures.left c.commit.ensures.failed c.commit.ensures.ended in
     search rules
 
 pub returns-in-Ok-clause-leaves : goal.returns-in-Ok-clause-leaves
@@ -34,6 +35,7 @@ returns-in-Ok-clause-leaves g c =
     let F = g.F.Files in
     let edits = c.in-Ok.prepared.plan.edits.items in
     let paths = c.in-Ok.prepared.plan.paths.items in
+    let left = paths_of c.told.result.locks_left.items in
     let from : PreparesFrom F.honest F.means F.faults c.args.store.now c.in-Ok.prepared.store.now c.args.edits.items edits paths = rw c.transaction.ensures.value at c.in-Ok.ensures.prepared in
     let found : F.honest → Leaves (F.means (files_of c.args.store.now)) (F.means (files_of c.commit.new.self.0)) (IsStopOf (meaning_of c.args.store.now) c.args.edits.items (tree_of F.honest F.means F.faults c.args.store.now)) =
     stops F.honest F.means F.faults c.args.store.now c.in-Ok.prepared.store.now c.commit.new.self.0 c.args.edits.items edits paths c.requires.one from (left_of c.commit.result) c.commit.ensures.ended in
@@ -44,24 +46,27 @@ returns-in-Ok-clause-done g c =
     let F = g.F.Files in
     let edits = c.in-Ok.prepared.plan.edits.items in
     let paths = c.in-Ok.prepared.plan.paths.items in
+    let left = paths_of c.told.result.locks_left.items in
     let from : PreparesFrom F.honest F.means F.faults c.args.store.now c.in-Ok.prepared.store.now c.args.edits.items edits paths = rw c.transaction.ensures.value at c.in-Ok.ensures.prepared in
-    at_same (λ new. F.honest → c.told.result.refusal ≡ None → AreCommitted (meaning_of c.args.store.now) c.args.edits.items (tree_of F.honest F.means F.faults c.args.store.now) (paths_of c.told.result.locks_left.items) (tree_of F.honest F.means F.faults new)) {x = c.store-in-Ok-1.given.0} {y = c.commit.new.self.0} (search rules)
-    (done F.honest F.means F.faults c.args.store.now c.in-Ok.prepared.store.now c.commit.new.self.0 c.args.edits.items edits paths c.requires.one from c.commit.result c.told.result.refusal (paths_of c.told.result.locks_left.items) c.told.ensures.refusal c.told.ensures.left c.commit.ensures.committed)
+    at_same (λ new. F.honest → c.told.result.unmade ≡ None → AreCommitted (meaning_of c.args.store.now) c.args.edits.items (tree_of F.honest F.means F.faults c.args.store.now) left (tree_of F.honest F.means F.faults new)) {x = c.store-in-Ok-1.given.0} {y = c.commit.new.self.0} (search rules)
+    (done F.honest F.means F.faults c.args.store.now c.in-Ok.prepared.store.now c.commit.new.self.0 c.args.edits.items edits paths c.requires.one from c.commit.result c.told.result.unmade left c.told.ensures.unmade c.told.ensures.left c.commit.ensures.committed)
 
-pub returns-in-Err-clause-refused : goal.returns-in-Err-clause-refused
-returns-in-Err-clause-refused g c =
+pub returns-in-Err-clause-named : goal.returns-in-Err-clause-named
+returns-in-Err-clause-named g c =
     let F = g.F.Files in
     let new = c.prepare.follows.lender-at-none in
-    let from : RefusesFrom F.honest F.means F.faults c.args.store.now new c.args.edits.items c.in-Err.refused.error (paths_of c.in-Err.refused.locks_left.items) = search rules in
-    let found : IsRefusal F.honest F.means F.faults c.args.store.now new c.args.edits.items (Prepare c.in-Err.refused.error) =
-    refused F.honest F.means F.faults c.args.store.now new c.args.edits.items c.in-Err.refused.error (paths_of c.in-Err.refused.locks_left.items) from in
+    let left = paths_of c.in-Err.refused.locks_left.items in
+    let from : RefusesFrom F.honest F.means F.faults c.args.store.now new c.args.edits.items c.in-Err.refused.error left = search rules in
+    let found : AreNamed F.honest F.means F.faults c.args.store.now new c.args.edits.items left =
+    refused_named F.honest F.means F.faults c.args.store.now new c.args.edits.items c.in-Err.refused.error left from in
     search rules
 
 pub returns-in-Err-clause-leaves : goal.returns-in-Err-clause-leaves
 returns-in-Err-clause-leaves g c =
     let F = g.F.Files in
     let new = c.prepare.follows.lender-at-none in
-    let from : RefusesFrom F.honest F.means F.faults c.args.store.now new c.args.edits.items c.in-Err.refused.error (paths_of c.in-Err.refused.locks_left.items) = search rules in
+    let left = paths_of c.in-Err.refused.locks_left.items in
+    let from : RefusesFrom F.honest F.means F.faults c.args.store.now new c.args.edits.items c.in-Err.refused.error left = search rules in
     let found : F.honest → Leaves (F.means (files_of c.args.store.now)) (F.means (files_of new)) (IsStopOf (meaning_of c.args.store.now) c.args.edits.items (tree_of F.honest F.means F.faults c.args.store.now)) =
-    refused_stops F.honest F.means F.faults c.args.store.now new c.args.edits.items c.in-Err.refused.error (paths_of c.in-Err.refused.locks_left.items) from in
+    refused_stops F.honest F.means F.faults c.args.store.now new c.args.edits.items c.in-Err.refused.error left from in
     search rules

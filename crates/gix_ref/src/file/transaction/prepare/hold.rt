@@ -1,16 +1,17 @@
 //! All locks of a transaction, or none.
-ghost use Rattle.std.specs.Prelude.{◌≡◌, ◌≤◌, ◌⊎◌, [], OnOk, IfOk, IfErr, vec_len, length, map};
+ghost use Rattle.std.specs.Prelude.{◌≡◌, ◌≤◌, ◌⊎◌, [], true, OnOk, IfOk, IfErr, vec_len, length, map};
 ghost use Rattle.std.specs.Vec.{vec_capacity};
 ghost use Rattle.gix_ref_files.specs.Files.{Leaves, HasRisen};
-ghost use Rattle.gix_ref.specs.AddedLocks.{paths_of, AddsLocks};
+ghost use Rattle.gix_ref_files.specs.Tree.{Path};
+ghost use Rattle.gix_ref.specs.AddedLocks.{paths_of, is_in, AddsLocks};
 ghost use Rattle.gix_ref.specs.Causes.{AllSound, AreApart, IsAccepted, IsCounted, IsInside, IsFirstCause, IsFirstUnsound, NoCause, Refuses, locks_of};
 ghost use Rattle.gix_ref.specs.Taken.{setting_of, value_of, lock_paths, place_paths, places_of, HoldTexts, founds};
 ghost use Rattle.gix_ref.specs.Transactions.{AreUpdates};
 
 use crate::file::transaction::prepare::Error;
 use crate::file::transaction::prepare::lock::paths_of_edits;
-use crate::file::transaction::prepare::remove::remove_locks;
 use crate::file::transaction::prepare::take::take_locks;
+use crate::file::transaction::release::remove_locks;
 use crate::file::transaction::setting::{Paths, Setting};
 use crate::transaction::RefEdit;
 use gix_ref_base::target::Target;
@@ -73,6 +74,7 @@ pub(crate) fn hold<F: Files>(
     ensures adds { F.honest → OnOk result (AddsLocks (locks_of (setting_of setting.now) edits.now) (locks_of (setting_of setting.now) edits.now) (F.means files.old).tree (F.means files.new).tree) }
     ensures refused { F.honest → IfErr result (λ u. IsFirstCause (setting_of setting.now) setting.now.kind (F.means files.old).tree [] edits.now u.error) }
     ensures as_before { F.honest → IfErr result (λ u. AddsLocks (paths_of u.locks_left.items) (locks_of (setting_of setting.now) edits.now) (F.means files.old).tree (F.means files.new).tree) }
+    ensures ours { IfErr result (λ u. (q : Path) → is_in (paths_of u.locks_left.items) q ≡ true → is_in (locks_of (setting_of setting.now) edits.now) q ≡ true) }
     ensures named { IfErr result (λ u. (u.locks_left.items ≡ []) ⊎ HasRisen (F.faults files.old) (F.faults files.new)) }
     ensures leaves { F.honest → Leaves (F.means files.old) (F.means files.new) (AddsLocks (locks_of (setting_of setting.now) edits.now) (locks_of (setting_of setting.now) edits.now) (F.means files.old).tree) }
     ensures no_fewer { F.faults files.old ≤ F.faults files.new }

@@ -42,3 +42,11 @@ returns-in-Err-clause-leaves g c h =
     let known = λ (q : Path) (taken : is_in locks q ≡ true). front_in s c.args.setting.now.kind edits n q (subst (λ (l : List Path). is_in l q ≡ true) same taken) in
     let next = c.remove_locks-locks_left.ensures.leaves h in
     cleaning all locks first mid now free adds known next (t.leaves h)
+
+pub returns-in-Err-clause-ours : goal.returns-in-Err-clause-ours
+returns-in-Err-clause-ours g c q left =
+    let s = setting_of c.args.setting.now in
+    let edits = c.args.edits.now in
+    let n = c.take_locks.new.taken in
+    let same : lock_paths c.truncate.new.self.items ≡ locks_of s (take n edits) = ap lock_paths c.truncate.ensures.items ∙ locks_front s edits c.args.paths.items n c.requires.locks in
+    front_in s c.args.setting.now.kind edits n q (subst (λ (l : List Path). is_in l q ≡ true) same (c.remove_locks-locks_left.ensures.ours q left))

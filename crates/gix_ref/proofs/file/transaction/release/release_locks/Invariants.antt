@@ -6,7 +6,7 @@ use Rattle.gix_ref.specs.Committed.{lock_at, stays_at}
 use Rattle.gix_ref.specs.Taken.{lock_paths}
 use Rattle.gix_ref.specs.AddedLocks.{paths_of, RemovesLocks, is_in}
 use Rattle.gix_ref.specs.declared.file.transaction.setting.Paths.{Paths}
-use Rattle.gix_ref.proofs.file.transaction.commit.release.release_locks.Given as goal
+use Rattle.gix_ref.proofs.file.transaction.release.release_locks.Given as goal
 
 -- a lock that is not among the rest is gone, renamed or left
 abbrev pub invariant-loop-own : goal.invariant-loop-own

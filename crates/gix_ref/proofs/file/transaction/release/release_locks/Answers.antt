@@ -10,7 +10,7 @@ use Rattle.gix_ref.specs.Taken.{lock_paths}
 use Rattle.gix_ref.specs.declared.file.transaction.setting.Paths.{Paths}
 use Rattle.gix_ref.proofs.Removing.{path_left, path_here, path_cases, leaves_then}
 use Rattle.gix_ref.proofs.Renames.{lock_there, lock_within, released}
-use Rattle.gix_ref.proofs.file.transaction.commit.release.release_locks.Goals as goal
+use Rattle.gix_ref.proofs.file.transaction.release.release_locks.Goals as goal
 
 rose_on : {A : Type 0} (a b d : ℕ) → b ≤ d → A ⊎ HasRisen a b → A ⊎ HasRisen a d
 rose_on a b d le (inl none) = inl none

@@ -1,4 +1,4 @@
-//! The locks that a commit or a rollback has left, removed.
+//! The locks of a transaction, removed: those that a commit has not renamed, or all.
 ghost use Rattle.std.specs.Prelude.{◌≡◌, ◌≤◌, ◌<◌, ◌⊎◌, ℕ, [], ◌∷◌, IsTrue, true, false, length, vec_len};
 ghost use Rattle.std.specs.Vec.{vec_capacity};
 ghost use Rattle.std.specs.Bool.{OnFalse};
@@ -66,4 +66,21 @@ pub(crate) fn release_locks<F: Files>(
         }
     }
     left
+}
+
+/// Removes these locks, and hands back in `left`, which has room for all of them, those that it could not remove.
+pub(crate) fn remove_locks<F: Files>(
+    files: &mut F,
+    locks: Vec<Paths>,
+    left: Vec<Vec<u8>>,
+) -> Vec<Vec<u8>>
+    requires room { vec_len locks ≤ vec_capacity left }
+    requires none { left.items ≡ [] }
+    ensures gone { F.honest → (q : Path) → is_in (lock_paths locks.items) q ≡ true → is_in (paths_of result.items) q ≡ false → is_file ((F.means files.new).tree q) ≡ false }
+    ensures ours { (q : Path) → is_in (paths_of result.items) q ≡ true → is_in (lock_paths locks.items) q ≡ true }
+    ensures leaves { F.honest → Leaves (F.means files.old) (F.means files.new) (RemovesLocks (lock_paths locks.items) (F.means files.old).tree) }
+    ensures no_fewer { F.faults files.old ≤ F.faults files.new }
+    ensures counted { (result.items ≡ []) ⊎ HasRisen (F.faults files.old) (F.faults files.new) }
+{
+    release_locks(files, &[], 0, locks, left)
 }

@@ -2,7 +2,7 @@ use Rattle.std.proofs.Common.{◌≡◌, [], false, subst, sym, arith}
 use Rattle.gix_ref_files.specs.Tree.{Path, is_file}
 use Rattle.gix_ref.specs.AddedLocks.{paths_of, is_in}
 use Rattle.gix_ref.proofs.Renames.{lock_found, none_renamed}
-use Rattle.gix_ref.proofs.file.transaction.prepare.remove.remove_locks.Goals as goal
+use Rattle.gix_ref.proofs.file.transaction.release.remove_locks.Goals as goal
 
 pub returns-clause-gone : goal.returns-clause-gone
 returns-clause-gone g c h q within out =
