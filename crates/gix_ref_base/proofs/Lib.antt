@@ -4,6 +4,7 @@ pub mod FrontLemmas
 pub mod PartialNames
 pub mod PlainNames
 pub mod Expanding
+pub mod HexLanes
 pub mod HexRuns
 pub mod IdLemmas
 pub mod Scans

@@ -293,6 +293,7 @@ impl<'a> SignatureRef<'a> {
     }
 
     /// The same signature with bytes of its own.
+    #[inline(always)]
     pub fn to_owned(self, alloc: Global) -> Result<Signature, AllocError>
         ensures { IfOk result (λ owned. signature_who owned ≡ signature_ref_who self.entry) }
     {

@@ -6,7 +6,6 @@ pub mod LogItems
 pub mod LogWindows
 pub mod LogForward
 pub mod LogUsual
-pub mod LogAnswers
 pub mod PackedText
 pub mod PackedLookup
 pub mod PackedIds

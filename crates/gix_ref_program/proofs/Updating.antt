@@ -1,5 +1,5 @@
 -- An update whose preparation succeeded: what its commit answers, seen from before the preparation.
-use Rattle.std.proofs.Common.{◌≡◌, ◌≤◌, ◌⊎◌, inl, inr, ⊎_elim, ℕ, List, [], ◌∷◌, ◌<◌, true, Option, Some, None, Result, Ok, Err, IfOk, IfErr, IfSome, map, length, refl, sym, ◌∙◌, ap, subst, arith}
+use Rattle.std.proofs.Common.{◌≡◌, ◌≤◌, ◌⊎◌, inl, inr, ⊎_elim, ℕ, List, [], ◌∷◌, true, Option, Some, None, Result, Ok, Err, IfOk, IfErr, IfSome, sym, ◌∙◌, ap, subst, arith}
 use Rattle.gix_ref_base.specs.Names.{full_bytes}
 use Rattle.gix_ref_base.specs.Targets.{TargetValue}
 use Rattle.gix_ref_files.specs.Tree.{Path}
@@ -9,7 +9,7 @@ use Rattle.gix_ref.specs.AddedLocks.{is_in, paths_of}
 use Rattle.gix_ref.specs.Committing.{AreCommitted, CommitsFrom, EndsFrom, FailsFor, left_of, names_of}
 use Rattle.gix_ref.specs.Prepared.{IsOneUpdate, PreparesFrom, RefusesFrom, tree_of}
 use Rattle.gix_ref.specs.Store.{files_of, meaning_of}
-use Rattle.gix_ref.specs.Transactions.{name_of, AreCarried}
+use Rattle.gix_ref.specs.Transactions.{AreCarried}
 use Rattle.gix_ref.specs.declared.transaction.RefEdit.{RefEdit}
 use Rattle.gix_ref.specs.declared.file.store.Store.{Store}
 use Rattle.gix_ref.specs.declared.file.transaction.Done.{Done}
@@ -20,7 +20,7 @@ use Rattle.gix_ref.specs.declared.file.transaction.commit.error.Error.{Error}
 use Rattle.gix_ref.specs.declared.file.transaction.commit.error.Error.TheVariants.{LockCommit, FolderInPlace}
 use Rattle.gix_ref_program.specs.Updates.{IsStopOf, IsUnmade, AreNamed, HasFailed, unmade_of}
 use Rattle.gix_ref_program.specs.declared.update.Unmade.{Unmade}
-use Rattle.gix_ref_program.specs.declared.update.Unmade.TheVariants.{Prepare, Commit}
+use Rattle.gix_ref_program.specs.declared.update.Unmade.TheVariants.{Commit}
 
 -- what holds of one value holds of the same
 pub at_same : {A : Type 0} (P : A → Type 0) {x y : A} → x ≡ y → P y → P x

@@ -1,8 +1,10 @@
 //! The hex digits of a SHA-1: whether they are such, and the bytes that they are.
-ghost use Rattle.std.specs.Prelude.{◌≡◌, true, Ok};
+ghost use Rattle.std.specs.Prelude.{◌≡◌, ◌+◌, ◌*◌, ◌<◌, ℕ, true, Ok, length, slice_index, get_or};
 ghost use Rattle.std.specs.List.{list_all};
 ghost use Rattle.hex.specs.Hex.{decode_of, is_hex_digit};
 ghost use Rattle.gix_ref_base.specs.Digits.{IsPair};
+
+use std::simd::prelude::*;
 
 /// Whether a byte is a hex digit, of either case. The bit that is set here is all that sets the cases apart, and each range
 /// is moved to the greatest signed bytes, so that one comparison of vectors tests it.
@@ -30,14 +32,31 @@ pub fn are_sha1_digits(digits: &[u8; 40]) -> bool
     are_digits
 }
 
-/// The byte of two hex digits, of either case: the low four bits of a digit, and nine more for a letter.
+/// The places of the first digits of the pairs among 32.
+const FIRST: [usize; 16] = [0, 2, 4, 6, 8, 10, 12, 14, 16, 18, 20, 22, 24, 26, 28, 30];
+
+/// The places of the second digits.
+const SECOND: [usize; 16] = [1, 3, 5, 7, 9, 11, 13, 15, 17, 19, 21, 23, 25, 27, 29, 31];
+
+/// The bytes of pairs of hex digits, of either case: the low four bits of each digit, and nine more for a letter.
 #[inline(always)]
-fn pair(high: u8, low: u8) -> u8
-    ensures { IsPair high low result }
+fn bytes_of_pairs(first: u8x16, second: u8x16) -> u8x16
+    ensures { (k : ℕ) → k < 16 → IsPair (get_or first k 0) (get_or second k 0) (get_or result k 0) }
 {
-    let high = high % 16 + high / 64 * 9;
-    let low = low % 16 + low / 64 * 9;
-    high.wrapping_mul(16).wrapping_add(low)
+    let high = (first & u8x16::splat(15)) + (first >> u8x16::splat(6)) * u8x16::splat(9);
+    let low = (second & u8x16::splat(15)) + (second >> u8x16::splat(6)) * u8x16::splat(9);
+    high * u8x16::splat(16) + low
+}
+
+/// The bytes of which these are the 32 hex digits, of either case. Other bytes than digits give some bytes.
+#[inline(always)]
+fn sixteen_bytes(digits: &[u8]) -> [u8; 16]
+    requires { length digits.now ≡ 32 }
+    ensures { (k : ℕ) → k < 16 → IsPair (slice_index digits.now (2 * k)) (slice_index digits.now (2 * k + 1)) (slice_index result k) }
+{
+    let front = u8x16::from_slice(digits);
+    let back = u8x16::from_slice(&digits[16..]);
+    bytes_of_pairs(front.shuffle(back, FIRST), front.shuffle(back, SECOND)).to_array()
 }
 
 /// The bytes of a SHA-1 of which these are the hex digits, of either case. Other bytes than digits give some bytes.
@@ -45,9 +64,11 @@ fn pair(high: u8, low: u8) -> u8
 pub fn sha1_of_digits(digits: &[u8; 40]) -> [u8; 20]
     ensures { list_all is_hex_digit digits.now ≡ true → decode_of digits.now ≡ Ok result }
 {
+    let front = sixteen_bytes(&digits[..32]);
+    let back = sixteen_bytes(&digits[8..]);
     let mut bytes = [0u8; 20];
     for i in 0..20 {
-        bytes[i] = pair(digits[2 * i], digits[2 * i + 1]);
+        bytes[i] = if i < 16 { front[i] } else { back[i - 4] };
     }
     bytes
 }

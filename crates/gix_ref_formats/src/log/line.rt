@@ -8,7 +8,6 @@ use std::alloc::{AllocError, Global};
 use std::io;
 
 pub mod decode;
-pub(crate) mod owned;
 mod write;
 
 use decode::{decoded, first_line, id_of};

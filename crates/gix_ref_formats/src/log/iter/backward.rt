@@ -2,9 +2,10 @@
 ghost use Rattle.std.specs.Iterator.{at_most, Yields};
 ghost use Rattle.std.specs.Iterator.Runs.{EachRunFrom};
 ghost use Rattle.memchr.specs.Find.{IsLastByte, is_byte};
-ghost use Rattle.std.specs.Prelude.{◌≡◌, ℕ, ◌+◌, ◌-◌, ◌≤◌, ◌<◌, ◌^◌, min, length, take, drop, slice_index, slice_range, Some, ◌==◌, IfOk, OnOk, OnErr, None, ◌⊎◌, IsErr, ◌↔◌, true, List, Result};
+ghost use Rattle.std.specs.Prelude.{◌≡◌, ℕ, ◌+◌, ◌-◌, ◌≤◌, ◌<◌, ◌^◌, min, length, take, drop, slice_index, slice_range, Some, ◌==◌, IfOk, OnOk, OnErr, MatchResult, None, ◌⊎◌, IsErr, ◌↔◌, true, List, Result};
 ghost use Rattle.gix_ref_base.specs.Bytes.{NoByte};
 ghost use Rattle.gix_ref_files.specs.Files.{one_more};
+ghost use Rattle.gix_ref_formats.specs.LogLines.{IsOwned, line_ref_parts};
 ghost use Rattle.gix_ref_formats.specs.LogStages.{text_of_line, IsDoneAfter};
 ghost use Rattle.gix_ref_formats.specs.LogItems.{Gives, LineGives, IsRun, EndsAtError, items_from, count_of, faults_after};
 ghost use Rattle.gix_ref_formats.specs.declared.log.line.Line.{Line};
@@ -13,8 +14,9 @@ ghost use Rattle.gix_ref_formats.specs.declared.log.iter.error.ReverseError.{Rev
 use super::decode;
 use super::error::{EmptyBuffer, ReverseError};
 use super::stage::{Stage, lesser, stage_after, without_return};
-use crate::log::line::Line;
-use crate::log::line::owned::{LineError, line_from};
+use super::usual::usual_text;
+use crate::log::line::decode::decoded_line;
+use crate::log::line::{Line, LineRef};
 use gix_ref_base::bytes::last_place;
 use gix_ref_files::files::{FileError, ReadAt};
 use std::alloc::Global;
@@ -34,6 +36,31 @@ pub struct Reverse<'a, F> {
     alloc: Global,
     ghost in_buffer: { end ≤ length buf.now },
     ghost has_room: { 0 < length buf.now },
+}
+
+/// The same line with bytes of its own.
+#[inline(always)]
+fn owned(alloc: Global, line: &LineRef<'_>) -> Result<Line, ReverseError>
+    ensures { MatchResult result (IsOwned (line_ref_parts line.now)) (λ error. error ≡ ReverseError.Memory) }
+{
+    match line.to_owned(alloc) {
+        Ok(line) => Ok(line),
+        Err(_) => Err(ReverseError::Memory),
+    }
+}
+
+/// The line that a text is, which has this number from the end.
+#[inline(never)]
+fn line_of(alloc: Global, text: &[u8], number: u64) -> Result<Line, ReverseError>
+    requires { NoByte 10 text.now }
+    ensures { LineGives number text.now result }
+{
+    match decoded_line(text) {
+        Some(line) => owned(alloc, &line),
+        None => Err(ReverseError::Decode(decode::Error {
+            line: decode::LineNumber::FromEnd(number),
+        })),
+    }
 }
 
 impl<'a, F: ReadAt> Reverse<'a, F> {
@@ -156,19 +183,17 @@ impl<'a, F: ReadAt> Reverse<'a, F> {
         Ok(self.last_feed())
     }
 
-    /// The line that the window holds from a place on.
+    /// The line that the window holds from a place on. One that is as most are takes the short way.
     #[inline(always)]
     fn line_at(&self, start: usize, ends: bool) -> Result<Line, ReverseError>
         requires within { start ≤ self.now.end }
         requires one_line { NoByte 10 (slice_range self.now.buf.now start self.now.end) }
         ensures { LineGives self.now.number (text_of_line ends (slice_range self.now.buf.now start self.now.end)) result }
     {
-        match line_from(self.alloc, without_return(&self.buf[start..self.end], ends)) {
-            Ok(line) => Ok(line),
-            Err(LineError::Memory) => Err(ReverseError::Memory),
-            Err(LineError::Invalid) => Err(ReverseError::Decode(decode::Error {
-                line: decode::LineNumber::FromEnd(self.number),
-            })),
+        let text = without_return(&self.buf[start..self.end], ends);
+        match usual_text(text) {
+            Some(line) => owned(self.alloc, &line),
+            None => line_of(self.alloc, text, self.number),
         }
     }
 

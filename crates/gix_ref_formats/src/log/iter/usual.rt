@@ -1,7 +1,8 @@
-//! The first line of a log, where it is as most are: with a tab, and an LF behind it.
+//! Lines that are as most are: with ids of SHA-1, a time of the usual length, and a tab.
 ghost use Rattle.std.specs.Prelude.{◌<◌, ℕ, List, length, IfSome};
 ghost use Rattle.gix_ref_base.specs.Bytes.{NoByte, Cuts};
 ghost use Rattle.gix_ref_formats.specs.LogIds.{IdFront};
+ghost use Rattle.gix_ref_formats.specs.LogLines.{IsLine, line_ref_parts};
 ghost use Rattle.gix_ref_formats.specs.LogUsual.{BeginsWithLine};
 
 use super::stage::without_return;
@@ -37,6 +38,23 @@ fn cut_at_tab(text: &[u8]) -> Option<(&[u8], &[u8])>
         return None;
     }
     Some((&text[..place], &text[place + 1..]))
+}
+
+/// The line that a text without LF is, where it is as most are. `None` tells nothing.
+#[inline(always)]
+pub(super) fn usual_text<'a>(text: &'a [u8]) -> Option<LineRef<'a>>
+    requires { NoByte 10 text.now }
+    ensures { IfSome result (λ line. IsLine text.now (line_ref_parts line)) }
+{
+    let (previous_oid, new_oid, rest) = sha1_ids(text)?;
+    let (head, message) = cut_at_tab(rest)?;
+    let signature = SignatureRef::stamped(head)?;
+    Some(LineRef {
+        previous_oid,
+        new_oid,
+        signature,
+        message,
+    })
 }
 
 /// The first line, where it is as most are, and what follows it. The ids are read first, and then the signature up to its

@@ -1,7 +1,20 @@
-use Rattle.std.proofs.Common.{ℕ, ◌%◌, ◌==◌, ◌∙◌, ap, arith}
+use Rattle.std.proofs.Common.{ℕ, ◌+◌, ◌-◌, ◌*◌, ◌%◌, ◌==◌, slice_index, sym, ◌∙◌, ap, subst, arith}
 use Rattle.std.proofs.lemmas.Bool.{cond-false}
 use Rattle.gix_ref_base.proofs.NumberLemmas.{pairs_decode}
+use Rattle.gix_ref_base.specs.Digits.{IsPair}
+use Rattle.gix_ref_base.proofs.HexLanes.{pair_in_front, pair_in_back, pairs_more}
 use Rattle.gix_ref_base.proofs.hash.digits.sha1_of_digits.Goals as goal
+use Rattle.gix_ref_base.proofs.hash.digits.sha1_of_digits.Goals.{then-i-lt16, else-i-lt16}
+
+pub loop-i-preserved : goal.loop-i-preserved
+loop-i-preserved c =
+    let text = c.args.digits.now in
+    let i = c.loop-i.i in
+    let pair : IsPair (slice_index text (2 * i)) (slice_index text (2 * i + 1)) c.if-i-lt16.bytes = elim c.if-i-lt16.branch [
+      | then-i-lt16 w ↦ subst (IsPair (slice_index text (2 * i)) (slice_index text (2 * i + 1))) (sym w.bytes-is) (pair_in_front text i _ w.if-i-lt16.true (c.sixteen_bytes-front.ensures i w.if-i-lt16.true))
+      | else-i-lt16 w ↦ subst (IsPair (slice_index text (2 * i)) (slice_index text (2 * i + 1))) (sym w.bytes-is) (pair_in_back text i _ (omega (arith, w.if-i-lt16.false)) c.loop-i-test.true (c.sixteen_bytes-back.ensures (i - 4) (omega (arith, c.loop-i-test.true))))
+    ] in
+    pairs_more text c.loop-i.bytes i c.if-i-lt16.bytes c.loop-i-test.true c.loop-i.invariant pair
 
 pub returns : goal.returns
 returns c = λ digits.
