@@ -1,5 +1,6 @@
 //! The records of a `packed-refs` that is not in memory: looks at windows of its file.
-ghost use Rattle.std.specs.Prelude.{◌≡◌, ◌+◌, ◌<◌, ◌^◌, length, take, drop, OnOk};
+ghost use Rattle.std.specs.Prelude.{◌≡◌, ◌+◌, ◌<◌, ◌^◌, length, take, drop, OnOk, IfErr};
+ghost use Rattle.gix_ref_formats.specs.PackedSources.{count_source};
 
 use crate::packed::probes::Probes;
 use crate::packed::search::{SearchError, search};
@@ -78,6 +79,8 @@ pub(crate) fn read_window<R: ReadAt>(
     len: usize,
 ) -> Result<(), SourceError>
     ensures same { R.bytes reader.new ≡ R.bytes reader.old }
+    ensures no_fault { OnOk result (R.faults reader.new ≡ R.faults reader.old) }
+    ensures fault { IfErr result (λ error. R.faults reader.new ≡ count_source error (R.faults reader.old)) }
     ensures len { OnOk result (length window.new.items ≡ len) }
     ensures read { R.honest → OnOk result (window.new.items ≡ take (length window.new.items) (drop place (R.bytes reader.old))) }
 {
@@ -94,7 +97,7 @@ impl<R: ReadAt + Drop> Source<R> {
     ghost use Rattle.gix_ref_formats.specs.PackedText.{Record, Records, Ascending};
     ghost use Rattle.gix_ref_formats.specs.PackedLookup.{record_named};
     ghost use Rattle.gix_ref_formats.specs.PackedWindows.{LooksAt, AreFound, FrontIs, HitsRecord};
-    ghost use Rattle.gix_ref_formats.specs.PackedSources.{IsSourceFault};
+    ghost use Rattle.gix_ref_formats.specs.PackedSources.{IsSourceFault, count_source, count_find};
 
     /// The records of a file from that place on. Nothing is read yet.
     pub fn new(alloc: Global, reader: R, base: u64) -> Source<R>
@@ -120,6 +123,8 @@ impl<R: ReadAt + Drop> Source<R> {
     fn fill(&mut self, offset: u64, size: u64) -> Result<(), SourceError>
         ensures same { R.bytes self.new.reader ≡ R.bytes self.old.reader }
         ensures base { self.new.base ≡ self.old.base }
+        ensures no_fault { IfOk result (λ _. R.faults self.new.reader ≡ R.faults self.old.reader) }
+        ensures fault { IfErr result (λ error. R.faults self.new.reader ≡ count_source error (R.faults self.old.reader)) }
     {
         let from = offset.saturating_sub(size / 2);
         let len = size.min(self.records_len().saturating_sub(from));
@@ -167,6 +172,8 @@ impl<R: ReadAt + Drop> Source<R> {
     fn record_at(&mut self, kind: Kind, start: u64) -> Result<Option<Found>, SourceError>
         ensures same { R.bytes self.new.reader ≡ R.bytes self.old.reader }
         ensures base { self.new.base ≡ self.old.base }
+        ensures no_fault { IfOk result (λ _. R.faults self.new.reader ≡ R.faults self.old.reader) }
+        ensures fault { IfErr result (λ error. R.faults self.new.reader ≡ count_source error (R.faults self.old.reader)) }
         ensures front { R.honest → IfOk result (FrontIs kind (drop start (drop self.old.base (R.bytes self.old.reader)))) }
     {
         let mut size = WINDOW;
@@ -202,6 +209,10 @@ impl<R: ReadAt + Drop> Source<R> {
             IfOk result (AreFound (record_named (full_ref_bytes name.entry) rs)) }
         ensures fails { R.honest → (rs : List Record) → Records kind (drop self.old.base (R.bytes self.old.reader)) rs → Ascending rs →
             IfErr result IsSourceFault }
+
+        // The reader counts a fault where the file could not be read, and nowhere else.
+        ensures no_fault { IfOk result (λ _. R.faults self.new.reader ≡ R.faults self.old.reader) }
+        ensures fault { IfErr result (λ error. R.faults self.new.reader ≡ count_find error (R.faults self.old.reader)) }
     {
         let start = match search(self, kind, name.to_path(), probes) {
             Ok(Some(start)) => start,
@@ -220,6 +231,7 @@ impl<R: ReadAt + Drop> Source<R> {
 /// What is said of the text holds where the reader is honest.
 impl<R: ReadAt + Drop> Text for Source<R> {
     ghost use Rattle.std.specs.Prelude.{drop};
+    ghost use Rattle.gix_ref_formats.specs.PackedSources.{count_source};
 
     ghost honest = { R.honest };
 
@@ -227,7 +239,11 @@ impl<R: ReadAt + Drop> Text for Source<R> {
 
     ghost can_fail = { Unit {0} };
 
+    ghost faults = { λ s. R.faults s.reader };
+
     type Error = SourceError;
+
+    ghost count = { count_source };
 
     fn len(&self) -> u64 {
         self.records_len()

@@ -30,8 +30,14 @@ pub trait Text {
     /// Whether a look may fail.
     ghost can_fail: { Type 0 };
 
+    /// How many faults its looks met.
+    ghost faults: { Self → ℕ };
+
     /// Why a look failed.
     type Error: Drop;
+
+    /// The count of faults after a look that failed so.
+    ghost count: { Self.Error → ℕ → ℕ };
 
     /// The number of bytes.
     fn len(&self) -> u64
@@ -46,7 +52,9 @@ pub trait Text {
         ensures record { honest → IfOk result (λ look. RecordOf (bytes self.old) look.start offset) }
         ensures order { honest → IfOk result (λ look. Compares kind (drop look.start (bytes self.old)) asked.now look.order) }
         ensures line { honest → IfOk result (λ look. SameLine (bytes self.old) offset look.next) }
-        ensures fails { honest → IfErr result (λ _. can_fail) };
+        ensures fails { honest → IfErr result (λ _. can_fail) }
+        ensures no_fault { IfOk result (λ _. faults self.new ≡ faults self.old) }
+        ensures fault { IfErr result (λ error. faults self.new ≡ count error (faults self.old)) };
 }
 
 /// A text that lies in memory as a whole. A look at it never fails.
@@ -63,7 +71,11 @@ impl<'a> Text for Whole<'a> {
 
     ghost can_fail = { ⊥ };
 
+    ghost faults = { λ _. 0 };
+
     type Error = Infallible;
+
+    ghost count = { λ _ n. n };
 
     fn len(&self) -> u64 {
         self.bytes.len() as u64

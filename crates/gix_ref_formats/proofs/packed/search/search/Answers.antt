@@ -7,6 +7,7 @@ use Rattle.gix_ref_formats.proofs.packed.search.search.Goals as goal
 pub loop-low-init : goal.loop-low-init
 loop-low-init g c = record {
   counts = omega arith;
+  no_fault = refl;
   facts = λ honest.
       let bytes = g.T.Text.bytes c.args.text.now in
       let len = c.len-high.ensures honest in
@@ -70,6 +71,7 @@ returns-in-Equal-clause-finds g c honest =
 pub loop-low-preserved-in-Greater : goal.loop-low-preserved-in-Greater
 loop-low-preserved-in-Greater g c = record {
   counts = let counts = c.loop-low.invariant.counts in let next = c.tick.ensures in omega arith;
+  no_fault = c.in-Ok.ensures.no_fault ∙ c.loop-low.invariant.no_fault;
   facts = λ honest.
       let bytes = g.T.Text.bytes c.args.text.now in
       let kind = c.args.kind in
@@ -100,6 +102,7 @@ loop-low-preserved-in-Greater g c = record {
 pub loop-low-preserved : goal.loop-low-preserved
 loop-low-preserved g c = record {
   counts = let counts = c.loop-low.invariant.counts in let next = c.tick.ensures in omega arith;
+  no_fault = c.in-Ok.ensures.no_fault ∙ c.loop-low.invariant.no_fault;
   facts = λ honest.
       let bytes = g.T.Text.bytes c.args.text.now in
       let kind = c.args.kind in
@@ -130,6 +133,7 @@ loop-low-preserved g c = record {
 pub loop-low-preserved-in_default : goal.loop-low-preserved-in_default
 loop-low-preserved-in_default g c = record {
   counts = let counts = c.loop-low.invariant.counts in let next = c.tick.ensures in omega arith;
+  no_fault = c.in-Ok.ensures.no_fault ∙ c.loop-low.invariant.no_fault;
   facts = λ honest.
       let bytes = g.T.Text.bytes c.args.text.now in
       let kind = c.args.kind in

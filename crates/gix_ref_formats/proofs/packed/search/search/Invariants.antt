@@ -6,6 +6,7 @@ use Rattle.gix_ref_formats.proofs.packed.search.search.Given as goal
 abbrev pub invariant-loop-low : goal.invariant-loop-low
 invariant-loop-low g l = record {
   counts : l.fn.probes ≤ l.probes;
+  no_fault : g.T.Text.faults l.text ≡ g.T.Text.faults l.fn.text;
   facts : g.T.Text.honest → record {
     kept : g.T.Text.bytes l.text ≡ g.T.Text.bytes l.fn.text;
     within : l.high ≤ length (g.T.Text.bytes l.fn.text);
