@@ -3,10 +3,15 @@ use Rattle.std.specs.Prelude.{ℕ}
 use Rattle.gix_ref_formats.specs.declared.packed.search.SearchError.{SearchError}
 use Rattle.gix_ref_formats.specs.declared.packed.search.SearchError.TheVariants.{Text, Parse}
 
--- a look failed, and the text is not to blame
-abbrev pub IsLookError : {E : Type 0} → SearchError E → Type 0
-IsLookError (Text error) = Unit {0}
-IsLookError Parse = ⊥
+-- where a look failed, it failed so
+abbrev pub FailsBy : {E : Type 0} → (E → Type 0) → SearchError E → Type 0
+FailsBy fails (Text error) = fails error
+FailsBy fails Parse = Unit {0}
+
+-- a look failed, and failed so; the text is not to blame
+abbrev pub IsLookError : {E : Type 0} → (E → Type 0) → SearchError E → Type 0
+IsLookError fails (Text error) = fails error
+IsLookError fails Parse = ⊥
 
 -- the count of faults after a search that failed, where a look that failed counts so
 abbrev pub count_search : {E : Type 0} → (E → ℕ → ℕ) → SearchError E → ℕ → ℕ

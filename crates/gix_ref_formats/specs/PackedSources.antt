@@ -6,6 +6,17 @@ use Rattle.gix_ref_formats.specs.declared.packed.source.SourceError.TheVariants.
 use Rattle.gix_ref_formats.specs.declared.packed.source.FindError.{FindError}
 use Rattle.gix_ref_formats.specs.declared.packed.source.FindError.TheVariants.{Source, Parse}
 
+-- the file could not be read, or there was no memory: a file that stays the same fails by nothing else
+abbrev pub StaysSame : SourceError → Type 0
+StaysSame (Io error) = Unit {0}
+StaysSame Memory = Unit {0}
+StaysSame Changed = ⊥
+
+-- the same of a record that is not found
+abbrev pub FindsInSame : FindError → Type 0
+FindsInSame (Source error) = StaysSame error
+FindsInSame Parse = Unit {0}
+
 -- the source could not be looked at
 abbrev pub IsSourceFault : FindError → Type 0
 IsSourceFault (Source error) = Unit {0}

@@ -1,19 +1,20 @@
 //! The header of a `packed-refs` that stays in its file.
-ghost use Rattle.std.specs.Prelude.{◌≡◌, ℕ, List, length, take, drop, true, false, IfOk, IfErr, IfSome, MatchOption};
+ghost use Rattle.std.specs.Prelude.{◌≡◌, ℕ, List, length, take, drop, true, false, IfOk, IfErr, IfSome, IsSome, MatchOption};
 ghost use Rattle.gix_ref_formats.specs.PackedOpening.{Heads, NoHeading};
-ghost use Rattle.gix_ref_formats.specs.PackedSources.{count_source};
+ghost use Rattle.gix_ref_formats.specs.PackedSources.{StaysSame, count_source};
 
 pub use crate::packed::heading::Heading;
 use crate::packed::heading::read_heading;
-use crate::packed::source::{GROWTHS, SourceError, WINDOW, read_window};
+use crate::packed::source::{GROWTHS, SourceError, read_window, window_size};
 use gix_ref_files::files::ReadAt;
 use std::alloc::Global;
 
 /// What the header of a beginning of a text says of the text, which it is as a whole where `whole` holds; `None` where the
 /// part is too short to tell, and `Some(None)` where the text should have a header and has none.
 fn heading_in(part: &[u8], whole: bool) -> Option<Option<Heading>>
-    ensures { IfSome result (λ found. (text : List ℕ) → part.now ≡ take (length part.now) text → (whole ≡ true → part.now ≡ text) →
+    ensures heads { IfSome result (λ found. (text : List ℕ) → part.now ≡ take (length part.now) text → (whole ≡ true → part.now ≡ text) →
         MatchOption found (NoHeading text) (λ heading. Heads text heading.header (drop heading.start text))) }
+    ensures sure { whole ≡ true → IsSome result }
 {
     let Some(heading) = read_heading(part) else {
         return if whole { Some(None) } else { None };
@@ -37,17 +38,16 @@ pub fn file_heading<R: ReadAt>(
     ensures same { R.bytes reader.new ≡ R.bytes reader.old }
     ensures no_fault { IfOk result (λ _. R.faults reader.new ≡ R.faults reader.old) }
     ensures fault { IfErr result (λ error. R.faults reader.new ≡ count_source error (R.faults reader.old)) }
+    ensures stays { IfErr result StaysSame }
     ensures heads { R.honest → IfOk result (λ found. MatchOption found (NoHeading (R.bytes reader.old)) (λ heading. Heads (R.bytes reader.old) heading.header (drop heading.start (R.bytes reader.old)))) }
 {
     let mut window = Vec::new(alloc);
-    let mut size = WINDOW;
-    'windows: for _ in 0..GROWTHS {
-        let len = size.min(reader.len());
+    for turn in 0..GROWTHS {
+        let len = window_size(turn).min(reader.len());
         read_window(reader, &mut window, 0, len as usize)?;
         if let Some(found) = heading_in(window.as_slice(), len == reader.len()) {
             return Ok(found);
         }
-        size = size.saturating_mul(2);
     }
     Err(SourceError::Changed)
 }

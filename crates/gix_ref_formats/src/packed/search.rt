@@ -2,7 +2,7 @@
 ghost use Rattle.std.specs.Prelude.{◌≡◌, ◌≤◌, ◌<◌, ◌+◌, ◌-◌, ◌*◌, ◌^◌, ℕ, List, length, IfOk, IfErr, IfSome, MatchOption};
 ghost use Rattle.gix_ref_formats.specs.PackedText.{Record, Records, Ascending};
 ghost use Rattle.gix_ref_formats.specs.PackedLookup.{record_named, HitsAt, FindsAt};
-ghost use Rattle.gix_ref_formats.specs.PackedSearches.{IsLookError, count_search};
+ghost use Rattle.gix_ref_formats.specs.PackedSearches.{FailsBy, IsLookError, count_search};
 
 use crate::packed::probes::Probes;
 use crate::packed::text::Text;
@@ -40,7 +40,10 @@ pub fn search<T: Text, L: Ledger>(
     ensures finds { T.honest → (rs : List Record) → Records kind (T.bytes text.old) rs → Ascending rs →
         IfOk result (λ found. MatchOption found (record_named asked.now rs ≡ None) (FindsAt kind (T.bytes text.old) rs asked.now)) }
     ensures fails { T.honest → (rs : List Record) → Records kind (T.bytes text.old) rs → Ascending rs →
-        IfErr result (λ error. IsLookError error × T.can_fail) }
+        IfErr result (IsLookError T.can_fail) }
+
+    // On any text a look fails by what the text may fail by.
+    ensures looks { T.honest → IfErr result (FailsBy T.can_fail) }
 
     // A fault is counted where a look failed by one, and nowhere else.
     ensures no_fault { IfOk result (λ _. T.faults text.new ≡ T.faults text.old) }

@@ -1,6 +1,6 @@
 //! The records of a `packed-refs` that is not in memory: looks at windows of its file.
-ghost use Rattle.std.specs.Prelude.{◌≡◌, ◌+◌, ◌<◌, ◌^◌, length, take, drop, OnOk, IfErr};
-ghost use Rattle.gix_ref_formats.specs.PackedSources.{count_source};
+ghost use Rattle.std.specs.Prelude.{◌≡◌, ◌+◌, ◌-◌, ◌<◌, ◌≤◌, ◌^◌, length, take, drop, OnOk, IfErr};
+ghost use Rattle.gix_ref_formats.specs.PackedSources.{StaysSame, count_source};
 
 use crate::packed::probes::Probes;
 use crate::packed::search::{SearchError, search};
@@ -31,8 +31,21 @@ pub enum SourceError {
 /// that it saves: four times the size saves two of them.
 pub(crate) const WINDOW: u64 = 1024;
 
-/// How often a window is read anew, each time twice as large: till it holds any file.
-pub(crate) const GROWTHS: u32 = 55;
+/// How often a window is read anew.
+pub(crate) const GROWTHS: u32 = 54;
+
+/// The size of the window that is read after so many others, each twice as large as the one before; the last holds any
+/// file.
+#[inline(always)]
+pub(crate) fn window_size(turn: u32) -> u64
+    ensures { turn ≡ 53 → result ≡ 2 ^ 64 - 1 }
+{
+    if turn < GROWTHS - 1 {
+        WINDOW << turn
+    } else {
+        u64::MAX
+    }
+}
 
 impl From<AllocError> for SourceError {
     ghost use Rattle.std.specs.Prelude.{◌≡◌};
@@ -54,6 +67,17 @@ pub enum FindError {
     /// A record without shape was met and nothing was found, or the record that was found cannot be read.
     #[error("a record of packed-refs cannot be read")]
     Parse,
+}
+
+/// Where a window of that size around a place begins: at the front where the size holds any file.
+fn window_from(offset: u64, size: u64) -> u64
+    ensures before { result ≤ offset }
+    ensures front { size ≡ 2 ^ 64 - 1 → result ≡ 0 }
+{
+    if size == u64::MAX {
+        return 0;
+    }
+    offset.saturating_sub(size / 2)
 }
 
 /// The records of a file behind its header, where they ascend. A window of the file is kept: a look that lies in it
@@ -79,8 +103,10 @@ pub(crate) fn read_window<R: ReadAt>(
     len: usize,
 ) -> Result<(), SourceError>
     ensures same { R.bytes reader.new ≡ R.bytes reader.old }
+    ensures size { R.size reader.new ≡ R.size reader.old }
     ensures no_fault { OnOk result (R.faults reader.new ≡ R.faults reader.old) }
     ensures fault { IfErr result (λ error. R.faults reader.new ≡ count_source error (R.faults reader.old)) }
+    ensures stays { IfErr result StaysSame }
     ensures len { OnOk result (length window.new.items ≡ len) }
     ensures read { R.honest → OnOk result (window.new.items ≡ take (length window.new.items) (drop place (R.bytes reader.old))) }
 {
@@ -92,12 +118,12 @@ pub(crate) fn read_window<R: ReadAt>(
 }
 
 impl<R: ReadAt + Drop> Source<R> {
-    ghost use Rattle.std.specs.Prelude.{◌≡◌, ◌≤◌, ◌<◌, ◌+◌, ◌-◌, ◌*◌, ◌^◌, List, length, drop, IfOk, IfErr, IfSome};
+    ghost use Rattle.std.specs.Prelude.{◌≡◌, ◌≤◌, ◌<◌, ◌+◌, ◌-◌, ◌*◌, ◌^◌, List, length, drop, IfOk, IfErr, IfSome, IsSome};
     ghost use Rattle.gix_ref_base.specs.Names.{full_ref_bytes};
     ghost use Rattle.gix_ref_formats.specs.PackedText.{Record, Records, Ascending};
     ghost use Rattle.gix_ref_formats.specs.PackedLookup.{record_named};
     ghost use Rattle.gix_ref_formats.specs.PackedWindows.{LooksAt, AreFound, FrontIs, HitsRecord};
-    ghost use Rattle.gix_ref_formats.specs.PackedSources.{IsSourceFault, count_source, count_find};
+    ghost use Rattle.gix_ref_formats.specs.PackedSources.{StaysSame, FindsInSame, IsSourceFault, count_source, count_find};
 
     /// The records of a file from that place on. Nothing is read yet.
     pub fn new(alloc: Global, reader: R, base: u64) -> Source<R>
@@ -114,19 +140,22 @@ impl<R: ReadAt + Drop> Source<R> {
 
     /// The number of bytes of the records.
     fn records_len(&self) -> u64
-        ensures { R.honest → result ≡ length (drop self.now.base (R.bytes self.now.reader)) }
+        ensures len { R.honest → result ≡ length (drop self.now.base (R.bytes self.now.reader)) }
+        ensures fits { R.honest → length (R.bytes self.now.reader) < 2 ^ 64 }
     {
         self.reader.len().saturating_sub(self.base)
     }
 
-    /// Reads a window of that size around the place.
+    /// Reads a window of that size around the place; all where the size holds any file.
     fn fill(&mut self, offset: u64, size: u64) -> Result<(), SourceError>
         ensures same { R.bytes self.new.reader ≡ R.bytes self.old.reader }
         ensures base { self.new.base ≡ self.old.base }
         ensures no_fault { IfOk result (λ _. R.faults self.new.reader ≡ R.faults self.old.reader) }
         ensures fault { IfErr result (λ error. R.faults self.new.reader ≡ count_source error (R.faults self.old.reader)) }
+        ensures whole { R.honest → size ≡ 2 ^ 64 - 1 → IfOk result (λ _. (self.new.from ≡ 0) × (length self.new.window.items ≡ length (drop self.old.base (R.bytes self.old.reader)))) }
+        ensures stays { R.honest → offset < length (drop self.old.base (R.bytes self.old.reader)) → IfErr result StaysSame }
     {
-        let from = offset.saturating_sub(size / 2);
+        let from = window_from(offset, size);
         let len = size.min(self.records_len().saturating_sub(from));
         let Some(place) = self.base.checked_add(from) else {
             return Err(SourceError::Changed);
@@ -146,6 +175,7 @@ impl<R: ReadAt + Drop> Source<R> {
         ensures below { IfSome result (λ look. look.start ≤ offset) }
         ensures beyond { IfSome result (λ look. offset < look.next) }
         ensures looks { R.honest → IfSome result (LooksAt kind (drop self.now.base (R.bytes self.now.reader)) asked.now offset) }
+        ensures sure { R.honest → self.now.from ≡ 0 → length self.now.window.items ≡ length (drop self.now.base (R.bytes self.now.reader)) → offset < length self.now.window.items → IsSome result }
     {
         let len = self.window.len() as u64;
         if offset < self.from || offset - self.from >= len {
@@ -158,7 +188,8 @@ impl<R: ReadAt + Drop> Source<R> {
 
     /// The record that begins at the place, if the window tells it; `Some(None)` where none stands there.
     fn known_record(&self, kind: Kind, start: u64) -> Option<Option<Found>>
-        ensures { R.honest → IfSome result (FrontIs kind (drop start (drop self.now.base (R.bytes self.now.reader)))) }
+        ensures front { R.honest → IfSome result (FrontIs kind (drop start (drop self.now.base (R.bytes self.now.reader)))) }
+        ensures sure { R.honest → self.now.from ≡ 0 → length self.now.window.items ≡ length (drop self.now.base (R.bytes self.now.reader)) → start < length self.now.window.items → IsSome result }
     {
         let len = self.window.len() as u64;
         if start < self.from || start - self.from >= len {
@@ -168,6 +199,7 @@ impl<R: ReadAt + Drop> Source<R> {
         let last = self.from + len == self.records_len();
         record_in(self.window.as_slice(), self.from, at, last, kind)
     }
+
     /// The record that begins at the place, or none where none stands there.
     fn record_at(&mut self, kind: Kind, start: u64) -> Result<Option<Found>, SourceError>
         ensures same { R.bytes self.new.reader ≡ R.bytes self.old.reader }
@@ -175,16 +207,18 @@ impl<R: ReadAt + Drop> Source<R> {
         ensures no_fault { IfOk result (λ _. R.faults self.new.reader ≡ R.faults self.old.reader) }
         ensures fault { IfErr result (λ error. R.faults self.new.reader ≡ count_source error (R.faults self.old.reader)) }
         ensures front { R.honest → IfOk result (FrontIs kind (drop start (drop self.old.base (R.bytes self.old.reader)))) }
+        ensures stays { R.honest → start < length (drop self.old.base (R.bytes self.old.reader)) → IfErr result StaysSame }
     {
-        let mut size = WINDOW;
-        'windows: for _ in 0..GROWTHS {
+        for turn in 0..GROWTHS {
             if let Some(found) = self.known_record(kind, start) {
                 return Ok(found);
             }
-            self.fill(start, size)?;
-            size = size.saturating_mul(2);
+            self.fill(start, window_size(turn))?;
         }
-        Err(SourceError::Changed)
+        match self.known_record(kind, start) {
+            Some(found) => Ok(found),
+            None => Err(SourceError::Changed),
+        }
     }
 
     /// The record of a full name, by halving, for a file whose header says that it is sorted. Each look is counted as a
@@ -210,6 +244,9 @@ impl<R: ReadAt + Drop> Source<R> {
         ensures fails { R.honest → (rs : List Record) → Records kind (drop self.old.base (R.bytes self.old.reader)) rs → Ascending rs →
             IfErr result IsSourceFault }
 
+        // A file that stays the same is never told as changed.
+        ensures stays { R.honest → IfErr result FindsInSame }
+
         // The reader counts a fault where the file could not be read, and nowhere else.
         ensures no_fault { IfOk result (λ _. R.faults self.new.reader ≡ R.faults self.old.reader) }
         ensures fault { IfErr result (λ error. R.faults self.new.reader ≡ count_find error (R.faults self.old.reader)) }
@@ -231,17 +268,17 @@ impl<R: ReadAt + Drop> Source<R> {
 /// What is said of the text holds where the reader is honest.
 impl<R: ReadAt + Drop> Text for Source<R> {
     ghost use Rattle.std.specs.Prelude.{drop};
-    ghost use Rattle.gix_ref_formats.specs.PackedSources.{count_source};
+    ghost use Rattle.gix_ref_formats.specs.PackedSources.{StaysSame, count_source};
 
     ghost honest = { R.honest };
 
     ghost bytes = { λ s. drop s.base (R.bytes s.reader) };
 
-    ghost can_fail = { Unit {0} };
-
     ghost faults = { λ s. R.faults s.reader };
 
     type Error = SourceError;
+
+    ghost can_fail = { StaysSame };
 
     ghost count = { count_source };
 
@@ -250,14 +287,15 @@ impl<R: ReadAt + Drop> Text for Source<R> {
     }
 
     fn look(&mut self, kind: Kind, offset: u64, asked: &[u8]) -> Result<Look, SourceError> {
-        let mut size = WINDOW;
-        'windows: for _ in 0..GROWTHS {
+        for turn in 0..GROWTHS {
             if let Some(look) = self.known(kind, offset, asked) {
                 return Ok(look);
             }
-            self.fill(offset, size)?;
-            size = size.saturating_mul(2);
+            self.fill(offset, window_size(turn))?;
         }
-        Err(SourceError::Changed)
+        match self.known(kind, offset, asked) {
+            Some(look) => Ok(look),
+            None => Err(SourceError::Changed),
+        }
     }
 }

@@ -27,14 +27,14 @@ pub trait Text {
     /// The text: records, without a header.
     ghost bytes: { Self → List ℕ };
 
-    /// Whether a look may fail.
-    ghost can_fail: { Type 0 };
-
     /// How many faults its looks met.
     ghost faults: { Self → ℕ };
 
     /// Why a look failed.
     type Error: Drop;
+
+    /// By which errors a look at an honest text may fail.
+    ghost can_fail: { Self.Error → Type 0 };
 
     /// The count of faults after a look that failed so.
     ghost count: { Self.Error → ℕ → ℕ };
@@ -52,7 +52,7 @@ pub trait Text {
         ensures record { honest → IfOk result (λ look. RecordOf (bytes self.old) look.start offset) }
         ensures order { honest → IfOk result (λ look. Compares kind (drop look.start (bytes self.old)) asked.now look.order) }
         ensures line { honest → IfOk result (λ look. SameLine (bytes self.old) offset look.next) }
-        ensures fails { honest → IfErr result (λ _. can_fail) }
+        ensures fails { honest → IfErr result can_fail }
         ensures no_fault { IfOk result (λ _. faults self.new ≡ faults self.old) }
         ensures fault { IfErr result (λ error. faults self.new ≡ count error (faults self.old)) };
 }
@@ -69,11 +69,11 @@ impl<'a> Text for Whole<'a> {
 
     ghost bytes = { λ text. text.bytes.now };
 
-    ghost can_fail = { ⊥ };
-
     ghost faults = { λ _. 0 };
 
     type Error = Infallible;
+
+    ghost can_fail = { λ _. ⊥ };
 
     ghost count = { λ _ n. n };
 

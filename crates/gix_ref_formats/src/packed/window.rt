@@ -1,5 +1,5 @@
 //! Looking at a record in a window of a text, where the window has enough of it.
-ghost use Rattle.std.specs.Prelude.{◌≡◌, ◌≤◌, ◌<◌, ◌+◌, ◌^◌, ℕ, List, true, length, take, drop, IfSome};
+ghost use Rattle.std.specs.Prelude.{◌≡◌, ◌≤◌, ◌<◌, ◌+◌, ◌^◌, ℕ, List, true, length, take, drop, IfSome, IsSome};
 ghost use Rattle.std.specs.Option.{option_map};
 ghost use Rattle.std.specs.Cmp.Lexicographic.{slice_cmp};
 ghost use Rattle.std.specs.Ordering.{nat_cmp};
@@ -31,6 +31,7 @@ fn line_start_in(window: &[u8], at: usize, first: bool) -> Option<usize>
     requires { at ≤ length window.now }
     ensures below { IfSome result (λ start. start ≤ at) }
     ensures tells { TellsLine first window.now at result }
+    ensures sure { first ≡ true → IsSome result }
 {
     match memrchr(b'\n', &window[..at]) {
         Some(last) => Some(last + 1),
@@ -44,6 +45,7 @@ pub fn record_start_in(window: &[u8], at: usize, first: bool) -> Option<usize>
     requires { at < length window.now }
     ensures below { IfSome result (λ start. start ≤ at) }
     ensures tells { TellsRecord first window.now at result }
+    ensures sure { first ≡ true → IsSome result }
 {
     let Some(line) = line_start_in(window, at, first) else {
         return None;
@@ -60,7 +62,8 @@ pub fn record_start_in(window: &[u8], at: usize, first: bool) -> Option<usize>
 /// Whether a part of a text, in which no record's first line stands, tells that none stands at the front of the text.
 fn lacks_name(part: &[u8], kind: Kind, whole: bool) -> bool
     requires { (digits name rest : List ℕ) → Shape kind part.now digits name rest → ⊥ }
-    ensures { result ≡ true → (text : List ℕ) → part.now ≡ take (length part.now) text → (whole ≡ true → part.now ≡ text) → (n : List ℕ) → NameAt kind text n → ⊥ }
+    ensures lacks { result ≡ true → (text : List ℕ) → part.now ≡ take (length part.now) text → (whole ≡ true → part.now ≡ text) → (n : List ℕ) → NameAt kind text n → ⊥ }
+    ensures sure { whole ≡ true → result ≡ true }
 {
     if whole {
         return true;
@@ -82,7 +85,8 @@ fn lacks_name(part: &[u8], kind: Kind, whole: bool) -> bool
 /// The name at the front of a record, of which the part may be a beginning; it is the whole text where `whole` holds.
 /// `None` where the part is too short to tell.
 pub fn name_in(part: &[u8], kind: Kind, whole: bool) -> Option<Option<&[u8]>>
-    ensures { TellsName kind whole part.now (option_map (λ name. option_map (λ n. n.now) name) result) }
+    ensures tells { TellsName kind whole part.now (option_map (λ name. option_map (λ n. n.now) name) result) }
+    ensures sure { whole ≡ true → IsSome result }
 {
     match take_shape(part, kind) {
         Some((_, name, _)) => Some(Some(name)),
@@ -124,6 +128,7 @@ pub fn look_in(
     ensures beyond { IfSome result (λ look. from + at < look.next) }
     ensures looks { (text : List ℕ) → IsWindow text from window.now → (last ≡ true → from + length window.now ≡ length text) →
         IfSome result (LooksAt kind text asked.now (from + at)) }
+    ensures sure { from ≡ 0 → last ≡ true → IsSome result }
 {
     let Some(start) = record_start_in(window, at, from == 0) else {
         return None;
@@ -150,7 +155,8 @@ fn ids_of(reference: Reference<'_>) -> Found
 /// The record at the front of a text, of which the part may be a beginning; it is the whole text where `whole` holds.
 /// `None` where the part is too short to tell; `Some(None)` where no record stands there.
 fn found_in(part: &[u8], kind: Kind, whole: bool) -> Option<Option<Found>>
-    ensures { (text : List ℕ) → part.now ≡ take (length part.now) text → (whole ≡ true → part.now ≡ text) → IfSome result (FrontIs kind text) }
+    ensures front { (text : List ℕ) → part.now ≡ take (length part.now) text → (whole ≡ true → part.now ≡ text) → IfSome result (FrontIs kind text) }
+    ensures sure { whole ≡ true → IsSome result }
 {
     let Some((reference, rest)) = take_record(part, kind) else {
         return if whole { Some(None) } else { None };
@@ -175,8 +181,9 @@ pub fn record_in(
 ) -> Option<Option<Found>>
     requires inside { at < length window.now }
     requires fits { from + length window.now < 2 ^ 64 }
-    ensures { (text : List ℕ) (start : ℕ) → IsWindow text from window.now → (last ≡ true → from + length window.now ≡ length text) → start ≡ from + at →
+    ensures front { (text : List ℕ) (start : ℕ) → IsWindow text from window.now → (last ≡ true → from + length window.now ≡ length text) → start ≡ from + at →
         IfSome result (FrontIs kind (drop start text)) }
+    ensures sure { last ≡ true → IsSome result }
 {
     found_in(&window[at..], kind, last)
 }

@@ -23,9 +23,13 @@ impl<'a> Text for Counting<'a> {
 
     ghost bytes = { λ text. text.whole.bytes.now };
 
-    ghost can_fail = { ⊥ };
+    ghost faults = { λ _. 0 };
 
     type Error = Infallible;
+
+    ghost can_fail = { λ _. ⊥ };
+
+    ghost count = { λ _ n. n };
 
     fn len(&self) -> u64 {
         self.whole.len()

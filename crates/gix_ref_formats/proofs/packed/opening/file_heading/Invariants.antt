@@ -1,8 +1,10 @@
-use Rattle.std.proofs.Common.{◌≡◌}
+use Rattle.std.proofs.Common.{◌≡◌, ◌<◌}
 use Rattle.gix_ref_formats.proofs.packed.opening.file_heading.Given as goal
 
-abbrev pub invariant-windows : goal.invariant-windows
-invariant-windows g l = record {
+abbrev pub invariant-loop-turn : goal.invariant-loop-turn
+invariant-loop-turn g l = record {
   same : g.R.ReadAt.bytes l.reader ≡ g.R.ReadAt.bytes l.fn.reader;
+  size : g.R.ReadAt.size l.reader ≡ g.R.ReadAt.size l.fn.reader;
   no_fault : g.R.ReadAt.faults l.reader ≡ g.R.ReadAt.faults l.fn.reader;
+  before : l.turn < 54;
 }

@@ -5,12 +5,12 @@ use Rattle.gix_ref_formats.specs.PackedText.{Shape}
 use Rattle.gix_ref_formats.proofs.PackedWindows.{newline_far, shape_in_part}
 use Rattle.gix_ref_formats.proofs.packed.window.lacks_name.Goals as goal
 
-pub returns-then-whole : goal.returns-then-whole
-returns-then-whole c = λ yes_it_does text is all n at.
+pub returns-then-whole-clause-lacks : goal.returns-then-whole-clause-lacks
+returns-then-whole-clause-lacks c = λ yes_it_does text is all n at.
     c.requires at.0 n at.1 (subst (λ (u : List ℕ). Shape c.args.kind u at.0 n at.1) (sym (all c.if-whole.true)) at.2)
 
-pub returns-in-Some : goal.returns-in-Some
-returns-in-Some c = λ more text is all n at.
+pub returns-in-Some-clause-lacks : goal.returns-in-Some-clause-lacks
+returns-in-Some-clause-lacks c = λ more text is all n at.
     let part = c.args.part.now in
     let len = c.len_in_hex-len.result in
     let end = c.in-Some.end in

@@ -23,7 +23,7 @@ returns-clause-looks c = λ text is last.
     let below = c.in-Some.ensures.below in
     let inside = c.requires.inside in
     let low : start ≤ length w = omega arith in
-    let tells = rw take_rest at c.in-Some-name_in.ensures in
+    let tells = rw take_rest at c.in-Some-name_in.ensures.tells in
     let name = tells (drop (from + start) text) (part_is text w from start is low) (λ e. whole_part text w from start is low (last e)) in
     record {
       record_of = c.in-Some.ensures.tells text from is (eqb-true from 0);
