@@ -1,7 +1,7 @@
 -- What an opened buffer holds, and why a text is not opened. Clauses speak of a buffer through these words.
 use Rattle.std.specs.Prelude.{◌≡◌, ℕ, List, drop, Option, Result, Ok, Err}
 use Rattle.gix_ref_files.specs.Tree.{Content, bytes_of}
-use Rattle.gix_ref_files.specs.Files.{count_with}
+use Rattle.gix_ref_files.specs.Files.{one_more}
 use Rattle.gix_ref_base.specs.declared.hash.Kind.{Kind}
 use Rattle.gix_ref_formats.specs.declared.packed.buffer.Buffer.{Buffer}
 use Rattle.gix_ref_formats.specs.declared.packed.buffer.open.Error.{Error}
@@ -48,7 +48,7 @@ IsRefusedFile kind content Memory = Unit {0}
 -- the count of faults after opening: one more where the file could not be read
 abbrev pub count_open : Result (Option Buffer) Error → ℕ → ℕ
 count_open (Ok found) n = n
-count_open (Err (Io error)) n = count_with error n
+count_open (Err (Io error)) n = one_more n
 count_open (Err HeaderParsing) n = n
 count_open (Err (Iter line)) n = n
 count_open (Err Memory) n = n

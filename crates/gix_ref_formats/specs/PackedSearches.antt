@@ -4,9 +4,9 @@ use Rattle.gix_ref_formats.specs.declared.packed.search.SearchError.{SearchError
 use Rattle.gix_ref_formats.specs.declared.packed.search.SearchError.TheVariants.{Text, Parse}
 
 -- where a look failed, it failed so
-abbrev pub FailsBy : {E : Type 0} → (E → Type 0) → SearchError E → Type 0
-FailsBy fails (Text error) = fails error
-FailsBy fails Parse = Unit {0}
+abbrev pub LooksFailBy : {E : Type 0} → (E → Type 0) → SearchError E → Type 0
+LooksFailBy fails (Text error) = fails error
+LooksFailBy fails Parse = Unit {0}
 
 -- a look failed, and failed so; the text is not to blame
 abbrev pub IsLookError : {E : Type 0} → (E → Type 0) → SearchError E → Type 0

@@ -228,6 +228,7 @@ impl Buffer {
     {
         find_uncounted(self.as_bytes(), self.kind(), name.to_path())
     }
+
     /// The record of a partial name. One that begins with `refs/`, `main-worktree/` or `worktrees/` is asked for by its
     /// key: what each worktree has of its own has none. Another is asked for behind `refs/`, `refs/tags/`, `refs/heads/`
     /// and `refs/remotes/`, in this order. `Parse` tells of a text that is not well formed, `Memory` that there was no

@@ -1,7 +1,7 @@
 //! The header of a `packed-refs` that stays in its file.
 ghost use Rattle.std.specs.Prelude.{◌≡◌, ℕ, List, length, take, drop, true, false, IfOk, IfErr, IfSome, IsSome, MatchOption};
 ghost use Rattle.gix_ref_formats.specs.PackedOpening.{Heads, NoHeading};
-ghost use Rattle.gix_ref_formats.specs.PackedSources.{StaysSame, count_source};
+ghost use Rattle.gix_ref_formats.specs.PackedSources.{IsNoChange, count_source};
 
 pub use crate::packed::heading::Heading;
 use crate::packed::heading::read_heading;
@@ -38,7 +38,7 @@ pub fn file_heading<R: ReadAt>(
     ensures same { R.bytes reader.new ≡ R.bytes reader.old }
     ensures no_fault { IfOk result (λ _. R.faults reader.new ≡ R.faults reader.old) }
     ensures fault { IfErr result (λ error. R.faults reader.new ≡ count_source error (R.faults reader.old)) }
-    ensures stays { IfErr result StaysSame }
+    ensures stays { IfErr result IsNoChange }
     ensures heads { R.honest → IfOk result (λ found. MatchOption found (NoHeading (R.bytes reader.old)) (λ heading. Heads (R.bytes reader.old) heading.header (drop heading.start (R.bytes reader.old)))) }
 {
     let mut window = Vec::new(alloc);
@@ -49,5 +49,6 @@ pub fn file_heading<R: ReadAt>(
             return Ok(found);
         }
     }
-    Err(SourceError::Changed)
+    // The last window holds any file.
+    unreachable!()
 }

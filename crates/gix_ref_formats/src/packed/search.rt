@@ -2,7 +2,7 @@
 ghost use Rattle.std.specs.Prelude.{◌≡◌, ◌≤◌, ◌<◌, ◌+◌, ◌-◌, ◌*◌, ◌^◌, ℕ, List, length, IfOk, IfErr, IfSome, MatchOption};
 ghost use Rattle.gix_ref_formats.specs.PackedText.{Record, Records, Ascending};
 ghost use Rattle.gix_ref_formats.specs.PackedLookup.{record_named, HitsAt, FindsAt};
-ghost use Rattle.gix_ref_formats.specs.PackedSearches.{FailsBy, IsLookError, count_search};
+ghost use Rattle.gix_ref_formats.specs.PackedSearches.{LooksFailBy, IsLookError, count_search};
 
 use crate::packed::probes::Probes;
 use crate::packed::text::Text;
@@ -43,7 +43,7 @@ pub fn search<T: Text, L: Ledger>(
         IfErr result (IsLookError T.can_fail) }
 
     // On any text a look fails by what the text may fail by.
-    ensures looks { T.honest → IfErr result (FailsBy T.can_fail) }
+    ensures looks { T.honest → IfErr result (LooksFailBy T.can_fail) }
 
     // A fault is counted where a look failed by one, and nowhere else.
     ensures no_fault { IfOk result (λ _. T.faults text.new ≡ T.faults text.old) }

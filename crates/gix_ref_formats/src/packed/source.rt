@@ -1,6 +1,6 @@
 //! The records of a `packed-refs` that is not in memory: looks at windows of its file.
 ghost use Rattle.std.specs.Prelude.{◌≡◌, ◌+◌, ◌-◌, ◌<◌, ◌≤◌, ◌^◌, length, take, drop, OnOk, IfErr};
-ghost use Rattle.gix_ref_formats.specs.PackedSources.{StaysSame, count_source};
+ghost use Rattle.gix_ref_formats.specs.PackedSources.{IsNoChange, count_source};
 
 use crate::packed::probes::Probes;
 use crate::packed::search::{SearchError, search};
@@ -106,7 +106,7 @@ pub(crate) fn read_window<R: ReadAt>(
     ensures size { R.size reader.new ≡ R.size reader.old }
     ensures no_fault { OnOk result (R.faults reader.new ≡ R.faults reader.old) }
     ensures fault { IfErr result (λ error. R.faults reader.new ≡ count_source error (R.faults reader.old)) }
-    ensures stays { IfErr result StaysSame }
+    ensures stays { IfErr result IsNoChange }
     ensures len { OnOk result (length window.new.items ≡ len) }
     ensures read { R.honest → OnOk result (window.new.items ≡ take (length window.new.items) (drop place (R.bytes reader.old))) }
 {
@@ -123,7 +123,7 @@ impl<R: ReadAt + Drop> Source<R> {
     ghost use Rattle.gix_ref_formats.specs.PackedText.{Record, Records, Ascending};
     ghost use Rattle.gix_ref_formats.specs.PackedLookup.{record_named};
     ghost use Rattle.gix_ref_formats.specs.PackedWindows.{LooksAt, AreFound, FrontIs, HitsRecord};
-    ghost use Rattle.gix_ref_formats.specs.PackedSources.{StaysSame, FindsInSame, IsSourceFault, count_source, count_find};
+    ghost use Rattle.gix_ref_formats.specs.PackedSources.{IsNoChange, MissesByNoChange, IsSourceFault, count_source, count_find};
 
     /// The records of a file from that place on. Nothing is read yet.
     pub fn new(alloc: Global, reader: R, base: u64) -> Source<R>
@@ -153,7 +153,7 @@ impl<R: ReadAt + Drop> Source<R> {
         ensures no_fault { IfOk result (λ _. R.faults self.new.reader ≡ R.faults self.old.reader) }
         ensures fault { IfErr result (λ error. R.faults self.new.reader ≡ count_source error (R.faults self.old.reader)) }
         ensures whole { R.honest → size ≡ 2 ^ 64 - 1 → IfOk result (λ _. (self.new.from ≡ 0) × (length self.new.window.items ≡ length (drop self.old.base (R.bytes self.old.reader)))) }
-        ensures stays { R.honest → offset < length (drop self.old.base (R.bytes self.old.reader)) → IfErr result StaysSame }
+        ensures stays { R.honest → offset < length (drop self.old.base (R.bytes self.old.reader)) → IfErr result IsNoChange }
     {
         let from = window_from(offset, size);
         let len = size.min(self.records_len().saturating_sub(from));
@@ -207,7 +207,7 @@ impl<R: ReadAt + Drop> Source<R> {
         ensures no_fault { IfOk result (λ _. R.faults self.new.reader ≡ R.faults self.old.reader) }
         ensures fault { IfErr result (λ error. R.faults self.new.reader ≡ count_source error (R.faults self.old.reader)) }
         ensures front { R.honest → IfOk result (FrontIs kind (drop start (drop self.old.base (R.bytes self.old.reader)))) }
-        ensures stays { R.honest → start < length (drop self.old.base (R.bytes self.old.reader)) → IfErr result StaysSame }
+        ensures stays { R.honest → start < length (drop self.old.base (R.bytes self.old.reader)) → IfErr result IsNoChange }
     {
         for turn in 0..GROWTHS {
             if let Some(found) = self.known_record(kind, start) {
@@ -245,7 +245,7 @@ impl<R: ReadAt + Drop> Source<R> {
             IfErr result IsSourceFault }
 
         // A file that stays the same is never told as changed.
-        ensures stays { R.honest → IfErr result FindsInSame }
+        ensures stays { R.honest → IfErr result MissesByNoChange }
 
         // The reader counts a fault where the file could not be read, and nowhere else.
         ensures no_fault { IfOk result (λ _. R.faults self.new.reader ≡ R.faults self.old.reader) }
@@ -268,7 +268,7 @@ impl<R: ReadAt + Drop> Source<R> {
 /// What is said of the text holds where the reader is honest.
 impl<R: ReadAt + Drop> Text for Source<R> {
     ghost use Rattle.std.specs.Prelude.{drop};
-    ghost use Rattle.gix_ref_formats.specs.PackedSources.{StaysSame, count_source};
+    ghost use Rattle.gix_ref_formats.specs.PackedSources.{IsNoChange, count_source};
 
     ghost honest = { R.honest };
 
@@ -278,7 +278,7 @@ impl<R: ReadAt + Drop> Text for Source<R> {
 
     type Error = SourceError;
 
-    ghost can_fail = { StaysSame };
+    ghost can_fail = { IsNoChange };
 
     ghost count = { count_source };
 
