@@ -26,21 +26,6 @@ values_are xs len =
 value_is : (x : ℕ) → value x ≡ (x % 16 + x / 64 * 9 % 256) % 256
 value_is x = ap (λ (n : ℕ). (n + x / 64 * 9 % 256) % 256) (and_mask x 4)
 
-digit : (c : ℕ) → c < 256 → is_hex_digit c ≡ true → (hex_digit_value c ≡ Some (value c)) × (value c < 16)
-digit c byte hex = let is = value_is c in grind arith
-
-pair_of : (high low i h l : ℕ) → hex_digit_value high ≡ Some h → hex_digit_value low ≡ Some l → pair_value high low i ≡ Ok (h * 16 + l)
-pair_of high low i h l first second = ap (λ (o : Option ℕ). digit_or_error high i o >>= (λ a. value_at low (i + 1) >>= (λ b. Ok (a * 16 + b)))) first ∙ ap (λ (o : Option ℕ). digit_or_error low (i + 1) o >>= (λ b. Ok (h * 16 + b))) second
-
-small : (h l : ℕ) → h < 16 → l < 16 → h * 16 + l ≡ (h * 16 % 256 + l) % 256
-small h l a b = omega arith
-
-pair_is : (high low : ℕ) → high < 256 → low < 256 → IsPair high low ((value high * 16 % 256 + value low) % 256)
-pair_is high low h l first second i =
-    let a = digit high h first in
-    let b = digit low l second in
-    pair_of high low i (value high) (value low) a.0 b.0 ∙ ap (λ n. Ok n) (small (value high) (value low) a.1 b.1)
-
 -- a vector has sixteen bytes
 abbrev pub IsVector : List ℕ → Type 0
 IsVector xs = (length xs ≡ 16) × Each1 (Fits w8) xs
@@ -48,20 +33,38 @@ IsVector xs = (length xs ≡ 16) × Each1 (Fits w8) xs
 byte_at : (xs : List ℕ) → IsVector xs → (k : ℕ) → k < 16 → get_or xs k 0 < 256
 byte_at xs fits k within = (Each1-get_or (Fits w8) xs k 0 (omega (arith, fits.0)) fits.1).fits
 
--- the bytes of sixteen pairs
-pub pair_lane : (first second : List ℕ) → IsVector first → IsVector second → (k : ℕ) → k < 16
-    → IsPair (get_or first k 0) (get_or second k 0) (get_or (zip2 (λ a b. (a + b) % 256) (zip2 (λ a b. a * b % 256) (values first) (replicate 16 16)) (values second)) k 0)
-pair_lane first second one two k within =
-    let high : zip2 (λ a b. a * b % 256) (values first) (replicate 16 16) ≡ map (λ x. value x * 16 % 256) first =
-    zip2_of_maps (λ a b. a * b % 256) value (λ x. 16) first (values_are first one.0) (splat_is_map first 16 16 one.0) in
-    let low : values second ≡ map value second = values_are second two.0 in
-    let here : get_or (zip2 (λ a b. (a + b) % 256) (zip2 (λ a b. a * b % 256) (values first) (replicate 16 16)) (values second)) k 0 ≡ (value (get_or first k 0) * 16 % 256 + value (get_or second k 0)) % 256 =
-    ap (λ (xs : List ℕ). get_or (zip2 (λ a b. (a + b) % 256) xs (values second)) k 0) high
-    ∙ ap (λ (ys : List ℕ). get_or (zip2 (λ a b. (a + b) % 256) (map (λ x. value x * 16 % 256) first) ys) k 0) low
-    ∙ get_or-zip2 (λ a b. (a + b) % 256) (map (λ x. value x * 16 % 256) first) (map value second) k 0 0 0 (omega (arith, length-map first (λ x. value x * 16 % 256), one.0)) (omega (arith, length-map second value, two.0))
-    ∙ ap (λ (a : ℕ). (a + get_or (map value second) k 0) % 256) (get_or-map (λ x. value x * 16 % 256) first k 0 0 (omega (arith, one.0)))
-    ∙ ap (λ (b : ℕ). (value (get_or first k 0) * 16 % 256 + b) % 256) (get_or-map value second k 0 0 (omega (arith, two.0))) in
-    subst (IsPair (get_or first k 0) (get_or second k 0)) (sym here) (pair_is (get_or first k 0) (get_or second k 0) (byte_at first one k within) (byte_at second two k within))
+digit : (c : ℕ) → c < 256 → is_hex_digit c ≡ true → hex_digit_value c ≡ Some (value c)
+digit c byte hex = let is = value_is c in grind arith
+
+-- the values of sixteen digits
+pub value_lane : (digits : List ℕ) → IsVector digits → (k : ℕ) → k < 16 → is_hex_digit (get_or digits k 0) ≡ true → hex_digit_value (get_or digits k 0) ≡ Some (get_or (values digits) k 0)
+value_lane digits vector k within hex =
+    digit (get_or digits k 0) (byte_at digits vector k within) hex
+    ∙ ap (λ (v : ℕ). Some v) (sym (ap (λ (vs : List ℕ). get_or vs k 0) (values_are digits vector.0) ∙ get_or-map value digits k 0 0 (omega (arith, vector.0))))
+
+small : (c v : ℕ) → hex_digit_value c ≡ Some v → v < 16
+small c v is = grind arith
+
+pair_of : (high low i h l : ℕ) → hex_digit_value high ≡ Some h → hex_digit_value low ≡ Some l → pair_value high low i ≡ Ok (h * 16 + l)
+pair_of high low i h l first second = ap (λ (o : Option ℕ). digit_or_error high i o >>= (λ a. value_at low (i + 1) >>= (λ b. Ok (a * 16 + b)))) first ∙ ap (λ (o : Option ℕ). digit_or_error low (i + 1) o >>= (λ b. Ok (h * 16 + b))) second
+
+wraps_not : (h l : ℕ) → h < 16 → l < 16 → h * 16 + l ≡ (h * 16 % 256 + l) % 256
+wraps_not h l a b = omega arith
+
+-- the bytes of sixteen pairs, of the values of their digits
+pub pair_lane : (high low : List ℕ) → length high ≡ 16 → length low ≡ 16 → (k : ℕ) → k < 16 → (first second : ℕ)
+    → (is_hex_digit first ≡ true → hex_digit_value first ≡ Some (get_or high k 0)) → (is_hex_digit second ≡ true → hex_digit_value second ≡ Some (get_or low k 0))
+    → IsPair first second (get_or (zip2 (λ a b. (a + b) % 256) (zip2 (λ a b. a * b % 256) high (replicate 16 16)) low) k 0)
+pair_lane high low one two k within first second is_high is_low hex other i =
+    let h = is_high hex in
+    let l = is_low other in
+    let shifted : zip2 (λ a b. a * b % 256) high (replicate 16 16) ≡ map (λ x. x * 16 % 256) high = zip2_splat (λ a b. a * b % 256) high 16 16 one in
+    let here : get_or (zip2 (λ a b. (a + b) % 256) (zip2 (λ a b. a * b % 256) high (replicate 16 16)) low) k 0 ≡ (get_or high k 0 * 16 % 256 + get_or low k 0) % 256 =
+    ap (λ (xs : List ℕ). get_or (zip2 (λ a b. (a + b) % 256) xs low) k 0) shifted
+    ∙ get_or-zip2 (λ a b. (a + b) % 256) (map (λ x. x * 16 % 256) high) low k 0 0 0 (omega (arith, length-map high (λ x. x * 16 % 256), one)) (omega (arith, two))
+    ∙ ap (λ (a : ℕ). (a + get_or low k 0) % 256) (get_or-map (λ x. x * 16 % 256) high k 0 0 (omega (arith, one))) in
+    pair_of first second i (get_or high k 0) (get_or low k 0) h l
+    ∙ ap (λ n. Ok n) (wraps_not (get_or high k 0) (get_or low k 0) (small first (get_or high k 0) h) (small second (get_or low k 0) l) ∙ sym here)
 
 -- thirty-two digits, of which the first and the second of each pair are looked at
 module _ (text : List ℕ) (len : length text ≡ 32) where

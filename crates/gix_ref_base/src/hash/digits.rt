@@ -1,7 +1,7 @@
 //! The hex digits of a SHA-1: whether they are such, and the bytes that they are.
-ghost use Rattle.std.specs.Prelude.{◌≡◌, ◌+◌, ◌*◌, ◌<◌, ℕ, true, Ok, length, slice_index, get_or};
+ghost use Rattle.std.specs.Prelude.{◌≡◌, ◌+◌, ◌*◌, ◌<◌, ℕ, true, Ok, Some, length, slice_index, get_or};
 ghost use Rattle.std.specs.List.{list_all};
-ghost use Rattle.hex.specs.Hex.{decode_of, is_hex_digit};
+ghost use Rattle.hex.specs.Hex.{decode_of, is_hex_digit, hex_digit_value};
 ghost use Rattle.gix_ref_base.specs.Digits.{IsPair};
 
 use std::simd::prelude::*;
@@ -38,14 +38,20 @@ const FIRST: [usize; 16] = [0, 2, 4, 6, 8, 10, 12, 14, 16, 18, 20, 22, 24, 26, 2
 /// The places of the second digits.
 const SECOND: [usize; 16] = [1, 3, 5, 7, 9, 11, 13, 15, 17, 19, 21, 23, 25, 27, 29, 31];
 
-/// The bytes of pairs of hex digits, of either case: the low four bits of each digit, and nine more for a letter.
+/// The values of hex digits, of either case: the low four bits of a digit, and nine more for a letter.
+#[inline(always)]
+fn digit_values(digits: u8x16) -> u8x16
+    ensures { (k : ℕ) → k < 16 → is_hex_digit (get_or digits k 0) ≡ true → hex_digit_value (get_or digits k 0) ≡ Some (get_or result k 0) }
+{
+    (digits & u8x16::splat(15)) + (digits >> u8x16::splat(6)) * u8x16::splat(9)
+}
+
+/// The bytes of pairs of hex digits.
 #[inline(always)]
 fn bytes_of_pairs(first: u8x16, second: u8x16) -> u8x16
     ensures { (k : ℕ) → k < 16 → IsPair (get_or first k 0) (get_or second k 0) (get_or result k 0) }
 {
-    let high = (first & u8x16::splat(15)) + (first >> u8x16::splat(6)) * u8x16::splat(9);
-    let low = (second & u8x16::splat(15)) + (second >> u8x16::splat(6)) * u8x16::splat(9);
-    high * u8x16::splat(16) + low
+    digit_values(first) * u8x16::splat(16) + digit_values(second)
 }
 
 /// The bytes of which these are the 32 hex digits, of either case. Other bytes than digits give some bytes.

@@ -1,6 +1,7 @@
 //! The records of a `packed-refs` that is not in memory: looks at windows of its file.
 ghost use Rattle.std.specs.Prelude.{◌≡◌, ◌+◌, ◌-◌, ◌<◌, ◌≤◌, ◌^◌, length, take, drop, OnOk, IfErr};
 ghost use Rattle.gix_ref_formats.specs.PackedSources.{IsNoChange, count_source};
+ghost use Rattle.gix_ref_formats.specs.declared.packed.source.TheConstants.{GROWTHS};
 
 use crate::packed::probes::Probes;
 use crate::packed::search::{SearchError, search};
@@ -38,7 +39,7 @@ pub(crate) const GROWTHS: u32 = 54;
 /// file.
 #[inline(always)]
 pub(crate) fn window_size(turn: u32) -> u64
-    ensures { turn ≡ 53 → result ≡ 2 ^ 64 - 1 }
+    ensures { turn + 1 ≡ GROWTHS → result ≡ 2 ^ 64 - 1 }
 {
     if turn < GROWTHS - 1 {
         WINDOW << turn
