@@ -1,11 +1,11 @@
 //! The modes of reflogs, which read the file `log` of the folder: `log-forward`, `log-backward`, `log-newest` (ten lines),
 //! and `log-make`, which makes that file of TURNS lines of 150 bytes.
 use anyhow::{Context, Result, bail};
-use gix_ref_base::actor::Time;
 use gix_ref_files::disk::Disk;
 use gix_ref_files::files::{Files, ReadAt};
-use gix_ref_formats::log::iter::{ReverseError, decode, forward, reverse};
-use gix_ref_formats::log::{Line, LineRef};
+use gix_ref_log::actor::Time;
+use gix_ref_log::log::iter::{ReverseError, decode, forward, reverse};
+use gix_ref_log::log::{Line, LineRef};
 use std::alloc::Global;
 use std::fs;
 

@@ -8,7 +8,7 @@ mod packed;
 
 use anyhow::{Context, Result, bail};
 use gix_ref_files::disk::Disk;
-use gix_ref_files::memory::Memory;
+use gix_ref_memory::memory::Memory;
 use std::env;
 use std::time::Instant;
 

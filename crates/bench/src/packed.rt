@@ -1,12 +1,12 @@
 //! The modes that measure packed references. A record is a line of 70 bytes.
 ghost use Rattle.std.specs.Prelude.{◌≡◌, ◌<◌};
 
-use gix_ref_base::hash::Kind;
 use gix_ref_base::name::{self, FullName, FullNameRef};
 use gix_ref_files::files::{Files, ReadAt};
-use gix_ref_formats::packed::source::Source;
-use gix_ref_formats::packed::written::{push_header, push_record};
-use gix_ref_formats::packed::{Buffer, Probes};
+use gix_ref_hash::hash::Kind;
+use gix_ref_packed::packed::source::Source;
+use gix_ref_packed::packed::written::{push_header, push_record};
+use gix_ref_packed::packed::{Buffer, Probes};
 use std::alloc::{AllocError, Global};
 use std::marker::Brand;
 use std::sync::ledger::{Blank, Ledger};

@@ -1,28 +1,28 @@
 -- A commit of one update: its steps carry out its plan, and what they and the release of its lock leave.
 use Rattle.std.proofs.Common.{◌≡◌, inl, ⊎_elim, ℕ, List, [], ◌∷◌, ◌++◌, Bool, true, false, not, ◌&&◌, ◌||◌, Option, Some, None, IsSome, MatchOption, is_none, refl, sym, ◌∙◌, ap, subst, if◌then◌else◌}
-use Rattle.gix_ref_base.specs.Bytes.{components}
+use Rattle.gix_ref_hash.specs.Bytes.{components}
 use Rattle.gix_ref_base.specs.NameGrammar.{IsPartialName}
 use Rattle.gix_ref_base.specs.Targets.{TargetValue, target_value}
 use Rattle.gix_ref_base.specs.Targets.TargetValue.{object_id, symbolic_name}
-use Rattle.gix_ref_base.specs.declared.hash.Kind.{Kind}
+use Rattle.gix_ref_hash.specs.declared.hash.Kind.{Kind}
 use Rattle.gix_ref_files.specs.Tree.{Tree, Path}
 use Rattle.gix_ref_files.specs.Steps.Step.{Rename}
-use Rattle.gix_ref.specs.Places.{Folders}
-use Rattle.gix_ref.specs.Views.{View, Write, IsSameButLocks, lock_of, file_bytes}
-use Rattle.gix_ref.specs.Views.Write.{Put}
-use Rattle.gix_ref.specs.Readings.{Store, Record, reading, reading_of_loose, records_in, as_read}
-use Rattle.gix_ref.specs.Readings.Reading.{Is, Fault, Absent}
-use Rattle.gix_ref.specs.Stores.{store_of, below_folders, loose_text, is_composed}
-use Rattle.gix_ref.specs.Spots.{is_safe, row_at}
-use Rattle.gix_ref.specs.Folders.{loose_alone}
+use Rattle.gix_ref_base.specs.Layout.{Layout}
+use Rattle.gix_ref_theory.specs.Views.{View, Write, IsSameButLocks, lock_of, file_bytes}
+use Rattle.gix_ref_theory.specs.Views.Write.{Put}
+use Rattle.gix_ref_theory.specs.Readings.{Store, Record, reading, reading_of_loose, records_in, as_read}
+use Rattle.gix_ref_theory.specs.Readings.Reading.{Is, Fault, Absent}
+use Rattle.gix_ref_theory.specs.Stores.{store_of, below_folders, loose_text, is_composed}
+use Rattle.gix_ref_base.specs.Locations.{is_safe, paths_at}
+use Rattle.gix_ref.specs.StoreLayout.{loose_alone}
 use Rattle.gix_ref.specs.LooseText.{target_in}
-use Rattle.gix_ref.specs.Edits.{Edit, Change, Effect, has_already, effect, alters_change, alters_packed}
-use Rattle.gix_ref.specs.Edits.Change.{Update}
-use Rattle.gix_ref.specs.Edits.Mode.{DeletionsOnly}
-use Rattle.gix_ref.specs.Edits.Effect.{Writes, Leaves as LeavesIt}
-use Rattle.gix_ref.specs.Plan.{plan, place_writes, place_removal}
-use Rattle.gix_ref.specs.Between.{IsPrepared}
-use Rattle.gix_ref.specs.Carried.{view_of, CarryOut, IsCommitRun}
+use Rattle.gix_ref_theory.specs.Edits.{Edit, Change, Effect, has_already, effect, alters_change, alters_packed}
+use Rattle.gix_ref_theory.specs.Edits.Change.{Update}
+use Rattle.gix_ref_theory.specs.Edits.Mode.{DeletionsOnly}
+use Rattle.gix_ref_theory.specs.Edits.Effect.{Writes, Leaves as LeavesIt}
+use Rattle.gix_ref_theory.specs.Plan.{plan, place_writes, place_removal}
+use Rattle.gix_ref_theory.specs.Between.{IsPrepared}
+use Rattle.gix_ref_theory.specs.Carried.{view_of, CarryOut, IsCommitRun}
 use Rattle.gix_ref.specs.Causes.{found, found_by, decoded, IsFullTarget, IsOfKind, IsWholeTarget}
 use Rattle.gix_ref.specs.Taken.{is_found}
 use Rattle.gix_ref.specs.Transactions.{new_of, change_of, matched, Expects}
@@ -33,7 +33,7 @@ use Rattle.gix_ref.specs.declared.transaction.PreviousValue.TheVariants.{Any, Mu
 use Rattle.gix_ref.proofs.Adds.{clash, false_is_true}
 use Rattle.gix_ref.proofs.LookupLemmas.{alone, file_reading, no_device}
 use Rattle.gix_ref.proofs.LooseLemmas.{id_reads_back, name_reads_back}
-use Rattle.gix_ref.proofs.Writes.{same_true}
+use Rattle.gix_ref_theory.proofs.Writes.{same_true}
 
 -- an edit of this change, as the plan of a commit has it
 abbrev pub edit_with : List ℕ → Bool → Change → Edit
@@ -64,7 +64,7 @@ pub matched_is : (was : Option TargetValue) (x y : PreviousValue) (new : Option 
 matched_is None x y new carried expects = ap matched carried ∙ none_matched x new expects
 matched_is (Some target) x y new carried expects = carried
 
-module _ (f : Folders) (kind : Kind) where
+module _ (f : Layout) (kind : Kind) where
   abbrev s : Store
   s = store_of f (loose_alone kind)
 
@@ -153,8 +153,8 @@ module _ (f : Folders) (kind : Kind) where
 
   pub is_reference : (name : List ℕ) → IsPartialName name → is_safe name ≡ true → s.is_reference name ≡ true
   is_reference name partial safe =
-      ap (λ e. (is_none e && is_safe name) && is_composed (loose_alone kind) (row_at f name).key) partial
-      ∙ (ap (λ b. b && is_composed (loose_alone kind) (row_at f name).key) safe ∙ composes (row_at f name).key)
+      ap (λ e. (is_none e && is_safe name) && is_composed (loose_alone kind) (paths_at f name).key) partial
+      ∙ (ap (λ b. b && is_composed (loose_alone kind) (paths_at f name).key) safe ∙ composes (paths_at f name).key)
 
   pub prepared : (view : View) (name : List ℕ) (r : Bool) (t : TargetValue) → s.is_reference name ≡ true → target_in kind (loose_text t) ≡ Some t →
       IsPrepared s DeletionsOnly view (edit_with name r (Update t) ∷ []) []

@@ -4,14 +4,14 @@ use Rattle.std.proofs.lemmas.Bool.{false≢true, cases_Bool}
 use Rattle.std.proofs.lemmas.Slice.Eq.{bytes_eq-Decides}
 use Rattle.std.specs.List.{list_all}
 use Rattle.std.proofs.lemmas.List.Splits.{slice_split_at, slice_split_none}
-use Rattle.gix_ref_base.specs.Bytes.{NoByte, components, is_slash}
-use Rattle.gix_ref_base.proofs.ByteLemmas.{apart}
+use Rattle.gix_ref_hash.specs.Bytes.{NoByte, components, is_slash}
+use Rattle.gix_ref_hash.proofs.ByteLemmas.{apart}
 use Rattle.gix_ref_files.specs.Tree.{Path}
-use Rattle.gix_ref.specs.Places.{AreLaid, LiesIn, below}
-use Rattle.gix_ref.specs.Spots.{rest_after}
-use Rattle.gix_ref.specs.CleanPaths.{is_laid, is_worktree, is_worktree_in}
-use Rattle.gix_ref.proofs.SpotLemmas.{has_slash, rest_is, no_slash_test, test_no_slash}
-use Rattle.gix_ref.proofs.PlaceLaws.{cancel, cancel_below}
+use Rattle.gix_ref_base.specs.Layout.{AreCompatible, LiesIn, below}
+use Rattle.gix_ref_base.specs.Locations.{rest_after}
+use Rattle.gix_ref.specs.CleanPaths.{are_compatible, is_worktree, is_worktree_in}
+use Rattle.gix_ref_base.proofs.LocationLemmas.{has_slash, rest_is, no_slash_test, test_no_slash}
+use Rattle.gix_ref_theory.proofs.PlaceLaws.{cancel, cancel_below}
 
 rest_back : (front rest : List ℕ) → rest_after front (front ++ rest) ≡ Some rest
 rest_back [] rest = refl
@@ -69,8 +69,8 @@ worktree_test git common w none e =
     ap is_worktree (rest_below git common (codes "worktrees/" ++ w) e)
     ∙ (ap is_worktree_in (rest_back (codes "worktrees/") w) ∙ ap not (no_slash_test w none))
 
-pub laid_test : (git common : Path) → AreLaid git common → is_laid git common ≡ true
-unfolding is_laid
+pub laid_test : (git common : Path) → AreCompatible git common → are_compatible git common ≡ true
+unfolding are_compatible
 laid_test git common (inl same) = or_left (bytes_eq git common) _ _ (same_test git common same)
 laid_test git common (inr (inl r)) = or_mid (bytes_eq git common) (is_worktree (rest_after (below common []) git)) _ (worktree_test git common r.0 r.1 r.2)
 laid_test git common (inr (inr a)) =
@@ -101,8 +101,8 @@ both : (a b : Bool) → (a && b) ≡ true → (a ≡ true) × (b ≡ true)
 both true b h = (refl, h)
 both false b h = absurd (false≢true h)
 
-pub test_laid : (git common : Path) → is_laid git common ≡ true → AreLaid git common
-unfolding is_laid
+pub test_laid : (git common : Path) → are_compatible git common ≡ true → AreCompatible git common
+unfolding are_compatible
 test_laid git common h = elim (or_three (bytes_eq git common) (is_worktree (rest_after (below common []) git)) (is_none (rest_after (below common []) git) && is_none (rest_after (below git []) common)) h) [
   | inl same ↦ inl ((bytes_eq-Decides git common).0 same)
   | inr r ↦ elim (cases_Bool (bytes_eq git common)) [
@@ -124,25 +124,25 @@ test_laid git common h = elim (or_three (bytes_eq git common) (is_worktree (rest
 
 -- a git folder below the common one
 pub laid_below : (git common rest : Path) (worktree : Bool) → git ≢ common → git ≡ below common rest →
-    (IsTrue worktree ↔ ((w : List ℕ) × NoByte 47 w × (rest ≡ codes "worktrees/" ++ w))) → IsTrue worktree ↔ AreLaid git common
+    (IsTrue worktree ↔ ((w : List ℕ) × NoByte 47 w × (rest ≡ codes "worktrees/" ++ w))) → IsTrue worktree ↔ AreCompatible git common
 laid_below git common rest worktree differ is named = (to, from)
   where
-    to : IsTrue worktree → AreLaid git common
+    to : IsTrue worktree → AreCompatible git common
     to holds = let w = named.0 holds in inr (inl (w.0, w.1, is ∙ ap (below common) w.2))
 
-    from : AreLaid git common → IsTrue worktree
+    from : AreCompatible git common → IsTrue worktree
     from (inl same) = absurd (differ same)
     from (inr (inl r)) = named.1 (r.0, r.1, cancel_below common rest (codes "worktrees/" ++ r.0) (sym is ∙ r.2))
     from (inr (inr a)) = absurd (a.left_outside (rest, is))
 
 -- and one that is not
-pub laid_apart : (git common : Path) (outside : Bool) → git ≢ common → (LiesIn git common → ⊥) → (IsTrue outside ↔ (LiesIn common git → ⊥)) → IsTrue outside ↔ AreLaid git common
+pub laid_apart : (git common : Path) (outside : Bool) → git ≢ common → (LiesIn git common → ⊥) → (IsTrue outside ↔ (LiesIn common git → ⊥)) → IsTrue outside ↔ AreCompatible git common
 laid_apart git common outside differ not_below apart = (to, from)
   where
-    to : IsTrue outside → AreLaid git common
+    to : IsTrue outside → AreCompatible git common
     to holds = inr (inr (record { differ = differ; left_outside = not_below; right_outside = apart.0 holds }))
 
-    from : AreLaid git common → IsTrue outside
+    from : AreCompatible git common → IsTrue outside
     from (inl same) = absurd (differ same)
     from (inr (inl r)) = absurd (not_below (codes "worktrees/" ++ r.0, r.2))
     from (inr (inr a)) = apart.1 a.right_outside

@@ -9,7 +9,7 @@ use Rattle.gix_ref_files.specs.Calls.{created}
 use Rattle.gix_ref_files.specs.Lock.{Readying, Acquiring, MakesLock, readied, lock_of}
 use Rattle.gix_ref_files.specs.declared.files.Create.TheVariants.{Made, Standing, Blocked}
 use Rattle.gix_ref_files.proofs.Puts.{put_at, put_other}
-use Rattle.gix_ref_files.proofs.Folders.{own_untouched}
+use Rattle.gix_ref_memory.proofs.Folders.{own_untouched}
 use Rattle.gix_ref_files.proofs.LockLemmas.{lock_fronts}
 use Rattle.gix_ref.specs.AddedLocks.{is_in, IsOurs, AddsLocks}
 use Rattle.gix_ref.specs.Taken.{IsNewLock}

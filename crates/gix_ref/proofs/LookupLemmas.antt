@@ -1,21 +1,21 @@
 -- What a lookup tells by a loose file is the reading of the reference.
 use Rattle.std.proofs.Common.{◌≡◌, ℕ, List, [], ◌∷◌, Option, Some, None, Bool, true, false, refl, sym, ap, ◌∙◌, is_none, if◌then◌else◌, IfOk, IfErr, Result, Ok, Err}
 use Rattle.std.specs.List.{list_any}
-use Rattle.gix_ref_base.specs.Bytes.{without_front, components}
+use Rattle.gix_ref_hash.specs.Bytes.{without_front, components}
 use Rattle.gix_ref_base.specs.NameGrammar.{partial_error}
 use Rattle.gix_ref_base.specs.Namespaces.{stripped}
 use Rattle.gix_ref_base.specs.Targets.{TargetValue, target_value}
 use Rattle.gix_ref_base.specs.Targets.TargetValue.{object_id, symbolic_name}
-use Rattle.gix_ref_base.specs.declared.hash.Kind.{Kind}
+use Rattle.gix_ref_hash.specs.declared.hash.Kind.{Kind}
 use Rattle.gix_ref_base.proofs.FrontLemmas.{without-append}
-use Rattle.gix_ref.specs.Places.{Folders}
-use Rattle.gix_ref.specs.Views.{View}
-use Rattle.gix_ref.specs.Readings.{Store, Reading, reading, reading_by, reading_of_loose, records_in, as_read}
-use Rattle.gix_ref.specs.Readings.Reading.{Is, Fault, Absent}
-use Rattle.gix_ref.specs.Stores.{store_of, below_folders}
-use Rattle.gix_ref.specs.Folders.{loose_alone}
+use Rattle.gix_ref_base.specs.Layout.{Layout}
+use Rattle.gix_ref_theory.specs.Views.{View}
+use Rattle.gix_ref_theory.specs.Readings.{Store, Reading, reading, reading_by, reading_of_loose, records_in, as_read}
+use Rattle.gix_ref_theory.specs.Readings.Reading.{Is, Fault, Absent}
+use Rattle.gix_ref_theory.specs.Stores.{store_of, below_folders}
+use Rattle.gix_ref.specs.StoreLayout.{loose_alone}
 use Rattle.gix_ref.specs.Lookup.{Tells, Reads, ReadsBy, FailsBy, RefusesBy, less_namespace}
-use Rattle.gix_ref_formats.specs.declared.raw.Reference.{Reference}
+use Rattle.gix_ref_packed.specs.declared.raw.Reference.{Reference}
 use Rattle.gix_ref.specs.declared.file.find.error.Error.{Error}
 use Rattle.gix_ref.specs.declared.file.find.error.Error.TheVariants.{RefnameValidation, ReadFileContents, ReferenceCreation, Memory}
 use Rattle.gix_ref.specs.declared.file.find.loose.Loose.{Loose}
@@ -49,7 +49,7 @@ pub no_device : (parts : List (List ℕ)) → list_any (λ (name : List ℕ). fa
 no_device [] = refl
 no_device (part ∷ parts) = no_device parts
 
-pub alone : (f : Folders) (kind : Kind) (view : View) (name : List ℕ) →
+pub alone : (f : Layout) (kind : Kind) (view : View) (name : List ℕ) →
     let s = store_of f (loose_alone kind) in reading s view name ≡ file_reading s (view (s.place name))
 alone f kind view name =
     ap (λ b. if b then Fault else reading_by s (s.key name) (view (s.place name)) (records_in s (view s.packed_path))) (no_device (components (below_folders f (s.place name))))
@@ -68,7 +68,7 @@ alone f kind view name =
     by_file (Some key) None = refl
 
 -- what is told of the file is the reading
-pub reads_by : (f : Folders) (kind : Kind) (view : View) (name : List ℕ) (loose : Loose) (answer : Option Reference) →
+pub reads_by : (f : Layout) (kind : Kind) (view : View) (name : List ℕ) (loose : Loose) (answer : Option Reference) →
     let s = store_of f (loose_alone kind) in
     Tells kind (view (s.place name)) loose → ReadsBy s name loose answer → Reads s view name answer
 reads_by f kind view name loose_files.Absent None told by =
@@ -86,7 +86,7 @@ reads_by f kind view name (loose_files.Holds target) None told by = absurd by
 reads_by f kind view name (loose_files.Undecodable error) answer told by = absurd by
 
 -- and a refusal is a fault
-pub fails_by : (honest : Type 0) (f : Folders) (kind : Kind) (view : View) (name : List ℕ) (before now : ℕ) (loose : Loose) (error : Error) →
+pub fails_by : (honest : Type 0) (f : Layout) (kind : Kind) (view : View) (name : List ℕ) (before now : ℕ) (loose : Loose) (error : Error) →
     let s = store_of f (loose_alone kind) in
     (honest → Tells kind (view (s.place name)) loose) → RefusesBy name loose error → FailsBy honest s view name before now error
 fails_by honest f kind view name before now (loose_files.Undecodable source) (ReferenceCreation told path) tells by = (
@@ -122,7 +122,7 @@ if_err (Ok x) wider holds = holds
 if_err (Err e) wider holds = wider e holds
 
 -- what a loose file holds is what is found
-pub found_loose : (f : Folders) (kind : Kind) (view : View) (name : List ℕ) (loose : Loose) →
+pub found_loose : (f : Layout) (kind : Kind) (view : View) (name : List ℕ) (loose : Loose) →
     let s = store_of f (loose_alone kind) in
     Tells kind (view (s.place name)) loose → held_by f.namespace loose ≡ found s view name
 found_loose f kind view name loose told = by_file loose (view (s.place name)) told ∙ ap (found_by s (s.key name) (decoded s (view (s.place name)))) (sym (no_records (view s.packed_path)))

@@ -5,18 +5,18 @@ use Rattle.std.proofs.lemmas.List.Elements.{All-nil, All-cons}
 use Rattle.gix_ref_files.specs.Tree.{Tree, Path, fronts, put, with_folders, no_tree}
 use Rattle.gix_ref_files.specs.Tree.Content.{Folder}
 use Rattle.gix_ref_files.proofs.Puts.{put_at, put_other}
-use Rattle.gix_ref_files.proofs.Folders.{own_untouched}
+use Rattle.gix_ref_memory.proofs.Folders.{own_untouched}
 use Rattle.gix_ref.specs.AddedLocks.{is_in}
 use Rattle.gix_ref.specs.Causes.{AreApart}
-use Rattle.gix_ref.specs.Places.{Folders, AreFolders}
+use Rattle.gix_ref_base.specs.Layout.{Layout, IsLayout}
 use Rattle.gix_ref.specs.Prepared.{IsOneUpdate}
-use Rattle.gix_ref.specs.Readings.{Store}
-use Rattle.gix_ref.specs.Stores.{Options, store_of}
+use Rattle.gix_ref_theory.specs.Readings.{Store}
+use Rattle.gix_ref_theory.specs.Stores.{Options, store_of}
 use Rattle.gix_ref.specs.Transactions.{name_of, new_of, AreUpdates}
-use Rattle.gix_ref.specs.Views.{lock_of}
+use Rattle.gix_ref_theory.specs.Views.{lock_of}
 use Rattle.gix_ref.specs.declared.transaction.RefEdit.{RefEdit}
 use Rattle.gix_ref.proofs.Adds.{clash, is_false, either_way, any_cases, in_one, same_path, is_same_path}
-use Rattle.gix_ref.proofs.PlaceLaws.{laws_hold}
+use Rattle.gix_ref_theory.proofs.PlaceLaws.{laws_hold}
 
 -- what is among folders that are made is a folder
 made_folder : (T : Tree) (fs : List Path) (q : Path) → (T q ≡ Some Folder) ⊎ (is_in fs q ≡ true) → with_folders T fs q ≡ Some Folder
@@ -39,7 +39,7 @@ not_own_way p = is_false (is_in (fronts p) p) (λ within. nothing (sym (own_unto
 pub no_own_lock : (p : Path) → lock_of p ≢ p
 no_own_lock p e = let len = ap length e in omega (arith, len, length-append p (codes ".lock"))
 
-pub apart_one : (f : Folders) (o : Options) → AreFolders f → (edits : List RefEdit) → IsOneUpdate edits → AreApart (store_of f o) edits
+pub apart_one : (f : Layout) (o : Options) → IsLayout f → (edits : List RefEdit) → IsOneUpdate edits → AreApart (store_of f o) edits
 apart_one f o laid edits h = subst (λ (l : List RefEdit). AreApart s l) (sym h.one) (record {
   ways = λ lock q at there.
       let same_lock : own ≡ lock = in_one own lock at in

@@ -2,7 +2,7 @@
 use Rattle.std.proofs.Common.{◌≡◌, ◌≢◌, ◌⊎◌, inl, inr, ⊎_elim, ℕ, ◌<◌, List, [], ◌∷◌, ◌++◌, Bool, true, false, not, ◌&&◌, Option, Some, None, IsSome, refl, sym, ◌∙◌, ap, subst, if◌then◌else◌, length, arith}
 use Rattle.std.proofs.lemmas.Bool.{le-ltb}
 use Rattle.gix_ref_base.specs.Targets.{TargetValue}
-use Rattle.gix_ref_base.specs.declared.hash.Kind.{Kind}
+use Rattle.gix_ref_hash.specs.declared.hash.Kind.{Kind}
 use Rattle.gix_ref_files.specs.Tree.{Tree, Path, is_file, put, moved}
 use Rattle.gix_ref_files.specs.Files.{Meaning, Leaves}
 use Rattle.gix_ref_files.specs.Steps.{Step, IsAfter, IsLeftBy}
@@ -10,35 +10,35 @@ use Rattle.gix_ref_files.specs.Steps.Step.{Rename}
 use Rattle.gix_ref_files.proofs.Moments.{weaken, joins}
 use Rattle.gix_ref_files.proofs.Puts.{put_at, put_other}
 use Rattle.gix_ref.specs.AddedLocks.{is_in, AddsLocks, RemovesLocks}
-use Rattle.gix_ref.specs.Between.{IsEdit}
-use Rattle.gix_ref.specs.Carried.{view_of, file_of, IsCommitRun}
+use Rattle.gix_ref_theory.specs.Between.{IsEdit}
+use Rattle.gix_ref_theory.specs.Carried.{view_of, file_of, IsCommitRun}
 use Rattle.gix_ref.specs.Causes.{found, IsAccepted, IsFullTarget, IsOfKind, IsWholeTarget, locks_of}
 use Rattle.gix_ref.specs.Committed.{writes, renames_of, lock_at, stays_at}
 use Rattle.gix_ref.specs.Committing.{planned, AreCommitted, AreLeftWell}
-use Rattle.gix_ref.specs.Edits.{Edit}
-use Rattle.gix_ref.specs.Edits.Change.{Update}
-use Rattle.gix_ref.specs.Edits.Mode.{DeletionsOnly}
-use Rattle.gix_ref.specs.Folders.{loose_alone}
-use Rattle.gix_ref.specs.Places.{Folders, AreFolders}
-use Rattle.gix_ref.specs.Plan.{plan}
+use Rattle.gix_ref_theory.specs.Edits.{Edit}
+use Rattle.gix_ref_theory.specs.Edits.Change.{Update}
+use Rattle.gix_ref_theory.specs.Edits.Mode.{DeletionsOnly}
+use Rattle.gix_ref.specs.StoreLayout.{loose_alone}
+use Rattle.gix_ref_base.specs.Layout.{Layout, IsLayout}
+use Rattle.gix_ref_theory.specs.Plan.{plan}
 use Rattle.gix_ref.specs.Prepared.{IsOneUpdate}
-use Rattle.gix_ref.specs.Readings.{Store, HasLaws}
-use Rattle.gix_ref.specs.Stores.{store_of, loose_text}
+use Rattle.gix_ref_theory.specs.Readings.{Store, HasLaws}
+use Rattle.gix_ref_theory.specs.Stores.{store_of, loose_text}
 use Rattle.gix_ref.specs.Taken.{HoldTexts, founds, is_found, is_new, text_of_new, lock_paths, place_paths, places_of}
 use Rattle.gix_ref.specs.Transactions.{name_of, new_of, change_of, expected_of, matched, mode_of, is_of_reference, AreCarried}
-use Rattle.gix_ref.specs.Views.{IsSameButLocks, lock_of}
+use Rattle.gix_ref_theory.specs.Views.{IsSameButLocks, lock_of}
 use Rattle.gix_ref.specs.declared.transaction.RefEdit.{RefEdit}
 use Rattle.gix_ref.specs.declared.file.transaction.setting.Paths.{Paths}
 use Rattle.gix_ref.proofs.Adds.{clash, either_way, in_one, in_here, is_false, same_view}
-use Rattle.gix_ref.proofs.Carrying.{after_alike, no_file}
+use Rattle.gix_ref_theory.proofs.Carrying.{after_alike, no_file}
 use Rattle.gix_ref.proofs.Committing.{edit_with, update_is, new_is, matched_is, already_is, is_reference, reads_back, run_is}
-use Rattle.gix_ref.proofs.Headline as headline
-use Rattle.gix_ref.proofs.Locks as locks
+use Rattle.gix_ref_theory.proofs.Headline as headline
+use Rattle.gix_ref_theory.proofs.Locks as locks
 use Rattle.gix_ref.proofs.OneEdit.{no_own_lock}
-use Rattle.gix_ref.proofs.PlaceLaws.{laws_hold}
-use Rattle.gix_ref.proofs.Plans.{edit_behind, edit_in_front}
+use Rattle.gix_ref_theory.proofs.PlaceLaws.{laws_hold}
+use Rattle.gix_ref_theory.proofs.Plans.{edit_behind, edit_in_front}
 use Rattle.gix_ref.proofs.Removing.{no_file_then}
-use Rattle.gix_ref.proofs.Trees as trees
+use Rattle.gix_ref_theory.proofs.Trees as trees
 
 -- A transaction as `prepare` gives it, from the tree `before` it to the tree T.
 pub record IsReady (s : Store) (kind : Kind) (before T : Tree) (given carried : List RefEdit) (paths : List Paths) : Type 0 where
@@ -70,7 +70,7 @@ single s kind before T (e ∷ []) (a ∷ []) (p ∷ []) one ready Q at_one = at_
     heads : {x y : RefEdit} → x ∷ [] ≡ y ∷ [] → x ≡ y
     heads h = cc
 
-module _ (f : Folders) (kind : Kind) (laid : AreFolders f) (before : Tree) (first : Meaning) (e a : RefEdit) (p : Paths) (update : IsSome (new_of e.change)) (ready : IsReady (store_of f (loose_alone kind)) kind before first.tree (e ∷ []) (a ∷ []) (p ∷ [])) where
+module _ (f : Layout) (kind : Kind) (laid : IsLayout f) (before : Tree) (first : Meaning) (e a : RefEdit) (p : Paths) (update : IsSome (new_of e.change)) (ready : IsReady (store_of f (loose_alone kind)) kind before first.tree (e ∷ []) (a ∷ []) (p ∷ [])) where
   abbrev s : Store
   s = store_of f (loose_alone kind)
 
@@ -244,7 +244,7 @@ module _ (f : Folders) (kind : Kind) (laid : AreFolders f) (before : Tree) (firs
       own)
 
 -- The same for lists, of which the edits are one update.
-module _ (f : Folders) (kind : Kind) (laid : AreFolders f) (before : Tree) (first : Meaning) (given carried : List RefEdit) (paths : List Paths) (one : IsOneUpdate given) (ready : IsReady (store_of f (loose_alone kind)) kind before first.tree given carried paths) where
+module _ (f : Layout) (kind : Kind) (laid : IsLayout f) (before : Tree) (first : Meaning) (given carried : List RefEdit) (paths : List Paths) (one : IsOneUpdate given) (ready : IsReady (store_of f (loose_alone kind)) kind before first.tree given carried paths) where
   abbrev store : Store
   store = store_of f (loose_alone kind)
 

@@ -9,9 +9,9 @@ use Rattle.gix_ref_files.proofs.Moments.{weaken, joins}
 use Rattle.gix_ref.specs.AddedLocks.{paths_of, is_in, RemovesLocks, AddsLocks}
 use Rattle.gix_ref.specs.Taken.{lock_paths}
 use Rattle.gix_ref.specs.Causes.{locks_of}
-use Rattle.gix_ref.specs.Readings.{Store}
+use Rattle.gix_ref_theory.specs.Readings.{Store}
 use Rattle.gix_ref.specs.Transactions.{name_of}
-use Rattle.gix_ref.specs.Views.{lock_of}
+use Rattle.gix_ref_theory.specs.Views.{lock_of}
 use Rattle.gix_ref.specs.declared.transaction.RefEdit.{RefEdit}
 use Rattle.gix_ref.specs.declared.file.transaction.setting.Paths.{Paths}
 use Rattle.gix_ref.proofs.Adds.{clash, is_false, either_way, any_left, any_right, any_cases, in_one, in_here, same_path, is_same_path, adds_less, adds_left, adds_wider}

@@ -1,19 +1,19 @@
 -- One round of the loop that takes the locks, over plain meanings.
 use Rattle.std.proofs.Common.{◌≡◌, ◌⊎◌, inl, inr, ⊎_elim, ℕ, ◌+◌, ◌<◌, List, [], ◌∷◌, ◌++◌, length, get_or, map, true, false, Option, Some, None, refl, sym, ◌∙◌, ap, subst, take, drop}
 use Rattle.std.proofs.lemmas.List.{get_or-map, map-append}
-use Rattle.gix_ref_base.specs.declared.hash.Kind.{Kind}
+use Rattle.gix_ref_hash.specs.declared.hash.Kind.{Kind}
 use Rattle.gix_ref_base.specs.declared.target.Target.{Target}
 use Rattle.gix_ref_files.specs.Tree.{Tree, Path, put}
 use Rattle.gix_ref_files.specs.Tree.Content.{File}
 use Rattle.gix_ref_files.specs.Files.{Meaning, Leaves}
 use Rattle.gix_ref_files.proofs.Moments.{weaken, joins}
 use Rattle.gix_ref.specs.AddedLocks.{is_in, AddsLocks}
-use Rattle.gix_ref.specs.Carried.{view_of}
+use Rattle.gix_ref_theory.specs.Carried.{view_of}
 use Rattle.gix_ref.specs.Causes.{found, Passes, IsFault, IsOutside, IsMismatch, NoCause, IsFirstCause, AreApart, IsLockable, locks_of}
-use Rattle.gix_ref.specs.Readings.{Store}
+use Rattle.gix_ref_theory.specs.Readings.{Store}
 use Rattle.gix_ref.specs.Taken.{lock_text, value_of, lock_paths, place_paths, places_of, IsRefusedLock, IsNewLock, FillsLock, founds}
 use Rattle.gix_ref.specs.Transactions.{name_of, expected_of, new_of, Expects}
-use Rattle.gix_ref.specs.Views.{lock_of}
+use Rattle.gix_ref_theory.specs.Views.{lock_of}
 use Rattle.gix_ref.specs.declared.transaction.RefEdit.{RefEdit}
 use Rattle.gix_ref.specs.declared.file.transaction.setting.Paths.{Paths}
 use Rattle.gix_ref.specs.declared.file.transaction.prepare.error.Error.{Error}

@@ -3,15 +3,15 @@ use Rattle.std.proofs.Common.{◌≡◌, List, ℕ, true, codes, refl, inl, inr,
 use Rattle.std.specs.List.{starts_with}
 use Rattle.std.proofs.lemmas.Bool.Decides.{Decides-eqb}
 use Rattle.std.proofs.lemmas.Slice.Eq.{starts_is}
-use Rattle.gix_ref_base.specs.Bytes.{BeginsWith}
+use Rattle.gix_ref_hash.specs.Bytes.{BeginsWith}
 use Rattle.gix_ref_base.specs.declared.namespace.Namespace.{Namespace}
 use Rattle.gix_ref.specs.CleanPaths.{common_of}
-use Rattle.gix_ref.specs.Folders.{folders_of}
-use Rattle.gix_ref.specs.Places.{AreFolders}
+use Rattle.gix_ref.specs.StoreLayout.{folders_of}
+use Rattle.gix_ref_base.specs.Layout.{IsLayout}
 use Rattle.gix_ref.specs.declared.file.folders.Dirs.{Dirs}
 use Rattle.gix_ref.proofs.FolderLemmas.{test_laid}
 
-pub folders_laid : (dirs : Dirs) (namespace : Option Namespace) → AreFolders (folders_of dirs namespace)
+pub folders_laid : (dirs : Dirs) (namespace : Option Namespace) → IsLayout (folders_of dirs namespace)
 folders_laid dirs None = (test_laid dirs.git_dir.items (common_of dirs.git_dir dirs.common_dir) dirs.laid, inl refl)
 folders_laid dirs (Some namespace) = (test_laid dirs.git_dir.items (common_of dirs.git_dir dirs.common_dir) dirs.laid, inr (begins namespace.bytes.items namespace.begins))
   where

@@ -2,17 +2,17 @@
 use Rattle.std.proofs.Common.{◌≡◌, ◌≢◌, ◌⊎◌, inl, inr, ⊎_elim, ℕ, List, [], ◌∷◌, ◌++◌, true, false, Option, Some, None, refl, sym, ◌∙◌, ap, subst, IsSome, take, drop}
 use Rattle.std.specs.Prelude.{bytes_eq}
 use Rattle.std.proofs.lemmas.List.{take-append-drop, map-append}
-use Rattle.gix_ref_base.specs.declared.hash.Kind.{Kind}
+use Rattle.gix_ref_hash.specs.declared.hash.Kind.{Kind}
 use Rattle.gix_ref_files.specs.Tree.{Tree, Path, Content, fronts, is_file, is_blocked, put}
 use Rattle.gix_ref_files.specs.Tree.Content.{File}
 use Rattle.gix_ref_files.proofs.Puts.{put_at, put_other}
 use Rattle.gix_ref.specs.AddedLocks.{is_in, leads_to, IsOurs, AddsLocks}
-use Rattle.gix_ref.specs.Carried.{view_of, file_of}
+use Rattle.gix_ref_theory.specs.Carried.{view_of, file_of}
 use Rattle.gix_ref.specs.Causes.{found, found_by, decoded, IsFault, IsLockable, AreApart, locks_of}
-use Rattle.gix_ref.specs.Readings.{Store, records_in}
+use Rattle.gix_ref_theory.specs.Readings.{Store, records_in}
 use Rattle.gix_ref.specs.Taken.{lock_text, IsRefusedLock, IsNewLock, FillsLock, HoldTexts}
 use Rattle.gix_ref.specs.Transactions.{name_of}
-use Rattle.gix_ref.specs.Views.{lock_of}
+use Rattle.gix_ref_theory.specs.Views.{lock_of}
 use Rattle.gix_ref.specs.declared.transaction.RefEdit.{RefEdit}
 use Rattle.gix_ref.specs.declared.file.transaction.prepare.error.Error.{Error}
 use Rattle.gix_ref.specs.declared.file.transaction.prepare.error.Error.TheVariants.{UnsafeName, TargetNotFull, OtherHashKind, PathCollision, LockAcquire, MustExist, MustNotExist, ReferenceOutOfDate, Io, Memory}

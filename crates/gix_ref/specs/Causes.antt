@@ -1,19 +1,19 @@
 -- Why `prepare` refuses edits: each cause as a statement on the tree before the call, and the order in which they are told.
 use Rattle.std.specs.Prelude.{◌≡◌, ◌≢◌, ◌⊎◌, ℕ, List, [], true, false, Option, Some, None, IsSome, map, All}
-use Rattle.gix_ref_base.specs.Ids.{id_kind, null_id, IsWhole}
+use Rattle.gix_ref_hash.specs.Ids.{id_kind, null_id, IsWhole}
 use Rattle.gix_ref_base.specs.NameGrammar.{IsFullName}
 use Rattle.gix_ref_base.specs.Names.{full_bytes}
 use Rattle.gix_ref_base.specs.Targets.{TargetValue, target_value}
 use Rattle.gix_ref_base.specs.Targets.TargetValue.{object_id, symbolic_name}
-use Rattle.gix_ref_base.specs.declared.hash.Kind.{Kind}
+use Rattle.gix_ref_hash.specs.declared.hash.Kind.{Kind}
 use Rattle.gix_ref_files.specs.Tree.{Tree, Path, is_blocked, fronts}
 use Rattle.gix_ref_files.specs.Files.{HasRisen}
 use Rattle.gix_ref_files.specs.declared.files.FileError.{FileError}
 use Rattle.gix_ref_files.specs.declared.files.FileError.TheVariants.{Device, NotUtf8, Memory as out_of_memory}
-use Rattle.gix_ref.specs.Views.{View, lock_of}
-use Rattle.gix_ref.specs.Carried.{view_of}
-use Rattle.gix_ref.specs.Readings.{Store, Record, as_read, record_named, records_in}
-use Rattle.gix_ref.specs.Spots.{is_safe}
+use Rattle.gix_ref_theory.specs.Views.{View, lock_of}
+use Rattle.gix_ref_theory.specs.Carried.{view_of}
+use Rattle.gix_ref_theory.specs.Readings.{Store, Record, as_read, record_named, records_in}
+use Rattle.gix_ref_base.specs.Locations.{is_safe}
 use Rattle.gix_ref.specs.AddedLocks.{is_in}
 use Rattle.gix_ref.specs.First.{AllPass, FirstFault}
 use Rattle.gix_ref.specs.Transactions.{name_of, new_of, expected_of, previous_of, Expects}

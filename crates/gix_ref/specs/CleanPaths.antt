@@ -2,10 +2,10 @@
 use Rattle.std.specs.Prelude.{ℕ, List, [], Bool, false, not, ◌&&◌, ◌||◌, ◌==◌, is_none, bytes_eq, codes, Option, Some, None, Vec}
 use Rattle.std.specs.List.{list_all, list_any}
 use Rattle.std.specs.declared.alloc.Global.{Global}
-use Rattle.gix_ref_base.specs.Bytes.{is_empty, is_slash, components, without_front}
+use Rattle.gix_ref_hash.specs.Bytes.{is_empty, is_slash, components, without_front}
 use Rattle.gix_ref_files.specs.Tree.{Path}
-use Rattle.gix_ref.specs.Places.{below}
-use Rattle.gix_ref.specs.Spots.{rest_after}
+use Rattle.gix_ref_base.specs.Layout.{below}
+use Rattle.gix_ref_base.specs.Locations.{rest_after}
 
 -- a component of a clean path is not empty, and neither `.` nor `..`
 abbrev pub is_clean_component : List ℕ → Bool
@@ -33,9 +33,9 @@ abbrev pub is_worktree : Option (List ℕ) → Bool
 is_worktree None = false
 is_worktree (Some rest) = is_worktree_in (rest_after (codes "worktrees/") rest)
 
--- `AreLaid`, as a test
-unfoldable pub is_laid : Path → Path → Bool
-is_laid git common =
+-- `AreCompatible`, as a test
+unfoldable pub are_compatible : Path → Path → Bool
+are_compatible git common =
     bytes_eq git common
     || is_worktree (rest_after (below common []) git)
     || (is_none (rest_after (below common []) git) && is_none (rest_after (below git []) common))

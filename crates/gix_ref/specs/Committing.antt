@@ -4,17 +4,17 @@ use Rattle.gix_ref_base.specs.Names.{full_bytes}
 use Rattle.gix_ref_files.specs.Tree.{Tree, Path, is_file, is_folder}
 use Rattle.gix_ref_files.specs.Files.{Meaning, Leaves, HasRisen}
 use Rattle.gix_ref.specs.AddedLocks.{is_in, paths_of}
-use Rattle.gix_ref.specs.Between.{IsCommitted}
-use Rattle.gix_ref.specs.Carried.{view_of, IsLeftWell}
+use Rattle.gix_ref_theory.specs.Between.{IsCommitted}
+use Rattle.gix_ref_theory.specs.Carried.{view_of, IsLeftWell}
 use Rattle.gix_ref.specs.Causes.{locks_of}
-use Rattle.gix_ref.specs.Edits as plan
-use Rattle.gix_ref.specs.Edits.Mode.{DeletionsOnly}
+use Rattle.gix_ref_theory.specs.Edits as plan
+use Rattle.gix_ref_theory.specs.Edits.Mode.{DeletionsOnly}
 use Rattle.gix_ref.specs.Prepared.{IsOneUpdate, PreparesFrom, tree_of, locks_in}
-use Rattle.gix_ref.specs.Readings as readings
+use Rattle.gix_ref_theory.specs.Readings as readings
 use Rattle.gix_ref.specs.Store.{files_of, meaning_of}
 use Rattle.gix_ref.specs.Taken.{place_paths, places_of}
 use Rattle.gix_ref.specs.Transactions.{name_of, edit_of}
-use Rattle.gix_ref.specs.Views.{IsOwnLock}
+use Rattle.gix_ref_theory.specs.Views.{IsOwnLock}
 use Rattle.gix_ref.specs.declared.transaction.RefEdit.{RefEdit}
 use Rattle.gix_ref.specs.declared.file.store.Store.{Store}
 use Rattle.gix_ref.specs.declared.file.transaction.Done.{Done}

@@ -6,13 +6,13 @@ use Rattle.gix_ref_base.specs.Names.{full_bytes}
 use Rattle.gix_ref_base.specs.Namespaces.{stripped}
 use Rattle.gix_ref_base.specs.Targets.{TargetValue, target_value}
 use Rattle.gix_ref_base.specs.Targets.TargetValue.{object_id, symbolic_name}
-use Rattle.gix_ref_base.specs.declared.hash.Kind.{Kind}
+use Rattle.gix_ref_hash.specs.declared.hash.Kind.{Kind}
 use Rattle.gix_ref_files.specs.Files.{HasRisen}
-use Rattle.gix_ref.specs.Views.{View}
-use Rattle.gix_ref.specs.Readings.{Store, reading, as_read}
-use Rattle.gix_ref.specs.Readings.Reading.{Is, Fault, Absent}
+use Rattle.gix_ref_theory.specs.Views.{View}
+use Rattle.gix_ref_theory.specs.Readings.{Store, reading, as_read}
+use Rattle.gix_ref_theory.specs.Readings.Reading.{Is, Fault, Absent}
 use Rattle.gix_ref.specs.LooseText.{HoldsTarget, Refuses}
-use Rattle.gix_ref_formats.specs.declared.raw.Reference.{Reference}
+use Rattle.gix_ref_packed.specs.declared.raw.Reference.{Reference}
 use Rattle.gix_ref.specs.declared.file.find.error.Error.{Error}
 use Rattle.gix_ref.specs.declared.file.find.error.Error.TheVariants.{RefnameValidation, ReadFileContents, ReferenceCreation, Memory}
 use Rattle.gix_ref.specs.declared.file.find.existing.Error.{Error as Missing}

@@ -3,15 +3,15 @@ use Rattle.std.specs.Prelude.{◌≡◌, ℕ, ◌*◌, Bool, true, not, ◌&&◌
 use Rattle.std.specs.List.{starts_with}
 use Rattle.hex.specs.Hex.{is_hex_digit, decode_of}
 use Rattle.hex.specs.declared.error.FromHexError.{FromHexError}
-use Rattle.gix_ref_base.specs.Bytes.{SkipsSpaces, CutsLine, StopsAt, is_space, in_line}
-use Rattle.gix_ref_base.specs.Ids.{ReadsId, kind_len, id_kind}
+use Rattle.gix_ref_hash.specs.Bytes.{SkipsSpaces, CutsLine, StopsAt, is_space, in_line}
+use Rattle.gix_ref_hash.specs.Ids.{ReadsId, kind_len, id_kind}
 use Rattle.gix_ref_base.specs.NameGrammar.{IsFullName, full_error}
 use Rattle.gix_ref_base.specs.Targets.{TargetValue}
 use Rattle.gix_ref_base.specs.Targets.TargetValue.{object_id, symbolic_name}
-use Rattle.gix_ref_base.specs.declared.hash.Kind.{Kind}
-use Rattle.gix_ref_base.specs.declared.hash.Kind.TheVariants as kinds
-use Rattle.gix_ref_base.specs.declared.hash.ObjectId.{ObjectId}
-use Rattle.gix_ref_base.specs.declared.hash.ObjectId.TheVariants as ids
+use Rattle.gix_ref_hash.specs.declared.hash.Kind.{Kind}
+use Rattle.gix_ref_hash.specs.declared.hash.Kind.TheVariants as kinds
+use Rattle.gix_ref_hash.specs.declared.hash.ObjectId.{ObjectId}
+use Rattle.gix_ref_hash.specs.declared.hash.ObjectId.TheVariants as ids
 use Rattle.gix_ref.specs.declared.file.loose.error.Error.{Error}
 use Rattle.gix_ref.specs.declared.file.loose.error.Error.TheVariants.{Parse, RefnameValidation, Memory}
 

@@ -1,12 +1,12 @@
 -- A store as a value: what stands where in it, and when there is none.
 use Rattle.std.specs.Prelude.{◌≡◌, true, false, Option, None, Vec, ℕ}
 use Rattle.std.specs.declared.alloc.Global.{Global}
-use Rattle.gix_ref_base.specs.declared.hash.Kind.{Kind}
-use Rattle.gix_ref.specs.Places.{Folders, AreLaid}
+use Rattle.gix_ref_hash.specs.declared.hash.Kind.{Kind}
+use Rattle.gix_ref_base.specs.Layout.{Layout, AreCompatible}
 use Rattle.gix_ref.specs.CleanPaths.{are_clean, common_of}
-use Rattle.gix_ref.specs.Folders.{folders_of, loose_alone}
-use Rattle.gix_ref.specs.Readings as readings
-use Rattle.gix_ref.specs.Stores.{store_of}
+use Rattle.gix_ref.specs.StoreLayout.{folders_of, loose_alone}
+use Rattle.gix_ref_theory.specs.Readings as readings
+use Rattle.gix_ref_theory.specs.Stores.{store_of}
 use Rattle.gix_ref.specs.declared.file.store.Store.{Store}
 use Rattle.gix_ref.specs.declared.file.store.Error.{Error}
 use Rattle.gix_ref.specs.declared.file.store.Error.TheVariants.{PathNotClean, FoldersMeet}
@@ -17,7 +17,7 @@ abbrev pub files_of : {F : Type 0} → Store F → F
 files_of store = store.files
 
 -- its folders, with its namespace
-abbrev pub folders : {F : Type 0} → Store F → Folders
+abbrev pub folders : {F : Type 0} → Store F → Layout
 folders store = folders_of store.dirs store.namespace
 
 -- the kind of its ids
@@ -50,9 +50,9 @@ pub record IsMade {F : Type 0} (files : F) (git_dir : Vec ℕ Global) (common_di
 
 -- there is a store in these folders
 abbrev pub AreDirs : Vec ℕ Global → Option (Vec ℕ Global) → Type 0
-AreDirs git common = (are_clean git common ≡ true) × AreLaid git.items (common_of git common)
+AreDirs git common = (are_clean git common ≡ true) × AreCompatible git.items (common_of git common)
 
 -- why there is none; the files are handed back
 abbrev pub IsRefused : {F : Type 0} → F → Vec ℕ Global → Option (Vec ℕ Global) → Error F → Type 0
 IsRefused files git common (PathNotClean back) = (back ≡ files) × (are_clean git common ≡ false)
-IsRefused files git common (FoldersMeet back) = (back ≡ files) × (are_clean git common ≡ true) × (AreLaid git.items (common_of git common) → ⊥)
+IsRefused files git common (FoldersMeet back) = (back ≡ files) × (are_clean git common ≡ true) × (AreCompatible git.items (common_of git common) → ⊥)

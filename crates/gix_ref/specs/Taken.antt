@@ -6,12 +6,12 @@ use Rattle.gix_ref_base.specs.Targets.{TargetValue, target_value}
 use Rattle.gix_ref_base.specs.declared.target.Target.{Target}
 use Rattle.gix_ref_files.specs.Tree.{Tree, Path, is_blocked, put}
 use Rattle.gix_ref_files.specs.Tree.Content.{File}
-use Rattle.gix_ref.specs.Views.{lock_of}
-use Rattle.gix_ref.specs.Carried.{view_of}
-use Rattle.gix_ref.specs.Edits.{is_same_id}
-use Rattle.gix_ref.specs.Readings.{Store}
-use Rattle.gix_ref.specs.Stores.{store_of, loose_text}
-use Rattle.gix_ref.specs.Folders.{folders_of, loose_alone}
+use Rattle.gix_ref_theory.specs.Views.{lock_of}
+use Rattle.gix_ref_theory.specs.Carried.{view_of}
+use Rattle.gix_ref_theory.specs.Edits.{is_same_id}
+use Rattle.gix_ref_theory.specs.Readings.{Store}
+use Rattle.gix_ref_theory.specs.Stores.{store_of, loose_text}
+use Rattle.gix_ref.specs.StoreLayout.{folders_of, loose_alone}
 use Rattle.gix_ref.specs.Causes.{found}
 use Rattle.gix_ref.specs.Lookup.{less_namespace}
 use Rattle.gix_ref.specs.Transactions.{name_of, new_of, mode_of, is_of_reference}

@@ -2,7 +2,7 @@
 use Rattle.std.specs.Prelude.{◌≡◌, ◌⊎◌, ℕ, List, Bool, true, false, Option, Some, None, IsSome, All, MatchOption, length, slice_index_or, ◌<◌}
 use Rattle.gix_ref_base.specs.Names.{full_bytes}
 use Rattle.gix_ref_base.specs.Targets.{TargetValue, target_value}
-use Rattle.gix_ref.specs.Edits as plan
+use Rattle.gix_ref_theory.specs.Edits as plan
 use Rattle.gix_ref.specs.declared.transaction.LogChange.{LogChange}
 use Rattle.gix_ref.specs.declared.transaction.RefLog.{RefLog}
 use Rattle.gix_ref.specs.declared.transaction.RefLog.TheVariants.{AndReference, Only}

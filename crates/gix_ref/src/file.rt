@@ -2,7 +2,6 @@
 pub mod find;
 mod folders;
 pub mod loose;
-mod place;
 pub mod store;
 pub mod transaction;
 

@@ -3,7 +3,6 @@
 
 pub mod file;
 pub mod store;
-pub mod theorems;
 pub mod transaction;
 
-pub use gix_ref_formats::raw;
+pub use gix_ref_packed::raw;

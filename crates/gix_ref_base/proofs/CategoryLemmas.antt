@@ -2,9 +2,9 @@
 use Rattle.std.proofs.Common.{◌≡◌, ◌≢◌, ℕ, List, ◌∷◌, ◌++◌, sym, ◌∙◌, ap, subst, codes}
 use Rattle.std.proofs.lemmas.List.{append_cancel_left}
 use Rattle.gix_ref_base.specs.declared.name.category.Category.TheVariants.{Tag, LocalBranch, RemoteBranch, Note, PseudoRef, MainPseudoRef, MainRef, LinkedPseudoRef, LinkedRef, Bisect, Rewritten, WorktreePrivate}
-use Rattle.gix_ref_base.specs.Bytes.{BeginsWith, NoByte}
+use Rattle.gix_ref_hash.specs.Bytes.{BeginsWith, NoByte}
 use Rattle.gix_ref_base.specs.Categories.{IsPseudoName, NoCategory, NoGroup, NoMain, NoLinked}
-use Rattle.gix_ref_base.proofs.ByteLemmas.{no_split, same_split}
+use Rattle.gix_ref_hash.proofs.ByteLemmas.{no_split, same_split}
 
 pub no_main_front : (n : List ℕ) → ((rest : List ℕ) → n ≢ codes "main-worktree/" ++ rest) → NoMain n
 no_main_front n never = record { main = λ s h. never s h.0; pseudo = λ s h. never s h.0 }

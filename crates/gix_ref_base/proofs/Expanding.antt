@@ -5,10 +5,10 @@ use Rattle.std.proofs.lemmas.List.{append-nil}
 use Rattle.std.proofs.lemmas.List.Splits.{slice_split_none}
 use Rattle.std.proofs.lemmas.Slice.Eq.{ends_is}
 use Rattle.std.proofs.lemmas.Bool.Decides.{Decides-eqb}
-use Rattle.gix_ref_base.specs.Bytes.{BeginsWith, NoByte, is_slash, components}
+use Rattle.gix_ref_hash.specs.Bytes.{BeginsWith, NoByte, is_slash, components}
 use Rattle.gix_ref_base.specs.NameGrammar.{IsPartialName}
 use Rattle.gix_ref_base.specs.Namespaces.{expanded, expanded_component}
-use Rattle.gix_ref_base.proofs.ByteLemmas.{apart, no_byte}
+use Rattle.gix_ref_hash.proofs.ByteLemmas.{apart, no_byte}
 use Rattle.gix_ref_base.proofs.FrontLemmas.{begins_true}
 use Rattle.gix_ref_base.proofs.PartialNames.{IsComponent, behind_component, cut}
 

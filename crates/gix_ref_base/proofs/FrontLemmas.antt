@@ -6,7 +6,7 @@ use Rattle.std.proofs.lemmas.List.{drop_at, take_at}
 use Rattle.std.proofs.lemmas.Slice.Eq.{starts_is}
 use Rattle.std.proofs.lemmas.Bool.Decides.{Decides-eqb}
 use Rattle.gix_ref_base.specs.declared.name.error.Error.{Error}
-use Rattle.gix_ref_base.specs.Bytes.{without_front, with_front}
+use Rattle.gix_ref_hash.specs.Bytes.{without_front, with_front}
 use Rattle.gix_ref_base.specs.NameGrammar.{partial_error, IsPartialName}
 use Rattle.gix_ref_base.specs.Namespaces.{stripped}
 

@@ -4,10 +4,10 @@ use Rattle.std.specs.List.{All, list_all, starts_with}
 use Rattle.std.proofs.lemmas.List.Elements.{All-head, All-tail}
 use Rattle.gix_ref_base.specs.declared.name.category.Category.{Category}
 use Rattle.gix_ref_base.specs.declared.name.category.Category.TheVariants.{Tag, LocalBranch, RemoteBranch, Note, PseudoRef, MainPseudoRef, MainRef, LinkedPseudoRef, LinkedRef, Bisect, Rewritten, WorktreePrivate}
-use Rattle.gix_ref_base.specs.Bytes.{BeginsWith, NoByte}
+use Rattle.gix_ref_hash.specs.Bytes.{BeginsWith, NoByte}
 use Rattle.gix_ref_base.specs.NameGrammar.{is_pseudo_byte}
 use Rattle.gix_ref_base.specs.Categories.{HasCategory, SameCategory, code_of, worktree_of}
-use Rattle.gix_ref_base.proofs.ByteLemmas.{IsApart, apart}
+use Rattle.gix_ref_hash.proofs.ByteLemmas.{IsApart, apart}
 
 -- what follows the first slash
 abbrev after_slash : List ℕ → List ℕ

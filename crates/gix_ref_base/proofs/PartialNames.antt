@@ -6,9 +6,9 @@ use Rattle.std.specs.Option.{option_map}
 use Rattle.std.proofs.lemmas.List.Splits.{slice_split_at, slice_split_none}
 use Rattle.std.proofs.lemmas.List.Elements.{All-head, All-tail}
 use Rattle.gix_ref_base.specs.declared.name.error.Error.{Error}
-use Rattle.gix_ref_base.specs.Bytes.{NoByte, is_empty, is_slash, occurs, components}
+use Rattle.gix_ref_hash.specs.Bytes.{NoByte, is_empty, is_slash, occurs, components}
 use Rattle.gix_ref_base.specs.NameGrammar.{is_invalid, byte_error, is_dotted, is_locked, told_if, first_told, partial_error, IsPartialName}
-use Rattle.gix_ref_base.proofs.ByteLemmas.{IsApart, apart}
+use Rattle.gix_ref_hash.proofs.ByteLemmas.{IsApart, apart}
 
 -- every rule but the one that a name is not `@` alone
 pub record IsPath (n : List ℕ) : Type 0 where

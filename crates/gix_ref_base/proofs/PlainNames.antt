@@ -8,7 +8,7 @@ use Rattle.std.proofs.lemmas.List.{drop_more, drop_all}
 use Rattle.std.proofs.lemmas.Nat.{and_le_l}
 use lib.Bits.{or_add_and, and_le_r}
 use Rattle.gix_ref_base.specs.declared.name.grammar.TheConstants.{LETTERS}
-use Rattle.gix_ref_base.specs.Bytes.{occurs, components}
+use Rattle.gix_ref_hash.specs.Bytes.{occurs, components}
 use Rattle.gix_ref_base.specs.NameGrammar.{is_invalid, is_dotted, is_locked, IsPartialName}
 use Rattle.gix_ref_base.proofs.PartialNames.{name_of_rules, last-cons, or_none, none_or}
 

@@ -4,7 +4,7 @@ use Rattle.std.specs.List.{starts_with}
 use Rattle.std.proofs.lemmas.List.{append_assoc}
 use Rattle.gix_ref_base.specs.declared.name.category.Category.{Category}
 use Rattle.gix_ref_base.specs.declared.name.category.Category.TheVariants.{Tag, LocalBranch, RemoteBranch, Note, PseudoRef, MainPseudoRef, MainRef, LinkedPseudoRef, LinkedRef, Bisect, Rewritten, WorktreePrivate}
-use Rattle.gix_ref_base.specs.Bytes.{without_front, with_front}
+use Rattle.gix_ref_hash.specs.Bytes.{without_front, with_front}
 use Rattle.gix_ref_base.specs.Categories.{HasCategory, text_of, begins_again}
 use Rattle.gix_ref_base.proofs.FrontLemmas.{without-append, with-new}
 

@@ -4,7 +4,7 @@ use Rattle.std.specs.List.{All, list_any, find}
 use Rattle.std.proofs.lemmas.List.{drop_more, drop-drop, take_all, take-append-drop, get_or-drop, length-drop}
 use Rattle.std.proofs.lemmas.List.Elements.{All-more, All-nil}
 use Rattle.std.proofs.lemmas.List.Splits.{slice_split_at, slice_split_none}
-use Rattle.gix_ref_base.specs.Bytes.{occurs, components}
+use Rattle.gix_ref_hash.specs.Bytes.{occurs, components}
 
 -- no byte is a slash
 abbrev pub NoSlash : List ℕ → Type 0

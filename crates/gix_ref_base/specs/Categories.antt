@@ -3,7 +3,7 @@ use Rattle.std.specs.Prelude.{◌≡◌, ℕ, List, [], ◌∷◌, ◌++◌, cod
 use Rattle.std.specs.List.{list_all, starts_with}
 use Rattle.gix_ref_base.specs.declared.name.category.Category.{Category}
 use Rattle.gix_ref_base.specs.declared.name.category.Category.TheVariants.{Tag, LocalBranch, RemoteBranch, Note, PseudoRef, MainPseudoRef, MainRef, LinkedPseudoRef, LinkedRef, Bisect, Rewritten, WorktreePrivate}
-use Rattle.gix_ref_base.specs.Bytes.{BeginsWith, NoByte, is_empty, without_front, with_front}
+use Rattle.gix_ref_hash.specs.Bytes.{BeginsWith, NoByte, is_empty, without_front, with_front}
 use Rattle.gix_ref_base.specs.NameGrammar.{is_pseudo_byte}
 
 -- only `A` to `Z` and underscores

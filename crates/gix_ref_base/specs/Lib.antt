@@ -1,9 +1,8 @@
-pub mod Bytes
-pub mod Ids
+pub mod Categories
+pub mod Layout
+pub mod Locations
 pub mod NameGrammar
 pub mod Names
-pub mod Categories
 pub mod Namespaces
+pub mod RefLayout
 pub mod Targets
-pub mod Digits
-pub mod Signatures

@@ -4,7 +4,7 @@ use Rattle.std.specs.Prelude.{◌≡◌, ℕ, ◌==◌, nat_eq, nat_le, Bool, tr
 use Rattle.std.specs.List.{list_any, list_all, find, starts_with, ends_with}
 use Rattle.std.specs.Cmp.Lexicographic.{pointwise}
 use Rattle.std.specs.Option.{option_map}
-use Rattle.gix_ref_base.specs.Bytes.{is_empty, is_slash, occurs, components}
+use Rattle.gix_ref_hash.specs.Bytes.{is_empty, is_slash, occurs, components}
 use Rattle.gix_ref_base.specs.declared.name.error.Error.{Error}
 use Rattle.gix_ref_base.specs.declared.name.error.Error.TheVariants.{Empty, InvalidByte, Asterisk, StartsWithSlash, EndsWithSlash, RepeatedSlash, StartsWithDot, EndsWithDot, RepeatedDot, LockFileSuffix, ReflogPortion, SingleAt, SomeLowercase}
 

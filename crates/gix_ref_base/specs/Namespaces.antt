@@ -1,7 +1,7 @@
 -- Namespaces (`gitnamespaces`): what they expand to, and names inside of one.
 use Rattle.std.specs.Prelude.{ℕ, List, ◌++◌, codes, if◌then◌else◌, is_none}
 use Rattle.std.specs.List.{flat_map}
-use Rattle.gix_ref_base.specs.Bytes.{components, without_front}
+use Rattle.gix_ref_hash.specs.Bytes.{components, without_front}
 use Rattle.gix_ref_base.specs.NameGrammar.{partial_error}
 use Rattle.gix_ref_base.specs.declared.namespace.Namespace.{Namespace}
 

@@ -1,9 +1,7 @@
-//! The values that a Git reference store speaks of: ids of objects, names of references, namespaces, targets and signatures.
+//! The values that a Git reference store is about: names of references, where they are kept, namespaces and targets.
 #![tactic(auto)]
 
-pub mod actor;
-pub mod bytes;
-pub mod hash;
+pub mod layout;
 pub mod name;
 pub mod namespace;
 pub mod target;

@@ -1,9 +1,9 @@
 //! Names of references, checked once (`git check-ref-format`) and then carried in a type.
 ghost use Rattle.gix_ref_base.specs.NameGrammar.{IsPartialName};
 
-use crate::bytes::{cut_last, strip_front};
-use crate::namespace::Namespace;
 use bstr::{BStr, ByteSlice};
+use crate::namespace::Namespace;
+use gix_ref_hash::bytes::{cut_last, strip_front};
 use std::alloc::{AllocError, Global};
 
 mod category;
@@ -161,7 +161,7 @@ impl FullName {
     ghost use Rattle.std.specs.Prelude.{◌≡◌, ◌↔◌, IsTrue, IfSome, IfNone, OnOk, OnErr, List, ℕ, nat_eq, false};
     ghost use Rattle.std.specs.List.{starts_with};
     ghost use Rattle.bstr.specs.BStr.{bstr_bytes};
-    ghost use Rattle.gix_ref_base.specs.Bytes.{with_front};
+    ghost use Rattle.gix_ref_hash.specs.Bytes.{with_front};
     ghost use Rattle.gix_ref_base.specs.Categories.{HasCategory, NoCategory, SameCategory, begins_again, text_of};
     ghost use Rattle.gix_ref_base.specs.Names.{full_ref_bytes, full_bytes};
     ghost use Rattle.gix_ref_base.specs.Namespaces.{namespace_bytes, stripped};

@@ -22,7 +22,7 @@ pub struct Namespace {
 impl Namespace {
     ghost use Rattle.std.specs.Prelude.{◌↔◌, IsTrue, IfOk};
     ghost use Rattle.bstr.specs.BStr.{bstr_bytes};
-    ghost use Rattle.gix_ref_base.specs.Bytes.{BeginsWith};
+    ghost use Rattle.gix_ref_hash.specs.Bytes.{BeginsWith};
     ghost use Rattle.gix_ref_base.specs.Namespaces.{namespace_bytes};
 
     /// The bytes of the namespace.

@@ -4,8 +4,8 @@ ghost use Rattle.gix_ref_base.specs.Names.{full_ref_bytes, full_bytes};
 ghost use Rattle.gix_ref_base.specs.Targets.{TargetValue, target_value, target_ref_value, target_kind, target_id, target_name, IsNullTarget, target_text};
 ghost use Rattle.gix_ref_base.specs.Targets.TargetValue.{object_id, symbolic_name};
 
-use crate::hash::ObjectId;
 use crate::name::{FullName, FullNameRef};
+use gix_ref_hash::hash::ObjectId;
 use std::alloc::{AllocError, Global};
 use std::fmt;
 

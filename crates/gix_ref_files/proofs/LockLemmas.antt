@@ -11,8 +11,7 @@ use Rattle.gix_ref_files.specs.Lock.{Readies, Readying, MakesLock, Acquiring, re
 use Rattle.gix_ref_files.specs.declared.files.Create.{Create}
 use Rattle.gix_ref_files.specs.declared.files.Create.TheVariants.{Made, Standing, Blocked}
 use Rattle.gix_ref_files.proofs.Moments.{weaken, joins}
-use Rattle.gix_ref_files.proofs.Folders.{fronts_snoc}
-use Rattle.gix_ref_files.proofs.Fronts.{fronts_next}
+use Rattle.gix_ref_files.proofs.PathFronts.{fronts_snoc, fronts_next}
 
 any_snoc : (P : Path → Bool) (fs : List Path) (f : Path) → list_any P (fs ++ f ∷ []) ≡ (P f || list_any P fs)
 any_snoc P [] f = refl

@@ -1,11 +1,6 @@
 pub mod Calls
-pub mod Changes
 pub mod Files
-pub mod Listing
 pub mod Lock
-pub mod Memory
-pub mod Reader
 pub mod Steps
 pub mod Tree
-pub mod Turns
 pub mod Unknown

@@ -1,8 +1,7 @@
-//! A small file system: what its calls mean, one in memory, one on the disk, and steps and locks over it.
+//! Files: what calls on them mean, one kind on the disk, and locks and steps over any kind.
 #![tactic(auto)]
 
 pub mod disk;
 pub mod files;
 pub mod lock;
-pub mod memory;
 pub mod steps;

@@ -2,11 +2,11 @@
 use Rattle.std.proofs.Common.{◌≡◌, inl, inr, ℕ, length, arith, List, [], ◌∷◌, ◌++◌, true, false, Option, Some, None, MatchOption, codes, refl, sym, ◌∙◌, ap, subst}
 use Rattle.std.specs.Prelude.{bytes_eq, ◌==◌}
 use Rattle.std.proofs.lemmas.Bool.{eqb-true}
-use Rattle.gix_ref_base.specs.Ids.{IsHex, IsHexOf, ReadsId, id_kind}
-use Rattle.gix_ref_base.specs.declared.hash.ObjectId.{ObjectId}
-use Rattle.gix_ref_base.specs.declared.hash.Kind.{Kind}
-use Rattle.gix_ref_base.specs.declared.hash.Kind.TheVariants as kinds
-use Rattle.gix_ref_base.proofs.IdLemmas.{reads_whole}
+use Rattle.gix_ref_hash.specs.Ids.{IsHex, IsHexOf, ReadsId, id_kind}
+use Rattle.gix_ref_hash.specs.declared.hash.ObjectId.{ObjectId}
+use Rattle.gix_ref_hash.specs.declared.hash.Kind.{Kind}
+use Rattle.gix_ref_hash.specs.declared.hash.Kind.TheVariants as kinds
+use Rattle.gix_ref_hash.proofs.IdLemmas.{reads_whole}
 use Rattle.gix_ref_program.specs.Words.{Asked, Update, Show, Line, first_is, IsOld, IsUpdate, IsCommand, HasOptions, IsLine, kind_words, asked_of}
 use Rattle.gix_ref_program.specs.declared.words.Command.{Command}
 

@@ -1,16 +1,16 @@
 -- What a run of the program comes to.
 use Rattle.std.specs.Prelude.{◌≡◌, ◌⊎◌, ℕ, List, [], ◌∷◌, true, false, codes, Option, Some, None, Result, IfOk}
 use Rattle.std.specs.Io.KnownBytes.{Appends}
-use Rattle.gix_ref_base.specs.Ids.{null_id}
+use Rattle.gix_ref_hash.specs.Ids.{null_id}
 use Rattle.gix_ref_base.specs.NameGrammar.{full_error, partial_error}
 use Rattle.gix_ref_base.specs.Namespaces.{expanded}
 use Rattle.gix_ref_base.specs.Targets.TargetValue.{object_id}
-use Rattle.gix_ref_base.specs.declared.hash.Kind.{Kind}
-use Rattle.gix_ref_base.specs.declared.hash.ObjectId.{ObjectId}
+use Rattle.gix_ref_hash.specs.declared.hash.Kind.{Kind}
+use Rattle.gix_ref_hash.specs.declared.hash.ObjectId.{ObjectId}
 use Rattle.gix_ref_files.specs.Tree.{Tree}
 use Rattle.gix_ref_files.specs.Files.{Meaning, Leaves}
 use Rattle.gix_ref.specs.AddedLocks.{paths_of}
-use Rattle.gix_ref.specs.Carried.{view_of}
+use Rattle.gix_ref_theory.specs.Carried.{view_of}
 use Rattle.gix_ref.specs.CleanPaths.{is_clean}
 use Rattle.gix_ref.specs.Committing.{AreCommitted}
 use Rattle.gix_ref.specs.Lookup.{Finds, FailsBy}

@@ -7,7 +7,7 @@ use Rattle.gix_ref.specs.AddedLocks.{is_in, AddsLocks}
 use Rattle.gix_ref.specs.Causes.{locks_of}
 use Rattle.gix_ref.specs.Committing.{AreLeftWell, names_of}
 use Rattle.gix_ref.specs.Prepared.{RefusesFrom, tree_of, locks_in}
-use Rattle.gix_ref.specs.Readings as readings
+use Rattle.gix_ref_theory.specs.Readings as readings
 use Rattle.gix_ref.specs.Store.{files_of, meaning_of}
 use Rattle.gix_ref.specs.Taken.{places_of}
 use Rattle.gix_ref.specs.declared.file.store.Store.{Store}

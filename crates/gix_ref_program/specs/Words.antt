@@ -3,10 +3,10 @@ use Rattle.std.specs.Prelude.{◌≡◌, ◌≢◌, ℕ, List, [], ◌∷◌, �
 use Rattle.std.specs.String.{string_bytes}
 use Rattle.std.specs.declared.alloc.Global.{Global}
 use Rattle.std.specs.Option.{option_map}
-use Rattle.gix_ref_base.specs.Ids.{ReadsId}
-use Rattle.gix_ref_base.specs.declared.hash.ObjectId.{ObjectId}
-use Rattle.gix_ref_base.specs.declared.hash.Kind.{Kind}
-use Rattle.gix_ref_base.specs.declared.hash.Kind.TheVariants as kinds
+use Rattle.gix_ref_hash.specs.Ids.{ReadsId}
+use Rattle.gix_ref_hash.specs.declared.hash.ObjectId.{ObjectId}
+use Rattle.gix_ref_hash.specs.declared.hash.Kind.{Kind}
+use Rattle.gix_ref_hash.specs.declared.hash.Kind.TheVariants as kinds
 use Rattle.gix_ref_program.specs.declared.words.Command.{Command}
 use Rattle.gix_ref_program.specs.declared.words.Command.TheVariants as commands
 use Rattle.gix_ref_program.specs.declared.words.Line.{Line as Parsed}

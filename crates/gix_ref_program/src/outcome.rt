@@ -8,8 +8,8 @@ use crate::refusal::Refusal;
 use gix_ref::raw::Reference;
 use gix_ref_base::target::Target;
 use std::alloc::{AllocError, Global};
-use std::io;
 use std::io::Write;
+use std::io;
 
 /// What a line comes to.
 #[derive(Debug, Drop)]

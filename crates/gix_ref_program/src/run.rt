@@ -1,7 +1,7 @@
 //! One run of the program, over any files.
 ghost use Rattle.std.specs.Prelude.{◌≡◌, ◌⊎◌, [], ◌∷◌, false, IsSome, IfOk, MatchResult};
 ghost use Rattle.std.specs.Option.{option_map};
-ghost use Rattle.gix_ref.specs.Folders.{namespace_text};
+ghost use Rattle.gix_ref.specs.StoreLayout.{namespace_text};
 ghost use Rattle.gix_ref.specs.Store.{files_of, meaning_of};
 ghost use Rattle.gix_ref.specs.Prepared.{tree_of};
 ghost use Rattle.gix_ref.specs.Transactions.{new_of};
@@ -19,14 +19,14 @@ use gix_ref::file::transaction::PackedRefs;
 use gix_ref::file::{Store, store};
 use gix_ref::store::{Options, WriteReflog};
 use gix_ref::transaction::{Change, LogChange, PreviousValue, RefEdit};
-use gix_ref_base::hash::{Kind, ObjectId};
 use gix_ref_base::name::{FullNameRef, PartialNameRef};
 use gix_ref_base::namespace::{Namespace, expand};
 use gix_ref_base::target::Target;
 use gix_ref_files::files::Files;
+use gix_ref_hash::hash::{Kind, ObjectId};
 use std::alloc::{AllocError, Global};
-use std::io;
 use std::io::Write;
+use std::io;
 
 /// What a run hands back.
 #[derive(Drop)]

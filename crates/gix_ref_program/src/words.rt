@@ -2,10 +2,10 @@
 //! `show NAME`.
 ghost use Rattle.std.specs.Prelude.{◌≡◌, ◌++◌, ℕ, List, MatchOption, Option, codes, ◌∷◌, [], false};
 ghost use Rattle.std.specs.Option.{option_map};
-ghost use Rattle.gix_ref_base.specs.declared.hash.ObjectId.{ObjectId};
+ghost use Rattle.gix_ref_hash.specs.declared.hash.ObjectId.{ObjectId};
 ghost use Rattle.gix_ref_program.specs.Words.{Asked, Line as AskedLine, texts, first_is, IsOld, IsUpdate, IsCommand, HasOptions, IsLine, kind_words, asked_of, line_of};
 
-use gix_ref_base::hash::{Kind, ObjectId};
+use gix_ref_hash::hash::{Kind, ObjectId};
 
 /// What a line asks for.
 #[derive(Clone, Copy, Debug)]

@@ -1,5 +1,5 @@
 //! Helpers on texts.
-use gix_ref_base::bytes::{
+use gix_ref_hash::bytes::{
     after_spaces, before_line_end, begins_with, cut, cut_last, split_component, strip_front,
 };
 

@@ -1,6 +1,6 @@
 //! Ids and their hex digits.
 use crate::made::{id, shown};
-use gix_ref_base::hash::{Kind, ObjectId, hex_hash, hex_hash_any, newline};
+use gix_ref_hash::hash::{Kind, ObjectId, hex_hash, hex_hash_any, newline};
 
 /// A hundred digits `1`, of which tests take as many as they want.
 const ONES: [u8; 100] = [b'1'; 100];

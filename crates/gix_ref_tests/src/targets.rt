@@ -1,7 +1,7 @@
 //! Targets of references.
 use crate::made::{copy, full, full_name, id, shown};
-use gix_ref_base::hash::{Kind as HashKind, ObjectId};
 use gix_ref_base::target::{Kind, Target, TargetRef};
+use gix_ref_hash::hash::{Kind as HashKind, ObjectId};
 
 const ONES: &[u8; 40] = b"1111111111111111111111111111111111111111";
 

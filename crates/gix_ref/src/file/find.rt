@@ -4,8 +4,8 @@ ghost use Rattle.gix_ref_files.specs.Files.{Leaves};
 ghost use Rattle.gix_ref_files.specs.Calls.{Only};
 ghost use Rattle.gix_ref_base.specs.Names.{full_ref_bytes, partial_ref_bytes};
 ghost use Rattle.gix_ref_base.specs.Targets.{target_value};
-ghost use Rattle.gix_ref.specs.Carried.{view_of};
-ghost use Rattle.gix_ref.specs.Folders.{namespace_text};
+ghost use Rattle.gix_ref_theory.specs.Carried.{view_of};
+ghost use Rattle.gix_ref.specs.StoreLayout.{namespace_text};
 ghost use Rattle.gix_ref.specs.Store.{files_of, meaning_of, IsSameStore};
 ghost use Rattle.gix_ref.specs.Lookup.{asks_itself, is_own_name, less_namespace, Reads, ReadsBy, Finds, FailsBy, RefusesBy, MissesBy};
 
@@ -13,7 +13,6 @@ mod error;
 pub mod existing;
 pub(crate) mod loose;
 
-use crate::file::place::{place_of, spot_of_any};
 use crate::file::store::Store;
 use crate::raw::Reference;
 pub use error::Error;
@@ -124,7 +123,7 @@ impl<F: Files> Store<F> {
     pub(crate) fn place(&self, alloc: Global, name: FullNameRef<'_>) -> Result<Vec<u8>, AllocError>
         ensures { IfOk result (λ place. place.items ≡ (meaning_of self.now).place (full_ref_bytes name.entry)) }
     {
-        place_of(alloc, &self.dirs, &self.namespace, spot_of_any(name))
+        self.dirs.layout(&self.namespace).loose(alloc, name)
     }
 
     /// The reference of a name by what its loose file tells.

@@ -2,18 +2,22 @@
 ghost use Rattle.std.specs.Prelude.{◌≡◌, ◌↔◌, ◌⊎◌, ◌∷◌, ◌++◌, ℕ, List, IsTrue, IfSome, IfNone, IfOk, IfErr, MatchOption, IsTrue, true, false, codes};
 ghost use Rattle.std.specs.Prelude.{◌==◌, not};
 ghost use Rattle.std.specs.List.{list_all};
-ghost use Rattle.gix_ref_base.specs.Bytes.{NoByte, components, without_front};
-ghost use Rattle.gix_ref.specs.Places.{AreLaid, LiesIn, below};
-ghost use Rattle.gix_ref.specs.CleanPaths.{is_clean, is_clean_component, common_of, is_laid};
+ghost use Rattle.gix_ref_hash.specs.Bytes.{NoByte, components, without_front};
+ghost use Rattle.gix_ref.specs.StoreLayout.{folders_of, namespace_text};
+ghost use Rattle.gix_ref_base.specs.RefLayout.{layout_of};
+ghost use Rattle.gix_ref_base.specs.Layout.{AreCompatible, LiesIn, below};
+ghost use Rattle.gix_ref.specs.CleanPaths.{is_clean, is_clean_component, common_of, are_compatible};
 
-use gix_ref_base::bytes::{split_component, strip_front};
+use gix_ref_base::layout::RefLayout;
+use gix_ref_base::namespace::Namespace;
+use gix_ref_hash::bytes::{split_component, strip_front};
 
 /// The git folder, and the common folder where another one was given.
 #[derive(Debug, Drop)]
 pub(crate) struct Dirs {
     pub(crate) git_dir: Vec<u8>,
     pub(crate) common_dir: Option<Vec<u8>>,
-    pub ghost laid: { is_laid git_dir.items (common_of git_dir common_dir) ≡ true },
+    pub ghost laid: { are_compatible git_dir.items (common_of git_dir common_dir) ≡ true },
 }
 
 impl Dirs {
@@ -22,6 +26,27 @@ impl Dirs {
         ensures { result.now ≡ common_of self.now.git_dir self.now.common_dir }
     {
         resolved(&self.git_dir, &self.common_dir)
+    }
+
+    /// Where names are kept in these folders and in this namespace.
+    pub(crate) fn layout<'a>(&'a self, namespace: &'a Option<Namespace>) -> RefLayout<'a>
+        ensures { layout_of result ≡ folders_of self.now namespace.now }
+    {
+        RefLayout {
+            git_dir: &self.git_dir,
+            common_dir: self.common(),
+            namespace: text_of(namespace),
+        }
+    }
+}
+
+/// The text of the namespace, or nothing.
+fn text_of(namespace: &Option<Namespace>) -> &[u8]
+    ensures { result.now ≡ namespace_text namespace.now }
+{
+    match namespace {
+        Some(namespace) => namespace.to_path(),
+        None => b"",
     }
 }
 
@@ -102,8 +127,8 @@ fn is_worktree(rest: &[u8]) -> bool
 }
 
 /// Whether the git folder is the common one, or that of a linked worktree in it, or neither lies in the other.
-pub(crate) fn are_laid(git_dir: &[u8], common_dir: &[u8]) -> bool
-    ensures { IsTrue result ↔ AreLaid git_dir.now common_dir.now }
+pub(crate) fn dirs_are_compatible(git_dir: &[u8], common_dir: &[u8]) -> bool
+    ensures { IsTrue result ↔ AreCompatible git_dir.now common_dir.now }
 {
     if git_dir == common_dir {
         return true;

@@ -1,19 +1,19 @@
 //! Loose references: a file for each, with the id of an object or the name of another reference.
 ghost use Rattle.std.specs.Prelude.{◌≡◌, ◌++◌, ℕ, List, IfOk, IfErr, OnOk, MatchResult, MatchOption, Some};
-ghost use Rattle.gix_ref_base.specs.Ids.{IsHexOf, IsWhole};
-ghost use Rattle.gix_ref_base.specs.declared.hash.Kind.{Kind};
+ghost use Rattle.gix_ref_hash.specs.Ids.{IsHexOf, IsWhole};
+ghost use Rattle.gix_ref_hash.specs.declared.hash.Kind.{Kind};
 ghost use Rattle.gix_ref_base.specs.Targets.{TargetValue, target_value, target_kind};
 ghost use Rattle.gix_ref_base.specs.Targets.TargetValue.{object_id};
-ghost use Rattle.gix_ref.specs.Stores.{loose_text};
+ghost use Rattle.gix_ref_theory.specs.Stores.{loose_text};
 ghost use Rattle.gix_ref.specs.LooseText.{HoldsPath, HoldsId, HoldsTarget, Refuses, IsWritable, target_in};
 
 mod error;
 
 pub use error::Error;
-use gix_ref_base::bytes::{after_spaces, before_line_end, strip_front};
-use gix_ref_base::hash::{Kind, ObjectId, hex_hash, is_hex};
 use gix_ref_base::name::{FullName, FullNameRef};
 use gix_ref_base::target::{self, Target};
+use gix_ref_hash::bytes::{after_spaces, before_line_end, strip_front};
+use gix_ref_hash::hash::{Kind, ObjectId, hex_hash, is_hex};
 use std::alloc::{AllocError, Global};
 
 /// A reference in a file of its own.

@@ -2,10 +2,10 @@
 ghost use Rattle.std.specs.Prelude.{◌≡◌};
 ghost use Rattle.gix_ref.specs.CleanPaths.{are_clean};
 
-use crate::file::folders::{Dirs, are_laid, is_clean_path, resolved};
+use crate::file::folders::{Dirs, dirs_are_compatible, is_clean_path, resolved};
 use crate::store::{Options, WriteReflog};
-use gix_ref_base::hash::Kind;
 use gix_ref_base::namespace::Namespace;
+use gix_ref_hash::hash::Kind;
 use std::alloc::{AllocError, Global};
 
 /// A store of references in files: loose files below the git folder and the common folder.
@@ -44,7 +44,7 @@ fn are_clean_paths(git_dir: &Vec<u8>, common_dir: &Option<Vec<u8>>) -> bool
 
 impl<F> Store<F> {
     ghost use Rattle.std.specs.Prelude.{◌≡◌, IfOk, IfErr, MatchResult, MatchOption, Some, None};
-    ghost use Rattle.gix_ref.specs.Places.{packed_refs};
+    ghost use Rattle.gix_ref_base.specs.Layout.{packed_refs};
     ghost use Rattle.gix_ref.specs.Store.{files_of, folders, kind_of, IsMade, AreDirs, IsRefused};
 
     /// The store in a git folder that is the common folder too, with the default options. The folder is bytes with
@@ -111,7 +111,7 @@ impl<F> Store<F> {
         if !are_clean_paths(&git_dir, &common_dir) {
             return Err(Error::PathNotClean { files });
         }
-        if !are_laid(&git_dir, resolved(&git_dir, &common_dir)) {
+        if !dirs_are_compatible(&git_dir, resolved(&git_dir, &common_dir)) {
             return Err(Error::FoldersMeet { files });
         }
         Ok(Store {

@@ -20,8 +20,8 @@ use crate::file::transaction::release::{release_locks, remove_locks};
 use crate::file::transaction::setting::Paths;
 use crate::store::WriteReflog;
 use crate::transaction::RefEdit;
-use gix_ref_base::actor::SignatureRef;
 use gix_ref_files::files::Files;
+use gix_ref_log::actor::SignatureRef;
 use std::alloc::Global;
 use std::fmt;
 

@@ -1,11 +1,11 @@
 //! The categories of names, and the short name within each.
 ghost use Rattle.std.specs.Prelude.{◌≡◌, IfOk, IfSome, IfNone};
-ghost use Rattle.gix_ref_base.specs.Bytes.{without_front, with_front};
+ghost use Rattle.gix_ref_hash.specs.Bytes.{without_front, with_front};
 ghost use Rattle.gix_ref_base.specs.Categories.{HasCategory, NoCategory, NoGroup, NoMain, NoLinked};
 
-use crate::bytes::{begins_with, split_component, strip_front};
 use crate::name::grammar::is_pseudo_name;
 use crate::name::{Error, FullName};
+use gix_ref_hash::bytes::{begins_with, split_component, strip_front};
 use std::alloc::{AllocError, Global};
 
 /// What a name stands for. Each variant says where the name begins; the short name is what follows that, but for the
@@ -126,7 +126,7 @@ pub fn category_of_bytes<'a>(name: &'a [u8]) -> Option<(Category<'a>, &'a [u8])>
 }
 
 /// A text without a front that it may have.
-#[tactic(auto, unfolding(crate::specs::Bytes::without_front))]
+#[tactic(auto, unfolding(gix_ref_hash::specs::Bytes::without_front))]
 fn drop_front<'a>(text: &'a [u8], front: &[u8]) -> &'a [u8]
     ensures { result.now ≡ without_front front.now text.now }
 {
@@ -138,7 +138,7 @@ fn drop_front<'a>(text: &'a [u8], front: &[u8]) -> &'a [u8]
 }
 
 /// A text behind a front, which it may have already.
-#[tactic(auto, unfolding(crate::specs::Bytes::with_front))]
+#[tactic(auto, unfolding(gix_ref_hash::specs::Bytes::with_front))]
 fn put_front(mut front: Vec<u8>, text: &[u8]) -> Result<Vec<u8>, AllocError>
     ensures { IfOk result (λ v. v.items ≡ with_front front.items text.now) }
 {

@@ -2,7 +2,7 @@
 ghost use Rattle.std.specs.Prelude.{◌≡◌, ◌==◌, ◌&&◌, codes, IfOk, IfErr, OnOk, IfNone, Some, None, Ok, Err, find, false};
 ghost use Rattle.std.specs.Bool.{OnTrue};
 ghost use Rattle.std.specs.List.{list_any, list_all};
-ghost use Rattle.gix_ref_base.specs.Bytes.{occurs, components};
+ghost use Rattle.gix_ref_hash.specs.Bytes.{occurs, components};
 ghost use Rattle.gix_ref_base.specs.NameGrammar.{is_invalid, is_pseudo_byte, is_dotted, is_locked, byte_error, IsPartialName, partial_error, full_error};
 
 use crate::name::Error;

@@ -3,9 +3,9 @@ ghost use Rattle.std.specs.Prelude.{◌≡◌, ◌++◌, IfOk, OnOk};
 ghost use Rattle.gix_ref_base.specs.Names.{partial_ref_bytes};
 ghost use Rattle.gix_ref_base.specs.Namespaces.{namespace_bytes, expanded, expanded_component};
 
-use crate::bytes::split_component;
 use crate::name::PartialNameRef;
 use crate::namespace::Namespace;
+use gix_ref_hash::bytes::split_component;
 use std::alloc::{AllocError, Global};
 
 /// Adds `refs/namespaces/`, the component and a slash.

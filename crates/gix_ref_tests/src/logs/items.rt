@@ -1,13 +1,13 @@
 //! The items of logs from either end.
-use super::lines::{ONES, ZEROS, joined};
-use super::reader::{Counted, Tally};
-use super::slow::{self, Items};
 use gix_ref_files::files::FileError;
-use gix_ref_formats::log::LineRef;
-use gix_ref_formats::log::iter::{EmptyBuffer, ReverseError, decode, forward, reverse};
+use gix_ref_log::log::iter::{EmptyBuffer, ReverseError, decode, forward, reverse};
+use gix_ref_log::log::LineRef;
 use std::alloc::Global;
 use std::io::ErrorKind;
 use std::process::Abort;
+use super::lines::{ONES, ZEROS, joined};
+use super::reader::{Counted, Tally};
+use super::slow::{self, Items};
 
 /// The line X of the worked rows: 113 bytes with its LF.
 fn line_x(rt: &impl Abort, alloc: Global) -> Vec<u8> {

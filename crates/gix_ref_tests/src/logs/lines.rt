@@ -1,8 +1,8 @@
 //! Lines of reflogs: which texts are read, what is written, and what cannot be.
 use crate::made::{copy, id};
-use gix_ref_base::actor::{SignatureRef, Time};
-use gix_ref_base::hash::Kind;
-use gix_ref_formats::log::{AppendError, Line, LineRef, WriteError, appended_line};
+use gix_ref_hash::hash::Kind;
+use gix_ref_log::actor::{SignatureRef, Time};
+use gix_ref_log::log::{AppendError, Line, LineRef, WriteError, appended_line};
 use std::alloc::Global;
 use std::process::Abort;
 

@@ -1,6 +1,6 @@
 //! Signatures: which texts are read, what is written, and what cannot be.
 use crate::made::copy;
-use gix_ref_base::actor::{Signature, SignatureRef, Time, WriteError};
+use gix_ref_log::actor::{Signature, SignatureRef, Time, WriteError};
 use std::process::Abort;
 
 /// A signature by its parts.

@@ -1,6 +1,6 @@
 //! The slow program for reading a log from its end: it reads the whole log, cuts it into lines and turns them round.
-use gix_ref_formats::log::iter::{ReverseError, decode};
-use gix_ref_formats::log::{Line, LineRef};
+use gix_ref_log::log::iter::{ReverseError, decode};
+use gix_ref_log::log::{Line, LineRef};
 use std::alloc::Global;
 use std::process::Abort;
 

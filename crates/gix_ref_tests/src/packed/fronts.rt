@@ -1,8 +1,8 @@
 //! Every front of a text, and every byte of it replaced, compared with a plain scan.
 use crate::made::full;
 use crate::packed::made::{CRLF, NAMES, Seen, TEXT, buffer, scan, sorted};
-use gix_ref_formats::packed::Buffer;
-use gix_ref_formats::packed::iter::Error;
+use gix_ref_packed::packed::Buffer;
+use gix_ref_packed::packed::iter::Error;
 use std::process::Abort;
 
 /// What the items of a buffer are, with the records of a name among them.

@@ -1,7 +1,7 @@
 //! Texts and buffers for tests of packed references, and the plain scan that they are compared with.
-use gix_ref_base::hash::Kind;
-use gix_ref_formats::packed::Buffer;
-use gix_ref_formats::packed::decode::reference;
+use gix_ref_hash::hash::Kind;
+use gix_ref_packed::packed::Buffer;
+use gix_ref_packed::packed::decode::reference;
 use std::alloc::Global;
 use std::process::Abort;
 

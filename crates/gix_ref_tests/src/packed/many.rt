@@ -1,8 +1,8 @@
 //! A hundred thousand records, out of their order: opened, listed and searched.
 use crate::made::full;
-use gix_ref_base::hash::Kind;
-use gix_ref_formats::packed::Buffer;
-use gix_ref_formats::packed::written::push_record;
+use gix_ref_hash::hash::Kind;
+use gix_ref_packed::packed::Buffer;
+use gix_ref_packed::packed::written::push_record;
 use std::alloc::Global;
 use std::process::Abort;
 

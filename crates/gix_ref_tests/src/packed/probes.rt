@@ -2,10 +2,10 @@
 ghost use Rattle.std.specs.Prelude.{◌≡◌, ◌<◌};
 
 use crate::packed::made::{NAMES, TEXT};
-use gix_ref_base::hash::Kind;
-use gix_ref_formats::packed::Probes;
-use gix_ref_formats::packed::search::search;
-use gix_ref_formats::packed::text::{Look, Text, Whole};
+use gix_ref_hash::hash::Kind;
+use gix_ref_packed::packed::Probes;
+use gix_ref_packed::packed::search::search;
+use gix_ref_packed::packed::text::{Look, Text, Whole};
 use std::convert::Infallible;
 use std::marker::Brand;
 use std::process::Abort;

@@ -1,17 +1,17 @@
 //! Worked cases: headers, records, opened buffers, items and partial names.
 use crate::made::{full, id, partial};
 use crate::packed::made::{CRLF, NAMES, SORTED, TEXT, buffer, copied, sorted};
-use gix_ref_base::hash::Kind;
-use gix_ref_formats::packed::buffer::open::Error as OpenError;
-use gix_ref_formats::packed::decode::{
+use gix_ref_hash::hash::Kind;
+use gix_ref_packed::packed::buffer::open::Error as OpenError;
+use gix_ref_packed::packed::decode::{
     Header, Peeled, header, name_at_record_start, record_at_offset, record_start_at_offset,
     reference,
 };
-use gix_ref_formats::packed::find::existing::Error as ExistingError;
-use gix_ref_formats::packed::iter::Error as ItemError;
-use gix_ref_formats::packed::written::text_of;
-use gix_ref_formats::packed::{Buffer, Iter};
-use gix_ref_formats::raw;
+use gix_ref_packed::packed::find::existing::Error as ExistingError;
+use gix_ref_packed::packed::iter::Error as ItemError;
+use gix_ref_packed::packed::written::text_of;
+use gix_ref_packed::packed::{Buffer, Iter};
+use gix_ref_packed::raw;
 
 #[test]
 fn headers(rt: HostRuntime) {

@@ -3,13 +3,13 @@ ghost use Rattle.std.specs.Prelude.{◌≡◌, ◌<◌};
 
 use crate::made::{full, id};
 use crate::packed::made::{NAMES, TEXT, sorted};
-use gix_ref_base::hash::Kind;
 use gix_ref_base::name::FullNameRef;
 use gix_ref_files::files::{Files, ReadAt};
-use gix_ref_files::memory::Memory;
-use gix_ref_formats::packed::Probes;
-use gix_ref_formats::packed::source::{FindError, Source, SourceError};
-use gix_ref_formats::packed::window::Found;
+use gix_ref_hash::hash::Kind;
+use gix_ref_memory::memory::Memory;
+use gix_ref_packed::packed::Probes;
+use gix_ref_packed::packed::source::{FindError, Source, SourceError};
+use gix_ref_packed::packed::window::Found;
 use std::alloc::Global;
 use std::marker::Brand;
 use std::process::Abort;

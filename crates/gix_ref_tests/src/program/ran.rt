@@ -2,7 +2,7 @@
 use crate::made::bytes;
 use gix_ref::file::transaction::PackedRefs;
 use gix_ref_files::files::Files;
-use gix_ref_files::memory::Memory;
+use gix_ref_memory::memory::Memory;
 use gix_ref_program::run::run;
 use std::alloc::Global;
 use std::process::Abort;

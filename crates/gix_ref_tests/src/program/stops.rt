@@ -2,7 +2,7 @@
 //! restart the next run meets the lock, where one stands, or does its work.
 use crate::program::ran::{is_text, told, with_files};
 use gix_ref_files::files::Files;
-use gix_ref_files::memory::Memory;
+use gix_ref_memory::memory::Memory;
 use std::alloc::Global;
 use std::process::Abort;
 

@@ -1,11 +1,11 @@
 //! Lookups: a reference is found under its own full name, in its loose file, at the place of its name.
 use crate::made::{bytes, namespace, partial, shown};
-use gix_ref::file::Store;
 use gix_ref::file::find::{self, existing};
+use gix_ref::file::Store;
 use gix_ref::raw::Reference;
-use gix_ref_base::hash::Kind;
 use gix_ref_files::files::{FileError, Files};
-use gix_ref_files::memory::Memory;
+use gix_ref_hash::hash::Kind;
+use gix_ref_memory::memory::Memory;
 use std::alloc::Global;
 use std::io::ErrorKind;
 use std::process::Abort;

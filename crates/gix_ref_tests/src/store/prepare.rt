@@ -6,10 +6,10 @@ use gix_ref::file::Store;
 use gix_ref::file::transaction::PackedRefs;
 use gix_ref::file::transaction::prepare::Error;
 use gix_ref::transaction::{Change, LogChange, PreviousValue, RefEdit};
-use gix_ref_base::hash::Kind;
 use gix_ref_base::name::FullName;
 use gix_ref_base::target::Target;
-use gix_ref_files::memory::Memory;
+use gix_ref_hash::hash::Kind;
+use gix_ref_memory::memory::Memory;
 use std::alloc::Global;
 use std::process::Abort;
 

@@ -2,13 +2,13 @@
 ghost use Rattle.std.specs.Prelude.{◌≡◌, IfOk, IfErr, Some};
 ghost use Rattle.gix_ref_files.specs.Files.{Leaves, count_after};
 ghost use Rattle.gix_ref_files.specs.Calls.{Only};
-ghost use Rattle.gix_ref.specs.Carried.{view_of};
+ghost use Rattle.gix_ref_theory.specs.Carried.{view_of};
 ghost use Rattle.gix_ref.specs.Lookup.{Tells};
 
 use crate::file::loose::{Error, decode};
-use gix_ref_base::hash::Kind;
 use gix_ref_base::target::Target;
 use gix_ref_files::files::{FileError, Files, Node};
+use gix_ref_hash::hash::Kind;
 use std::alloc::Global;
 
 /// What the loose file at a place tells.

@@ -2,8 +2,8 @@
 ghost use Rattle.std.specs.Prelude.{◌≡◌, IfOk};
 
 use crate::file::folders::Dirs;
-use gix_ref_base::hash::Kind;
 use gix_ref_base::namespace::Namespace;
+use gix_ref_hash::hash::Kind;
 
 /// Where the names of a store stand.
 #[derive(Clone, Copy, Debug)]

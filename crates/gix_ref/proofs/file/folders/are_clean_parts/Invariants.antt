@@ -1,6 +1,6 @@
 use Rattle.std.proofs.Common.{◌≡◌, length}
 use Rattle.std.specs.List.{list_all}
-use Rattle.gix_ref_base.specs.Bytes.{components}
+use Rattle.gix_ref_hash.specs.Bytes.{components}
 use Rattle.gix_ref.specs.CleanPaths.{is_clean_component}
 use Rattle.gix_ref.proofs.file.folders.are_clean_parts.Given as goal
 

@@ -1,7 +1,7 @@
 use Rattle.std.proofs.Common.{◌∙◌}
 use Rattle.std.proofs.lemmas.Bool.{false≢true}
 use Rattle.gix_ref.proofs.FolderLemmas.{laid_below, same_test}
-use Rattle.gix_ref.proofs.file.folders.are_laid.Goals as goal
+use Rattle.gix_ref.proofs.file.folders.dirs_are_compatible.Goals as goal
 
 pub returns-in-Some : goal.returns-in-Some
 returns-in-Some c =

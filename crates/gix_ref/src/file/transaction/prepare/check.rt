@@ -1,18 +1,18 @@
 //! What each edit has to meet by itself.
 ghost use Rattle.std.specs.Prelude.{◌≡◌, ◌↔◌, [], IsTrue, MatchResult, IfErr, Option, Some, None};
 ghost use Rattle.std.specs.Option.{option_map};
-ghost use Rattle.gix_ref_base.specs.Ids.{id_kind, IsWhole};
+ghost use Rattle.gix_ref_hash.specs.Ids.{id_kind, IsWhole};
 ghost use Rattle.gix_ref_base.specs.Targets.{target_ref_value};
 ghost use Rattle.gix_ref.specs.Causes.{IsSound, IsUnsound, AllSound, IsFirstUnsound, IsFullTarget, IsOfKind, IsWholeTarget, HasKind, IsInside};
-ghost use Rattle.gix_ref.specs.Spots.{is_safe};
+ghost use Rattle.gix_ref_base.specs.Locations.{is_safe};
 ghost use Rattle.gix_ref.specs.Transactions.{name_of, new_of};
 
-use crate::file::place::spot_of;
 use crate::file::transaction::prepare::Error;
 use crate::transaction::RefEdit;
-use gix_ref_base::hash::{Kind, ObjectId};
+use gix_ref_base::layout::location_of;
 use gix_ref_base::name::FullNameRef;
 use gix_ref_base::target::TargetRef;
+use gix_ref_hash::hash::{Kind, ObjectId};
 
 /// Whether the name of a new symbolic target is a full name.
 fn is_full_target(new: Option<TargetRef<'_>>) -> bool
@@ -55,7 +55,7 @@ fn check_edit(edit: &RefEdit, kind: Kind) -> Result<(), Error>
     ensures sound { MatchResult result (λ _. IsSound kind edit.now) (IsUnsound kind edit.now) }
     ensures inside { IfErr result IsInside }
 {
-    if spot_of(edit.name.as_ref()).is_none() {
+    if location_of(edit.name.as_ref()).is_none() {
         return Err(Error::UnsafeName);
     }
     if !is_full_target(edit.change.new_value()) {

@@ -8,8 +8,8 @@ ghost use Rattle.gix_ref.specs.declared.transaction.PreviousValue.TheVariants.{M
 
 use crate::file::transaction::prepare::Error;
 use crate::transaction::{Change, PreviousValue, RefEdit};
-use gix_ref_base::hash::Kind;
 use gix_ref_base::target::Target;
+use gix_ref_hash::hash::Kind;
 use std::alloc::Global;
 
 /// Whether two targets are the same.

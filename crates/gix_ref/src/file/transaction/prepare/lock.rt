@@ -5,9 +5,9 @@ ghost use Rattle.gix_ref_files.specs.Tree.Content.{File};
 ghost use Rattle.gix_ref_files.specs.Files.{Leaves};
 ghost use Rattle.gix_ref_files.specs.Calls.{Only};
 ghost use Rattle.gix_ref_base.specs.Targets.{target_value};
-ghost use Rattle.gix_ref.specs.Folders.{namespace_text};
-ghost use Rattle.gix_ref.specs.Views.{lock_of};
-ghost use Rattle.gix_ref.specs.Carried.{view_of};
+ghost use Rattle.gix_ref.specs.StoreLayout.{namespace_text};
+ghost use Rattle.gix_ref_theory.specs.Views.{lock_of};
+ghost use Rattle.gix_ref_theory.specs.Carried.{view_of};
 ghost use Rattle.gix_ref.specs.AddedLocks.{AddsLocks};
 ghost use Rattle.gix_ref.specs.Causes.{found, IsCounted, IsInside, IsMismatch, IsOutside, locks_of};
 ghost use Rattle.gix_ref.specs.Transactions.{name_of, expected_of, new_of, Expects};
@@ -16,7 +16,6 @@ ghost use Rattle.gix_ref.specs.Taken.{setting_of, value_of, places_of, place_pat
 use crate::file::find::loose::{Loose, loose_at};
 use crate::file::find::strip;
 use crate::file::loose::text_of;
-use crate::file::place::{place_of, spot_of_any};
 use crate::file::transaction::prepare::Error;
 use crate::file::transaction::prepare::expect::check_expected;
 use crate::file::transaction::setting::{Paths, Setting};
@@ -32,8 +31,8 @@ fn paths_of_edit(alloc: Global, setting: &Setting<'_>, edit: &RefEdit) -> Result
     ensures place { IfOk result (λ paths. paths.place.items ≡ (setting_of setting.now).place (name_of edit.now)) }
     ensures lock { IfOk result (λ paths. paths.lock.items ≡ lock_of ((setting_of setting.now).place (name_of edit.now))) }
 {
-    let spot = spot_of_any(edit.name.as_ref());
-    let place = place_of(alloc, setting.dirs, setting.namespace, spot)?;
+    let layout = setting.dirs.layout(setting.namespace);
+    let place = layout.loose(alloc, edit.name.as_ref())?;
     let mut lock = place.clone()?;
     lock.extend_from_slice(b".lock")?;
     Ok(Paths { place, lock })

@@ -1,6 +1,6 @@
 use Rattle.std.proofs.Common.{◌≡◌, ◌∷◌, ◌-◌, ◌≤◌, drop, take, ◌||◌, codes}
 use Rattle.std.specs.List.{list_any, find}
-use Rattle.gix_ref_base.specs.Bytes.{occurs, components}
+use Rattle.gix_ref_hash.specs.Bytes.{occurs, components}
 use Rattle.gix_ref_base.specs.NameGrammar.{is_invalid, is_dotted, is_locked}
 use Rattle.gix_ref_base.proofs.Scans.{NoSlash}
 use Rattle.gix_ref_base.proofs.name.grammar.scan.Given as goal

@@ -1,4 +1,4 @@
-use Rattle.gix_ref.specs.Folders.{folders_of, loose_alone}
+use Rattle.gix_ref.specs.StoreLayout.{folders_of, loose_alone}
 use Rattle.gix_ref.proofs.OneEdit.{apart_one}
 use Rattle.gix_ref.proofs.Settings.{folders_laid}
 use Rattle.gix_ref.proofs.file.store.Store.begin.Goals as goal

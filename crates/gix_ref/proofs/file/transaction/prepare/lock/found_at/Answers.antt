@@ -1,7 +1,7 @@
 use Rattle.std.proofs.Common.{◌∙◌, subst}
 use Rattle.gix_ref_files.specs.Tree.{Path}
-use Rattle.gix_ref.specs.Carried.{view_of}
-use Rattle.gix_ref.specs.Folders.{folders_of}
+use Rattle.gix_ref_theory.specs.Carried.{view_of}
+use Rattle.gix_ref.specs.StoreLayout.{folders_of}
 use Rattle.gix_ref.specs.Lookup.{Tells}
 use Rattle.gix_ref.proofs.LookupLemmas.{found_loose}
 use Rattle.gix_ref.proofs.file.transaction.prepare.lock.found_at.Goals as goal

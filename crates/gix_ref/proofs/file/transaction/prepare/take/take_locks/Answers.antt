@@ -6,7 +6,7 @@ use Rattle.gix_ref_files.specs.Tree.{Path}
 use Rattle.gix_ref.specs.AddedLocks.{AddsLocks}
 use Rattle.gix_ref.specs.Taken.{setting_of, IsNewLock, IsRefusedLock}
 use Rattle.gix_ref.specs.Transactions.{name_of}
-use Rattle.gix_ref.specs.Views.{lock_of}
+use Rattle.gix_ref_theory.specs.Views.{lock_of}
 use Rattle.gix_ref.specs.declared.file.transaction.prepare.error.Error.TheVariants.{Memory}
 use Rattle.gix_ref.proofs.Rounds.{lock_at, place_at, lock_refused, lock_still, lock_leaves, found_refused, free_then, adds_then_text, text_leaves, later_fault, all_pass, held_then, found_then}
 use Rattle.gix_ref.proofs.Taking.{Held}

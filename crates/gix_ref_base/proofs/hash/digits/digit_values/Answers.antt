@@ -1,5 +1,0 @@
-use Rattle.gix_ref_base.proofs.HexLanes.{value_lane}
-use Rattle.gix_ref_base.proofs.hash.digits.digit_values.Goals as goal
-
-pub returns : goal.returns
-returns c = value_lane c.args.digits c.fits-digits

@@ -1,0 +1,244 @@
+//! Where a store keeps a name: its loose file, its log, and its key in `packed-refs` (`git worktree`, `gitnamespaces`).
+ghost use Rattle.std.specs.Prelude.{◌≡◌, ◌++◌, ◌∷◌, ℕ, List, IfOk, MatchOption, Some, None, true, false, codes};
+ghost use Rattle.std.specs.Option.{option_map};
+ghost use Rattle.gix_ref_base.specs.Names.{full_ref_bytes};
+ghost use Rattle.gix_ref_base.specs.Categories.{HasCategory};
+ghost use Rattle.gix_ref_base.specs.Layout.{Layout, below, paths_in, is_private_ref};
+ghost use Rattle.gix_ref_base.specs.Locations.{is_safe, paths_at, paths_of, key_outside};
+ghost use Rattle.gix_ref_base.specs.RefLayout.{location_value};
+
+use crate::name::{Category, FullNameRef};
+use std::alloc::{AllocError, Global};
+
+/// Which worktrees a name belongs to, and the name that is kept there (`git worktree`, "REFS").
+#[derive(Clone, Copy, Debug, PartialEq, Eq)]
+pub enum Location<'a> {
+    /// Shared by all worktrees.
+    Common(&'a [u8]),
+    /// Of the worktree from which it is asked.
+    ThisWorktree(&'a [u8]),
+    /// Of the main worktree.
+    MainWorktree(&'a [u8]),
+    /// Of a linked worktree.
+    LinkedWorktree { worktree: &'a [u8], name: &'a [u8] },
+}
+
+/// Whether each worktree has its own reference of this name below `refs/`.
+fn is_private(short: &[u8]) -> bool
+    ensures { result ≡ is_private_ref short.now }
+{
+    short.starts_with(b"refs/bisect/")
+        || short.starts_with(b"refs/rewritten/")
+        || short.starts_with(b"refs/worktree/")
+}
+
+/// The location of a name by its category and its short name.
+fn location_in<'a>(category: Category<'a>, name: &'a [u8], short: &'a [u8]) -> Location<'a>
+    requires { HasCategory name.now category short.now }
+    ensures { (f : Layout) → paths_in f category.entry name.now short.now ≡ paths_of f (location_value result) }
+{
+    match category {
+        Category::Tag | Category::LocalBranch | Category::RemoteBranch | Category::Note => {
+            Location::Common(name)
+        }
+        Category::PseudoRef | Category::Bisect | Category::Rewritten | Category::WorktreePrivate => {
+            Location::ThisWorktree(name)
+        }
+        Category::MainPseudoRef => Location::MainWorktree(short),
+        Category::MainRef => if is_private(short) {
+            Location::MainWorktree(short)
+        } else {
+            Location::Common(short)
+        },
+        Category::LinkedPseudoRef { name: worktree } => Location::LinkedWorktree {
+            worktree,
+            name: short,
+        },
+        Category::LinkedRef { name: worktree } => if is_private(short) {
+            Location::LinkedWorktree {
+                worktree,
+                name: short,
+            }
+        } else {
+            Location::Common(short)
+        },
+    }
+}
+
+/// The location of a safe name: one that begins with `refs/` or has a category. `None` for any other name, such as
+/// `logs/HEAD`.
+pub fn location_of(name: FullNameRef<'_>) -> Option<Location<'_>>
+    ensures { MatchOption result (is_safe (full_ref_bytes name.entry) ≡ false)
+        (λ at. (is_safe (full_ref_bytes name.entry) ≡ true)
+            × ((f : Layout) → paths_at f (full_ref_bytes name.entry) ≡ paths_of f (location_value at))) }
+{
+    if let Some((category, short)) = name.category_and_short_name() {
+        return Some(location_in(category, name.to_path(), short));
+    }
+    if name.to_path().starts_with(b"refs/") {
+        return Some(Location::Common(name.to_path()));
+    }
+    None
+}
+
+/// The location of any name: one that is not safe is shared, under the same name.
+pub fn location_or_common(name: FullNameRef<'_>) -> Location<'_>
+    ensures { (f : Layout) → paths_at f (full_ref_bytes name.entry) ≡ paths_of f (location_value result) }
+{
+    match location_of(name) {
+        Some(location) => location,
+        None => Location::Common(name.to_path()),
+    }
+}
+
+/// The name under which `packed-refs` may have a record of this one, outside of any namespace; `None` where each
+/// worktree has its own reference.
+pub fn packed_key(name: FullNameRef<'_>) -> Option<&[u8]>
+    ensures { option_map (λ key. key.now) result ≡ key_outside (full_ref_bytes name.entry) }
+{
+    match location_or_common(name) {
+        Location::Common(key) => Some(key),
+        Location::ThisWorktree(_) => None,
+        Location::MainWorktree(_) => None,
+        Location::LinkedWorktree { .. } => None,
+    }
+}
+
+/// A path in a folder: the folder, a slash, and the three parts.
+fn path_in(
+    alloc: Global,
+    folder: &[u8],
+    front: &[u8],
+    namespace: &[u8],
+    name: &[u8],
+) -> Result<Vec<u8>, AllocError>
+    ensures { IfOk result (λ path. path.items ≡ below folder.now (front.now ++ (namespace.now ++ name.now))) }
+{
+    let mut path = folder.to_vec(alloc)?;
+    path.push(b'/')?;
+    path.extend_from_slice(front)?;
+    path.extend_from_slice(namespace)?;
+    path.extend_from_slice(name)?;
+    Ok(path)
+}
+
+/// What lies below the common folder for a linked worktree: `worktrees/`, its name, a slash, and the three parts.
+fn path_in_worktree(
+    alloc: Global,
+    worktree: &[u8],
+    front: &[u8],
+    namespace: &[u8],
+    name: &[u8],
+) -> Result<Vec<u8>, AllocError>
+    ensures { IfOk result (λ path. path.items
+        ≡ codes "worktrees/" ++ (worktree.now ++ 47 ∷ (front.now ++ (namespace.now ++ name.now)))) }
+{
+    let folder = b"worktrees/".to_vec(alloc)?;
+    let tail = path_in(alloc, worktree, front, namespace, name)?;
+    joined(folder, &tail)
+}
+
+/// A text and what follows it.
+fn joined(mut text: Vec<u8>, tail: &[u8]) -> Result<Vec<u8>, AllocError>
+    ensures { IfOk result (λ path. path.items ≡ text.items ++ tail.now) }
+{
+    text.extend_from_slice(tail)?;
+    Ok(text)
+}
+
+/// The folders in which a store keeps its references, and its namespace: all that decides where a name is kept.
+#[derive(Clone, Copy, Debug)]
+pub struct RefLayout<'a> {
+    /// The git folder, where this worktree keeps its own references.
+    pub git_dir: &'a [u8],
+    /// The common folder of all worktrees.
+    pub common_dir: &'a [u8],
+    /// The namespace with its last slash, or nothing.
+    pub namespace: &'a [u8],
+}
+
+impl<'a> RefLayout<'a> {
+    ghost use Rattle.std.specs.Prelude.{◌≡◌, IfOk, vec_items};
+    ghost use Rattle.std.specs.Option.{option_map};
+    ghost use Rattle.gix_ref_base.specs.Names.{full_ref_bytes};
+    ghost use Rattle.gix_ref_base.specs.Locations.{paths_at, paths_of};
+    ghost use Rattle.gix_ref_base.specs.RefLayout.{layout_of, location_value};
+
+    /// The path of the loose file of a name. The error says that there was no memory for it.
+    pub fn loose(self, alloc: Global, name: FullNameRef<'_>) -> Result<Vec<u8>, AllocError>
+        ensures { IfOk result (λ path.
+            path.items ≡ (paths_at (layout_of self.entry) (full_ref_bytes name.entry)).place) }
+    {
+        self.loose_in(alloc, location_or_common(name))
+    }
+
+    /// The path of the log of a name. The error says that there was no memory for it.
+    pub fn log(self, alloc: Global, name: FullNameRef<'_>) -> Result<Vec<u8>, AllocError>
+        ensures { IfOk result (λ path.
+            path.items ≡ (paths_at (layout_of self.entry) (full_ref_bytes name.entry)).log) }
+    {
+        self.log_in(alloc, location_or_common(name))
+    }
+
+    /// The name under which `packed-refs` may have a record of this one, with the namespace in front; `None` where each
+    /// worktree has its own reference. The error says that there was no memory for it.
+    pub fn packed_key(
+        self,
+        alloc: Global,
+        name: FullNameRef<'_>,
+    ) -> Result<Option<Vec<u8>>, AllocError>
+        ensures { IfOk result (λ key.
+            option_map vec_items key ≡ (paths_at (layout_of self.entry) (full_ref_bytes name.entry)).key) }
+    {
+        self.key_in(alloc, location_or_common(name))
+    }
+
+    /// The path of the loose file of a location.
+    fn loose_in(self, alloc: Global, location: Location<'_>) -> Result<Vec<u8>, AllocError>
+        ensures { IfOk result (λ path.
+            path.items ≡ (paths_of (layout_of self.entry) (location_value location.entry)).place) }
+    {
+        match location {
+            Location::Common(name) | Location::MainWorktree(name) => {
+                path_in(alloc, self.common_dir, b"", self.namespace, name)
+            }
+            Location::ThisWorktree(name) => path_in(alloc, self.git_dir, b"", self.namespace, name),
+            Location::LinkedWorktree { worktree, name } => {
+                let tail = path_in_worktree(alloc, worktree, b"", b"", name)?;
+                path_in(alloc, self.common_dir, b"", self.namespace, &tail)
+            }
+        }
+    }
+
+    /// The path of the log of a location.
+    fn log_in(self, alloc: Global, location: Location<'_>) -> Result<Vec<u8>, AllocError>
+        ensures { IfOk result (λ path.
+            path.items ≡ (paths_of (layout_of self.entry) (location_value location.entry)).log) }
+    {
+        match location {
+            Location::Common(name) | Location::MainWorktree(name) => {
+                path_in(alloc, self.common_dir, b"logs/", self.namespace, name)
+            }
+            Location::ThisWorktree(name) => {
+                path_in(alloc, self.git_dir, b"logs/", self.namespace, name)
+            }
+            Location::LinkedWorktree { worktree, name } => {
+                let tail = path_in_worktree(alloc, worktree, b"logs/", self.namespace, name)?;
+                path_in(alloc, self.common_dir, b"", b"", &tail)
+            }
+        }
+    }
+
+    /// The key of a location.
+    fn key_in(self, alloc: Global, location: Location<'_>) -> Result<Option<Vec<u8>>, AllocError>
+        ensures { IfOk result (λ key.
+            option_map vec_items key ≡ (paths_of (layout_of self.entry) (location_value location.entry)).key) }
+    {
+        match location {
+            Location::Common(name) => Ok(Some(joined(self.namespace.to_vec(alloc)?, name)?)),
+            Location::ThisWorktree(_)
+            | Location::MainWorktree(_)
+            | Location::LinkedWorktree { .. } => Ok(None),
+        }
+    }
+}

@@ -1,0 +1,6 @@
+pub mod ByteLemmas
+pub mod ByteSearches
+pub mod HexLanes
+pub mod HexPairs
+pub mod HexRuns
+pub mod IdLemmas

@@ -1,0 +1,16 @@
+use Rattle.std.proofs.Common.{eqb, arith, w8}
+use Rattle.std.specs.Simd.Lanes.{chunk}
+use Rattle.std.proofs.lemmas.Simd.{length-chunk, bitmask_splat}
+use Rattle.memchr.specs.Find.{is_byte}
+use Rattle.gix_ref_hash.proofs.ByteSearches.{no_marks, last_mark}
+use Rattle.gix_ref_hash.proofs.bytes.search.last_of_lanes.Goals as goal
+
+pub returns-then-marks-eq0 : goal.returns-then-marks-eq0
+returns-then-marks-eq0 c =
+    let is = bitmask_splat w8 eqb (chunk c.args.start 16 c.args.text.now) 16 c.args.byte (length-chunk c.args.start 16 c.args.text.now c.requires) (omega arith) in
+    no_marks (is_byte c.args.byte) c.args.text.now c.args.start c.requires _ is c.if-marks-eq0.true
+
+pub returns : goal.returns
+returns c =
+    let is = bitmask_splat w8 eqb (chunk c.args.start 16 c.args.text.now) 16 c.args.byte (length-chunk c.args.start 16 c.args.text.now c.requires) (omega arith) in
+    last_mark (is_byte c.args.byte) c.args.text.now c.args.start c.requires _ c.ilog2.result is c.ilog2.ensures.power_le c.ilog2.ensures.next_power_gt

@@ -1,0 +1,268 @@
+//! Ids of objects and their hex digits.
+ghost use Rattle.std.specs.Prelude.{◌≡◌, ◌↔◌, ◌++◌, List, MatchOption, ◌*◌, ℕ, length, take, take_while, IsTrue, IfSome, IfNone};
+ghost use Rattle.std.specs.List.{list_all};
+ghost use Rattle.hex.specs.Hex.{encode_lower, is_hex_digit, IsBytes};
+ghost use Rattle.gix_ref_hash.specs.Bytes.{IsNewline};
+ghost use Rattle.gix_ref_hash.specs.declared.hash.ObjectId.{ObjectId};
+ghost use Rattle.gix_ref_hash.specs.Ids.{id_bytes, id_kind, kind_len, null_id, IsWhole, ReadsId, IsHexOf, IsHex, IsIdText, HexRun};
+
+use hex::FromHex;
+use std::fmt;
+
+mod digits;
+
+pub use digits::sha1_of_digits;
+
+/// The hash functions whose ids are known.
+#[derive(Clone, Copy, Debug, PartialEq, Eq, PartialOrd, Ord, Hash)]
+pub enum Kind {
+    /// SHA-1: 20 bytes, 40 hex digits.
+    Sha1,
+    /// SHA-256: 32 bytes, 64 hex digits.
+    Sha256,
+}
+
+/// The id of an object. Ids are ordered by their kind and then by their bytes.
+#[derive(Clone, Copy, Debug, PartialEq, Eq, PartialOrd, Ord, Hash)]
+pub enum ObjectId {
+    /// The 20 bytes of a SHA-1.
+    Sha1([u8; 20]),
+    /// The 32 bytes of a SHA-256.
+    Sha256([u8; 32]),
+}
+
+/// The same bytes, each of which is one: a fact that a slice has, and that an array in an enum does not tell.
+fn as_read(bytes: &[u8]) -> &[u8]
+    ensures same { result.now ≡ bytes.now }
+    ensures bytes { IsBytes bytes.now }
+{
+    bytes
+}
+
+impl Kind {
+    /// The number of bytes of an id: 20 or 32.
+    pub fn len_in_bytes(self) -> usize
+        ensures { result ≡ kind_len self }
+    {
+        match self {
+            Kind::Sha1 => 20,
+            Kind::Sha256 => 32,
+        }
+    }
+
+    /// The number of hex digits of an id: 40 or 64.
+    pub fn len_in_hex(self) -> usize
+        ensures { result ≡ 2 * kind_len self }
+    {
+        2 * self.len_in_bytes()
+    }
+
+    /// The id of this kind whose bytes are all zero.
+    pub fn null(self) -> ObjectId
+        ensures { result ≡ null_id self }
+    {
+        match self {
+            Kind::Sha1 => ObjectId::Sha1([0; 20]),
+            Kind::Sha256 => ObjectId::Sha256([0; 32]),
+        }
+    }
+}
+
+impl ObjectId {
+    /// Reads an id from exactly 40 or 64 hex digits, of either case; `None` for any other text.
+    pub fn from_hex(text: &[u8]) -> Option<ObjectId>
+        ensures { MatchOption result (IsHex text.now → ⊥) (ReadsId text.now) }
+    {
+        match text.len() {
+            40 => match <[u8; 20] as FromHex>::from_hex(text) {
+                Ok(bytes) => Some(ObjectId::Sha1(bytes)),
+                Err(_) => None,
+            },
+            64 => match <[u8; 32] as FromHex>::from_hex(text) {
+                Ok(bytes) => Some(ObjectId::Sha256(bytes)),
+                Err(_) => None,
+            },
+            _ => None,
+        }
+    }
+
+    /// The id of the kind whose bytes are all zero.
+    pub fn null(kind: Kind) -> ObjectId
+        ensures { result ≡ null_id kind }
+    {
+        kind.null()
+    }
+
+    /// The hash function of the id.
+    pub fn kind(&self) -> Kind
+        ensures { result ≡ id_kind self.now }
+    {
+        match self {
+            ObjectId::Sha1(_) => Kind::Sha1,
+            ObjectId::Sha256(_) => Kind::Sha256,
+        }
+    }
+
+    /// The bytes of the id, 20 or 32 of them.
+    pub fn as_bytes(&self) -> &[u8]
+        ensures bytes { result.now ≡ id_bytes self.now }
+        ensures len { length result.now ≡ kind_len (id_kind self.now) }
+        ensures whole { IsWhole self.now }
+    {
+        match self {
+            ObjectId::Sha1(bytes) => as_read(&bytes[..]),
+            ObjectId::Sha256(bytes) => as_read(&bytes[..]),
+        }
+    }
+
+    /// Whether the id is the null id of its kind.
+    pub fn is_null(&self) -> bool
+        ensures { IsTrue result ↔ (self.now ≡ null_id (id_kind self.now)) }
+    {
+        *self == self.kind().null()
+    }
+}
+
+/// Writes the 40 or 64 hex digits in lower case.
+impl fmt::Display for ObjectId {
+    ghost use Rattle.std.specs.Prelude.{Some};
+    ghost use Rattle.hex.specs.Hex.{encode_lower};
+    ghost use Rattle.gix_ref_hash.specs.Ids.{id_bytes};
+
+    ghost output = { λ id. Some (encode_lower (id_bytes id)) };
+
+    fn fmt<W: fmt::Write>(&self, f: &mut fmt::Formatter<W>) -> fmt::Result {
+        let mut room = [0u8; 64];
+        let digits = &mut room[..self.kind().len_in_hex()];
+        hex::encode_to_slice(self.as_bytes(), digits).unwrap();
+        f.write_str(str::from_utf8(digits).unwrap())
+    }
+}
+
+/// An id and its hex digits determine one another: a text is the digits of one id at most, and the bytes of an id, in
+/// lower-case digits, are the digits of that id.
+pub fn digits_of_ids()
+    ensures one_id { (text : List ℕ) (a b : ObjectId) → ReadsId text a → ReadsId text b → a ≡ b }
+    ensures written { (id : ObjectId) → IsWhole id → ReadsId (encode_lower (id_bytes id)) id }
+    ensures read { (text : List ℕ) (id : ObjectId) → ReadsId text id → IsHexOf (id_kind id) text × IsWhole id }
+{}
+
+/// The id of which these are the hex digits, 40 or 64 of them, of either case.
+#[inline(always)]
+pub fn id_of_digits(digits: &[u8]) -> ObjectId
+    requires { IsIdText digits.now }
+    ensures { ReadsId digits.now result }
+{
+    match <&[u8; 40]>::try_from(digits) {
+        Ok(digits) => ObjectId::Sha1(sha1_of_digits(digits)),
+        Err(_) => ObjectId::from_hex(digits).unwrap(),
+    }
+}
+
+/// Whether a byte is a hex digit, of either case.
+pub fn is_hex(byte: u8) -> bool
+    ensures { result ≡ is_hex_digit byte }
+{
+    matches!(byte, b'0'..=b'9' | b'A'..=b'F' | b'a'..=b'f')
+}
+
+/// Whether all bytes are hex digits, of either case. All are looked at, which is faster here than to stop at the first
+/// that is none.
+fn are_hex_of_any_length(text: &[u8]) -> bool
+    ensures { result ≡ list_all is_hex_digit text.now }
+{
+    let mut are_digits = true;
+    for byte in text {
+        are_digits &= is_hex(*byte);
+    }
+    are_digits
+}
+
+/// Whether all bytes are hex digits, of either case. Those of a SHA-1 are looked at as an array, which is faster.
+#[inline(always)]
+pub fn are_hex(text: &[u8]) -> bool
+    ensures { result ≡ list_all is_hex_digit text.now }
+{
+    match <&[u8; 40]>::try_from(text) {
+        Ok(digits) => digits::are_sha1_digits(digits),
+        Err(_) => are_hex_of_any_length(text),
+    }
+}
+
+/// The hex digits of an id of the kind at the front of the text, and what follows them.
+fn id_of_kind(text: &[u8], kind: Kind) -> Option<(&[u8], &[u8])>
+    ensures { MatchOption result ((digits rest : List ℕ) → IsHexOf kind digits → text.now ≡ digits ++ rest → ⊥)
+        (λ p. IsHexOf kind p.0.now × (text.now ≡ p.0.now ++ p.1.now)) }
+{
+    let len = kind.len_in_hex();
+    if text.len() < len {
+        return None;
+    }
+    let (digits, rest) = text.split_at(len);
+    if !are_hex(digits) {
+        return None;
+    }
+    Some((digits, rest))
+}
+
+/// Takes the hex digits of an id of the kind from the front of the input. `None` leaves the input, where it does not
+/// begin with that many digits.
+pub fn hex_hash<'a>(input: &mut &'a [u8], kind: Kind) -> Option<&'a [u8]>
+    ensures taken { IfSome result (λ digits. IsHexOf kind digits.now × (input.old.now ≡ digits.now ++ input.new.now)) }
+    ensures refused { IfNone result ((digits rest : List ℕ) → IsHexOf kind digits → input.old.now ≡ digits ++ rest → ⊥) }
+    ensures left { IfNone result (input.new ≡ input.old) }
+{
+    let (digits, rest) = id_of_kind(input, kind)?;
+    *input = rest;
+    Some(digits)
+}
+
+/// The number of hex digits at the front of the text, 64 at the most.
+fn hex_run(text: &[u8]) -> usize
+    ensures { result ≡ length (take_while is_hex_digit (take 64 text.now)) }
+{
+    text.iter()
+        .take(64)
+        .take_while(|byte| is_hex(**byte))
+        .count()
+}
+
+/// The run of hex digits at the front of the text, where it is 40 or 64 digits long, and what follows it.
+fn any_id(text: &[u8]) -> Option<(&[u8], &[u8])>
+    ensures { MatchOption result ((digits rest : List ℕ) → HexRun text.now digits rest → IsHex digits → ⊥)
+        (λ p. HexRun text.now p.0.now p.1.now × IsHex p.0.now) }
+{
+    let len = hex_run(text);
+    match len {
+        40 | 64 => Some(text.split_at(len)),
+        _ => None,
+    }
+}
+
+/// Takes the hex digits of an id of any kind from the front of the input: the run of hex digits, cut at 64, which
+/// must be 40 or 64 digits long. `None` leaves the input.
+pub fn hex_hash_any<'a>(input: &mut &'a [u8]) -> Option<&'a [u8]>
+    ensures taken { IfSome result (λ digits. HexRun input.old.now digits.now input.new.now × IsHex digits.now) }
+    ensures refused { IfNone result ((digits rest : List ℕ) → HexRun input.old.now digits rest → IsHex digits → ⊥) }
+    ensures left { IfNone result (input.new ≡ input.old) }
+{
+    let (digits, rest) = any_id(input)?;
+    *input = rest;
+    Some(digits)
+}
+
+/// Takes a newline, LF or CR and LF, from the front of the input. `None` leaves the input, where there is none.
+pub fn newline<'a>(input: &mut &'a [u8]) -> Option<&'a [u8]>
+    ensures taken { IfSome result (λ end. IsNewline end.now × (input.old.now ≡ end.now ++ input.new.now)) }
+    ensures refused { IfNone result ((end rest : List ℕ) → IsNewline end → input.old.now ≡ end ++ rest → ⊥) }
+    ensures left { IfNone result (input.new ≡ input.old) }
+{
+    let len = match *input {
+        [b'\n', ..] => 1,
+        [b'\r', b'\n', ..] => 2,
+        _ => return None,
+    };
+    let (end, rest) = input.split_at(len);
+    *input = rest;
+    Some(end)
+}

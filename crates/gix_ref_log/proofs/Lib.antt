@@ -1,0 +1,15 @@
+pub mod BackwardSteps
+pub mod DigitLanes
+pub mod FirstLines
+pub mod LastLines
+pub mod LineIds
+pub mod LineLemmas
+pub mod LinesAgain
+pub mod LogRuns
+pub mod NumberLemmas
+pub mod SignatureLemmas
+pub mod SignaturesAgain
+pub mod StampNumbers
+pub mod Stamps
+pub mod UsualLines
+pub mod WindowLemmas

@@ -1,0 +1,130 @@
+-- The id in front of a line stands where the decoder looks for it.
+use Rattle.std.proofs.Common.{◌≡◌, ◌≢◌, ℕ, ◌+◌, ◌-◌, ◌<◌, ◌≤◌, ◌⊎◌, inl, inr, ⊎_elim, true, false, Bool, ◌==◌, ◌||◌, ◌&&◌, List, ◌∷◌, ◌++◌, length, slice_index, take, drop, refl, sym, ◌∙◌, ap, subst, arith}
+use Rattle.std.specs.List.{list_all}
+use Rattle.std.proofs.lemmas.Bool.{eqb-true, eq-eqb}
+use Rattle.std.proofs.lemmas.List.{get_or_at, get_or_append_left, length-append, take_at, take-append-drop, drop_more, length-take-le, take_all, length-drop}
+use Rattle.std.proofs.lemmas.List.Elements.{All-get_or}
+use Rattle.std.proofs.lemmas.List.Sums.{AllPass-from_list_all, list_all-from_AllPass}
+use Rattle.hex.specs.Hex.{is_hex_digit}
+use Rattle.gix_ref_hash.specs.Bytes.{NoByte, Cuts}
+use Rattle.gix_ref_hash.specs.Ids.{IsHex, IsIdText}
+use Rattle.gix_ref_hash.proofs.ByteLemmas.{same_cut}
+use Rattle.gix_ref_log.specs.LogIds.{IdFront, IsIdPlace}
+
+by : (A : Type 0) → A → A
+by A a = a
+
+and_both : (a b : Bool) → (a && b) ≡ true → (a ≡ true) × (b ≡ true)
+and_both true b h = (refl, h)
+and_both false b h = absurd (cc)
+
+or_either : (a b : Bool) → (a || b) ≡ true → (a ≡ true) ⊎ (b ≡ true)
+or_either true b h = inl refl
+or_either false b h = inr h
+
+both_and : (a b : Bool) → a ≡ true → b ≡ true → (a && b) ≡ true
+both_and true b h k = k
+both_and false b h k = absurd (cc)
+
+either_or_left : (a b : Bool) → a ≡ true → (a || b) ≡ true
+either_or_left true b h = refl
+either_or_left false b h = absurd (cc)
+
+either_or_right : (a b : Bool) → b ≡ true → (a || b) ≡ true
+either_or_right true b h = refl
+either_or_right false b h = h
+
+pub id_length : (id : List ℕ) → IsIdText id → (length id ≡ 40) ⊎ (length id ≡ 64)
+id_length id h = ⊎_elim (λ (a : (length id == 40) ≡ true). inl (eqb-true _ _ a)) (λ (b : (length id == 64) ≡ true). inr (eqb-true _ _ b)) (or_either _ _ (and_both _ _ h).0)
+
+pub id_digits : (id : List ℕ) → IsIdText id → list_all is_hex_digit id ≡ true
+id_digits id h = (and_both ((length id == 40) || (length id == 64)) _ h).1
+
+pub id_text : (id : List ℕ) → (length id ≡ 40) ⊎ (length id ≡ 64) → list_all is_hex_digit id ≡ true → IsIdText id
+id_text id (inl len) digits = both_and _ _ (either_or_left (length id == 40) (length id == 64) (eq-eqb _ _ len)) digits
+id_text id (inr len) digits = both_and _ _ (either_or_right (length id == 40) (length id == 64) (eq-eqb _ _ len)) digits
+
+-- the same, in the words of ids
+pub id_hex : (id : List ℕ) → IsIdText id → IsHex id
+id_hex id h = ⊎_elim
+    (λ (len : length id ≡ 40). inl (record { len = len; digits = AllPass-from_list_all is_hex_digit id (id_digits id h) }))
+    (λ (len : length id ≡ 64). inr (record { len = len; digits = AllPass-from_list_all is_hex_digit id (id_digits id h) }))
+    (id_length id h)
+
+pub hex_id : (id : List ℕ) → IsHex id → IsIdText id
+hex_id id (inl h) = id_text id (inl h.len) (list_all-from_AllPass is_hex_digit id h.digits)
+hex_id id (inr h) = id_text id (inr h.len) (list_all-from_AllPass is_hex_digit id h.digits)
+
+-- a byte that is no hex digit is not in an id
+pub no_byte_in_id : (b : ℕ) (id : List ℕ) → is_hex_digit b ≡ false → IsIdText id → NoByte b id
+no_byte_in_id b id other h k within = λ is.
+    let hex : is_hex_digit (slice_index id k) ≡ true = All-get_or (λ c. is_hex_digit c ≡ true) id k 0 within (AllPass-from_list_all is_hex_digit id (id_digits id h)) in
+    let bad : is_hex_digit b ≡ true = subst (λ (c : ℕ). is_hex_digit c ≡ true) is hex in cc
+
+pub id_cuts : (text id rest : List ℕ) → IdFront text id rest → Cuts 32 text id rest
+id_cuts text id rest h = record { whole = h.1; none = no_byte_in_id 32 id refl h.0 }
+
+-- one id stands in front
+pub same_id : (text p i q j : List ℕ) → IdFront text p i → IdFront text q j → (p ≡ q) × (i ≡ j)
+same_id text p i q j f g = same_cut 32 text p i q j (id_cuts text p i f) (id_cuts text q j g)
+
+-- the space behind the id
+space_at : (text id rest : List ℕ) → text ≡ id ++ 32 ∷ rest → (length id < length text) × (slice_index text (length id) ≡ 32)
+space_at text id rest whole =
+    let long = length-append id (32 ∷ rest) in
+    let len : length text ≡ length (id ++ 32 ∷ rest) = ap length whole in
+    (omega arith, ap (λ (t : List ℕ). slice_index t (length id)) whole ∙ get_or_at id 32 rest 0 (length id) refl)
+
+-- no earlier byte of the id is a space
+pub id_place : (text id rest : List ℕ) (place : ℕ) → IsIdPlace text place → IdFront text id rest → length id ≡ place
+id_place text id rest place (inl p) h = ⊎_elim
+    (λ (len : length id ≡ 40). len ∙ sym p.0)
+    (λ (len : length id ≡ 64).
+    let here : slice_index id 40 ≡ 32 = sym (get_or_append_left id (32 ∷ rest) 0 40 (omega arith)) ∙ ap (λ (t : List ℕ). slice_index t 40) (sym h.1) ∙ p.2 in
+    absurd (no_byte_in_id 32 id refl h.0 40 (omega arith) here))
+    (id_length id h.0)
+id_place text id rest place (inr p) h = ⊎_elim
+    (λ (len : length id ≡ 40).
+    let at = space_at text id rest h.1 in
+    let there : slice_index text 40 ≡ 32 = ap (slice_index text) (sym len) ∙ at.1 in
+    let within = at.0 in
+    absurd (p.1 (omega arith) there))
+    (λ (len : length id ≡ 64). len ∙ sym p.0)
+    (id_length id h.0)
+
+pub place_is : (text : List ℕ) (place : ℕ) → IsIdPlace text place → (place ≡ 40) ⊎ (place ≡ 64)
+place_is text place (inl p) = inl p.0
+place_is text place (inr p) = inr p.0
+
+-- the text is too short, or another byte stands there
+pub no_space : (text : List ℕ) (place : ℕ) → IsIdPlace text place → (length text ≤ place) ⊎ (slice_index text place ≢ 32) → (id rest : List ℕ) → IdFront text id rest → ⊥
+no_space text place at (inl short) id rest h =
+    let within = (space_at text id rest h.1).0 in
+    let len = id_place text id rest place at h in
+    absurd (omega arith)
+no_space text place at (inr other) id rest h =
+    let there = (space_at text id rest h.1).1 in
+    let len = id_place text id rest place at h in
+    other (ap (slice_index text) (sym len) ∙ there)
+
+-- the digits before the place are no digits
+pub no_digits : (text : List ℕ) (place : ℕ) → IsIdPlace text place → list_all is_hex_digit (take place text) ≡ false → (id rest : List ℕ) → IdFront text id rest → ⊥
+no_digits text place at bad id rest h =
+    let len = id_place text id rest place at h in
+    let front : take place text ≡ id = ap (take place) h.1 ∙ take_at id (32 ∷ rest) place len in
+    let good = id_digits id h.0 in
+    let also : list_all is_hex_digit id ≡ false = subst (λ (t : List ℕ). list_all is_hex_digit t ≡ false) front bad in
+    absurd (cc)
+
+-- an id stands in front
+pub front_is : (text : List ℕ) (place : ℕ) → IsIdPlace text place → place < length text → slice_index text place ≡ 32 → list_all is_hex_digit (take place text) ≡ true
+    → IdFront text (take place text) (take (length text - (place + 1)) (drop (place + 1) text))
+front_is text place at within space digits =
+    let len = length-take-le place text (omega arith) in
+    let left = length-drop (place + 1) text in
+    let all : take (length text - (place + 1)) (drop (place + 1) text) ≡ drop (place + 1) text = take_all (length text - (place + 1)) (drop (place + 1) text) (omega arith) in
+    let sized : (length (take place text) ≡ 40) ⊎ (length (take place text) ≡ 64) = ⊎_elim (λ (a : place ≡ 40). inl (len ∙ a)) (λ (b : place ≡ 64). inr (len ∙ b)) (place_is text place at) in (
+      id_text (take place text) sized digits,
+      sym (take-append-drop place text)
+          ∙ ap (λ (t : List ℕ). take place text ++ t) (drop_more text place 0 within ∙ ap (λ (b : ℕ). b ∷ drop (place + 1) text) space ∙ ap (λ (t : List ℕ). 32 ∷ t) (sym all)),
+    )

@@ -1,0 +1,9 @@
+pub mod LogCuts
+pub mod LogForward
+pub mod LogIds
+pub mod LogItems
+pub mod LogLines
+pub mod LogStages
+pub mod LogUsual
+pub mod LogWindows
+pub mod Signatures

@@ -1,0 +1,72 @@
+-- What a window on a log is to give.
+use Rattle.std.specs.Prelude.{ℕ, ◌+◌, ◌-◌, ◌≡◌, ◌≢◌, Bool, true, false, slice_index, ◌≤◌, ◌<◌, ◌^◌, List, [], ◌∷◌, ◌++◌, length, take, drop, Option, Result, None}
+use Rattle.gix_ref_log.specs.LogStages.{tail_of, IsDoneAfter}
+use Rattle.gix_ref_log.specs.LogItems.{Item, items_from, Gives, count_of}
+use Rattle.gix_ref_log.specs.declared.log.line.Line.{Line}
+use Rattle.gix_ref_log.specs.declared.log.iter.error.ReverseError.{ReverseError}
+use Rattle.gix_ref_log.specs.declared.log.iter.backward.Reverse.{Reverse}
+use Rattle.gix_ref_log.specs.declared.log.iter.stage.Stage.{Stage}
+use Rattle.gix_ref_log.specs.declared.log.iter.stage.Stage.TheVariants.{Unread, Reading, Done}
+
+-- the first `end` bytes of the buffer are those of the log from `pos` on
+pub record IsWindow (log buf : List ℕ) (pos end : ℕ) : Type 0 where
+  pub fits : end ≤ length buf
+  pub within : pos + end ≤ length log
+  pub same : take end buf ≡ take end (drop pos log)
+
+-- the window ends at the log's end, or before a line feed there
+abbrev pub Begins : List ℕ → List ℕ → ℕ → ℕ → Bool → Type 0
+Begins log buf pos end true = IsWindow log buf pos end × (pos + end + 1 ≡ length log) × (take (pos + end) log ++ 10 ∷ [] ≡ log)
+Begins log buf pos end false = IsWindow log buf pos end × (pos + end ≡ length log) × (0 < end) × (slice_index log (length log - 1) ≢ 10)
+
+-- at each stage, how the place in the file and the buffer belong to the log
+abbrev pub Tied : Stage → List ℕ → List ℕ → ℕ → ℕ → ℕ → Type 0
+Tied Unread log buf pos end n = (pos ≡ length log) × (end ≡ 0) × (n ≡ 1)
+Tied Reading log buf pos end n = IsWindow log buf pos end × (n + (pos + end) ≤ length log)
+Tied Done log buf pos end n = Unit {0}
+
+-- what is to come: while it reads, all before the window's end, and a line feed
+abbrev pub to_come : Stage → ℕ → List ℕ → ℕ → ℕ → ℕ → List Item
+to_come Unread room log pos end n = items_from room n log
+to_come Reading room log pos end n = items_from room n (take (pos + end) log ++ 10 ∷ [])
+to_come Done room log pos end n = []
+
+-- what is left of a log ends at e, before a line feed or at the end of the log, and the next line has the number n
+abbrev pub Ends : Bool → List ℕ → ℕ → ℕ → Type 0
+Ends true log e n = n + e ≤ length log
+Ends false log e n = (n ≡ 1) × (0 < e) × (e ≡ length log) × (slice_index log (length log - 1) ≢ 10)
+
+-- at most how many items are left
+abbrev pub most_at : Stage → ℕ → ℕ → ℕ
+most_at Unread pos end = pos + end + 2
+most_at Reading pos end = pos + end + 1
+most_at Done pos end = 0
+
+module _ {F : Type 0} where
+  abbrev pub most_left : Reverse F → ℕ
+  most_left s = most_at s.stage s.pos s.end
+
+module _ {F : Type 0} (bytes : F → List ℕ) where
+  abbrev pub IsTied : Reverse F → Type 0
+  IsTied s = (length (bytes s.reader) < 2 ^ 64) × Tied s.stage (bytes s.reader) s.buf.now s.pos s.end s.number
+
+  abbrev pub items_left : Reverse F → List Item
+  items_left s = to_come s.stage (length s.buf.now) (bytes s.reader) s.pos s.end s.number
+
+  abbrev pub IsOpen : Bool → Reverse F → Type 0
+  IsOpen ends s = (length (bytes s.reader) < 2 ^ 64) × IsWindow (bytes s.reader) s.buf.now s.pos s.end × Ends ends (bytes s.reader) (s.pos + s.end) s.number
+
+  abbrev pub open_items : Bool → Reverse F → List Item
+  open_items ends s = items_from (length s.buf.now) s.number (take (s.pos + s.end) (bytes s.reader) ++ tail_of ends)
+
+module _ {F : Type 0} (honest : Type 0) (bytes : F → List ℕ) (faults : F → ℕ) where
+  -- what one call of `next` does
+  pub record NextStep (s : Reverse F) (r : Option (Result Line ReverseError)) (t : Reverse F) : Type 0 where
+    pub same_reference : t.buf.ghost_name ≡ s.buf.ghost_name
+    pub same_bytes : bytes t.reader ≡ bytes s.reader
+    -- for any reader: `Io` is a fault that the reader counted, and what is done stays done
+    pub counts : faults t.reader ≡ count_of r (faults s.reader)
+    pub done : IsDoneAfter r t.stage
+    pub stays_done : s.stage ≡ Done → (r ≡ None) × (t.stage ≡ Done)
+    -- for one that reads its bytes: the next item
+    pub gives : honest → IsTied bytes s → Gives (items_left bytes s) r (items_left bytes t) × IsTied bytes t

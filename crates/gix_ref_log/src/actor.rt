@@ -1,0 +1,306 @@
+//! Who made a change, and when: the signatures that stand in reflogs, as `git commit-tree` writes them.
+ghost use Rattle.std.specs.Prelude.{◌≡◌, ◌+◌, ◌-◌, ◌*◌, ◌↔◌, IsTrue, ℕ, ℤ, pos, List, MatchOption, IfSome, FitsSigned};
+ghost use Rattle.std.specs.Int.{w64};
+ghost use Rattle.gix_ref_log.specs.Signatures.{Who, IsSeconds, IsZone, IsDigit, IsPlain, IsSignature, IsWritableOffset, CanWrite, offset_text, signature_text, trimmed, without_space};
+
+use bstr::ByteSlice;
+use gix_ref_hash::bytes::{cut, cut_last};
+use std::alloc::{AllocError, Global};
+use std::io;
+use thiserror::Error;
+
+mod number;
+mod stamp;
+
+use number::small_number;
+use stamp::time_of;
+
+/// A moment, and the zone in which it was told.
+#[derive(Clone, Copy, Debug, PartialEq, Eq, PartialOrd, Ord, Hash)]
+pub struct Time {
+    /// Seconds since the beginning of 1970, in UTC.
+    pub seconds: i64,
+    /// How many seconds the zone is east of UTC.
+    pub offset: i32,
+}
+
+/// Who made a change, and when.
+#[derive(Debug, PartialEq, Eq, PartialOrd, Ord, Hash, Clone, Drop)]
+pub struct Signature {
+    /// The name, as bytes.
+    pub name: Vec<u8>,
+    /// The email, without `<` and `>`.
+    pub email: Vec<u8>,
+    /// When the change was made.
+    pub time: Time,
+}
+
+/// A lent signature.
+#[derive(Clone, Copy, Debug, PartialEq, Eq, PartialOrd, Ord, Hash)]
+pub struct SignatureRef<'a> {
+    /// The name, as bytes.
+    pub name: &'a [u8],
+    /// The email, without `<` and `>`.
+    pub email: &'a [u8],
+    /// When the change was made.
+    pub time: Time,
+}
+
+/// Why a signature was not written.
+#[derive(Debug, Drop, Error)]
+pub enum WriteError {
+    /// The name or the email holds `<`, `>` or LF, or the offset is no whole minute or past 99:59. Nothing was written.
+    #[error("the name, the email or the offset of the signature cannot be written")]
+    SignatureUnwritable,
+    /// The writer failed; it holds what it took before.
+    #[error("the signature could not be written: {0}")]
+    Io(io::Error),
+}
+
+/// The seconds that a text is: an optional `-` and decimal digits. A number of few digits takes the short way.
+#[inline(always)]
+fn seconds(text: &[u8]) -> Option<i64>
+    ensures { MatchOption result ((n : ℤ) → IsSeconds text.now n → ⊥) (IsSeconds text.now) }
+{
+    match small_number(text) {
+        Some(number) => Some(number as i64),
+        None => any_seconds(text),
+    }
+}
+
+/// The same for a text of any length.
+fn any_seconds(text: &[u8]) -> Option<i64>
+    ensures { MatchOption result ((n : ℤ) → IsSeconds text.now n → ⊥) (IsSeconds text.now) }
+{
+    if text.first() == Some(&b'+') {
+        return None;
+    }
+    match str::from_utf8(text) {
+        Ok(text) => text.parse::<i64>().ok(),
+        Err(_) => None,
+    }
+}
+
+/// The number that two digits are.
+#[inline(always)]
+fn two_digits(tens: u8, ones: u8) -> Option<i32>
+    ensures { MatchOption result (IsDigit tens → IsDigit ones → ⊥) (λ n. IsDigit tens × IsDigit ones × (n ≡ pos (10 * (tens - 48) + (ones - 48)))) }
+{
+    match (tens, ones) {
+        (b'0'..=b'9', b'0'..=b'9') => Some((10 * (tens - b'0') + (ones - b'0')) as i32),
+        _ => None,
+    }
+}
+
+/// The offset that a sign and four digits are, in seconds.
+#[inline(always)]
+fn zone(text: &[u8]) -> Option<i32>
+    ensures { MatchOption result ((n : ℤ) → IsZone text.now n → ⊥) (IsZone text.now) }
+{
+    let &[sign, a, b, c, d] = text else {
+        return None;
+    };
+    let hours = two_digits(a, b)?;
+    let minutes = two_digits(c, d)?;
+    let offset = hours * 3600 + minutes * 60;
+    match sign {
+        b'+' => Some(offset),
+        b'-' => Some(-offset),
+        _ => None,
+    }
+}
+
+/// A name less one space at its end.
+#[inline(always)]
+fn before_space(name: &[u8]) -> &[u8]
+    ensures { result.now ≡ without_space name.now }
+{
+    let len = name.len();
+    if len == 0 || name[len - 1] != b' ' {
+        return name;
+    }
+    &name[..len - 1]
+}
+
+/// Whether a name or an email can be written: it holds no `<`, no `>` and no LF.
+fn is_plain(text: &[u8]) -> bool
+    ensures { IsTrue result ↔ IsPlain text.now }
+{
+    text.find_byte(b'<').is_none()
+        && text.find_byte(b'>').is_none()
+        && text.find_byte(b'\n').is_none()
+}
+
+/// A sign, hours and minutes, where the offset is of whole minutes and fits.
+fn zone_text(offset: i32) -> Option<[u8; 5]>
+    ensures { MatchOption result (IsWritableOffset offset → ⊥) (λ zone. IsWritableOffset offset × (zone ≡ offset_text offset)) }
+{
+    let size = offset.unsigned_abs();
+    if size % 60 != 0 || size >= 360000 {
+        return None;
+    }
+    let hours = (size / 60 / 60) as u8;
+    let minutes = (size / 60 % 60) as u8;
+    let sign = if offset < 0 { b'-' } else { b'+' };
+    Some([
+        sign,
+        b'0' + hours / 10,
+        b'0' + hours % 10,
+        b'0' + minutes / 10,
+        b'0' + minutes % 10,
+    ])
+}
+
+/// The text without space, tab, LF, FF and CR at its ends.
+fn trim(text: &[u8]) -> &[u8]
+    ensures { result.now ≡ trimmed text.now }
+{
+    text.trim_ascii()
+}
+
+/// A text is one signature at most, and a signature that can be written is read again from its text.
+pub fn signatures_read_back()
+    ensures one { (text : List ℕ) (who other : Who) → IsSignature text who → IsSignature text other → other ≡ who }
+    ensures again { (who : Who) → CanWrite who → FitsSigned w64 who.seconds → IsSignature (signature_text who) who }
+{}
+
+impl Signature {
+    ghost use Rattle.gix_ref_log.specs.Signatures.{signature_who, signature_ref_who};
+
+    /// The same signature, lent.
+    pub fn to_ref(&self) -> SignatureRef<'_>
+        ensures { signature_ref_who result ≡ signature_who self.now }
+    {
+        SignatureRef {
+            name: &self.name,
+            email: &self.email,
+            time: self.time,
+        }
+    }
+}
+
+impl<'a> SignatureRef<'a> {
+    ghost use Rattle.std.specs.Prelude.{OnOk, IfOk, IsErrOf};
+    ghost use Rattle.std.specs.Io.KnownBytes.{Appends};
+    ghost use Rattle.gix_ref_log.specs.Signatures.{trimmed_who, signature_who, signature_ref_who};
+
+    /// Reads a signature, `name <email> seconds +hhmm`: the name is all before the first `<`, less one space at its end,
+    /// and the email lies between that and the last `>`. `None` for any other text; nothing may follow.
+    #[inline(always)]
+    pub fn decode(text: &'a [u8]) -> Option<SignatureRef<'a>>
+        ensures { MatchOption result ((who : Who) → IsSignature text.now who → ⊥) (λ s. IsSignature text.now (signature_ref_who s)) }
+    {
+        match SignatureRef::stamped(text) {
+            Some(signature) => Some(signature),
+            None => SignatureRef::searched(text),
+        }
+    }
+
+    /// The same where a stamp of the usual length ends the signature. Its place is known then, and nothing is searched for
+    /// but the `<`. Of a text that ends otherwise `None` tells nothing.
+    #[inline(always)]
+    pub fn stamped(text: &'a [u8]) -> Option<SignatureRef<'a>>
+        ensures { IfSome result (λ s. IsSignature text.now (signature_ref_who s)) }
+    {
+        let (front, end) = text.split_last_chunk::<18>()?;
+        let time = time_of(end)?;
+        let (name, email) = cut(front, b'<')?;
+        Some(SignatureRef {
+            name: before_space(name),
+            email,
+            time,
+        })
+    }
+
+    /// The signature, whatever the length of its parts.
+    #[inline(never)]
+    fn searched(text: &'a [u8]) -> Option<SignatureRef<'a>>
+        ensures { MatchOption result ((who : Who) → IsSignature text.now who → ⊥) (λ s. IsSignature text.now (signature_ref_who s)) }
+    {
+        let (front, behind_name) = cut(text, b'<')?;
+        let (email, behind_email) = cut_last(behind_name, b'>')?;
+        let (space, time) = behind_email.split_first()?;
+        if *space != b' ' {
+            return None;
+        }
+        let (digits, zone_digits) = cut(time, b' ')?;
+        let seconds = seconds(digits)?;
+        let offset = zone(zone_digits)?;
+        Some(SignatureRef {
+            name: before_space(front),
+            email,
+            time: Time { seconds, offset },
+        })
+    }
+
+    /// The same signature without space, tab, LF, FF and CR at the ends of its name and email.
+    pub fn trim(self) -> SignatureRef<'a>
+        ensures { signature_ref_who result ≡ trimmed_who (signature_ref_who self.entry) }
+    {
+        SignatureRef {
+            name: trim(self.name),
+            email: trim(self.email),
+            time: self.time,
+        }
+    }
+
+    /// Whether the signature can be written: name and email hold no `<`, no `>` and no LF, and the offset is of whole
+    /// minutes and not past 99:59 either way.
+    pub fn is_writable(self) -> bool
+        ensures { IsTrue result ↔ CanWrite (signature_ref_who self.entry) }
+    {
+        self.writable_zone().is_some()
+    }
+
+    /// The text of the offset, where the signature can be written.
+    fn writable_zone(self) -> Option<[u8; 5]>
+        ensures { MatchOption result (CanWrite (signature_ref_who self.entry) → ⊥)
+            (λ zone. CanWrite (signature_ref_who self.entry) × (zone ≡ offset_text self.entry.time.offset)) }
+    {
+        if !is_plain(self.name) || !is_plain(self.email) {
+            return None;
+        }
+        zone_text(self.time.offset)
+    }
+
+    /// Writes the parts of the signature, whose offset has this text.
+    fn write_parts<W: io::Write>(self, zone: &[u8], out: &mut W) -> io::Result<()>
+        requires { zone.now ≡ offset_text self.time.offset }
+        ensures { OnOk result (Appends (W.contents out.old) (W.contents out.new) (signature_text (signature_ref_who self.entry))) }
+    {
+        out.write_all(self.name)?;
+        out.write_all(b" <")?;
+        out.write_all(self.email)?;
+        write!(out, "> {} ", self.time.seconds)?;
+        out.write_all(zone)
+    }
+
+    /// Writes `name <email> seconds +hhmm`, as it stands: nothing is trimmed. `SignatureUnwritable` comes before the first
+    /// byte; after `Io` the writer holds what it took before it failed.
+    pub fn write_to<W: io::Write>(self, out: &mut W) -> Result<(), WriteError>
+        ensures written { OnOk result (CanWrite (signature_ref_who self.entry)
+            × Appends (W.contents out.old) (W.contents out.new) (signature_text (signature_ref_who self.entry))) }
+        ensures refused { IsErrOf result WriteError.SignatureUnwritable ↔ (CanWrite (signature_ref_who self.entry) → ⊥) }
+        ensures untouched { IsErrOf result WriteError.SignatureUnwritable → out.new ≡ out.old }
+    {
+        let Some(zone) = self.writable_zone() else {
+            return Err(WriteError::SignatureUnwritable);
+        };
+        match self.write_parts(&zone, out) {
+            Ok(()) => Ok(()),
+            Err(error) => Err(WriteError::Io(error)),
+        }
+    }
+
+    /// The same signature with bytes of its own.
+    #[inline(always)]
+    pub fn to_owned(self, alloc: Global) -> Result<Signature, AllocError>
+        ensures { IfOk result (λ owned. signature_who owned ≡ signature_ref_who self.entry) }
+    {
+        Ok(Signature {
+            name: Vec::from_slice(alloc, self.name)?,
+            email: Vec::from_slice(alloc, self.email)?,
+            time: self.time,
+        })
+    }
+}

@@ -1,0 +1,5 @@
+//! Reflogs: signatures, lines, and the items of a log from either end.
+#![tactic(auto)]
+
+pub mod actor;
+pub mod log;

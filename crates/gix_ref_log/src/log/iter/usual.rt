@@ -1,0 +1,78 @@
+//! Lines that are as most are: with ids of SHA-1, a time of the usual length, and a tab.
+ghost use Rattle.std.specs.Prelude.{◌<◌, ℕ, List, length, IfSome};
+ghost use Rattle.gix_ref_hash.specs.Bytes.{NoByte, Cuts};
+ghost use Rattle.gix_ref_log.specs.LogIds.{IdFront};
+ghost use Rattle.gix_ref_log.specs.LogLines.{IsLine, line_ref_parts};
+ghost use Rattle.gix_ref_log.specs.LogUsual.{BeginsWithLine};
+
+use crate::actor::SignatureRef;
+use crate::log::line::LineRef;
+use gix_ref_hash::bytes::{cut, some_first_break};
+use gix_ref_hash::hash::are_hex;
+use super::stage::without_return;
+
+/// The ids of a SHA-1 at the front, and what follows the space behind them. `None` tells nothing.
+#[inline(always)]
+fn sha1_ids(text: &[u8]) -> Option<(&[u8], &[u8], &[u8])>
+    ensures { IfSome result (λ p. (ids : List ℕ) × IdFront text.now p.0.now ids × IdFront ids p.1.now p.2.now) }
+{
+    if text.len() < 82 || text[40] != b' ' || text[81] != b' ' {
+        return None;
+    }
+    let previous = &text[..40];
+    let new = &text[41..81];
+    let rest = &text[82..];
+    if !(are_hex(previous) & are_hex(new)) {
+        return None;
+    }
+    Some((previous, new, rest))
+}
+
+/// What stands before the first tab and behind it, where no LF stands before it. `None` tells nothing.
+#[inline(always)]
+fn cut_at_tab(text: &[u8]) -> Option<(&[u8], &[u8])>
+    ensures { IfSome result (λ p. Cuts 9 text.now p.0.now p.1.now × NoByte 10 p.0.now) }
+{
+    let place = some_first_break(text)?;
+    if text[place] != b'\t' {
+        return None;
+    }
+    Some((&text[..place], &text[place + 1..]))
+}
+
+/// The line that a text without LF is, where it is as most are. `None` tells nothing.
+#[inline(always)]
+pub(super) fn usual_text<'a>(text: &'a [u8]) -> Option<LineRef<'a>>
+    requires { NoByte 10 text.now }
+    ensures { IfSome result (λ line. IsLine text.now (line_ref_parts line)) }
+{
+    let (previous_oid, new_oid, rest) = sha1_ids(text)?;
+    let (head, message) = cut_at_tab(rest)?;
+    let signature = SignatureRef::stamped(head)?;
+    Some(LineRef {
+        previous_oid,
+        new_oid,
+        signature,
+        message,
+    })
+}
+
+/// The first line, where it is as most are, and what follows it. The ids are read first, and then the signature up to its
+/// tab, so that no byte of them is looked at for LF. `None` tells nothing.
+#[inline(always)]
+pub(super) fn usual_line<'a>(log: &'a [u8]) -> Option<(LineRef<'a>, &'a [u8])>
+    ensures line { IfSome result (λ p. BeginsWithLine log.now p.0 p.1.now) }
+    ensures shorter { IfSome result (λ p. length p.1.now < length log.now) }
+{
+    let (previous_oid, new_oid, text) = sha1_ids(log)?;
+    let (head, tail) = cut_at_tab(text)?;
+    let signature = SignatureRef::stamped(head)?;
+    let (message, rest) = cut(tail, b'\n')?;
+    let line = LineRef {
+        previous_oid,
+        new_oid,
+        signature,
+        message: without_return(message, true),
+    };
+    Some((line, rest))
+}

@@ -1,0 +1,119 @@
+//! A line of a reflog: who moved a reference from which object to which, when, and why (`git reflog`).
+ghost use Rattle.gix_ref_hash.specs.Ids.{IsIdText};
+
+use bstr::ByteSlice;
+use crate::actor::{Signature, SignatureRef};
+use gix_ref_hash::hash::{ObjectId, id_of_digits};
+use std::alloc::{AllocError, Global};
+use std::io;
+
+pub mod decode;
+mod write;
+
+use decode::{decoded, first_line};
+pub use write::{AppendError, WriteError, appended_line, lines_read_back};
+
+/// A line of a reflog with bytes of its own.
+#[derive(Debug, PartialEq, Eq, PartialOrd, Ord, Hash, Clone, Drop)]
+pub struct Line {
+    /// The object that the reference pointed to before; the null id where there was none.
+    pub previous_oid: ObjectId,
+    /// The object that it points to since.
+    pub new_oid: ObjectId,
+    /// Who moved the reference, and when.
+    pub signature: Signature,
+    /// Why, as bytes.
+    pub message: Vec<u8>,
+}
+
+/// A lent line of a reflog. Its ids are hex digits of either case.
+#[derive(Clone, Copy, Debug, PartialEq, Eq, PartialOrd, Ord, Hash)]
+pub struct LineRef<'a> {
+    /// The 40 or 64 hex digits of the object that the reference pointed to before.
+    pub previous_oid: &'a [u8],
+    /// The 40 or 64 hex digits of the object that it points to since.
+    pub new_oid: &'a [u8],
+    /// Who moved the reference, and when.
+    pub signature: SignatureRef<'a>,
+    /// Why, as bytes.
+    pub message: &'a [u8],
+    pub ghost previous_is_id: { IsIdText previous_oid.now },
+    pub ghost new_is_id: { IsIdText new_oid.now },
+}
+
+impl<'a> LineRef<'a> {
+    ghost use Rattle.std.specs.Prelude.{◌≡◌, MatchResult, IfOk};
+    ghost use Rattle.gix_ref_hash.specs.Ids.{ReadsId};
+    ghost use Rattle.gix_ref_log.specs.LogLines.{IsLine, NoLine, IsFirstLine, IsOwned, line_ref_parts};
+
+    /// Reads the first line of the text: an id, a space, an id, a space, a signature, and optionally a tab and the message,
+    /// up to LF or the end. A CR before the LF belongs to the message. The error lends the first line of a text that is not so.
+    pub fn from_bytes(text: &'a [u8]) -> Result<LineRef<'a>, decode::Error<'a>>
+        ensures { MatchResult result (λ line. IsLine text.now (line_ref_parts line)) (λ error. NoLine text.now × IsFirstLine text.now error.input.now) }
+    {
+        match decoded(text) {
+            Some(line) => Ok(line),
+            None => Err(decode::Error {
+                input: first_line(text),
+            }),
+        }
+    }
+
+    /// The id of the object that the reference pointed to before.
+    pub fn previous_oid(&self) -> ObjectId
+        ensures { ReadsId self.now.previous_oid.now result }
+    {
+        id_of_digits(self.previous_oid)
+    }
+
+    /// The id of the object that the reference points to since.
+    pub fn new_oid(&self) -> ObjectId
+        ensures { ReadsId self.now.new_oid.now result }
+    {
+        id_of_digits(self.new_oid)
+    }
+
+    /// The same line with bytes of its own.
+    #[inline(always)]
+    pub fn to_owned(&self, alloc: Global) -> Result<Line, AllocError>
+        ensures { IfOk result (IsOwned (line_ref_parts self.now)) }
+    {
+        Ok(Line {
+            previous_oid: self.previous_oid(),
+            new_oid: self.new_oid(),
+            signature: self.signature.to_owned(alloc)?,
+            message: Vec::from_slice(alloc, self.message)?,
+        })
+    }
+}
+
+impl Line {
+    ghost use Rattle.std.specs.Prelude.{◌≡◌, ◌↔◌, OnOk, IsErrOf};
+    ghost use Rattle.std.specs.Io.KnownBytes.{Appends};
+    ghost use Rattle.gix_ref_hash.specs.Bytes.{NoByte};
+    ghost use Rattle.gix_ref_log.specs.Signatures.{CanWrite, signature_who};
+    ghost use Rattle.gix_ref_log.specs.LogLines.{CanWriteLine, line_text};
+
+    /// Writes the ids in lower case, the signature as it stands, a tab also before an empty message, and LF. A message with
+    /// LF is `MessageWithNewlines`, else a signature that cannot be written is `SignatureUnwritable`, both before the first
+    /// byte; after `Io` the writer holds what it took before it failed.
+    pub fn write_to<W: io::Write>(&self, out: &mut W) -> Result<(), WriteError>
+        ensures written { OnOk result (CanWriteLine (signature_who self.now.signature) self.now.message.items
+            × Appends (W.contents out.old) (W.contents out.new) (line_text self.now)) }
+        ensures message { IsErrOf result WriteError.MessageWithNewlines ↔ (NoByte 10 self.now.message.items → ⊥) }
+        ensures signature { IsErrOf result WriteError.SignatureUnwritable ↔ (NoByte 10 self.now.message.items × (CanWrite (signature_who self.now.signature) → ⊥)) }
+        ensures message_untouched { IsErrOf result WriteError.MessageWithNewlines → out.new ≡ out.old }
+        ensures signature_untouched { IsErrOf result WriteError.SignatureUnwritable → out.new ≡ out.old }
+    {
+        if self.message.as_slice().find_byte(b'\n').is_some() {
+            return Err(WriteError::MessageWithNewlines);
+        }
+        if !self.signature.to_ref().is_writable() {
+            return Err(WriteError::SignatureUnwritable);
+        }
+        match write::write_line(self, out) {
+            Ok(()) => Ok(()),
+            Err(error) => Err(WriteError::Io(error)),
+        }
+    }
+}

@@ -1,0 +1,136 @@
+//! Writing a line of a reflog.
+ghost use Rattle.std.specs.Prelude.{◌≡◌, ◌↔◌, ◌++◌, ◌∷◌, [], OnOk, IfOk, IsErrOf, List, ℕ};
+ghost use Rattle.std.specs.Io.KnownBytes.{Appends};
+ghost use Rattle.gix_ref_hash.specs.Bytes.{NoByte};
+ghost use Rattle.gix_ref_log.specs.Signatures.{Who, CanWrite, signature_who, signature_ref_who, trimmed_who};
+ghost use Rattle.gix_ref_log.specs.LogLines.{LogLine, IsLine, IsReadAs, IsReadable, CanWriteLine, written_parts, message_part, line_text, head_text, appended_text};
+ghost use Rattle.gix_ref_hash.specs.declared.hash.ObjectId.{ObjectId};
+ghost use Rattle.gix_ref_log.specs.declared.log.line.Line.{Line};
+
+use bstr::ByteSlice;
+use crate::actor::{self, SignatureRef};
+use gix_ref_hash::hash::ObjectId;
+use std::alloc::Global;
+use std::io;
+use super::Line;
+use thiserror::Error;
+
+/// Why a line was not written.
+#[derive(Debug, Drop, Error)]
+pub enum WriteError {
+    /// The message holds LF. Nothing was written.
+    #[error("the message of a log line must not hold a line feed")]
+    MessageWithNewlines,
+    /// The signature cannot be written. Nothing was written.
+    #[error("the signature of a log line cannot be written")]
+    SignatureUnwritable,
+    /// The writer failed; it holds what it took before.
+    #[error("the log line could not be written: {0}")]
+    Io(io::Error),
+}
+
+/// Why a transaction's line was not made.
+#[derive(Clone, Copy, Debug, PartialEq, Eq, Error)]
+pub enum AppendError {
+    /// The message holds LF.
+    #[error("the message of a log line must not hold a line feed")]
+    MessageWithNewlines,
+    /// The signature cannot be written.
+    #[error("the signature of a log line cannot be written")]
+    SignatureUnwritable,
+    /// There was no memory for the line.
+    #[error("out of memory")]
+    Memory,
+}
+
+/// Writes the ids and the signature.
+fn write_head<W: io::Write>(
+    previous: &ObjectId,
+    new: &ObjectId,
+    who: SignatureRef<'_>,
+    out: &mut W,
+) -> io::Result<()>
+    requires { CanWrite (signature_ref_who who) }
+    ensures { OnOk result (Appends (W.contents out.old) (W.contents out.new) (head_text previous.now new.now (signature_ref_who who.entry))) }
+{
+    write!(out, "{previous} {new} ")?;
+    match who.write_to(out) {
+        Ok(()) => Ok(()),
+        Err(actor::WriteError::Io(error)) => Err(error),
+        Err(actor::WriteError::SignatureUnwritable) => unreachable!(),
+    }
+}
+
+/// Writes a line whose signature can be written.
+pub(super) fn write_line<W: io::Write>(line: &Line, out: &mut W) -> io::Result<()>
+    requires { CanWrite (signature_who line.now.signature) }
+    ensures { OnOk result (Appends (W.contents out.old) (W.contents out.new) (line_text line.now)) }
+{
+    write_head(
+        &line.previous_oid,
+        &line.new_oid,
+        line.signature.to_ref(),
+        out,
+    )?;
+    out.write_all(b"\t")?;
+    out.write_all(&line.message)?;
+    out.write_all(b"\n")
+}
+
+/// The bytes of a line, whose signature can be written, without a tab before an empty message.
+fn append_parts(
+    alloc: Global,
+    previous: &ObjectId,
+    new: &ObjectId,
+    who: SignatureRef<'_>,
+    message: &[u8],
+) -> io::Result<Vec<u8>>
+    requires { CanWrite (signature_ref_who who) }
+    ensures { IfOk result (λ line. line.items ≡ head_text previous.now new.now (signature_ref_who who.entry) ++ (message_part message.now ++ 10 ∷ [])) }
+{
+    let mut line = Vec::new(alloc);
+    write_head(previous, new, who, &mut line)?;
+    if !message.is_empty() {
+        line.extend_from_slice(b"\t")?;
+        line.extend_from_slice(message)?;
+    }
+    line.extend_from_slice(b"\n")?;
+    Ok(line)
+}
+
+/// The bytes that a transaction adds to a log: the ids in lower case, the committer without blanks at the ends of name and
+/// email, a tab and the message where that is not empty, and LF. A message with LF is `MessageWithNewlines`, else a trimmed
+/// signature that cannot be written is `SignatureUnwritable`.
+pub fn appended_line(
+    alloc: Global,
+    previous: &ObjectId,
+    new: &ObjectId,
+    committer: SignatureRef<'_>,
+    message: &[u8],
+) -> Result<Vec<u8>, AppendError>
+    ensures made { IfOk result (λ line. CanWriteLine (trimmed_who (signature_ref_who committer.entry)) message.now
+        × (line.items ≡ appended_text previous.now new.now (signature_ref_who committer.entry) message.now)) }
+    ensures message { IsErrOf result AppendError.MessageWithNewlines ↔ (NoByte 10 message.now → ⊥) }
+    ensures signature { IsErrOf result AppendError.SignatureUnwritable ↔ (NoByte 10 message.now × (CanWrite (trimmed_who (signature_ref_who committer.entry)) → ⊥)) }
+{
+    if message.find_byte(b'\n').is_some() {
+        return Err(AppendError::MessageWithNewlines);
+    }
+    let who = committer.trim();
+    if !who.is_writable() {
+        return Err(AppendError::SignatureUnwritable);
+    }
+    match append_parts(alloc, previous, new, who, message) {
+        Ok(line) => Ok(line),
+        Err(_) => Err(AppendError::Memory),
+    }
+}
+
+/// A text is one line at most. A line that can be written, with no tab in name or email, is read again as it was, and so is
+/// one that a transaction adds.
+pub fn lines_read_back()
+    ensures one { (text : List ℕ) (line other : LogLine) → IsLine text line → IsLine text other → other ≡ line }
+    ensures written { (line : Line) → IsReadable line.previous_oid line.new_oid (signature_who line.signature) line.message.items → IsReadAs (line_text line) line }
+    ensures appended { (previous new : ObjectId) (who : Who) (message : List ℕ) → IsReadable previous new (trimmed_who who) message
+        → IsLine (appended_text previous new who message) (written_parts previous new (trimmed_who who) message) }
+{}

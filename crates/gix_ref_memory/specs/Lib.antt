@@ -1,0 +1,5 @@
+pub mod Changes
+pub mod Listing
+pub mod Memory
+pub mod Reader
+pub mod Turns

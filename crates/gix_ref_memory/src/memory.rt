@@ -1,0 +1,368 @@
+//! Files in memory, which keep every change, and fail or stop at a call that the caller chooses.
+ghost use Rattle.std.specs.Prelude.{◌≡◌};
+ghost use Rattle.gix_ref_files.specs.Tree.{IsShaped, no_tree};
+ghost use Rattle.gix_ref_memory.specs.Changes.{after};
+
+mod changes;
+mod edits;
+mod folders;
+mod listing;
+mod reader;
+mod turns;
+
+use changes::{Change, Stands, find, is_below_file, is_folder_at};
+use gix_ref_files::files::{Create, Entry, FileError, Files, Node, Rename};
+use edits::{
+    append_now, append_some, create_now, put_now, remove_file_now, remove_folder_now, rename_now,
+};
+use folders::{make_folders_now, make_some_folders};
+use listing::list_now;
+pub use reader::MemoryReader;
+use std::alloc::Global;
+use std::io::ErrorKind;
+use turns::{Plan, Turn, Turns};
+
+/// Files in memory. They are honest: they keep the contract of `Files` and claim to.
+///
+/// They start as an empty tree and keep every change since, so that the clock and what a stop could have left are
+/// functions of what they hold. A look-up costs time in proportion to the changes, a listing to their square: this is
+/// the file system of tests.
+#[derive(Drop)]
+pub struct Memory {
+    alloc: Global,
+    changes: Vec<Change>,
+    turns: Turns,
+    ghost shaped: { IsShaped (after changes.items no_tree) },
+}
+
+impl Memory {
+    ghost use Rattle.std.specs.Prelude.{◌+◌, ◌<◌, ◌-◌, ◌^◌, Some, OnErr, IfOk, IfSome, IfNone, false, if◌then◌else◌, nat_lt, min};
+    ghost use Rattle.gix_ref_files.specs.Tree.{is_file};
+    ghost use Rattle.gix_ref_files.specs.Tree.Content.{File};
+    ghost use Rattle.gix_ref_memory.specs.Changes.{Puts};
+    ghost use Rattle.gix_ref_memory.specs.Memory.{past_of, tree_of, calls_of, faults_of, plan_of, KeepsFiles};
+    ghost use Rattle.gix_ref_memory.specs.declared.memory.turns.Plan.TheVariants.{Runs, FailsAt, StopsAt};
+
+    /// An empty tree, of which no call fails. The allocator is kept for the tree and its record.
+    pub fn new(alloc: Global) -> Self
+        ensures tree { tree_of result ≡ no_tree }
+        ensures calls { calls_of result ≡ 0 }
+        ensures faults { faults_of result ≡ 0 }
+        ensures plan { plan_of result ≡ Runs }
+    {
+        let turns = Turns {
+            plan: Plan::Runs,
+            calls: 0,
+            faults: 0,
+        };
+        Memory {
+            alloc,
+            changes: Vec::new(alloc),
+            turns,
+        }
+    }
+
+    /// Puts a file with these bytes at a path, in place of a file that stands there, and makes the folders that lead
+    /// to it; false, and nothing changed, where a folder stands at the path or a file in it. It is no call of files,
+    /// so it is not counted, and no plan has it fail. `Memory` where a growth was refused; then nothing has changed.
+    pub fn put(&mut self, path: &[u8], bytes: &[u8]) -> Result<bool, FileError>
+        ensures answer { IfOk result (Puts (tree_of self.old) path.now bytes.now (tree_of self.new)) }
+        ensures memory { OnErr result (result ≡ Err FileError.Memory) }
+        ensures failed { OnErr result (past_of self.new ≡ past_of self.old) }
+        ensures calls { calls_of self.new ≡ calls_of self.old }
+        ensures faults { faults_of self.new ≡ faults_of self.old }
+        ensures plan { plan_of self.new ≡ plan_of self.old }
+    {
+        match put_now(self.alloc, &mut self.changes, path, bytes) {
+            Ok(put) => Ok(put),
+            Err(_) => Err(FileError::Memory),
+        }
+    }
+
+    /// The bytes of the file at a path; none where no file stands.
+    pub fn get(&self, path: &[u8]) -> Option<&[u8]>
+        ensures found { IfSome result (λ bytes. tree_of self.now path.now ≡ Some (File bytes.now)) }
+        ensures none { IfNone result (is_file (tree_of self.now path.now) ≡ false) }
+    {
+        match find(&self.changes, path) {
+            Some(Stands::FileOf(bytes)) => Some(bytes),
+            _ => None,
+        }
+    }
+
+    /// The number of calls of files so far, of those that failed too.
+    pub fn calls(&self) -> u64
+        ensures { result ≡ calls_of self.now }
+    {
+        self.turns.calls
+    }
+
+    /// Has the kth call from now fail, and do nothing. This takes the place of an earlier plan.
+    pub fn fail_at(&mut self, k: u64)
+        ensures plan { plan_of self.new ≡ FailsAt (min (calls_of self.old + k) (2 ^ 64 - 1)) }
+        ensures same { KeepsFiles self.old self.new }
+    {
+        self.turns.plan = Plan::FailsAt(self.turns.calls.saturating_add(k));
+    }
+
+    /// Has the kth call from now do its first n parts and fail, and every later call fail. Parts are the bytes of an
+    /// append or the folders that lead to a path and the one there, also those that stand; any other call that changes
+    /// the tree does all of it where n is not 0, and nothing where it is, and `create_new` always nothing. This takes
+    /// the place of an earlier plan.
+    pub fn stop_at(&mut self, k: u64, n: usize)
+        ensures plan { plan_of self.new ≡ StopsAt (min (calls_of self.old + k) (2 ^ 64 - 1)) n }
+        ensures same { KeepsFiles self.old self.new }
+    {
+        self.turns.plan = Plan::StopsAt(self.turns.calls.saturating_add(k), n);
+    }
+
+    /// Has no call fail or stop any more, as after the process was started again. The tree stays.
+    pub fn restart(&mut self)
+        ensures plan { plan_of self.new ≡ Runs }
+        ensures same { KeepsFiles self.old self.new }
+    {
+        self.turns.plan = Plan::Runs;
+    }
+}
+
+impl Files for Memory {
+    ghost use Rattle.std.specs.Prelude.{ℕ, take, false, true, IfOk, OnOk, OnErr, IfSome, IsErrOf};
+    ghost use Rattle.gix_ref_files.specs.Tree.{no_tree, node_at, bytes_of, is_file, appended, moved, removed, is_folder, folders_to, with_folders, IsEmptyFolder};
+    ghost use Rattle.gix_ref_files.specs.Files.{Leaves, Adds, count_after};
+    ghost use Rattle.gix_ref_files.specs.Calls.{Only, emptied, Opens, Creates, Creating, MakesFolders, MakingFolders, is_in_the_way, Appends, Appending, Renames, Renaming, IsMovable, RemovesFile, RemovingFile, RemovesFolder, RemovingFolder, Lists};
+    ghost use Rattle.gix_ref_memory.specs.Changes.{now_is_left, only_now};
+    ghost use Rattle.gix_ref_memory.specs.Turns.{KeepsTurn, AsBefore, InOneStep, IsDone};
+    ghost use Rattle.gix_ref_memory.specs.Memory.{meaning, tree_of, faults_of, next_turn, Counts};
+    ghost use Rattle.gix_ref_memory.specs.Reader.{bytes_in, reader_calls, reader_faults, reader_plan};
+    ghost use Rattle.gix_ref_memory.specs.Memory.{calls_of, plan_of};
+
+    type Reader = MemoryReader;
+
+    ghost honest = { Unit {0} };
+
+    ghost means = { meaning };
+
+    ghost faults = { faults_of };
+
+    ghost tree_is_left = { λ m t honest le. now_is_left m.changes.items t no_tree };
+
+    ghost only_now = { λ m T honest left. only_now m.changes.items no_tree T left };
+
+    ghost shaped = { λ m honest. m.shaped };
+
+    fn kind(&mut self, path: &[u8]) -> Result<Node, FileError>
+        ensures answer { IfOk result (λ node. node ≡ node_at (tree_of self.old) path.now) }
+        ensures leaves { Leaves (meaning self.old) (meaning self.new) (Only (tree_of self.old)) }
+        ensures count { faults_of self.new ≡ count_after result (faults_of self.old) }
+        ensures memory { IsErrOf result FileError.Memory → ⊥ }
+        ensures turn { KeepsTurn (next_turn self.old) result (tree_of self.old) (tree_of self.new) (AsBefore (tree_of self.old)) }
+        ensures counts { Counts self.old self.new }
+    {
+        if self.turns.next() != Turn::Go {
+            return Err(self.turns.fault(ErrorKind::Other));
+        }
+        Ok(match find(&self.changes, path) {
+            Some(Stands::FileOf(_)) => Node::File,
+            Some(Stands::FolderOf) => Node::Folder,
+            None if is_below_file(&self.changes, path) => Node::Blocked,
+            None => Node::Nothing,
+        })
+    }
+
+    fn read(&mut self, _alloc: Global, path: &[u8], buf: &mut Vec<u8>) -> Result<Node, FileError>
+        ensures answer { IfOk result (λ node. node ≡ node_at (tree_of self.old) path.now) }
+        ensures bytes { IfOk result (λ node. node ≡ Node.File → buf.new.items ≡ bytes_of (tree_of self.old path.now)) }
+        ensures emptied { emptied result buf.new.items }
+        ensures leaves { Leaves (meaning self.old) (meaning self.new) (Only (tree_of self.old)) }
+        ensures count { faults_of self.new ≡ count_after result (faults_of self.old) }
+        ensures turn { KeepsTurn (next_turn self.old) result (tree_of self.old) (tree_of self.new) (AsBefore (tree_of self.old)) }
+        ensures counts { Counts self.old self.new }
+    {
+        buf.clear();
+        if self.turns.next() != Turn::Go {
+            return Err(self.turns.fault(ErrorKind::Other));
+        }
+        match find(&self.changes, path) {
+            Some(Stands::FileOf(bytes)) => match buf.extend_from_slice(bytes) {
+                Ok(()) => Ok(Node::File),
+                Err(_) => Err(FileError::Memory),
+            },
+            Some(Stands::FolderOf) => Ok(Node::Folder),
+            None if is_below_file(&self.changes, path) => Ok(Node::Blocked),
+            None => Ok(Node::Nothing),
+        }
+    }
+
+    fn open(&mut self, alloc: Global, path: &[u8]) -> Result<Option<MemoryReader>, FileError>
+        ensures answer { IfOk result (λ reader. Opens (Unit {0}) bytes_in (tree_of self.old) path.now reader) }
+        ensures leaves { Leaves (meaning self.old) (meaning self.new) (Only (tree_of self.old)) }
+        ensures count { faults_of self.new ≡ count_after result (faults_of self.old) }
+        ensures turn { KeepsTurn (next_turn self.old) result (tree_of self.old) (tree_of self.new) (AsBefore (tree_of self.old)) }
+        ensures counts { Counts self.old self.new }
+        // The reader counts its calls on from the call that opened it, by the same plan.
+        ensures reader_calls { IfOk result (λ reader. IfSome reader (λ reader. reader_calls reader ≡ calls_of self.new)) }
+        ensures reader_plan { IfOk result (λ reader. IfSome reader (λ reader. reader_plan reader ≡ plan_of self.new)) }
+        ensures reader_faults { IfOk result (λ reader. IfSome reader (λ reader. reader_faults reader ≡ 0)) }
+    {
+        if self.turns.next() != Turn::Go {
+            return Err(self.turns.fault(ErrorKind::Other));
+        }
+        let Some(Stands::FileOf(bytes)) = find(&self.changes, path) else {
+            return Ok(None);
+        };
+        let turns = Turns {
+            faults: 0,
+            ..self.turns
+        };
+        match bytes.to_vec(alloc) {
+            Ok(bytes) => Ok(Some(MemoryReader { bytes, turns })),
+            Err(_) => Err(FileError::Memory),
+        }
+    }
+
+    fn list(&mut self, alloc: Global, path: &[u8]) -> Result<Option<Vec<Entry>>, FileError>
+        ensures answer { IfOk result (Lists (tree_of self.old) path.now) }
+        ensures leaves { Leaves (meaning self.old) (meaning self.new) (Only (tree_of self.old)) }
+        ensures count { faults_of self.new ≡ count_after result (faults_of self.old) }
+        ensures turn { KeepsTurn (next_turn self.old) result (tree_of self.old) (tree_of self.new) (AsBefore (tree_of self.old)) }
+        ensures counts { Counts self.old self.new }
+    {
+        if self.turns.next() != Turn::Go {
+            return Err(self.turns.fault(ErrorKind::Other));
+        }
+        if !is_folder_at(&self.changes, path) {
+            return Ok(None);
+        }
+        match list_now(alloc, &self.changes, path) {
+            Ok(entries) => Ok(Some(entries)),
+            Err(_) => Err(FileError::Memory),
+        }
+    }
+
+    fn create_new(&mut self, path: &[u8]) -> Result<Create, FileError>
+        ensures answer { IfOk result (Creates (tree_of self.old) path.now (tree_of self.new)) }
+        ensures failed { OnErr result (tree_of self.new ≡ tree_of self.old) }
+        ensures leaves { Leaves (meaning self.old) (meaning self.new) (Creating (tree_of self.old) path.now) }
+        ensures count { faults_of self.new ≡ count_after result (faults_of self.old) }
+        ensures memory { IsErrOf result FileError.Memory → ⊥ }
+        ensures turn { KeepsTurn (next_turn self.old) result (tree_of self.old) (tree_of self.new) (AsBefore (tree_of self.old)) }
+        ensures counts { Counts self.old self.new }
+    {
+        if self.turns.next() != Turn::Go {
+            return Err(self.turns.fault(ErrorKind::Other));
+        }
+        match create_now(self.alloc, &mut self.changes, path) {
+            Ok(Some(create)) => Ok(create),
+            Ok(None) => Err(self.turns.fault(ErrorKind::NotFound)),
+            Err(_) => Err(self.turns.fault(ErrorKind::OutOfMemory)),
+        }
+    }
+
+    fn make_folders(&mut self, path: &[u8]) -> Result<bool, FileError>
+        ensures answer { IfOk result (MakesFolders (tree_of self.old) path.now (tree_of self.new)) }
+        ensures leaves { Leaves (meaning self.old) (meaning self.new) (MakingFolders (tree_of self.old) path.now) }
+        ensures adds { OnOk result (Adds (meaning self.old) (meaning self.new) (MakingFolders (tree_of self.old) path.now)) }
+        ensures count { faults_of self.new ≡ count_after result (faults_of self.old) }
+        ensures memory { IsErrOf result FileError.Memory → ⊥ }
+        ensures turn { KeepsTurn (next_turn self.old) result (tree_of self.old) (tree_of self.new) (λ n T. IsDone (tree_of self.old) (is_in_the_way (tree_of self.old) path.now ≡ false) (with_folders (tree_of self.old) (take n (folders_to path.now))) T) }
+        ensures counts { Counts self.old self.new }
+    {
+        match self.turns.next() {
+            Turn::Go => match make_folders_now(self.alloc, &mut self.changes, path) {
+                Ok(made) => Ok(made),
+                Err(_) => Err(self.turns.fault(ErrorKind::OutOfMemory)),
+            },
+            Turn::Stop(n) => match make_some_folders(self.alloc, &mut self.changes, path, n) {
+                Ok(()) => Err(self.turns.fault(ErrorKind::Other)),
+                Err(_) => Err(self.turns.fault(ErrorKind::OutOfMemory)),
+            },
+            Turn::Fail => Err(self.turns.fault(ErrorKind::Other)),
+        }
+    }
+
+    fn append(&mut self, path: &[u8], bytes: &[u8]) -> Result<bool, FileError>
+        ensures answer { IfOk result (Appends (tree_of self.old) path.now bytes.now (tree_of self.new)) }
+        ensures leaves { Leaves (meaning self.old) (meaning self.new) (Appending (tree_of self.old) path.now bytes.now) }
+        ensures adds { OnOk result (Adds (meaning self.old) (meaning self.new) (Appending (tree_of self.old) path.now bytes.now)) }
+        ensures count { faults_of self.new ≡ count_after result (faults_of self.old) }
+        ensures memory { IsErrOf result FileError.Memory → ⊥ }
+        ensures turn { KeepsTurn (next_turn self.old) result (tree_of self.old) (tree_of self.new) (λ n T. T ≡ appended (tree_of self.old) path.now (take n bytes.now)) }
+        ensures counts { Counts self.old self.new }
+    {
+        match self.turns.next() {
+            Turn::Go => match append_now(self.alloc, &mut self.changes, path, bytes) {
+                Ok(there) => Ok(there),
+                Err(_) => Err(self.turns.fault(ErrorKind::OutOfMemory)),
+            },
+            Turn::Stop(n) => match append_some(self.alloc, &mut self.changes, path, bytes, n) {
+                Ok(()) => Err(self.turns.fault(ErrorKind::Other)),
+                Err(_) => Err(self.turns.fault(ErrorKind::OutOfMemory)),
+            },
+            Turn::Fail => Err(self.turns.fault(ErrorKind::Other)),
+        }
+    }
+
+    fn rename(&mut self, from: &[u8], to: &[u8]) -> Result<Rename, FileError>
+        ensures answer { IfOk result (Renames (tree_of self.old) from.now to.now (tree_of self.new)) }
+        ensures leaves { Leaves (meaning self.old) (meaning self.new) (Renaming (tree_of self.old) from.now to.now) }
+        ensures count { faults_of self.new ≡ count_after result (faults_of self.old) }
+        ensures memory { IsErrOf result FileError.Memory → ⊥ }
+        ensures turn { KeepsTurn (next_turn self.old) result (tree_of self.old) (tree_of self.new) (InOneStep (tree_of self.old) (IsMovable (tree_of self.old) from.now to.now) (moved (tree_of self.old) from.now to.now)) }
+        ensures counts { Counts self.old self.new }
+    {
+        match self.turns.next() {
+            Turn::Go => match rename_now(self.alloc, &mut self.changes, from, to) {
+                Ok(Some(rename)) => Ok(rename),
+                Ok(None) => Err(self.turns.fault(ErrorKind::NotFound)),
+                Err(_) => Err(self.turns.fault(ErrorKind::OutOfMemory)),
+            },
+            Turn::Fail | Turn::Stop(0) => Err(self.turns.fault(ErrorKind::Other)),
+            Turn::Stop(_) => match rename_now(self.alloc, &mut self.changes, from, to) {
+                Ok(_) => Err(self.turns.fault(ErrorKind::Other)),
+                Err(_) => Err(self.turns.fault(ErrorKind::OutOfMemory)),
+            },
+        }
+    }
+
+    fn remove_file(&mut self, path: &[u8]) -> Result<bool, FileError>
+        ensures answer { IfOk result (RemovesFile (tree_of self.old) path.now (tree_of self.new)) }
+        ensures leaves { Leaves (meaning self.old) (meaning self.new) (RemovingFile (tree_of self.old) path.now) }
+        ensures count { faults_of self.new ≡ count_after result (faults_of self.old) }
+        ensures memory { IsErrOf result FileError.Memory → ⊥ }
+        ensures turn { KeepsTurn (next_turn self.old) result (tree_of self.old) (tree_of self.new) (InOneStep (tree_of self.old) (is_file (tree_of self.old path.now) ≡ true) (removed (tree_of self.old) path.now)) }
+        ensures counts { Counts self.old self.new }
+    {
+        match self.turns.next() {
+            Turn::Go => match remove_file_now(self.alloc, &mut self.changes, path) {
+                Ok(removed) => Ok(removed),
+                Err(_) => Err(self.turns.fault(ErrorKind::OutOfMemory)),
+            },
+            Turn::Fail | Turn::Stop(0) => Err(self.turns.fault(ErrorKind::Other)),
+            Turn::Stop(_) => match remove_file_now(self.alloc, &mut self.changes, path) {
+                Ok(_) => Err(self.turns.fault(ErrorKind::Other)),
+                Err(_) => Err(self.turns.fault(ErrorKind::OutOfMemory)),
+            },
+        }
+    }
+
+    fn remove_folder(&mut self, path: &[u8]) -> Result<bool, FileError>
+        ensures answer { IfOk result (RemovesFolder (tree_of self.old) path.now (tree_of self.new)) }
+        ensures leaves { Leaves (meaning self.old) (meaning self.new) (RemovingFolder (tree_of self.old) path.now) }
+        ensures count { faults_of self.new ≡ count_after result (faults_of self.old) }
+        ensures memory { IsErrOf result FileError.Memory → ⊥ }
+        ensures turn { KeepsTurn (next_turn self.old) result (tree_of self.old) (tree_of self.new) (InOneStep (tree_of self.old) (IsEmptyFolder (tree_of self.old) path.now) (removed (tree_of self.old) path.now)) }
+        ensures counts { Counts self.old self.new }
+    {
+        match self.turns.next() {
+            Turn::Go => match remove_folder_now(self.alloc, &mut self.changes, path) {
+                Ok(removed) => Ok(removed),
+                Err(_) => Err(self.turns.fault(ErrorKind::OutOfMemory)),
+            },
+            Turn::Fail | Turn::Stop(0) => Err(self.turns.fault(ErrorKind::Other)),
+            Turn::Stop(_) => match remove_folder_now(self.alloc, &mut self.changes, path) {
+                Ok(_) => Err(self.turns.fault(ErrorKind::Other)),
+                Err(_) => Err(self.turns.fault(ErrorKind::OutOfMemory)),
+            },
+        }
+    }
+}

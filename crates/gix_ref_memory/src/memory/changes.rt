@@ -1,0 +1,150 @@
+//! What was changed, the oldest first, and what stands at a path after all of it.
+ghost use Rattle.std.specs.Prelude.{◌≡◌, Some};
+ghost use Rattle.gix_ref_files.specs.Tree.{no_tree, has_folders, is_blocked, is_file, is_folder};
+ghost use Rattle.gix_ref_memory.specs.Changes.{found_content, content_of, place_of, after};
+
+/// What a change puts at a path.
+#[derive(Debug, Drop)]
+pub enum Stored {
+    Bytes(Vec<u8>),
+    Folder,
+}
+
+/// A change of the tree.
+#[derive(Debug, Drop)]
+pub enum Change {
+    /// This stands at a path from now on, or nothing does.
+    Put {
+        path: Vec<u8>,
+        stored: Option<Stored>,
+    },
+    /// A file that had so many bytes has these.
+    Append {
+        path: Vec<u8>,
+        whole: Vec<u8>,
+        had: usize,
+    },
+    /// A file with these bytes is no more at one path, and stands at another.
+    Move {
+        from: Vec<u8>,
+        to: Vec<u8>,
+        bytes: Vec<u8>,
+    },
+}
+
+/// What stands at a path.
+#[derive(Clone, Copy, Debug)]
+pub enum Stands<'a> {
+    FileOf(&'a [u8]),
+    FolderOf,
+}
+
+impl Stands<'_> {
+    /// It is a folder.
+    pub fn is_folder(self) -> bool
+        ensures { result ≡ is_folder (found_content (Some self.entry)) }
+    {
+        match self {
+            Stands::FileOf(_) => false,
+            Stands::FolderOf => true,
+        }
+    }
+}
+
+fn stored_stands(stored: &Option<Stored>) -> Option<Stands<'_>>
+    ensures { found_content result ≡ content_of stored.now }
+{
+    match stored {
+        None => None,
+        Some(Stored::Bytes(bytes)) => Some(Stands::FileOf(bytes)),
+        Some(Stored::Folder) => Some(Stands::FolderOf),
+    }
+}
+
+/// What stands at a path after the changes.
+pub fn find<'a>(changes: &'a [Change], path: &[u8]) -> Option<Stands<'a>>
+    ensures { found_content result ≡ after changes.now no_tree path.now }
+{
+    let mut found = None;
+    for change in changes {
+        match change {
+            Change::Put { path: at, stored } => {
+                if at.as_slice() == path {
+                    found = stored_stands(stored);
+                }
+            }
+            Change::Append {
+                path: at,
+                whole,
+                ..
+            } => {
+                if at.as_slice() == path {
+                    found = Some(Stands::FileOf(whole));
+                }
+            }
+            Change::Move { from, to, bytes } => {
+                if to.as_slice() == path {
+                    found = Some(Stands::FileOf(bytes));
+                } else if from.as_slice() == path {
+                    found = None;
+                }
+            }
+        }
+    }
+    found
+}
+
+/// The path at which a change puts something.
+pub fn place(change: &Change) -> &[u8]
+    ensures { result.now ≡ place_of change.now }
+{
+    match change {
+        Change::Put { path, .. } => path,
+        Change::Append { path, .. } => path,
+        Change::Move { to, .. } => to,
+    }
+}
+
+/// A file stands at a path.
+pub fn is_file_at(changes: &[Change], path: &[u8]) -> bool
+    ensures { result ≡ is_file (after changes.now no_tree path.now) }
+{
+    match find(changes, path) {
+        Some(Stands::FileOf(_)) => true,
+        _ => false,
+    }
+}
+
+/// A folder stands at a path.
+pub fn is_folder_at(changes: &[Change], path: &[u8]) -> bool
+    ensures { result ≡ is_folder (after changes.now no_tree path.now) }
+{
+    match find(changes, path) {
+        Some(stands) => stands.is_folder(),
+        None => false,
+    }
+}
+
+/// A file stands in the path.
+pub fn is_below_file(changes: &[Change], path: &[u8]) -> bool
+    ensures { result ≡ is_blocked (after changes.now no_tree) path.now }
+{
+    for i in 1..path.len() {
+        if path[i] == b'/' && is_file_at(changes, &path[..i]) {
+            return true;
+        }
+    }
+    false
+}
+
+/// Folders stand at all proper fronts of a path.
+pub fn stands_in_folders(changes: &[Change], path: &[u8]) -> bool
+    ensures { result ≡ has_folders (after changes.now no_tree) path.now }
+{
+    for i in 1..path.len() {
+        if path[i] == b'/' && !is_folder_at(changes, &path[..i]) {
+            return false;
+        }
+    }
+    true
+}

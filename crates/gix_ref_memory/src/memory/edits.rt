@@ -1,0 +1,199 @@
+//! What the calls of files in memory change: each adds its changes at the end of those that there were.
+ghost use Rattle.std.specs.Prelude.{◌≡◌, [], Some, false, IfOk, IfSome, IfNone, OnOk, OnErr, take, length};
+ghost use Rattle.gix_ref_files.specs.Tree.{IsShaped, no_tree, put, appended, is_folder, fronts, with_folders};
+ghost use Rattle.gix_ref_files.specs.Files.{Leaves, Adds};
+ghost use Rattle.gix_ref_files.specs.Calls.{Appends, Appending, Renames, Renaming, IsMovable, RemovesFile, RemovingFile, RemovesFolder, RemovingFolder, Creates, Creating};
+ghost use Rattle.gix_ref_files.specs.Tree.Content.{File};
+ghost use Rattle.gix_ref_memory.specs.Changes.{after, meaning_of, Puts};
+
+use super::changes::{
+    Change, Stands, Stored, find, is_below_file, is_file_at, is_folder_at, stands_in_folders,
+};
+use gix_ref_files::files::{Create, Rename};
+use std::alloc::{AllocError, Global};
+use super::folders::make_fronts;
+use super::listing::has_below;
+
+/// Adds bytes to a file.
+pub fn append_now(
+    alloc: Global,
+    changes: &mut Vec<Change>,
+    path: &[u8],
+    bytes: &[u8],
+) -> Result<bool, AllocError>
+    ensures answer { IfOk result (Appends (after changes.old.items no_tree) path.now bytes.now (after changes.new.items no_tree)) }
+    ensures failed { OnErr result (changes.new.items ≡ changes.old.items) }
+    ensures shape { IsShaped (after changes.old.items no_tree) → IsShaped (after changes.new.items no_tree) }
+    ensures leaves { Leaves (meaning_of changes.old.items) (meaning_of changes.new.items) (Appending (after changes.old.items no_tree) path.now bytes.now) }
+    ensures adds { OnOk result (Adds (meaning_of changes.old.items) (meaning_of changes.new.items) (Appending (after changes.old.items no_tree) path.now bytes.now)) }
+{
+    match find(changes, path) {
+        Some(Stands::FileOf(old)) => {
+            let had = old.len();
+            let mut whole = old.to_vec(alloc)?;
+            whole.extend_from_slice(bytes)?;
+            let path = path.to_vec(alloc)?;
+            changes.push(Change::Append { path, whole, had })?;
+            Ok(true)
+        }
+        _ => Ok(false),
+    }
+}
+
+/// Adds the first so many of these bytes to a file, if one stands there.
+pub fn append_some(
+    alloc: Global,
+    changes: &mut Vec<Change>,
+    path: &[u8],
+    bytes: &[u8],
+    most: usize,
+) -> Result<(), AllocError>
+    ensures done { OnOk result (after changes.new.items no_tree ≡ appended (after changes.old.items no_tree) path.now (take most bytes.now)) }
+    ensures shape { IsShaped (after changes.old.items no_tree) → IsShaped (after changes.new.items no_tree) }
+    ensures leaves { Leaves (meaning_of changes.old.items) (meaning_of changes.new.items) (Appending (after changes.old.items no_tree) path.now bytes.now) }
+{
+    let part = &bytes[..most.min(bytes.len())];
+    append_now(alloc, changes, path, part)?;
+    Ok(())
+}
+
+/// Moves a file; none where the tree leaves no answer.
+pub fn rename_now(
+    alloc: Global,
+    changes: &mut Vec<Change>,
+    from: &[u8],
+    to: &[u8],
+) -> Result<Option<Rename>, AllocError>
+    ensures answer { IfOk result (λ answer. IfSome answer (Renames (after changes.old.items no_tree) from.now to.now (after changes.new.items no_tree))) }
+    ensures none { IfOk result (λ answer. IfNone answer (IsMovable (after changes.old.items no_tree) from.now to.now → ⊥)) }
+    ensures none_same { IfOk result (λ answer. IfNone answer (changes.new.items ≡ changes.old.items)) }
+    ensures failed { OnErr result (changes.new.items ≡ changes.old.items) }
+    ensures shape { IsShaped (after changes.old.items no_tree) → IsShaped (after changes.new.items no_tree) }
+    ensures leaves { Leaves (meaning_of changes.old.items) (meaning_of changes.new.items) (Renaming (after changes.old.items no_tree) from.now to.now) }
+{
+    match find(changes, from) {
+        Some(Stands::FileOf(old)) => {
+            if is_folder_at(changes, to) {
+                return Ok(Some(Rename::FolderStands));
+            }
+            if !stands_in_folders(changes, to) {
+                return Ok(None);
+            }
+            let bytes = old.to_vec(alloc)?;
+            let from = from.to_vec(alloc)?;
+            let to = to.to_vec(alloc)?;
+            changes.push(Change::Move { from, to, bytes })?;
+            Ok(Some(Rename::Moved))
+        }
+        _ => Ok(None),
+    }
+}
+
+/// Removes a file.
+pub fn remove_file_now(
+    alloc: Global,
+    changes: &mut Vec<Change>,
+    path: &[u8],
+) -> Result<bool, AllocError>
+    ensures answer { IfOk result (RemovesFile (after changes.old.items no_tree) path.now (after changes.new.items no_tree)) }
+    ensures failed { OnErr result (changes.new.items ≡ changes.old.items) }
+    ensures shape { IsShaped (after changes.old.items no_tree) → IsShaped (after changes.new.items no_tree) }
+    ensures leaves { Leaves (meaning_of changes.old.items) (meaning_of changes.new.items) (RemovingFile (after changes.old.items no_tree) path.now) }
+{
+    if !is_file_at(changes, path) {
+        return Ok(false);
+    }
+    let path = path.to_vec(alloc)?;
+    changes.push(Change::Put { path, stored: None })?;
+    Ok(true)
+}
+
+/// Makes an empty file; none where a folder is missing.
+pub fn create_now(
+    alloc: Global,
+    changes: &mut Vec<Change>,
+    path: &[u8],
+) -> Result<Option<Create>, AllocError>
+    ensures answer { IfOk result (λ answer. IfSome answer (Creates (after changes.old.items no_tree) path.now (after changes.new.items no_tree))) }
+    ensures none { IfOk result (λ answer. IfNone answer (changes.new.items ≡ changes.old.items)) }
+    ensures failed { OnErr result (changes.new.items ≡ changes.old.items) }
+    ensures shape { IsShaped (after changes.old.items no_tree) → IsShaped (after changes.new.items no_tree) }
+    ensures leaves { Leaves (meaning_of changes.old.items) (meaning_of changes.new.items) (Creating (after changes.old.items no_tree) path.now) }
+{
+    if find(changes, path).is_some() {
+        return Ok(Some(Create::Standing));
+    }
+    if is_below_file(changes, path) {
+        return Ok(Some(Create::Blocked));
+    }
+    if !stands_in_folders(changes, path) {
+        return Ok(None);
+    }
+    let path = path.to_vec(alloc)?;
+    let stored = Some(Stored::Bytes(Vec::new(alloc)));
+    changes.push(Change::Put { path, stored })?;
+    Ok(Some(Create::Made))
+}
+
+/// Removes an empty folder.
+pub fn remove_folder_now(
+    alloc: Global,
+    changes: &mut Vec<Change>,
+    path: &[u8],
+) -> Result<bool, AllocError>
+    ensures answer { IfOk result (RemovesFolder (after changes.old.items no_tree) path.now (after changes.new.items no_tree)) }
+    ensures failed { OnErr result (changes.new.items ≡ changes.old.items) }
+    ensures shape { IsShaped (after changes.old.items no_tree) → IsShaped (after changes.new.items no_tree) }
+    ensures leaves { Leaves (meaning_of changes.old.items) (meaning_of changes.new.items) (RemovingFolder (after changes.old.items no_tree) path.now) }
+{
+    if !is_folder_at(changes, path) || has_below(changes, path) {
+        return Ok(false);
+    }
+    let path = path.to_vec(alloc)?;
+    changes.push(Change::Put { path, stored: None })?;
+    Ok(true)
+}
+
+/// Puts a file with these bytes at a path, and folders at its fronts. A failure may leave folders.
+fn place_file(
+    alloc: Global,
+    changes: &mut Vec<Change>,
+    path: &[u8],
+    bytes: &[u8],
+) -> Result<(), AllocError>
+    ensures placed { OnOk result (after changes.new.items no_tree ≡ put (with_folders (after changes.old.items no_tree) (fronts path.now)) path.now (Some (File bytes.now))) }
+    ensures kept { OnErr result (take (length changes.old.items) changes.new.items ≡ changes.old.items) }
+    ensures shape { is_folder (after changes.old.items no_tree path.now) ≡ false → IsShaped (after changes.old.items no_tree) → OnOk result (IsShaped (after changes.new.items no_tree)) }
+{
+    make_fronts(alloc, changes, path, path.len())?;
+    let path = path.to_vec(alloc)?;
+    let bytes = bytes.to_vec(alloc)?;
+    let stored = Some(Stored::Bytes(bytes));
+    changes.push(Change::Put { path, stored })?;
+    Ok(())
+}
+
+/// Puts a file with these bytes at a path, and folders at its fronts; false where a folder stands at the path or a
+/// file in it.
+pub fn put_now(
+    alloc: Global,
+    changes: &mut Vec<Change>,
+    path: &[u8],
+    bytes: &[u8],
+) -> Result<bool, AllocError>
+    ensures answer { IfOk result (Puts (after changes.old.items no_tree) path.now bytes.now (after changes.new.items no_tree)) }
+    ensures failed { OnErr result (changes.new.items ≡ changes.old.items) }
+    ensures shape { IsShaped (after changes.old.items no_tree) → IsShaped (after changes.new.items no_tree) }
+{
+    if is_folder_at(changes, path) || is_below_file(changes, path) {
+        return Ok(false);
+    }
+    let len = changes.len();
+    match place_file(alloc, changes, path, bytes) {
+        Ok(()) => Ok(true),
+        Err(error) => {
+            changes.truncate(len);
+            Err(error)
+        }
+    }
+}

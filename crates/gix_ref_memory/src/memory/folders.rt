@@ -1,0 +1,108 @@
+//! Folders that are made in memory.
+ghost use Rattle.std.specs.Prelude.{◌≡◌, ◌≤◌, ℕ, Some, OnOk, OnErr, IfOk, take, length, true, false, [], ◌∷◌, ◌++◌};
+ghost use Rattle.gix_ref_files.specs.Tree.{Tree, IsShaped, no_tree, put, has_folders, fronts, folders_to, with_folders};
+ghost use Rattle.gix_ref_files.specs.Tree.Content.{Folder};
+ghost use Rattle.gix_ref_files.specs.Files.{Leaves, Adds};
+ghost use Rattle.gix_ref_files.specs.Calls.{Perhaps, MakesFolders, MakingFolders, is_in_the_way};
+ghost use Rattle.gix_ref_memory.specs.Turns.{IsDone};
+ghost use Rattle.gix_ref_memory.specs.Changes.{after, meaning_of, MakingFronts};
+
+use std::alloc::{AllocError, Global};
+use super::changes::{Change, Stored, is_below_file, is_file_at, is_folder_at};
+
+/// Makes a folder, where it does not stand.
+fn make_folder(alloc: Global, changes: &mut Vec<Change>, path: &[u8]) -> Result<(), AllocError>
+    ensures made { OnOk result (after changes.new.items no_tree ≡ put (after changes.old.items no_tree) path.now (Some Folder)) }
+    ensures failed { OnErr result (changes.new.items ≡ changes.old.items) }
+    ensures kept { take (length changes.old.items) changes.new.items ≡ changes.old.items }
+    ensures shape { has_folders (after changes.old.items no_tree) path.now ≡ true → IsShaped (after changes.old.items no_tree) → IsShaped (after changes.new.items no_tree) }
+    ensures leaves { Leaves (meaning_of changes.old.items) (meaning_of changes.new.items) (Perhaps (after changes.old.items no_tree) (Unit {0}) (put (after changes.old.items no_tree) path.now (Some Folder))) }
+{
+    if is_folder_at(changes, path) {
+        return Ok(());
+    }
+    let path = path.to_vec(alloc)?;
+    let stored = Some(Stored::Folder);
+    changes.push(Change::Put { path, stored })?;
+    Ok(())
+}
+
+/// Makes folders at the first so many proper fronts of a path.
+pub fn make_fronts(
+    alloc: Global,
+    changes: &mut Vec<Change>,
+    path: &[u8],
+    most: usize,
+) -> Result<(), AllocError>
+    ensures made { OnOk result (after changes.new.items no_tree ≡ with_folders (after changes.old.items no_tree) (take most (fronts path.now))) }
+    ensures kept { take (length changes.old.items) changes.new.items ≡ changes.old.items }
+    ensures shape { IsShaped (after changes.old.items no_tree) → IsShaped (after changes.new.items no_tree) }
+    ensures leads { length (fronts path.now) ≤ most → OnOk result (has_folders (after changes.new.items no_tree) path.now ≡ true) }
+    ensures leaves { Leaves (meaning_of changes.old.items) (meaning_of changes.new.items) (MakingFronts (after changes.old.items no_tree) (fronts path.now)) }
+    ensures adds { length (fronts path.now) ≤ most → OnOk result (Adds (meaning_of changes.old.items) (meaning_of changes.new.items) (MakingFronts (after changes.old.items no_tree) (fronts path.now))) }
+{
+    let mut left = most;
+    for i in 1..path.len() {
+        if path[i] == b'/' {
+            if left == 0 {
+                return Ok(());
+            }
+            make_folder(alloc, changes, &path[..i])?;
+            left -= 1;
+        }
+    }
+    Ok(())
+}
+
+/// A file stands at a path or in it.
+fn stands_in_the_way(changes: &[Change], path: &[u8]) -> bool
+    ensures { result ≡ is_in_the_way (after changes.now no_tree) path.now }
+{
+    is_file_at(changes, path) || is_below_file(changes, path)
+}
+
+/// The path with one slash more, whose fronts are the folders that lead to the path, and the path.
+fn slashed(alloc: Global, path: &[u8]) -> Result<Vec<u8>, AllocError>
+    ensures { IfOk result (λ folders. folders.items ≡ path.now ++ 47 ∷ []) }
+{
+    let mut folders = path.to_vec(alloc)?;
+    folders.push(b'/')?;
+    Ok(folders)
+}
+
+/// Makes the folders that lead to a path, and one there; false where a file is in the way.
+pub fn make_folders_now(
+    alloc: Global,
+    changes: &mut Vec<Change>,
+    path: &[u8],
+) -> Result<bool, AllocError>
+    ensures answer { IfOk result (MakesFolders (after changes.old.items no_tree) path.now (after changes.new.items no_tree)) }
+    ensures shape { IsShaped (after changes.old.items no_tree) → IsShaped (after changes.new.items no_tree) }
+    ensures leaves { Leaves (meaning_of changes.old.items) (meaning_of changes.new.items) (MakingFolders (after changes.old.items no_tree) path.now) }
+    ensures adds { OnOk result (Adds (meaning_of changes.old.items) (meaning_of changes.new.items) (MakingFolders (after changes.old.items no_tree) path.now)) }
+{
+    if stands_in_the_way(changes, path) {
+        return Ok(false);
+    }
+    let folders = slashed(alloc, path)?;
+    make_fronts(alloc, changes, &folders, folders.len())?;
+    Ok(true)
+}
+
+/// Makes the first so many of these folders, unless a file is in the way.
+pub fn make_some_folders(
+    alloc: Global,
+    changes: &mut Vec<Change>,
+    path: &[u8],
+    most: usize,
+) -> Result<(), AllocError>
+    ensures done { OnOk result (IsDone (after changes.old.items no_tree) (is_in_the_way (after changes.old.items no_tree) path.now ≡ false) (with_folders (after changes.old.items no_tree) (take most (folders_to path.now))) (after changes.new.items no_tree)) }
+    ensures shape { IsShaped (after changes.old.items no_tree) → IsShaped (after changes.new.items no_tree) }
+    ensures leaves { Leaves (meaning_of changes.old.items) (meaning_of changes.new.items) (MakingFolders (after changes.old.items no_tree) path.now) }
+{
+    if stands_in_the_way(changes, path) {
+        return Ok(());
+    }
+    let folders = slashed(alloc, path)?;
+    make_fronts(alloc, changes, &folders, most)
+}

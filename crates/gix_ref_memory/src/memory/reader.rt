@@ -1,0 +1,57 @@
+//! A reader of a file in memory, which owns a copy of the bytes.
+ghost use Rattle.std.specs.Prelude.{◌≡◌, ◌+◌, ◌<◌, length, OnOk, IsErrOf, true, is_ok};
+ghost use Rattle.gix_ref_files.specs.Files.{one_more, count_after};
+ghost use Rattle.gix_ref_files.specs.Calls.{IsRead};
+
+use gix_ref_files::files::{FileError, ReadAt};
+use std::io::ErrorKind;
+use super::turns::{Turn, Turns};
+
+/// A file of `Memory` that is open for reading. It goes by the plan that the files had when it was opened, and counts
+/// its calls on from theirs.
+#[derive(Debug, Drop)]
+pub struct MemoryReader {
+    pub(super) bytes: Vec<u8>,
+    pub(super) turns: Turns,
+}
+
+impl ReadAt for MemoryReader {
+    ghost use Rattle.gix_ref_memory.specs.Reader.{bytes_in, reader_faults, reader_calls, reader_plan, reader_turn};
+    ghost use Rattle.gix_ref_memory.specs.declared.memory.turns.Turn.TheVariants.{Go};
+
+    ghost honest = { Unit {0} };
+
+    ghost bytes = { bytes_in };
+
+    ghost size = { λ reader. length (bytes_in reader) };
+
+    ghost faults = { reader_faults };
+
+    fn len(&self) -> u64 {
+        self.bytes.len() as u64
+    }
+
+    /// It reads only where its turn is to go, and then fails only past the end.
+    fn read_exact_at(&mut self, place: u64, buf: &mut [u8]) -> Result<(), FileError>
+        ensures bytes { OnOk result (IsRead (bytes_in self.old) place buf.new) }
+        ensures turn { OnOk result (reader_turn self.old ≡ Go) }
+        ensures goes { reader_turn self.old ≡ Go → place + length buf.old < length (bytes_in self.old) + 1 → is_ok result ≡ true }
+        ensures same { bytes_in self.new ≡ bytes_in self.old }
+        ensures size { length (bytes_in self.new) ≡ length (bytes_in self.old) }
+        ensures counts { reader_calls self.new ≡ one_more (reader_calls self.old) }
+        ensures plan { reader_plan self.new ≡ reader_plan self.old }
+        ensures count { reader_faults self.new ≡ count_after result (reader_faults self.old) }
+        ensures memory { IsErrOf result FileError.Memory → ⊥ }
+    {
+        if self.turns.next() != Turn::Go {
+            return Err(self.turns.fault(ErrorKind::Other));
+        }
+        let len = self.bytes.len();
+        let place = place as usize;
+        if place > len || buf.len() > len - place {
+            return Err(self.turns.fault(ErrorKind::UnexpectedEof));
+        }
+        buf.copy_from_slice(&self.bytes[place..place + buf.len()]);
+        Ok(())
+    }
+}

@@ -1,0 +1,15 @@
+pub mod PackedAsked
+pub mod PackedBack
+pub mod PackedBounds
+pub mod PackedDigits
+pub mod PackedFronts
+pub mod PackedHalving
+pub mod PackedHeadings
+pub mod PackedLines
+pub mod PackedPlaces
+pub mod PackedPrefixRuns
+pub mod PackedReadings
+pub mod PackedRuns
+pub mod PackedSorting
+pub mod PackedSources
+pub mod PackedWindows

@@ -1,0 +1,12 @@
+use Rattle.std.proofs.Common.{◌-◌, ◌≤◌, length}
+use Rattle.gix_ref_packed.proofs.PackedBounds.{Bound}
+use Rattle.gix_ref_packed.proofs.packed.bound.lower_bound.Given as goal
+
+abbrev pub invariant-loop-low : goal.invariant-loop-low
+invariant-loop-low l = record {
+  within : l.high ≤ length l.text;
+  bound : Bound l.kind l.text l.asked l.low l.high;
+}
+
+abbrev pub decreases-loop-low : goal.decreases-loop-low
+decreases-loop-low l = l.high - l.low

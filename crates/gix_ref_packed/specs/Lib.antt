@@ -1,0 +1,17 @@
+pub mod PackedBuffer
+pub mod PackedEntries
+pub mod PackedFound
+pub mod PackedHeader
+pub mod PackedIds
+pub mod PackedItems
+pub mod PackedKeys
+pub mod PackedLookup
+pub mod PackedOpening
+pub mod PackedPrefixes
+pub mod PackedSearches
+pub mod PackedSources
+pub mod PackedText
+pub mod PackedViews
+pub mod PackedWindows
+pub mod PackedWritten
+pub mod RawReference

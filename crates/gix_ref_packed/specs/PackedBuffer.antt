@@ -1,0 +1,54 @@
+-- What an opened buffer holds, and why a text is not opened. Clauses speak of a buffer through these words.
+use Rattle.std.specs.Prelude.{◌≡◌, ℕ, List, drop, Option, Result, Ok, Err}
+use Rattle.gix_ref_files.specs.Tree.{Content, bytes_of}
+use Rattle.gix_ref_files.specs.Files.{one_more}
+use Rattle.gix_ref_hash.specs.declared.hash.Kind.{Kind}
+use Rattle.gix_ref_packed.specs.declared.packed.buffer.Buffer.{Buffer}
+use Rattle.gix_ref_packed.specs.declared.packed.buffer.open.Error.{Error}
+use Rattle.gix_ref_packed.specs.declared.packed.buffer.open.Error.TheVariants.{Iter, HeaderParsing, Io, Memory}
+use Rattle.gix_ref_packed.specs.PackedOpening.{OpensTo, NoHeading, HasBadLine, StuckAt}
+
+-- the records, without the header
+abbrev pub buffer_text : Buffer → List ℕ
+buffer_text b = drop b.start b.bytes.items
+
+abbrev pub buffer_kind : Buffer → Kind
+buffer_kind b = b.kind
+
+-- the number of the first line of the records in the file
+abbrev pub buffer_line : Buffer → ℕ
+buffer_line b = b.first_line
+
+-- the buffer is that of this text
+pub record Opened (kind : Kind) (text : List ℕ) (b : Buffer) : Type 0 where
+  pub kind_is : buffer_kind b ≡ kind
+  pub opens : OpensTo kind text (buffer_text b) (buffer_line b)
+
+-- why this text is not opened
+abbrev pub IsRefused : Kind → List ℕ → Error → Type 0
+IsRefused kind text HeaderParsing = NoHeading text
+IsRefused kind text (Iter line) = HasBadLine kind text line
+IsRefused kind text Memory = Unit {0}
+IsRefused kind text (Io error) = ⊥
+
+-- why these records cannot be sorted
+abbrev pub IsStuck : Kind → ℕ → List ℕ → Error → Type 0
+IsStuck kind first text (Iter line) = StuckAt kind first text line
+IsStuck kind first text Memory = Unit {0}
+IsStuck kind first text HeaderParsing = ⊥
+IsStuck kind first text (Io error) = ⊥
+
+-- why the file that stands at a path is not opened
+abbrev pub IsRefusedFile : Kind → Option Content → Error → Type 0
+IsRefusedFile kind content (Io error) = Unit {0}
+IsRefusedFile kind content HeaderParsing = IsRefused kind (bytes_of content) HeaderParsing
+IsRefusedFile kind content (Iter line) = IsRefused kind (bytes_of content) (Iter line)
+IsRefusedFile kind content Memory = Unit {0}
+
+-- the count of faults after opening: one more where the file could not be read
+abbrev pub count_open : Result (Option Buffer) Error → ℕ → ℕ
+count_open (Ok found) n = n
+count_open (Err (Io error)) n = one_more n
+count_open (Err HeaderParsing) n = n
+count_open (Err (Iter line)) n = n
+count_open (Err Memory) n = n

@@ -1,0 +1,68 @@
+-- Where records lie in a text, and the filter of a list of records by a name.
+use Rattle.std.specs.Prelude.{◌≡◌, ◌≢◌, ◌<◌, ◌≤◌, ◌-◌, ◌+◌, ◌⊎◌, ℕ, List, [], nat_eq, slice_index, length, drop, Option, Some, MatchOption}
+use Rattle.std.specs.List.{find}
+use Rattle.std.specs.Cmp.Lexicographic.{pointwise, slice_cmp}
+use Rattle.std.specs.Ordering.{nat_cmp}
+use Rattle.std.specs.declared.cmp.Ordering.{Ordering}
+use Rattle.gix_ref_hash.specs.declared.hash.Kind.{Kind}
+use Rattle.gix_ref_packed.specs.PackedText.{Record, Shape, Takes}
+
+-- the record of that name
+abbrev pub record_named : List ℕ → List Record → Option Record
+record_named n rs = find (λ r. pointwise nat_eq r.name n) rs
+
+-- a line begins there
+abbrev pub BeginsLine : List ℕ → ℕ → Type 0
+BeginsLine text start = 0 < start → slice_index text (start - 1) ≡ 10
+
+-- the line that the byte is in begins there
+pub record LineOf (text : List ℕ) (start offset : ℕ) : Type 0 where
+  pub below : start ≤ offset
+  pub begins : BeginsLine text start
+  pub within : (i : ℕ) → start ≤ i → i < offset → slice_index text i ≢ 10
+
+-- no line begins behind the offset and before the end
+abbrev pub SameLine : List ℕ → ℕ → ℕ → Type 0
+SameLine text offset end = (i : ℕ) → offset ≤ i → i + 1 < end → slice_index text i ≢ 10
+
+-- a line that begins with `^` goes with the line before it
+abbrev pub GoesWith : List ℕ → ℕ → ℕ → Type 0
+GoesWith text line start =
+    ((slice_index text line ≡ 94) × (0 < line) × LineOf text start (line - 1))
+    ⊎ ((slice_index text line ≡ 94 → line ≡ 0) × (start ≡ line))
+
+-- the lines of the record that the byte is in begin there
+pub record RecordOf (text : List ℕ) (start offset : ℕ) : Type 0 where
+  pub line : ℕ
+  pub in_line : LineOf text line offset
+  pub goes : GoesWith text line start
+
+-- a name stands where a record begins
+abbrev pub NameAt : Kind → List ℕ → List ℕ → Type 0
+NameAt kind text name = (digits rest : List ℕ) × Shape kind text digits name rest
+
+-- how the name there compares with the one that is asked
+abbrev pub Compares : Kind → List ℕ → List ℕ → Option Ordering → Type 0
+Compares kind text asked order =
+    MatchOption order ((name : List ℕ) → name ≢ [] → NameAt kind text name → ⊥)
+    (λ o. (name : List ℕ) × NameAt kind text name × (o ≡ slice_cmp nat_cmp name asked))
+
+-- on any text: a line begins there, with the asked name in a record's place
+pub record HitsAt (kind : Kind) (text asked : List ℕ) (start : ℕ) : Type 0 where
+  pub within : start < length text
+  pub line : BeginsLine text start
+  pub named : NameAt kind (drop start text) asked
+
+-- in a list of records: the one of that name begins there
+pub record FindsAt (kind : Kind) (text : List ℕ) (rs : List Record) (asked : List ℕ) (start : ℕ) : Type 0 where
+  pub found : Record
+  pub is : record_named asked rs ≡ Some found
+  pub rest : List ℕ
+  pub takes : Takes kind (drop start text) found rest
+
+-- the record begins a line of the text
+pub record StandsIn (kind : Kind) (text : List ℕ) (r : Record) : Type 0 where
+  pub start : ℕ
+  pub line : BeginsLine text start
+  pub rest : List ℕ
+  pub takes : Takes kind (drop start text) r rest

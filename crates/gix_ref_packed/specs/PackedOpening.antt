@@ -1,0 +1,92 @@
+-- Opening a text of packed references: its header, the records in the order of their names, and what refuses it.
+use Rattle.std.specs.Prelude.{◌≡◌, ◌≢◌, ◌==◌, ◌+◌, ℕ, Bool, true, false, List, [], ◌∷◌, Option, Some, None, sum_by}
+use Rattle.std.specs.List.{filter, Contains}
+use Rattle.std.specs.List.Sorted.{IsPermutation, IsSortedByKey, ties}
+use Rattle.std.specs.Cmp.Lexicographic.{slice_cmp}
+use Rattle.std.specs.Ordering.{nat_cmp, is_lt}
+use Rattle.gix_ref_hash.specs.declared.hash.Kind.{Kind}
+use Rattle.gix_ref_hash.specs.Bytes.{StopsAt}
+use Rattle.gix_ref_packed.specs.declared.packed.decode.options.Header.{Header}
+use Rattle.gix_ref_packed.specs.PackedText.{Record, Takes, NoRecord, Records}
+use Rattle.gix_ref_packed.specs.PackedHeader.{TakesHeader}
+
+abbrev pub is_hash : ℕ → Bool
+is_hash b = b == 35
+
+-- a text that begins with `#` has a header; the rest is its records
+abbrev pub Heads : List ℕ → Option Header → List ℕ → Type 0
+Heads text None rest = (text ≡ rest) × StopsAt is_hash text
+Heads text (Some h) rest = TakesHeader text h rest
+
+-- it begins with `#` and has none
+abbrev pub NoHeading : List ℕ → Type 0
+NoHeading text = (h : Option Header) (rest : List ℕ) → Heads text h rest → ⊥
+
+-- the whole text is this header and these records
+abbrev pub PackedText : Kind → List ℕ → Option Header → List Record → Type 0
+PackedText kind text h rs = (rest : List ℕ) × Heads text h rest × Records kind rest rs
+
+-- the header says that the records are sorted
+abbrev pub says_sorted : Option Header → Bool
+says_sorted None = false
+says_sorted (Some h) = h.sorted
+
+-- the number of the first line behind the header, from 1
+abbrev pub line_behind : Option Header → ℕ
+line_behind None = 1
+line_behind (Some h) = 2
+
+-- a peeled line is one more
+abbrev pub lines_with : Option (List ℕ) → ℕ
+lines_with None = 1
+lines_with (Some object) = 2
+
+abbrev pub lines_of : Record → ℕ
+lines_of r = lines_with r.object
+
+-- how many lines the records have
+abbrev pub line_count : List Record → ℕ
+line_count = sum_by lines_of
+
+-- these records stand at the front of the text, and what follows them
+abbrev pub Fronts : Kind → List ℕ → List Record → List ℕ → Type 0
+Fronts kind text [] rest = text ≡ rest
+Fronts kind text (r ∷ rs) rest = (after : List ℕ) × Takes kind text r after × Fronts kind after rs rest
+
+-- behind some records, in the line of that number, no record stands; the first line has the number `first`
+pub record StuckAt (kind : Kind) (first : ℕ) (text : List ℕ) (line : ℕ) : Type 0 where
+  pub before : List Record
+  pub rest : List ℕ
+  pub fronts : Fronts kind text before rest
+  pub some : rest ≢ []
+  pub bad : NoRecord kind rest
+  pub number : line ≡ first + line_count before
+
+-- by name
+abbrev pub is_lower : Record → Record → Bool
+is_lower r s = is_lt (slice_cmp nat_cmp r.name s.name)
+
+-- the same records in the order of their names, those of one name in their old order
+pub record SortsByName (old new : List Record) : Type 0 where
+  pub moved : IsPermutation old new
+  pub rises : IsSortedByKey (λ r. r.name) (slice_cmp nat_cmp) new
+  pub stable : (r : Record) → Contains old r → filter (ties is_lower r) new ≡ filter (ties is_lower r) old
+
+-- What is kept of the records' text: all of it where the header says that it is sorted, else the records in the order
+-- of their names.
+abbrev pub Keeps : Kind → Bool → List ℕ → List ℕ → Type 0
+Keeps kind true rest kept = kept ≡ rest
+Keeps kind false rest kept = (old new : List Record) × Records kind rest old × SortsByName old new × Records kind kept new
+
+-- what is kept of a text, and the number of its first line
+pub record OpensTo (kind : Kind) (text kept : List ℕ) (line : ℕ) : Type 0 where
+  pub header : Option Header
+  pub rest : List ℕ
+  pub heads : Heads text header rest
+  pub keeps : Keeps kind (says_sorted header) rest kept
+  pub number : line ≡ line_behind header
+
+-- a text whose records must be read, and the line of the first that is none
+abbrev pub HasBadLine : Kind → List ℕ → ℕ → Type 0
+HasBadLine kind text line =
+    (header : Option Header) × (rest : List ℕ) × Heads text header rest × (says_sorted header ≡ false) × StuckAt kind (line_behind header) rest line

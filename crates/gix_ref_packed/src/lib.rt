@@ -1,0 +1,5 @@
+//! Packed references, and references as values.
+#![tactic(auto)]
+
+pub mod packed;
+pub mod raw;

@@ -1,0 +1,145 @@
+//! `packed-refs` in memory: opening it, and the text of its records.
+ghost use Rattle.std.specs.Prelude.{◌≤◌, ◌<◌, vec_len};
+
+pub mod open;
+
+use crate::packed::decode::Header;
+use crate::packed::heading::{Heading, read_heading};
+use crate::packed::sorting::sorted_text;
+use gix_ref_files::files::{FileError, Files, Node};
+use gix_ref_hash::hash::Kind;
+use open::Error;
+use std::alloc::Global;
+
+/// The records of a `packed-refs` in memory, in the order of their names.
+#[derive(Debug, Drop)]
+pub struct Buffer {
+    bytes: Vec<u8>,
+    /// Where the records begin in the bytes.
+    start: usize,
+    kind: Kind,
+    /// The number of the records' first line in the file, from 1.
+    first_line: u64,
+    pub ghost inside: { start ≤ vec_len bytes },
+    pub ghost early: { first_line < 3 },
+}
+
+impl Buffer {
+    ghost use Rattle.std.specs.Prelude.{◌≡◌, ◌≤◌, ◌<◌, IfOk, IfErr, MatchOption, true, false, vec_len, drop};
+    ghost use Rattle.gix_ref_files.specs.Tree.{is_file, bytes_of};
+    ghost use Rattle.gix_ref_files.specs.Files.{Leaves};
+    ghost use Rattle.gix_ref_files.specs.Calls.{Only};
+    ghost use Rattle.gix_ref_packed.specs.PackedOpening.{Keeps};
+    ghost use Rattle.gix_ref_packed.specs.PackedBuffer.{buffer_text, buffer_kind, buffer_line, Opened, IsRefused, IsRefusedFile, IsStuck, count_open};
+
+    /// Opens the file at a path, whose ids are of the kind; `None` where no file stands there. `Io` where it cannot be
+    /// read, and else what `from_bytes` answers. The threshold, from which on other stores map the file into memory, has
+    /// no effect. The file is read once, into memory.
+    pub fn open<F: Files>(
+        alloc: Global,
+        files: &mut F,
+        path: &[u8],
+        _threshold: u64,
+        kind: Kind,
+    ) -> Result<Option<Buffer>, Error>
+        ensures opened { F.honest → IfOk result (λ found. MatchOption found (is_file ((F.means files.old).tree path.now) ≡ false)
+            (λ b. (is_file ((F.means files.old).tree path.now) ≡ true) × Opened kind (bytes_of ((F.means files.old).tree path.now)) b)) }
+        ensures refused { F.honest → IfErr result (IsRefusedFile kind ((F.means files.old).tree path.now)) }
+        ensures leaves { F.honest → Leaves (F.means files.old) (F.means files.new) (Only (F.means files.old).tree) }
+        ensures count { F.faults files.new ≡ count_open result (F.faults files.old) }
+    {
+        let mut bytes = Vec::new(alloc);
+        match files.read(alloc, path, &mut bytes) {
+            Ok(Node::File) => {}
+            Ok(_) => return Ok(None),
+            Err(FileError::Memory) => return Err(Error::Memory),
+            Err(error) => return Err(Error::Io(error)),
+        }
+        match Buffer::from_bytes(alloc, bytes, kind) {
+            Ok(buffer) => Ok(Some(buffer)),
+            Err(error) => Err(error),
+        }
+    }
+
+    /// Opens a text, which it keeps. `HeaderParsing` where it begins with `#` and has no header. Where its header says
+    /// that it is sorted, nothing but that line is looked at. Else each record is read, at a cost of n log n for n
+    /// records: `Iter` tells the first line that is none. Where the names do not ascend, the records are put in their
+    /// order, those of one name in their old order, and `Memory` tells that there was no memory for that.
+    pub fn from_bytes(alloc: Global, bytes: Vec<u8>, kind: Kind) -> Result<Buffer, Error>
+        ensures opened { IfOk result (Opened kind bytes.items) }
+        ensures refused { IfErr result (IsRefused kind bytes.items) }
+    {
+        let Some(Heading { header, start }) = read_heading(&bytes) else {
+            return Err(Error::HeaderParsing);
+        };
+        match header {
+            Some(
+                Header {
+                    peeled: _,
+                    sorted: true,
+                },
+            ) => Ok(Buffer {
+                bytes,
+                start,
+                kind,
+                first_line: 2,
+            }),
+            Some(_) => Buffer::sorted(alloc, bytes, start, kind, 2),
+            None => Buffer::sorted(alloc, bytes, start, kind, 1),
+        }
+    }
+
+    /// The buffer of a text whose records are to be sorted.
+    fn sorted(
+        alloc: Global,
+        bytes: Vec<u8>,
+        start: usize,
+        kind: Kind,
+        first_line: u64,
+    ) -> Result<Buffer, Error>
+        requires inside { start ≤ vec_len bytes }
+        requires line { first_line ≤ 2 }
+        ensures keeps { IfOk result (λ b. Keeps kind false (drop start bytes.items) (buffer_text b)) }
+        ensures kind { IfOk result (λ b. buffer_kind b ≡ kind) }
+        ensures line { IfOk result (λ b. buffer_line b ≡ first_line) }
+        ensures refused { IfErr result (IsStuck kind first_line (drop start bytes.items)) }
+    {
+        match sorted_text(alloc, &bytes[start..], kind, first_line) {
+            Ok(None) => Ok(Buffer {
+                bytes,
+                start,
+                kind,
+                first_line,
+            }),
+            Ok(Some(text)) => Ok(Buffer {
+                bytes: text,
+                start: 0,
+                kind,
+                first_line,
+            }),
+            Err(error) => Err(error),
+        }
+    }
+
+    /// The text of the records, without the header.
+    pub fn as_bytes(&self) -> &[u8]
+        ensures { result.now ≡ buffer_text self.now }
+    {
+        &self.bytes[self.start..]
+    }
+
+    /// The kind of the ids.
+    pub fn kind(&self) -> Kind
+        ensures { result ≡ buffer_kind self.now }
+    {
+        self.kind
+    }
+
+    /// The number of the records' first line in the file.
+    pub(crate) fn first_line(&self) -> u64
+        ensures line { result ≡ buffer_line self.now }
+        ensures early { result < 3 }
+    {
+        self.first_line
+    }
+}

@@ -1,0 +1,137 @@
+//! Reading a record of `packed-refs`.
+ghost use Rattle.std.specs.Prelude.{◌≡◌, ◌≢◌, ◌++◌, ◌*◌, ℕ, List, [], length, Option, MatchOption, MatchBool, IfOk, IfErr, OnErr};
+ghost use Rattle.std.specs.Option.{option_map};
+ghost use Rattle.gix_ref_hash.specs.Ids.{IsHexOf, kind_len};
+ghost use Rattle.gix_ref_packed.specs.PackedText.{Shape, Takes, Peeled, PeeledLine, Record};
+ghost use Rattle.gix_ref_packed.specs.PackedLookup.{NameAt, Compares};
+ghost use Rattle.gix_ref_packed.specs.PackedViews.{record_of};
+
+use crate::packed::lines::{after_newline, take_line};
+use crate::packed::reference::Reference;
+use gix_ref_base::name::FullNameRef;
+use gix_ref_hash::bytes::strip_front;
+use gix_ref_hash::hash::{Kind, hex_hash};
+use std::cmp::Ordering;
+
+/// The bytes in the places of id and name, and what follows their line. Neither is checked.
+pub fn take_shape(text: &[u8], kind: Kind) -> Option<(&[u8], &[u8], &[u8])>
+    ensures { MatchOption result ((digits name rest : List ℕ) → Shape kind text.now digits name rest → ⊥)
+        (λ p. Shape kind text.now p.0.now p.1.now p.2.now) }
+{
+    let len = kind.len_in_hex();
+    match text.get(len) {
+        Some(b' ') => {}
+        _ => return None,
+    }
+    let Some((name, rest)) = take_line(&text[len + 1..]) else {
+        return None;
+    };
+    Some((&text[..len], name, rest))
+}
+
+/// The digits of an id at the front of the text, and what follows them.
+fn take_id(text: &[u8], kind: Kind) -> Option<(&[u8], &[u8])>
+    ensures { MatchOption result ((digits rest : List ℕ) → IsHexOf kind digits → text.now ≡ digits ++ rest → ⊥)
+        (λ p. IsHexOf kind p.0.now × (text.now ≡ p.0.now ++ p.1.now)) }
+{
+    let mut rest = text;
+    let Some(digits) = hex_hash(&mut rest, kind) else {
+        return None;
+    };
+    Some((digits, rest))
+}
+
+/// Whether a text as long as the digits of an id of the kind is that.
+fn is_id(text: &[u8], kind: Kind) -> bool
+    requires { length text.now ≡ 2 * kind_len kind }
+    ensures { MatchBool result (IsHexOf kind text.now) (IsHexOf kind text.now → ⊥) }
+{
+    match take_id(text, kind) {
+        Some(_) => true,
+        None => false,
+    }
+}
+
+/// The object that a line with `^` tells, where one follows a record, and what follows it.
+fn take_peeled(text: &[u8], kind: Kind) -> Option<(Option<&[u8]>, &[u8])>
+    ensures { MatchOption result ((object : Option (List ℕ)) (rest : List ℕ) → Peeled kind text.now object rest → ⊥)
+        (λ p. Peeled kind text.now (option_map (λ o. o.now) p.0) p.1.now) }
+{
+    let Some(line) = strip_front(text, b"^") else {
+        return Some((None, text));
+    };
+    let Some((object, after)) = take_id(line, kind) else {
+        return None;
+    };
+    let Some(rest) = after_newline(after) else {
+        return None;
+    };
+    Some((Some(object), rest))
+}
+
+/// The record at the front of the text with its peeled line, and what follows it.
+pub fn take_record<'a>(text: &'a [u8], kind: Kind) -> Option<(Reference<'a>, &'a [u8])>
+    ensures { MatchOption result ((r : Record) (rest : List ℕ) → Takes kind text.now r rest → ⊥)
+        (λ p. Takes kind text.now (record_of p.0) p.1.now) }
+{
+    let Some((target, name, after)) = take_shape(text, kind) else {
+        return None;
+    };
+    if !is_id(target, kind) {
+        return None;
+    }
+    let Ok(name) = FullNameRef::try_from(name) else {
+        return None;
+    };
+    let Some((object, rest)) = take_peeled(after, kind) else {
+        return None;
+    };
+    let reference = Reference {
+        name,
+        target,
+        object,
+    };
+    Some((reference, rest))
+}
+
+/// Reads the record at the front of the input, which then begins after it: an id of the kind in hex digits, a space, a
+/// valid full name, and LF or CRLF; where a `^` follows, that, an id of the kind, and LF or CRLF. The error, where no
+/// record stands there, leaves the input where it was.
+pub fn reference<'a>(input: &mut &'a [u8], kind: Kind) -> Result<Reference<'a>, ()>
+    ensures taken { IfOk result (λ r. Takes kind input.old.now (record_of r) input.new.now) }
+    ensures refused { IfErr result (λ _. (r : Record) (rest : List ℕ) → Takes kind input.old.now r rest → ⊥) }
+    ensures left { OnErr result (input.new ≡ input.old) }
+{
+    match take_record(input, kind) {
+        Some((reference, rest)) => {
+            *input = rest;
+            Ok(reference)
+        }
+        None => Err(()),
+    }
+}
+
+/// The bytes in the place of the name, where a record begins; `None` where no line of a record's form stands there, or
+/// the name is empty. Neither id nor name is checked.
+pub fn name_at_record_start(text: &[u8], kind: Kind) -> Option<&[u8]>
+    ensures { MatchOption result ((name : List ℕ) → name ≢ [] → NameAt kind text.now name → ⊥)
+        (λ name. (name.now ≢ []) × NameAt kind text.now name.now) }
+{
+    let Some((_, name, _)) = take_shape(text, kind) else {
+        return None;
+    };
+    if name.is_empty() {
+        return None;
+    }
+    Some(name)
+}
+
+/// How the name at the front of a record compares with the one that is asked.
+pub fn name_order(text: &[u8], kind: Kind, asked: &[u8]) -> Option<Ordering>
+    ensures { Compares kind text.now asked.now result }
+{
+    let Some(name) = name_at_record_start(text, kind) else {
+        return None;
+    };
+    Some(name.cmp(asked))
+}

@@ -1,0 +1,149 @@
+//! The records of a `packed-refs` in the order of its lines, with the lines that are none.
+ghost use Rattle.std.specs.Prelude.{◌+◌, ◌<◌, ◌^◌, length};
+ghost use Rattle.std.specs.Iterator.{at_most};
+
+mod error;
+mod parts;
+
+use crate::packed::bound::lower_bound;
+use crate::packed::buffer::Buffer;
+use crate::packed::decode::take_record;
+use crate::packed::heading::{first_line_behind, read_heading};
+use crate::packed::reference::Reference;
+use crate::packed::sorting::line_count;
+pub use error::Error;
+use gix_ref_hash::hash::Kind;
+use parts::{begins_with_prefix, count_line_feeds, cut_line, first_line};
+
+/// The records of a text, and a fault for each line that is none. A record whose line with `^` is bad is two faults.
+#[derive(Debug, Drop)]
+pub struct Iter<'a> {
+    rest: &'a [u8],
+    kind: Kind,
+    /// The number of the next line, but for those that end in `before`.
+    line: u64,
+    before: &'a [u8],
+    /// Names that begin otherwise end the iterator.
+    prefix: Option<Vec<u8>>,
+    pub ghost counts: { line + length before.now + length rest.now < 2 ^ 64 },
+}
+
+impl<'a> Iter<'a> {
+    ghost use Rattle.std.specs.Prelude.{◌≡◌, List, Option, None, IfOk, IfErr, true};
+    ghost use Rattle.std.specs.Iterator.Runs.{EachRunFrom};
+    ghost use Rattle.gix_ref_packed.specs.declared.packed.decode.options.Header.{Header};
+    ghost use Rattle.gix_ref_packed.specs.PackedOpening.{Heads, line_behind};
+    ghost use Rattle.gix_ref_packed.specs.PackedItems.{ItemStep, AreItems, IsHeaderError, unread};
+
+    /// The records of a whole text, in the order of its lines; lines are numbered from 1, the header's too. The error,
+    /// `Header`, tells the first line where the text begins with `#` and has no header.
+    pub fn new(text: &'a [u8], kind: Kind) -> Result<Iter<'a>, Error<'a>>
+        ensures items { IfOk result (λ it. (h : Option Header) × (rest : List _) × Heads text.now h rest × EachRunFrom ItemStep it
+            (λ run. AreItems (run.whole ≡ true) (record { kind = kind; prefix = None; number = line_behind h; text = rest }) run.items)) }
+        ensures refused { IfErr result (IsHeaderError text.now) }
+    {
+        let Some(heading) = read_heading(text) else {
+            return Err(Error::Header {
+                invalid_first_line: first_line(text),
+            });
+        };
+        let line = first_line_behind(heading.header);
+        Ok(Iter::from(&text[heading.start..], kind, line))
+    }
+
+    /// The records of a text whose first line has that number.
+    fn from(text: &'a [u8], kind: Kind, line: u64) -> Iter<'a>
+        requires { line < 3 }
+        ensures { unread result ≡ record { kind = kind; prefix = None; number = line; text = text.now } }
+    {
+        Iter {
+            rest: text,
+            kind,
+            line,
+            before: &[],
+            prefix: None,
+        }
+    }
+}
+
+impl<'a> Iterator for Iter<'a> {
+    ghost use Rattle.gix_ref_packed.specs.PackedItems.{ItemStep};
+
+    type Item = Result<Reference<'a>, Error<'a>>;
+
+    ghost remaining = { λ s. at_most (length s.rest.now) };
+
+    ghost next_gives = { ItemStep };
+
+    fn next(&mut self) -> Option<Result<Reference<'a>, Error<'a>>> {
+        if self.rest.is_empty() {
+            return None;
+        }
+        match take_record(self.rest, self.kind) {
+            Some((reference, after)) => {
+                if !begins_with_prefix(reference.name.to_path(), &self.prefix) {
+                    self.rest = &[];
+                    return None;
+                }
+                self.line += line_count(&reference);
+                self.rest = after;
+                Some(Ok(reference))
+            }
+            None => {
+                let (line, after) = cut_line(self.rest);
+                let number = self.line + count_line_feeds(self.before);
+                self.before = &[];
+                self.line = number + 1;
+                self.rest = after;
+                Some(Err(Error::Reference {
+                    invalid_line: line,
+                    line_number: number,
+                }))
+            }
+        }
+    }
+}
+
+impl Buffer {
+    ghost use Rattle.std.specs.Prelude.{◌≡◌, ◌+◌, ℕ, List, None, Some, true, take, drop};
+    ghost use Rattle.std.specs.Iterator.Runs.{EachRunFrom};
+    ghost use Rattle.gix_ref_packed.specs.PackedText.{Record, Records, Ascending};
+    ghost use Rattle.gix_ref_packed.specs.PackedPrefixes.{records_prefixed};
+    ghost use Rattle.gix_ref_packed.specs.PackedBuffer.{buffer_text, buffer_kind, buffer_line};
+    ghost use Rattle.gix_ref_packed.specs.PackedItems.{ItemStep, AreItems, AreRecords, line_feeds};
+
+    /// The records of the buffer, in the order of their names. Lines are numbered as in the file that was opened.
+    pub fn iter(&self) -> Iter<'_>
+        // Whatever calls of `next` follow, they give the records and the faults of the text.
+        ensures items { EachRunFrom ItemStep result (λ run. AreItems (run.whole ≡ true)
+            (record { kind = buffer_kind self.now; prefix = None; number = buffer_line self.now; text = buffer_text self.now }) run.items) }
+
+        // Where the text is records, they give these.
+        ensures records { (rs : List Record) → Records (buffer_kind self.now) (buffer_text self.now) rs →
+            EachRunFrom ItemStep result (λ run. AreRecords (run.whole ≡ true) rs run.items) }
+    {
+        Iter::from(self.as_bytes(), self.kind(), self.first_line())
+    }
+    /// The records whose names begin with the prefix, in the order of their names: the first is found by halving, and
+    /// the first other name ends them.
+    pub fn iter_prefixed(&self, prefix: Vec<u8>) -> Iter<'_>
+        // Whatever calls of `next` follow, they give the records and faults from some place of the text on, up to the
+        // first other name.
+        ensures items { (start : ℕ) × EachRunFrom ItemStep result (λ run. AreItems (run.whole ≡ true)
+            (record { kind = buffer_kind self.now; prefix = Some prefix.items; number = buffer_line self.now + line_feeds (take start (buffer_text self.now)); text = drop start (buffer_text self.now) }) run.items) }
+
+        // Where the text is ascending records, they give those of the prefix.
+        ensures records { (rs : List Record) → Records (buffer_kind self.now) (buffer_text self.now) rs → Ascending rs →
+            EachRunFrom ItemStep result (λ run. AreRecords (run.whole ≡ true) (records_prefixed prefix.items rs) run.items) }
+    {
+        let text = self.as_bytes();
+        let start = lower_bound(text, self.kind(), prefix.as_slice());
+        Iter {
+            rest: &text[start..],
+            kind: self.kind(),
+            line: self.first_line(),
+            before: &text[..start],
+            prefix: Some(prefix),
+        }
+    }
+}

@@ -1,0 +1,78 @@
+//! The search for one full name by halving.
+ghost use Rattle.std.specs.Prelude.{◌≡◌, ◌≤◌, ◌<◌, ◌+◌, ◌-◌, ◌*◌, ◌^◌, ℕ, List, length, IfOk, IfErr, IfSome, MatchOption};
+ghost use Rattle.gix_ref_packed.specs.PackedText.{Record, Records, Ascending};
+ghost use Rattle.gix_ref_packed.specs.PackedLookup.{record_named, HitsAt, FindsAt};
+ghost use Rattle.gix_ref_packed.specs.PackedSearches.{LooksFailBy, IsLookError, count_search};
+
+use crate::packed::probes::Probes;
+use crate::packed::text::Text;
+use gix_ref_hash::hash::Kind;
+use std::cmp::Ordering;
+use std::sync::ledger::Ledger;
+
+/// Why a search has no answer.
+#[derive(Debug, Drop)]
+pub enum SearchError<E> {
+    /// The text could not be looked at.
+    Text(E),
+    /// A record had no shape, and nothing was found.
+    Parse,
+}
+
+/// Where the record of the name begins. Each turn of the loop looks at one record, and counts that as a probe. Behind
+/// a name that is too low the search goes on at the next line.
+pub fn search<T: Text, L: Ledger>(
+    text: &mut T,
+    kind: Kind,
+    asked: &[u8],
+    probes: &mut Probes<L>,
+) -> Result<Option<u64>, SearchError<T::Error>>
+    ensures kept { T.honest → T.bytes text.new ≡ T.bytes text.old }
+    ensures counts { probes.old ≤ probes.new }
+
+    // At most as many probes as the number of bytes has binary digits.
+    ensures cost { T.honest → 2 ^ (probes.new - probes.old) ≤ 2 * length (T.bytes text.old) + 1 }
+
+    // On any text what is found is the asked name, where a line begins.
+    ensures hit { T.honest → IfOk result (λ found. IfSome found (HitsAt kind (T.bytes text.old) asked.now)) }
+
+    // On ascending records: the record of the name, or that there is none.
+    ensures finds { T.honest → (rs : List Record) → Records kind (T.bytes text.old) rs → Ascending rs →
+        IfOk result (λ found. MatchOption found (record_named asked.now rs ≡ None) (FindsAt kind (T.bytes text.old) rs asked.now)) }
+    ensures fails { T.honest → (rs : List Record) → Records kind (T.bytes text.old) rs → Ascending rs →
+        IfErr result (IsLookError T.can_fail) }
+
+    // On any text a look fails by what the text may fail by.
+    ensures looks { T.honest → IfErr result (LooksFailBy T.can_fail) }
+
+    // A fault is counted where a look failed by one, and nowhere else.
+    ensures no_fault { IfOk result (λ _. T.faults text.new ≡ T.faults text.old) }
+    ensures fault { IfErr result (λ error. T.faults text.new ≡ count_search T.count error (T.faults text.old)) }
+{
+    let mut low = 0;
+    let mut high = text.len();
+    let mut shapeless = false;
+    while low < high {
+        let middle = low + (high - low) / 2;
+        probes.tick();
+        let look = match text.look(kind, middle, asked) {
+            Ok(look) => look,
+            Err(error) => return Err(SearchError::Text(error)),
+        };
+        let Some(order) = look.order else {
+            shapeless = true;
+            low = look.next;
+            continue;
+        };
+        match order {
+            Ordering::Equal => return Ok(Some(look.start)),
+            Ordering::Greater => high = look.start,
+            Ordering::Less => low = look.next,
+        }
+    }
+    if shapeless {
+        Err(SearchError::Parse)
+    } else {
+        Ok(None)
+    }
+}

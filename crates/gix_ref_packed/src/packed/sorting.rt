@@ -1,0 +1,130 @@
+//! Records in the order of their names: what opening makes of a text whose header does not say that it is sorted.
+ghost use Rattle.std.specs.Prelude.{◌≡◌, ◌≤◌, ◌<◌, ◌+◌, ◌^◌, ℕ, List, true, false, length, map, MatchOption, IfOk, IfErr, OnOk};
+ghost use Rattle.std.specs.List.{All, flat_map};
+ghost use Rattle.std.specs.List.Sorted.{IsPermutation, IsSortedByKey, IsStableByKey};
+ghost use Rattle.std.specs.Cmp.Lexicographic.{slice_cmp};
+ghost use Rattle.std.specs.Ordering.{nat_cmp, is_lt};
+ghost use Rattle.gix_ref_packed.specs.PackedText.{Record, Records};
+ghost use Rattle.gix_ref_packed.specs.PackedOpening.{lines_of, SortsByName, StuckAt, Keeps};
+ghost use Rattle.gix_ref_packed.specs.PackedViews.{record_of};
+ghost use Rattle.gix_ref_packed.specs.PackedEntries.{entry_record, entry_name, entry_bytes, Stands};
+ghost use Rattle.gix_ref_packed.specs.PackedBuffer.{IsStuck};
+
+use crate::packed::buffer::open::Error;
+use crate::packed::decode::take_record;
+use crate::packed::reference::Reference;
+use gix_ref_hash::hash::Kind;
+use std::alloc::{AllocError, Global};
+use std::cmp::Ordering;
+
+/// A record, with the bytes of its lines.
+#[derive(Clone, Copy, Debug)]
+pub struct Entry<'a> {
+    /// What the lines say.
+    pub reference: Reference<'a>,
+    /// The lines.
+    pub bytes: &'a [u8],
+}
+
+/// How many lines the record has.
+pub fn line_count(reference: &Reference<'_>) -> u64
+    ensures { result ≡ lines_of (record_of reference.now) }
+{
+    match reference.object {
+        Some(_) => 2,
+        None => 1,
+    }
+}
+
+/// The records of the text, in their order. The first line has the number `first`.
+fn read_entries<'a>(
+    alloc: Global,
+    text: &'a [u8],
+    kind: Kind,
+    first: u64,
+) -> Result<Vec<Entry<'a>>, Error>
+    requires { first ≤ 2 }
+    ensures records { IfOk result (λ entries. Records kind text.now (map entry_record entries.items)) }
+    ensures stand { IfOk result (λ entries. All (Stands kind) entries.items) }
+    ensures refused { IfErr result (IsStuck kind first text.now) }
+{
+    let mut entries = Vec::new(alloc);
+    let mut rest = text;
+    let mut line = first;
+    while !rest.is_empty() {
+        let Some((reference, after)) = take_record(rest, kind) else {
+            return Err(Error::Iter { line_number: line });
+        };
+        let bytes = &rest[..rest.len() - after.len()];
+        entries.push(Entry { reference, bytes })?;
+        line += line_count(&reference);
+        rest = after;
+    }
+    Ok(entries)
+}
+
+/// Whether the name is below the other.
+fn is_below(name: &[u8], other: &[u8]) -> bool
+    ensures { result ≡ is_lt (slice_cmp nat_cmp name.now other.now) }
+{
+    match name.cmp(other) {
+        Ordering::Less => true,
+        Ordering::Equal => false,
+        Ordering::Greater => false,
+    }
+}
+
+/// Whether no name is below the one before it.
+fn ascend(entries: &[Entry<'_>]) -> bool
+    ensures { result ≡ true → IsSortedByKey entry_name (slice_cmp nat_cmp) entries.now }
+{
+    for i in 1..entries.len() {
+        let before = entries[i - 1].reference.name.to_path();
+        let name = entries[i].reference.name.to_path();
+        if is_below(name, before) {
+            return false;
+        }
+    }
+    true
+}
+
+/// Sorts records by name; those of one name stay in their order.
+fn sort_by_name(entries: &mut Vec<Entry<'_>>) -> Result<(), AllocError>
+    ensures moved { IsPermutation entries.old.items entries.new.items }
+    ensures sorted { OnOk result (IsSortedByKey entry_name (slice_cmp nat_cmp) entries.new.items) }
+    ensures stable { IsStableByKey entry_name (slice_cmp nat_cmp) entries.old.items entries.new.items }
+{
+    entries.sort_by(|a, b| a.reference.name.to_path().cmp(b.reference.name.to_path()))?;
+    Ok(())
+}
+
+/// The bytes of the records, one after the other.
+fn joined(alloc: Global, entries: &[Entry<'_>], len: usize) -> Result<Vec<u8>, AllocError>
+    ensures { IfOk result (λ text. text.items ≡ flat_map entry_bytes entries.now) }
+{
+    let mut text = Vec::with_capacity(alloc, len)?;
+    for entry in entries {
+        text.extend_from_slice(entry.bytes)?;
+    }
+    Ok(text)
+}
+
+/// The text of the records in the order of their names; `None` where they stand in it already. The error tells the
+/// line of the first that is no record, the first line having the number `first`, or that there was no memory.
+pub fn sorted_text(
+    alloc: Global,
+    text: &[u8],
+    kind: Kind,
+    first: u64,
+) -> Result<Option<Vec<u8>>, Error>
+    requires { first ≤ 2 }
+    ensures keeps { IfOk result (λ found. MatchOption found (Keeps kind false text.now text.now) (λ kept. Keeps kind false text.now kept.items)) }
+    ensures refused { IfErr result (IsStuck kind first text.now) }
+{
+    let mut entries = read_entries(alloc, text, kind, first)?;
+    if ascend(&entries) {
+        return Ok(None);
+    }
+    sort_by_name(&mut entries)?;
+    Ok(Some(joined(alloc, &entries, text.len())?))
+}

@@ -1,0 +1,302 @@
+//! The records of a `packed-refs` that is not in memory: looks at windows of its file.
+ghost use Rattle.std.specs.Prelude.{◌≡◌, ◌+◌, ◌-◌, ◌<◌, ◌≤◌, ◌^◌, length, take, drop, OnOk, IfErr};
+ghost use Rattle.gix_ref_packed.specs.PackedSources.{IsNoChange, count_source};
+ghost use Rattle.gix_ref_packed.specs.declared.packed.source.TheConstants.{GROWTHS};
+
+use crate::packed::probes::Probes;
+use crate::packed::search::{SearchError, search};
+use crate::packed::text::{Look, Text};
+use crate::packed::window::{Found, look_in, record_in};
+use gix_ref_base::name::FullNameRef;
+use gix_ref_files::files::{FileError, ReadAt};
+use gix_ref_hash::hash::Kind;
+use std::alloc::{AllocError, Global};
+use std::sync::ledger::Ledger;
+use thiserror::Error;
+
+/// Why a source cannot be looked at.
+#[derive(Clone, Copy, Debug, PartialEq, Eq, Error)]
+pub enum SourceError {
+    /// The file cannot be read.
+    #[error("packed-refs cannot be read: {0}")]
+    Io(FileError),
+    /// There was no memory for a window.
+    #[error("there was no memory for a window of packed-refs")]
+    Memory,
+    /// The reader told other bytes than its length and its earlier reads say.
+    #[error("packed-refs changed while it was read")]
+    Changed,
+}
+
+/// How many bytes a window has, if no line is longer than half of that. A larger one costs more to make than the reads
+/// that it saves: four times the size saves two of them.
+pub(crate) const WINDOW: u64 = 1024;
+
+/// How often a window is read anew.
+pub(crate) const GROWTHS: u32 = 54;
+
+/// The size of the window that is read after so many others, each twice as large as the one before; the last holds any
+/// file.
+#[inline(always)]
+pub(crate) fn window_size(turn: u32) -> u64
+    ensures { turn + 1 ≡ GROWTHS → result ≡ 2 ^ 64 - 1 }
+{
+    if turn < GROWTHS - 1 {
+        WINDOW << turn
+    } else {
+        u64::MAX
+    }
+}
+
+impl From<AllocError> for SourceError {
+    ghost use Rattle.std.specs.Prelude.{◌≡◌};
+    ghost use Rattle.gix_ref_packed.specs.declared.packed.source.SourceError.TheVariants.{Memory};
+
+    ghost from_gives = { λ _ e. e ≡ Memory };
+
+    fn from(_error: AllocError) -> SourceError {
+        SourceError::Memory
+    }
+}
+
+/// Why a record is not found in a source.
+#[derive(Clone, Copy, Debug, PartialEq, Eq, Error)]
+pub enum FindError {
+    /// The source cannot be looked at.
+    #[error("{0}")]
+    Source(SourceError),
+    /// A record without shape was met and nothing was found, or the record that was found cannot be read.
+    #[error("a record of packed-refs cannot be read")]
+    Parse,
+}
+
+/// Where a window of that size around a place begins: at the front where the size holds any file.
+fn window_from(offset: u64, size: u64) -> u64
+    ensures before { result ≤ offset }
+    ensures front { size ≡ 2 ^ 64 - 1 → result ≡ 0 }
+{
+    if size == u64::MAX {
+        return 0;
+    }
+    offset.saturating_sub(size / 2)
+}
+
+/// The records of a file behind its header, where they ascend. A window of the file is kept: a look that lies in it
+/// reads nothing.
+#[derive(Drop)]
+pub struct Source<R: ReadAt + Drop> {
+    /// The file.
+    pub reader: R,
+    /// Where the records begin in the file.
+    pub base: u64,
+    window: Vec<u8>,
+    /// Where the window begins among the records.
+    from: u64,
+    pub ghost window_is: { R.honest → window.items ≡ take (length window.items) (drop from (drop base (R.bytes reader))) },
+    pub ghost fits: { from + length window.items < 2 ^ 64 },
+}
+
+/// Reads a window of the file, from that place on.
+pub(crate) fn read_window<R: ReadAt>(
+    reader: &mut R,
+    window: &mut Vec<u8>,
+    place: u64,
+    len: usize,
+) -> Result<(), SourceError>
+    ensures same { R.bytes reader.new ≡ R.bytes reader.old }
+    ensures size { R.size reader.new ≡ R.size reader.old }
+    ensures no_fault { OnOk result (R.faults reader.new ≡ R.faults reader.old) }
+    ensures fault { IfErr result (λ error. R.faults reader.new ≡ count_source error (R.faults reader.old)) }
+    ensures stays { IfErr result IsNoChange }
+    ensures len { OnOk result (length window.new.items ≡ len) }
+    ensures read { R.honest → OnOk result (window.new.items ≡ take (length window.new.items) (drop place (R.bytes reader.old))) }
+{
+    window.resize(len, 0)?;
+    match reader.read_exact_at(place, window.as_mut_slice()) {
+        Ok(()) => Ok(()),
+        Err(error) => Err(SourceError::Io(error)),
+    }
+}
+
+impl<R: ReadAt + Drop> Source<R> {
+    ghost use Rattle.std.specs.Prelude.{◌≡◌, ◌≤◌, ◌<◌, ◌+◌, ◌-◌, ◌*◌, ◌^◌, List, length, drop, IfOk, IfErr, IfSome, IsSome};
+    ghost use Rattle.gix_ref_base.specs.Names.{full_ref_bytes};
+    ghost use Rattle.gix_ref_packed.specs.PackedText.{Record, Records, Ascending};
+    ghost use Rattle.gix_ref_packed.specs.PackedLookup.{record_named};
+    ghost use Rattle.gix_ref_packed.specs.PackedWindows.{LooksAt, AreFound, FrontIs, HitsRecord};
+    ghost use Rattle.gix_ref_packed.specs.PackedSources.{IsNoChange, MissesByNoChange, IsSourceFault, count_source, count_find};
+
+    /// The records of a file from that place on. Nothing is read yet.
+    pub fn new(alloc: Global, reader: R, base: u64) -> Source<R>
+        ensures reader { result.reader ≡ reader }
+        ensures base { result.base ≡ base }
+    {
+        Source {
+            reader,
+            base,
+            window: Vec::new(alloc),
+            from: 0,
+        }
+    }
+
+    /// The number of bytes of the records.
+    fn records_len(&self) -> u64
+        ensures len { R.honest → result ≡ length (drop self.now.base (R.bytes self.now.reader)) }
+        ensures fits { R.honest → length (R.bytes self.now.reader) < 2 ^ 64 }
+    {
+        self.reader.len().saturating_sub(self.base)
+    }
+
+    /// Reads a window of that size around the place; all where the size holds any file.
+    fn fill(&mut self, offset: u64, size: u64) -> Result<(), SourceError>
+        ensures same { R.bytes self.new.reader ≡ R.bytes self.old.reader }
+        ensures base { self.new.base ≡ self.old.base }
+        ensures no_fault { IfOk result (λ _. R.faults self.new.reader ≡ R.faults self.old.reader) }
+        ensures fault { IfErr result (λ error. R.faults self.new.reader ≡ count_source error (R.faults self.old.reader)) }
+        ensures whole { R.honest → size ≡ 2 ^ 64 - 1 → IfOk result (λ _. (self.new.from ≡ 0) × (length self.new.window.items ≡ length (drop self.old.base (R.bytes self.old.reader)))) }
+        ensures stays { R.honest → offset < length (drop self.old.base (R.bytes self.old.reader)) → IfErr result IsNoChange }
+    {
+        let from = window_from(offset, size);
+        let len = size.min(self.records_len().saturating_sub(from));
+        let Some(place) = self.base.checked_add(from) else {
+            return Err(SourceError::Changed);
+        };
+        self.from = from;
+        match read_window(&mut self.reader, &mut self.window, place, len as usize) {
+            Ok(()) => Ok(()),
+            Err(error) => {
+                self.window.clear();
+                Err(error)
+            }
+        }
+    }
+
+    /// What a look at the place sees, if the window tells it.
+    fn known(&self, kind: Kind, offset: u64, asked: &[u8]) -> Option<Look>
+        ensures below { IfSome result (λ look. look.start ≤ offset) }
+        ensures beyond { IfSome result (λ look. offset < look.next) }
+        ensures looks { R.honest → IfSome result (LooksAt kind (drop self.now.base (R.bytes self.now.reader)) asked.now offset) }
+        ensures sure { R.honest → self.now.from ≡ 0 → length self.now.window.items ≡ length (drop self.now.base (R.bytes self.now.reader)) → offset < length self.now.window.items → IsSome result }
+    {
+        let len = self.window.len() as u64;
+        if offset < self.from || offset - self.from >= len {
+            return None;
+        }
+        let at = (offset - self.from) as usize;
+        let last = self.from + len == self.records_len();
+        look_in(self.window.as_slice(), self.from, at, last, kind, asked)
+    }
+
+    /// The record that begins at the place, if the window tells it; `Some(None)` where none stands there.
+    fn known_record(&self, kind: Kind, start: u64) -> Option<Option<Found>>
+        ensures front { R.honest → IfSome result (FrontIs kind (drop start (drop self.now.base (R.bytes self.now.reader)))) }
+        ensures sure { R.honest → self.now.from ≡ 0 → length self.now.window.items ≡ length (drop self.now.base (R.bytes self.now.reader)) → start < length self.now.window.items → IsSome result }
+    {
+        let len = self.window.len() as u64;
+        if start < self.from || start - self.from >= len {
+            return None;
+        }
+        let at = (start - self.from) as usize;
+        let last = self.from + len == self.records_len();
+        record_in(self.window.as_slice(), self.from, at, last, kind)
+    }
+
+    /// The record that begins at the place, or none where none stands there.
+    fn record_at(&mut self, kind: Kind, start: u64) -> Result<Option<Found>, SourceError>
+        ensures same { R.bytes self.new.reader ≡ R.bytes self.old.reader }
+        ensures base { self.new.base ≡ self.old.base }
+        ensures no_fault { IfOk result (λ _. R.faults self.new.reader ≡ R.faults self.old.reader) }
+        ensures fault { IfErr result (λ error. R.faults self.new.reader ≡ count_source error (R.faults self.old.reader)) }
+        ensures front { R.honest → IfOk result (FrontIs kind (drop start (drop self.old.base (R.bytes self.old.reader)))) }
+        ensures stays { R.honest → start < length (drop self.old.base (R.bytes self.old.reader)) → IfErr result IsNoChange }
+    {
+        for turn in 0..GROWTHS {
+            if let Some(found) = self.known_record(kind, start) {
+                return Ok(found);
+            }
+            self.fill(start, window_size(turn))?;
+        }
+        match self.known_record(kind, start) {
+            Some(found) => Ok(found),
+            None => Err(SourceError::Changed),
+        }
+    }
+
+    /// The record of a full name, by halving, for a file whose header says that it is sorted. Each look is counted as a
+    /// probe; a look reads a window of 1 KB, or none where the last window has the place, and grows it for a longer
+    /// line. So a name among a million costs some seventeen reads. `None` where the records have no such name. `Source`
+    /// tells that the file could not be read, `Parse` that its text is not well formed.
+    pub fn try_find_full<L: Ledger>(
+        &mut self,
+        kind: Kind,
+        name: FullNameRef<'_>,
+        probes: &mut Probes<L>,
+    ) -> Result<Option<Found>, FindError>
+        ensures same { R.honest → drop self.new.base (R.bytes self.new.reader) ≡ drop self.old.base (R.bytes self.old.reader) }
+        ensures counts { probes.old ≤ probes.new }
+        ensures cost { R.honest → 2 ^ (probes.new - probes.old) ≤ 2 * length (drop self.old.base (R.bytes self.old.reader)) + 1 }
+
+        // On any text a hit is a record of the asked name at the start of a line.
+        ensures hit { R.honest → IfOk result (λ found. IfSome found (HitsRecord kind (drop self.old.base (R.bytes self.old.reader)) (full_ref_bytes name.entry))) }
+
+        // On ascending records it is the record of the name, or there is none.
+        ensures finds { R.honest → (rs : List Record) → Records kind (drop self.old.base (R.bytes self.old.reader)) rs → Ascending rs →
+            IfOk result (AreFound (record_named (full_ref_bytes name.entry) rs)) }
+        ensures fails { R.honest → (rs : List Record) → Records kind (drop self.old.base (R.bytes self.old.reader)) rs → Ascending rs →
+            IfErr result IsSourceFault }
+
+        // A file that stays the same is never told as changed.
+        ensures stays { R.honest → IfErr result MissesByNoChange }
+
+        // The reader counts a fault where the file could not be read, and nowhere else.
+        ensures no_fault { IfOk result (λ _. R.faults self.new.reader ≡ R.faults self.old.reader) }
+        ensures fault { IfErr result (λ error. R.faults self.new.reader ≡ count_find error (R.faults self.old.reader)) }
+    {
+        let start = match search(self, kind, name.to_path(), probes) {
+            Ok(Some(start)) => start,
+            Ok(None) => return Ok(None),
+            Err(SearchError::Text(error)) => return Err(FindError::Source(error)),
+            Err(SearchError::Parse) => return Err(FindError::Parse),
+        };
+        match self.record_at(kind, start) {
+            Ok(Some(found)) => Ok(Some(found)),
+            Ok(None) => Err(FindError::Parse),
+            Err(error) => Err(FindError::Source(error)),
+        }
+    }
+}
+
+/// What is said of the text holds where the reader is honest.
+impl<R: ReadAt + Drop> Text for Source<R> {
+    ghost use Rattle.std.specs.Prelude.{drop};
+    ghost use Rattle.gix_ref_packed.specs.PackedSources.{IsNoChange, count_source};
+
+    ghost honest = { R.honest };
+
+    ghost bytes = { λ s. drop s.base (R.bytes s.reader) };
+
+    ghost faults = { λ s. R.faults s.reader };
+
+    type Error = SourceError;
+
+    ghost can_fail = { IsNoChange };
+
+    ghost count = { count_source };
+
+    fn len(&self) -> u64 {
+        self.records_len()
+    }
+
+    fn look(&mut self, kind: Kind, offset: u64, asked: &[u8]) -> Result<Look, SourceError> {
+        for turn in 0..GROWTHS {
+            if let Some(look) = self.known(kind, offset, asked) {
+                return Ok(look);
+            }
+            self.fill(offset, window_size(turn))?;
+        }
+        match self.known(kind, offset, asked) {
+            Some(look) => Ok(look),
+            None => Err(SourceError::Changed),
+        }
+    }
+}

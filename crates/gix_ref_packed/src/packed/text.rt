@@ -1,0 +1,94 @@
+//! Texts in whose records a search looks, wherever they lie.
+ghost use Rattle.std.specs.Prelude.{◌≡◌, ◌<◌, ◌≤◌, ℕ, List, drop, length, IfOk, IfErr};
+ghost use Rattle.gix_ref_packed.specs.PackedLookup.{RecordOf, Compares, SameLine};
+
+use crate::packed::decode::{name_order, record_start_at_offset};
+use crate::packed::lines::next_place;
+use gix_ref_hash::hash::Kind;
+use std::cmp::Ordering;
+use std::convert::Infallible;
+
+/// What a look at a byte sees.
+#[derive(Clone, Copy, Debug)]
+pub struct Look {
+    /// Where the record that the byte is in begins.
+    pub start: u64,
+    /// How its name compares with the one that is asked; `None` where no name stands in the name's place.
+    pub order: Option<Ordering>,
+    /// A place behind the byte: no line begins between the two.
+    pub next: u64,
+}
+
+/// A text of records at which one can look near a place. What is said of its bytes holds where it is honest.
+pub trait Text {
+    /// Looks tell the bytes.
+    ghost honest: { Type 0 };
+
+    /// The text: records, without a header.
+    ghost bytes: { Self → List ℕ };
+
+    /// How many faults its looks met.
+    ghost faults: { Self → ℕ };
+
+    /// Why a look failed.
+    type Error: Drop;
+
+    /// By which errors a look at an honest text may fail.
+    ghost can_fail: { Self.Error → Type 0 };
+
+    /// The count of faults after a look that failed so.
+    ghost count: { Self.Error → ℕ → ℕ };
+
+    /// The number of bytes.
+    fn len(&self) -> u64
+        ensures { honest → result ≡ length (bytes self.now) };
+
+    /// Looks at the record that the byte is in.
+    fn look(&mut self, kind: Kind, offset: u64, asked: &[u8]) -> Result<Look, Self::Error>
+        requires { honest → offset < length (bytes self.old) }
+        ensures below { IfOk result (λ look. look.start ≤ offset) }
+        ensures beyond { IfOk result (λ look. offset < look.next) }
+        ensures kept { honest → bytes self.new ≡ bytes self.old }
+        ensures record { honest → IfOk result (λ look. RecordOf (bytes self.old) look.start offset) }
+        ensures order { honest → IfOk result (λ look. Compares kind (drop look.start (bytes self.old)) asked.now look.order) }
+        ensures line { honest → IfOk result (λ look. SameLine (bytes self.old) offset look.next) }
+        ensures fails { honest → IfErr result can_fail }
+        ensures no_fault { IfOk result (λ _. faults self.new ≡ faults self.old) }
+        ensures fault { IfErr result (λ error. faults self.new ≡ count error (faults self.old)) };
+}
+
+/// A text that lies in memory as a whole. A look at it never fails.
+#[derive(Clone, Copy, Debug)]
+pub struct Whole<'a> {
+    /// The records.
+    pub bytes: &'a [u8],
+}
+
+impl<'a> Text for Whole<'a> {
+    ghost honest = { Unit {0} };
+
+    ghost bytes = { λ text. text.bytes.now };
+
+    ghost faults = { λ _. 0 };
+
+    type Error = Infallible;
+
+    ghost can_fail = { λ _. ⊥ };
+
+    ghost count = { λ _ n. n };
+
+    fn len(&self) -> u64 {
+        self.bytes.len() as u64
+    }
+
+    fn look(&mut self, kind: Kind, offset: u64, asked: &[u8]) -> Result<Look, Infallible> {
+        let start = record_start_at_offset(self.bytes, offset as usize);
+        let order = name_order(&self.bytes[start..], kind, asked);
+        let next = next_place(self.bytes, offset as usize, order);
+        Ok(Look {
+            start: start as u64,
+            order,
+            next: next as u64,
+        })
+    }
+}

@@ -1,0 +1,189 @@
+//! Looking at a record in a window of a text, where the window has enough of it.
+ghost use Rattle.std.specs.Prelude.{◌≡◌, ◌≤◌, ◌<◌, ◌+◌, ◌^◌, ℕ, List, true, length, take, drop, IfSome, IsSome};
+ghost use Rattle.std.specs.Option.{option_map};
+ghost use Rattle.std.specs.Cmp.Lexicographic.{slice_cmp};
+ghost use Rattle.std.specs.Ordering.{nat_cmp};
+ghost use Rattle.gix_ref_packed.specs.PackedText.{Shape};
+ghost use Rattle.gix_ref_packed.specs.PackedLookup.{NameAt};
+ghost use Rattle.gix_ref_packed.specs.PackedWindows.{TellsLine, TellsRecord, TellsName, IsWindow, LooksAt, IsFound, FrontIs};
+ghost use Rattle.gix_ref_packed.specs.PackedViews.{record_of};
+
+use crate::packed::decode::{take_record, take_shape};
+use crate::packed::lines::next_place;
+use crate::packed::reference::Reference;
+use crate::packed::text::Look;
+use gix_ref_hash::hash::{Kind, ObjectId};
+use memchr::{memchr2, memrchr};
+use std::cmp::Ordering;
+
+/// The ids of a record that was found.
+#[derive(Clone, Copy, Debug, PartialEq, Eq)]
+pub struct Found {
+    /// The id.
+    pub target: ObjectId,
+    /// The id of the object that a tag ends at, where the record tells it.
+    pub object: Option<ObjectId>,
+}
+
+/// Where the line that the byte is in begins, if that is in the window, which begins with the text where `first` holds.
+#[inline(always)]
+fn line_start_in(window: &[u8], at: usize, first: bool) -> Option<usize>
+    requires { at ≤ length window.now }
+    ensures below { IfSome result (λ start. start ≤ at) }
+    ensures tells { TellsLine first window.now at result }
+    ensures sure { first ≡ true → IsSome result }
+{
+    match memrchr(b'\n', &window[..at]) {
+        Some(last) => Some(last + 1),
+        None => { if first { Some(0) } else { None } }
+    }
+}
+
+/// Where the record that the byte is in begins, if that is in the window.
+#[inline(always)]
+pub fn record_start_in(window: &[u8], at: usize, first: bool) -> Option<usize>
+    requires { at < length window.now }
+    ensures below { IfSome result (λ start. start ≤ at) }
+    ensures tells { TellsRecord first window.now at result }
+    ensures sure { first ≡ true → IsSome result }
+{
+    let Some(line) = line_start_in(window, at, first) else {
+        return None;
+    };
+    if window[line] != b'^' {
+        return Some(line);
+    }
+    if line > 0 {
+        return line_start_in(window, line - 1, first);
+    }
+    if first { Some(0) } else { None }
+}
+
+/// Whether a part of a text, in which no record's first line stands, tells that none stands at the front of the text.
+fn lacks_name(part: &[u8], kind: Kind, whole: bool) -> bool
+    requires { (digits name rest : List ℕ) → Shape kind part.now digits name rest → ⊥ }
+    ensures lacks { result ≡ true → (text : List ℕ) → part.now ≡ take (length part.now) text → (whole ≡ true → part.now ≡ text) → (n : List ℕ) → NameAt kind text n → ⊥ }
+    ensures sure { whole ≡ true → result ≡ true }
+{
+    if whole {
+        return true;
+    }
+    let len = kind.len_in_hex();
+    if part.len() <= len {
+        return false;
+    }
+    if part[len] != b' ' {
+        return true;
+    }
+    let after = &part[len + 1..];
+    match memchr2(b'\n', b'\r', after) {
+        Some(end) => end + 1 < after.len(),
+        None => false,
+    }
+}
+
+/// The name at the front of a record, of which the part may be a beginning; it is the whole text where `whole` holds.
+/// `None` where the part is too short to tell.
+pub fn name_in(part: &[u8], kind: Kind, whole: bool) -> Option<Option<&[u8]>>
+    ensures tells { TellsName kind whole part.now (option_map (λ name. option_map (λ n. n.now) name) result) }
+    ensures sure { whole ≡ true → IsSome result }
+{
+    match take_shape(part, kind) {
+        Some((_, name, _)) => Some(Some(name)),
+        None => {
+            if lacks_name(part, kind, whole) {
+                Some(None)
+            } else {
+                None
+            }
+        }
+    }
+}
+
+/// How a name compares with the one that is asked.
+#[inline(always)]
+fn order_of(name: Option<&[u8]>, asked: &[u8]) -> Option<Ordering>
+    ensures { result ≡ option_map (λ n. slice_cmp nat_cmp n.now asked.now) name.entry }
+{
+    match name {
+        Some(name) => Some(name.cmp(asked)),
+        None => None,
+    }
+}
+
+/// What a look at a byte of the window sees, if the window tells it. The window begins at the place `from` of the text,
+/// and the text ends with it where `last` holds.
+#[inline(always)]
+pub fn look_in(
+    window: &[u8],
+    from: u64,
+    at: usize,
+    last: bool,
+    kind: Kind,
+    asked: &[u8],
+) -> Option<Look>
+    requires inside { at < length window.now }
+    requires fits { from + length window.now < 2 ^ 64 }
+    ensures below { IfSome result (λ look. look.start ≤ from + at) }
+    ensures beyond { IfSome result (λ look. from + at < look.next) }
+    ensures looks { (text : List ℕ) → IsWindow text from window.now → (last ≡ true → from + length window.now ≡ length text) →
+        IfSome result (LooksAt kind text asked.now (from + at)) }
+    ensures sure { from ≡ 0 → last ≡ true → IsSome result }
+{
+    let Some(start) = record_start_in(window, at, from == 0) else {
+        return None;
+    };
+    let Some(name) = name_in(&window[start..], kind, last) else {
+        return None;
+    };
+    let order = order_of(name, asked);
+    let next = from + next_place(window, at, order) as u64;
+    let start = from + start as u64;
+    Some(Look { start, order, next })
+}
+
+/// The ids of a record.
+fn ids_of(reference: Reference<'_>) -> Found
+    ensures { IsFound (record_of reference.entry) result }
+{
+    Found {
+        target: reference.target(),
+        object: reference.peeled(),
+    }
+}
+
+/// The record at the front of a text, of which the part may be a beginning; it is the whole text where `whole` holds.
+/// `None` where the part is too short to tell; `Some(None)` where no record stands there.
+fn found_in(part: &[u8], kind: Kind, whole: bool) -> Option<Option<Found>>
+    ensures front { (text : List ℕ) → part.now ≡ take (length part.now) text → (whole ≡ true → part.now ≡ text) → IfSome result (FrontIs kind text) }
+    ensures sure { whole ≡ true → IsSome result }
+{
+    let Some((reference, rest)) = take_record(part, kind) else {
+        return if whole { Some(None) } else { None };
+    };
+    if whole {
+        return Some(Some(ids_of(reference)));
+    }
+    if rest.is_empty() {
+        return None;
+    }
+    Some(Some(ids_of(reference)))
+}
+
+/// The record that begins at a byte of the window, if the window tells it; `Some(None)` where none stands there. The
+/// window begins at the place `from` of the text, and the text ends with it where `last` holds.
+pub fn record_in(
+    window: &[u8],
+    from: u64,
+    at: usize,
+    last: bool,
+    kind: Kind,
+) -> Option<Option<Found>>
+    requires inside { at < length window.now }
+    requires fits { from + length window.now < 2 ^ 64 }
+    ensures front { (text : List ℕ) (start : ℕ) → IsWindow text from window.now → (last ≡ true → from + length window.now ≡ length text) → start ≡ from + at →
+        IfSome result (FrontIs kind (drop start text)) }
+    ensures sure { last ≡ true → IsSome result }
+{
+    found_in(&window[at..], kind, last)
+}

@@ -1,0 +1,79 @@
+//! The text of `packed-refs` as it is written (`git pack-refs`).
+ghost use Rattle.std.specs.Prelude.{◌≡◌, ◌++◌, ◌∷◌, [], Some, map, IfOk, OnOk};
+ghost use Rattle.std.specs.Option.{option_map};
+ghost use Rattle.gix_ref_packed.specs.PackedViews.{record_of};
+ghost use Rattle.gix_ref_packed.specs.PackedWritten.{written_text, header_text, object_line, record_text, WrittenTextReadsBack, PackedTextIsOne};
+
+use crate::packed::reference::Reference;
+use std::alloc::{AllocError, Global};
+
+/// Adds the header that is written to a text, with its last space, and LF: 46 bytes.
+pub fn push_header(text: &mut Vec<u8>) -> Result<(), AllocError>
+    ensures { OnOk result (text.new.items ≡ text.old.items ++ header_text) }
+{
+    text.extend_from_slice(b"# pack-refs with: peeled fully-peeled sorted \n")?;
+    Ok(())
+}
+
+/// Adds the line of a peeled id to a text.
+fn push_object(text: &mut Vec<u8>, object: &[u8]) -> Result<(), AllocError>
+    ensures { OnOk result (text.new.items ≡ text.old.items ++ object_line (Some object.now)) }
+{
+    text.extend_from_slice(b"^")?;
+    text.extend_from_slice(object)?;
+    text.extend_from_slice(b"\n")?;
+    Ok(())
+}
+
+/// Adds the first line of a record to a text.
+fn push_line(text: &mut Vec<u8>, name: &[u8], target: &[u8]) -> Result<(), AllocError>
+    ensures { OnOk result (text.new.items ≡ text.old.items ++ (target.now ++ 32 ∷ (name.now ++ 10 ∷ []))) }
+{
+    text.extend_from_slice(target)?;
+    text.extend_from_slice(b" ")?;
+    text.extend_from_slice(name)?;
+    text.extend_from_slice(b"\n")?;
+    Ok(())
+}
+
+/// Adds a record to a text: the digits of its id as they are, its name, and on a line of its own the digits of the
+/// object that a tag ends at. The caller sees to it that they are digits and a name.
+pub fn push_record(
+    text: &mut Vec<u8>,
+    name: &[u8],
+    target: &[u8],
+    object: Option<&[u8]>,
+) -> Result<(), AllocError>
+    ensures { OnOk result (text.new.items ≡ text.old.items
+        ++ record_text (record { name = name.now; target = target.now; object = option_map (λ o. o.now) object.entry })) }
+{
+    push_line(text, name, target)?;
+    match object {
+        Some(object) => push_object(text, object)?,
+        None => {}
+    }
+    Ok(())
+}
+
+/// The text of these records, in their order. The error says that there was no memory for it.
+pub fn text_of(alloc: Global, records: &[Reference<'_>]) -> Result<Vec<u8>, AllocError>
+    ensures { IfOk result (λ text. text.items ≡ written_text (map record_of records.now)) }
+{
+    let mut text = Vec::new(alloc);
+    push_header(&mut text)?;
+    for record in records {
+        push_record(
+            &mut text,
+            record.name.to_path(),
+            record.target,
+            record.object,
+        )?;
+    }
+    Ok(text)
+}
+
+/// What is written of records is read as these records, and a text is that of one header and one list at most.
+pub fn written_text_reads_back()
+    ensures back { WrittenTextReadsBack }
+    ensures one { PackedTextIsOne }
+{}

@@ -1,0 +1,14 @@
+pub mod Carrying
+pub mod Headline
+pub mod Locks
+pub mod Logs
+pub mod MergedRecords
+pub mod PlaceLaws
+pub mod Plans
+pub mod ReadingLemmas
+pub mod SharedLogs
+pub mod Stops
+pub mod Trees
+pub mod Whole
+pub mod WorkedExample
+pub mod Writes

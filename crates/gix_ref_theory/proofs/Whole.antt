@@ -1,0 +1,127 @@
+-- The view after a whole plan.
+use Rattle.std.proofs.Common.{◌≡◌, ℕ, List, [], ◌++◌, Option, Some, None, Bool, true, false, ◌&&◌, if◌then◌else◌, cond, refl, sym, ap, ◌∙◌, subst, inl, inr, ◌⊎◌, append-nil}
+use Rattle.std.proofs.lemmas.Bool.{cond-true, cases_Bool}
+use Rattle.std.specs.Bool.{MatchBool}
+use Rattle.gix_ref_theory.proofs.Writes.{IsCut, is_touched, content}
+use Rattle.gix_ref_theory.proofs.ReadingLemmas.{reading-alike, left_alone}
+use Rattle.gix_ref_theory.proofs.Plans.{Leads, touched_left, touched_right, updates_touch, removals_touch, packed_touches, edited_cases}
+use Rattle.gix_ref_theory.proofs.Logs.{behind_makes, behind_touched, updated, after-append}
+use Rattle.gix_ref_theory.proofs.Stops as stop
+use Rattle.gix_ref_theory.specs.Between.{IsCommitted, IsCommittedFile, IsEdit, IsMerged, IsPackedFile, IsPrepared, ReadsAsEdited, committed_log}
+use Rattle.gix_ref_theory.specs.Edits.{Change, Edit, Effect, Mode, alters_packed, effect, effect_of_change, file_of_records, has_already, new_reading, packs, removes_log, removes_packed}
+use Rattle.gix_ref_theory.specs.Edits.Change.{Delete, Update}
+use Rattle.gix_ref_theory.specs.Edits.Effect.{Leaves, Removes, Writes}
+use Rattle.gix_ref_theory.specs.Plan.{log_removals, loose_removals, packed_writes, plan, updates}
+use Rattle.gix_ref_theory.specs.Readings.{HasLaws, Reading, Record, Store, reading, records_in}
+use Rattle.gix_ref_theory.specs.Views.{IsSameView, View, after}
+
+abbrev all : (s : Store) (mode : Mode) (view : View) (edits : List Edit) (merged : List Record) (left : View) → IsSameView left (after (plan s mode view edits merged) view) →
+    IsCut (plan s mode view edits merged) view left
+all s mode view edits merged left whole =
+    record { done = plan s mode view edits merged; rest = []; whole = append-nil (plan s mode view edits merged); stopped = whole }
+
+-- what an effect leaves at an edited place
+committed_file : (s : Store) (mode : Mode) (e : Edit) (was : Reading) (c : Change) (f : Effect) (old new : Option (List ℕ)) →
+    effect_of_change s mode (s.key e.name) was c ≡ f → Leads f new → (f ≡ Leaves → new ≡ old) → IsCommittedFile s mode e c old new
+committed_file s mode e was Delete (Writes text) old new w leads left = cc
+committed_file s mode e was Delete Removes old new w leads left = sym leads
+committed_file s mode e was Delete Leaves old new w leads left = cc
+committed_file s mode e was (Update t) f old new w leads left =
+    cases (removes_packed mode && packs mode (s.key e.name) t) (has_already was t) (s.text_of t) f w leads left
+  where
+    cases : (b a : Bool) (text : List ℕ) (f : Effect) → (if b then Removes else (if a then Leaves else Writes text)) ≡ f → Leads f new → (f ≡ Leaves → new ≡ old) →
+        MatchBool b (new ≡ None) ((new ≡ old) ⊎ (new ≡ Some text))
+    cases true a text (Writes x) w leads left = cc
+    cases true a text Removes w leads left = sym leads
+    cases true a text Leaves w leads left = cc
+    cases false true text (Writes x) w leads left = cc
+    cases false true text Removes w leads left = cc
+    cases false true text Leaves w leads left = inl (left refl)
+    cases false false text (Writes x) w leads left = let e : x ≡ text = cc in inr (sym leads ∙ ap Some e)
+    cases false false text Removes w leads left = cc
+    cases false false text Leaves w leads left = cc
+
+module _ (s : Store) (laws : HasLaws s) (mode : Mode) (view : View) (edits : List Edit) (merged : List Record) (p : IsPrepared s mode view edits merged)
+    (left : View) (whole : IsSameView left (after (plan s mode view edits merged) view)) where
+  written : (e : Edit) → IsEdit e edits → (text : List ℕ) → effect s mode view e ≡ Writes text → is_touched (s.place e.name) (plan s mode view edits merged) ≡ true
+  written e he text w =
+      touched_left (s.place e.name) (updates s mode view edits) (log_removals s edits ++ (packed_writes s mode view edits merged ++ loose_removals s mode view edits))
+      (updates_touch s mode view edits e text he w)
+
+  removed : (e : Edit) → IsEdit e edits → effect s mode view e ≡ Removes → is_touched (s.place e.name) (plan s mode view edits merged) ≡ true
+  removed e he w =
+      touched_right (s.place e.name) (updates s mode view edits) (log_removals s edits ++ (packed_writes s mode view edits merged ++ loose_removals s mode view edits))
+      (touched_right (s.place e.name) (log_removals s edits) (packed_writes s mode view edits merged ++ loose_removals s mode view edits)
+      (touched_right (s.place e.name) (packed_writes s mode view edits merged) (loose_removals s mode view edits)
+      (removals_touch s mode view edits e he w)))
+
+  reads_new : (e : Edit) → IsEdit e edits → e.and_reference ≡ true → (f : Effect) → effect s mode view e ≡ f → reading s left e.name ≡ new_reading s e.change
+  reads_new e he a (Writes text) w = stop.reads_written s laws mode view edits merged p left (all s mode view edits merged left whole) e he a text w (written e he text w)
+  reads_new e he a Removes w = stop.reads_removed s laws mode view edits merged p left (all s mode view edits merged left whole) e he a w (removed e he w)
+  reads_new e he a Leaves w = elim (stop.reads_at s laws mode view edits merged p left (all s mode view edits merged left whole) e he a) [
+    | inl h ↦ h ∙ left_alone s mode (s.key e.name) (reading s view e.name) e.change (sym (stop.effect_is s laws mode view edits merged p left (all s mode view edits merged left whole) e a) ∙ w)
+    | inr h ↦ h
+  ]
+
+  readings : (name : List ℕ) → s.is_reference name ≡ true → ReadsAsEdited s edits view left name
+  readings name is = elim (edited_cases s edits name (reading s view name)) [
+    | inr x ↦ stop.reads_elsewhere s laws mode view edits merged p left (all s mode view edits merged left whole) name is x.1 ∙ sym x.0
+    | inl x ↦
+        let key = laws.one_key x.0.name name (stop.is_ref s laws mode view edits merged p left (all s mode view edits merged left whole) x.0 x.1) is x.3 in
+        reading-alike s left name x.0.name (sym x.3) (sym key) ∙ (reads_new x.0 x.1 x.2 (effect s mode view x.0) refl ∙ sym x.4)
+  ]
+
+  places : (e : Edit) → IsEdit e edits → e.and_reference ≡ true → IsCommittedFile s mode e e.change (view (s.place e.name)) (left (s.place e.name))
+  places e he a = by_effect (effect s mode view e) refl
+    where
+      by_effect : (f : Effect) → effect s mode view e ≡ f → IsCommittedFile s mode e e.change (view (s.place e.name)) (left (s.place e.name))
+      by_effect (Writes text) w =
+          committed_file s mode e (reading s view e.name) e.change (Writes text) (view (s.place e.name)) (left (s.place e.name)) (sym (stop.effect_is s laws mode view edits merged p left (all s mode view edits merged left whole) e a) ∙ w)
+          (sym (stop.at_place s laws mode view edits merged p left (all s mode view edits merged left whole) e he (Some text) (subst (λ x. Leads x (Some text)) (sym w) refl)
+          ∙ cond-true (is_touched (s.place e.name) (plan s mode view edits merged)) (Some text) (view (s.place e.name)) (written e he text w)))
+          (λ h. cc)
+      by_effect Removes w =
+          committed_file s mode e (reading s view e.name) e.change Removes (view (s.place e.name)) (left (s.place e.name)) (sym (stop.effect_is s laws mode view edits merged p left (all s mode view edits merged left whole) e a) ∙ w)
+          (sym (stop.at_place s laws mode view edits merged p left (all s mode view edits merged left whole) e he None (subst (λ x. Leads x None) (sym w) refl)
+          ∙ cond-true (is_touched (s.place e.name) (plan s mode view edits merged)) None (view (s.place e.name)) (removed e he w)))
+          (λ h. cc)
+      by_effect Leaves w =
+          committed_file s mode e (reading s view e.name) e.change Leaves (view (s.place e.name)) (left (s.place e.name)) (sym (stop.effect_is s laws mode view edits merged p left (all s mode view edits merged left whole) e a) ∙ w) tt
+          (λ h. stop.kept_if_left s laws mode view edits merged p left (all s mode view edits merged left whole) e he w)
+
+  logs : (e : Edit) → IsEdit e edits → left (s.log e.name) ≡ committed_log s edits (s.log e.name) (view (s.log e.name))
+  logs e he =
+      let behind = log_removals s edits ++ (packed_writes s mode view edits merged ++ loose_removals s mode view edits) in
+      whole (s.log e.name)
+      ∙ (ap (λ (t : View). t (s.log e.name)) (after-append (updates s mode view edits) behind view)
+      ∙ (content behind (after (updates s mode view edits) view) (s.log e.name) None (behind_makes s laws mode view edits merged p left (all s mode view edits merged left whole) e he)
+      ∙ (ap (λ b. cond b None (after (updates s mode view edits) view (s.log e.name))) (behind_touched s laws mode view edits merged p left (all s mode view edits merged left whole) e he)
+      ∙ ap (cond (removes_log s edits (s.log e.name)) None) (updated s laws mode view edits merged p left (all s mode view edits merged left whole) e he))))
+
+  packed : IsPackedFile s mode edits (view s.packed_path) (left s.packed_path)
+  packed = cases (cases_Bool (alters_packed s mode (records_in s (view s.packed_path)) edits)) (stop.packed s laws mode view edits merged p left (all s mode view edits merged left whole))
+    where
+      cases : (alters_packed s mode (records_in s (view s.packed_path)) edits ≡ true) ⊎ (alters_packed s mode (records_in s (view s.packed_path)) edits ≡ false) →
+          (left s.packed_path ≡ view s.packed_path) ⊎ IsPackedFile s mode edits (view s.packed_path) (left s.packed_path) →
+          IsPackedFile s mode edits (view s.packed_path) (left s.packed_path)
+      cases k (inr h) = h
+      cases (inr k) (inl h) =
+          subst (λ b. MatchBool b ((new : List Record) × IsMerged s mode edits (records_in s (view s.packed_path)) new × (left s.packed_path ≡ file_of_records s new))
+          (left s.packed_path ≡ view s.packed_path)) (sym k) h
+      cases (inl k) (inl h) =
+          let t = touched_right s.packed_path (updates s mode view edits) (log_removals s edits ++ (packed_writes s mode view edits merged ++ loose_removals s mode view edits))
+          (touched_right s.packed_path (log_removals s edits) (packed_writes s mode view edits merged ++ loose_removals s mode view edits)
+          (touched_left s.packed_path (packed_writes s mode view edits merged) (loose_removals s mode view edits)
+          (packed_touches s mode view edits merged k))) in
+          subst (λ b. MatchBool b ((new : List Record) × IsMerged s mode edits (records_in s (view s.packed_path)) new × (left s.packed_path ≡ file_of_records s new))
+          (left s.packed_path ≡ view s.packed_path)) (sym k)
+          (merged, p.records_are_merged k, stop.at_packed s laws mode view edits merged p left (all s mode view edits merged left whole) ∙ cond-true (is_touched s.packed_path (plan s mode view edits merged)) (file_of_records s merged) (view s.packed_path) t)
+
+  pub committed : (locked : List (List ℕ)) → IsCommitted s mode locked edits view left
+  committed locked = record {
+    readings = readings;
+    places = places;
+    logs = logs;
+    packed = packed;
+    others = stop.others s laws mode view edits merged p left (all s mode view edits merged left whole) locked;
+  }

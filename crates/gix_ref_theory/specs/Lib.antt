@@ -1,0 +1,9 @@
+pub mod Between
+pub mod Carried
+pub mod Edits
+pub mod Example
+pub mod Plan
+pub mod Readings
+pub mod Stores
+pub mod Theorems
+pub mod Views

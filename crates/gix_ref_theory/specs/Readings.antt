@@ -1,0 +1,88 @@
+-- What a reference reads: by the file at its place, else by its record in `packed-refs`.
+use Rattle.std.specs.Prelude.{◌≡◌, ◌≢◌, ℕ, List, [], Option, Some, None, Bool, true, find, if◌then◌else◌, bytes_eq}
+use Rattle.gix_ref_hash.specs.declared.hash.ObjectId.{ObjectId}
+use Rattle.gix_ref_base.specs.Targets.{TargetValue}
+use Rattle.gix_ref_base.specs.Targets.TargetValue.{object_id, symbolic_name}
+use Rattle.gix_ref_files.specs.Tree.{Path}
+use Rattle.gix_ref_theory.specs.Views.{View, lock_of}
+
+-- An id of an object, with its hex digits as they are spelled.
+pub record SpelledId : Type 0 where
+  pub id : ObjectId
+  pub digits : List ℕ
+
+-- A record of `packed-refs`: a name, its id, and the peeled id of a tag.
+pub record Record : Type 0 where
+  pub name : List ℕ
+  pub target : SpelledId
+  pub peeled : Option SpelledId
+
+-- Where a store keeps its names, and what the texts in its files say.
+pub record Store : Type 0 where
+  -- the name may be that of a reference
+  pub is_reference : List ℕ → Bool
+  pub place : List ℕ → Path
+  pub log : List ℕ → Path
+  -- the name that `packed-refs` is asked for
+  pub key : List ℕ → Option (List ℕ)
+  pub packed_path : Path
+  -- a reference at this place is a fault, as one with a device name is where these are prohibited
+  pub is_prohibited : Path → Bool
+  pub without_namespace : List ℕ → List ℕ
+  pub target_of : List ℕ → Option TargetValue
+  pub text_of : TargetValue → List ℕ
+  pub records_of : List ℕ → List Record
+  pub text_of_records : List Record → List ℕ
+
+-- The laws of places: all that is used of the table of places.
+pub record HasLaws (s : Store) : Type 0 where
+  pub one_key : (m n : List ℕ) → s.is_reference m ≡ true → s.is_reference n ≡ true → s.place m ≡ s.place n → s.key m ≡ s.key n
+  pub one_place : (m n k : List ℕ) → s.is_reference m ≡ true → s.is_reference n ≡ true → s.key m ≡ Some k → s.key n ≡ Some k → s.place m ≡ s.place n
+  pub place_is_no_log : (m n : List ℕ) → s.is_reference m ≡ true → s.is_reference n ≡ true → s.place m ≢ s.log n
+  pub place_is_not_packed : (n : List ℕ) → s.is_reference n ≡ true → s.place n ≢ s.packed_path
+  pub log_is_not_packed : (n : List ℕ) → s.is_reference n ≡ true → s.log n ≢ s.packed_path
+  pub place_is_no_lock : (n : List ℕ) (path : Path) → s.is_reference n ≡ true → s.place n ≢ lock_of path
+  pub log_is_no_lock : (n : List ℕ) (path : Path) → s.is_reference n ≡ true → s.log n ≢ lock_of path
+  pub packed_is_no_lock : (path : Path) → s.packed_path ≢ lock_of path
+
+-- What a reference reads: a target, a fault, or nothing.
+pub data Reading : Type 0 where
+  Is : TargetValue → Reading
+  Fault : Reading
+  Absent : Reading
+
+-- a target as it is read: a symbolic one loses the namespace
+abbrev pub as_read : Store → TargetValue → TargetValue
+as_read s (object_id id) = object_id id
+as_read s (symbolic_name name) = symbolic_name (s.without_namespace name)
+
+-- a loose file that cannot be decoded is a fault
+abbrev pub reading_of_loose : Store → Option TargetValue → Reading
+reading_of_loose s None = Fault
+reading_of_loose s (Some target) = Is (as_read s target)
+
+-- a record says an object
+abbrev pub reading_of_record : Option Record → Reading
+reading_of_record None = Absent
+reading_of_record (Some r) = Is (object_id r.target.id)
+
+-- the first record of a name
+abbrev pub record_named : List ℕ → List Record → Option Record
+record_named name records = find (λ (r : Record). bytes_eq name r.name) records
+
+-- the records of a file that may be missing
+abbrev pub records_in : Store → Option (List ℕ) → List Record
+records_in s None = []
+records_in s (Some bytes) = s.records_of bytes
+
+-- the reading by the file at the place, else by the record of the key, where there is a key
+abbrev pub reading_by : Store → Option (List ℕ) → Option (List ℕ) → List Record → Reading
+reading_by s key (Some bytes) records = reading_of_loose s (s.target_of bytes)
+reading_by s None None records = Absent
+reading_by s (Some key) None records = reading_of_record (record_named key records)
+
+-- what a reference reads among these files
+abbrev pub reading : Store → View → List ℕ → Reading
+reading s view name =
+    if s.is_prohibited (s.place name) then Fault
+    else reading_by s (s.key name) (view (s.place name)) (records_in s (view s.packed_path))

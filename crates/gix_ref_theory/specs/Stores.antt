@@ -1,0 +1,76 @@
+-- The store of real files: the places of the table, the texts that are written, and the options of its reading.
+use Rattle.std.specs.Prelude.{ℕ, List, [], ◌∷◌, ◌++◌, Option, Some, None, Bool, true, ◌&&◌, is_none, codes, nat_eq, bytes_eq, if◌then◌else◌}
+use Rattle.std.specs.List.{list_any, flat_map, starts_with}
+use Rattle.std.specs.Option.{option_map}
+use Rattle.hex.specs.Hex.{encode_lower}
+use Rattle.gix_ref_hash.specs.declared.hash.ObjectId.{ObjectId}
+use Rattle.gix_ref_hash.specs.Bytes.{components, without_front}
+use Rattle.gix_ref_hash.specs.Ids.{id_bytes}
+use Rattle.gix_ref_base.specs.NameGrammar.{partial_error}
+use Rattle.gix_ref_base.specs.Namespaces.{stripped}
+use Rattle.gix_ref_base.specs.Targets.{TargetValue}
+use Rattle.gix_ref_base.specs.Targets.TargetValue.{object_id, symbolic_name}
+use Rattle.gix_ref_files.specs.Tree.{Path}
+use Rattle.gix_ref_base.specs.Layout.{Layout, below, packed_refs}
+use Rattle.gix_ref_base.specs.Locations.{is_safe, paths_at}
+use Rattle.gix_ref_theory.specs.Readings.{Store, Record, SpelledId}
+
+-- an id with the digits that it is written with
+abbrev pub written_id : ObjectId → SpelledId
+written_id id = record { id = id; digits = encode_lower (id_bytes id) }
+
+-- the text of a loose file: the digits of the id, or `ref: ` and the name, and LF
+abbrev pub loose_text : TargetValue → List ℕ
+loose_text (object_id id) = (written_id id).digits ++ 10 ∷ []
+loose_text (symbolic_name name) = codes "ref: " ++ (name ++ 10 ∷ [])
+
+-- `^`, the digits of a peeled id and LF
+abbrev pub peeled_line : Option SpelledId → List ℕ
+peeled_line None = []
+peeled_line (Some peeled) = codes "^" ++ (peeled.digits ++ 10 ∷ [])
+
+-- the digits of the id, a space, the name and LF; and the line of the peeled id
+abbrev pub record_lines : Record → List ℕ
+record_lines r = r.target.digits ++ (codes " " ++ (r.name ++ (10 ∷ peeled_line r.peeled)))
+
+-- the text of `packed-refs`: the header and the records
+abbrev pub packed_text : List Record → List ℕ
+packed_text records = codes "# pack-refs with: peeled fully-peeled sorted " ++ (10 ∷ flat_map record_lines records)
+
+-- What a store reads and asks for beside its places.
+pub record Options : Type 0 where
+  -- the target of a loose text, if it can be decoded
+  pub target_of : List ℕ → Option TargetValue
+  pub records_of : List ℕ → List Record
+  -- a component that is prohibited: none, or a device name
+  pub is_device : List ℕ → Bool
+  -- a name as `packed-refs` is asked for it: itself, or composed
+  pub composed : List ℕ → List ℕ
+
+-- the path below C where it lies below C, else below G
+abbrev pub below_folders : Layout → Path → List ℕ
+below_folders f path =
+    if starts_with nat_eq path (below f.common []) then without_front (below f.common []) path
+    else without_front (below f.git []) path
+
+-- the key is composed, if there is one
+abbrev pub is_composed : Options → Option (List ℕ) → Bool
+is_composed o None = true
+is_composed o (Some key) = bytes_eq (o.composed key) key
+
+-- A reference is a valid, safe name whose key is composed. A log has the components of its place, and `logs`: where
+-- one of them is prohibited, the place says so.
+abbrev pub store_of : Layout → Options → Store
+store_of f o = record {
+  is_reference = λ name. is_none (partial_error name) && is_safe name && is_composed o (paths_at f name).key;
+  place = λ name. (paths_at f name).place;
+  log = λ name. (paths_at f name).log;
+  key = λ name. option_map o.composed (paths_at f name).key;
+  packed_path = packed_refs f;
+  is_prohibited = λ path. list_any o.is_device (components (below_folders f path));
+  without_namespace = stripped f.namespace;
+  target_of = o.target_of;
+  text_of = loose_text;
+  records_of = o.records_of;
+  text_of_records = packed_text;
+}
