@@ -32,7 +32,8 @@ pub record Meaning : Type 1 where
   -- the trees that a stop at that moment, or at one since, could have left
   pub left_since : ℕ → Tree → Type 0
 
--- From old to new, a stop at any moment leaves a tree that has P, and so has the tree of new.
+-- From old to new: the tree of new has P, and so has each tree that a stop could have left since the first change. Of the
+-- tree of old, which a stop before that change leaves, it says nothing: where that matters, P of it is a fact beside this one.
 pub record Leaves (old new : Meaning) (P : Tree → Type 0) : Type 0 where
   pub tree : P new.tree
   pub later : old.moment ≤ new.moment

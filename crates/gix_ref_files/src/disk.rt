@@ -1,5 +1,5 @@
 //! The disk, by std's files. It counts its faults and claims no honesty.
-ghost use Rattle.std.specs.Prelude.{◌≡◌};
+ghost use Rattle.std.specs.Prelude.{◌≡◌, OnOk, IfErr};
 ghost use Rattle.gix_ref_files.specs.Files.{one_more};
 ghost use Rattle.gix_ref_files.specs.declared.files.FileError.TheVariants.{Device, NotUtf8};
 
@@ -11,8 +11,11 @@ use std::os::unix::fs::FileExt;
 use std::{fs, io};
 
 /// The disk. A path is one of the system's, so a relative one begins at the working folder. Symbolic links are
-/// followed, but a listing leaves them out, as it does all that is neither a file nor a folder. The other calls take
-/// such a thing for nothing.
+/// followed, but a listing leaves them out, as it does all that is neither a file nor a folder.
+///
+/// A FIFO, a socket or a device is never opened: it counts as nothing, and as `Standing` for `create_new`. So no call
+/// waits for another program. What a path names is asked before it is opened; another program that puts a FIFO there
+/// between the two can still make a call wait.
 #[derive(Drop)]
 pub struct Disk {
     rt: HostRuntime,
@@ -27,7 +30,7 @@ pub struct DiskReader {
     faults: u64,
 }
 
-/// Counts a fault of the device, and gives it.
+/// Counts a fault of the device, and returns it.
 fn fault(faults: &mut u64, kind: ErrorKind) -> FileError
     ensures error { result ≡ Device kind }
     ensures counted { faults.new ≡ one_more faults.old }
@@ -36,13 +39,18 @@ fn fault(faults: &mut u64, kind: ErrorKind) -> FileError
     FileError::Device(kind)
 }
 
-/// Counts a name that is not UTF-8, and gives that fault.
-fn not_utf8(faults: &mut u64) -> FileError
-    ensures error { result ≡ NotUtf8 }
-    ensures counted { faults.new ≡ one_more faults.old }
+/// The path as text. A path that is not UTF-8 is a fault, and is counted.
+fn text_of<'p>(faults: &mut u64, path: &'p [u8]) -> Result<&'p str, FileError>
+    ensures text { OnOk result (faults.new ≡ faults.old) }
+    ensures counted { IfErr result (λ error. (error ≡ NotUtf8) × (faults.new ≡ one_more faults.old)) }
 {
-    *faults = faults.saturating_add(1);
-    FileError::NotUtf8
+    match std::str::from_utf8(path) {
+        Ok(path) => Ok(path),
+        Err(_) => {
+            *faults = faults.saturating_add(1);
+            Err(FileError::NotUtf8)
+        }
+    }
 }
 
 impl Disk {
@@ -94,13 +102,9 @@ impl Files for Disk {
 
     /// One system call.
     fn kind(&mut self, path: &[u8]) -> Result<Node, FileError> {
-        let Ok(path) = std::str::from_utf8(path) else {
-            return Err(not_utf8(&mut self.faults));
-        };
+        let path = text_of(&mut self.faults, path)?;
         match fs::metadata(&self.rt, path) {
-            Ok(about) if about.is_file() => Ok(Node::File),
-            Ok(about) if about.is_dir() => Ok(Node::Folder),
-            Ok(_) => Ok(Node::Nothing),
+            Ok(about) => Ok(node_of(&about)),
             Err(error) => match error.kind() {
                 ErrorKind::NotFound => Ok(Node::Nothing),
                 ErrorKind::NotADirectory => Ok(Node::Blocked),
@@ -109,18 +113,20 @@ impl Files for Disk {
         }
     }
 
-    /// Three system calls for a small file, and else two more than it takes to read it.
+    /// Four system calls for a small file: a look at what is there, open, read and close.
     fn read(&mut self, _alloc: Global, path: &[u8], buf: &mut Vec<u8>) -> Result<Node, FileError> {
         buf.clear();
-        let Ok(path) = std::str::from_utf8(path) else {
-            return Err(not_utf8(&mut self.faults));
-        };
-        let Err(error) = read_into(&self.rt, path, buf) else {
-            return Ok(Node::File);
+        let path = text_of(&mut self.faults, path)?;
+        let error = match read_into(&self.rt, path, buf) {
+            Ok(Node::File) => return Ok(Node::File),
+            Ok(node) => {
+                buf.clear();
+                return Ok(node);
+            }
+            Err(error) => error,
         };
         buf.clear();
         match error.kind() {
-            ErrorKind::IsADirectory => Ok(Node::Folder),
             ErrorKind::NotFound => Ok(Node::Nothing),
             ErrorKind::NotADirectory => Ok(Node::Blocked),
             ErrorKind::OutOfMemory => Err(FileError::Memory),
@@ -128,11 +134,9 @@ impl Files for Disk {
         }
     }
 
-    /// Two system calls, and one when the reader goes.
+    /// Two system calls, and one when the reader is dropped.
     fn open(&mut self, _alloc: Global, path: &[u8]) -> Result<Option<DiskReader>, FileError> {
-        let Ok(path) = std::str::from_utf8(path) else {
-            return Err(not_utf8(&mut self.faults));
-        };
+        let path = text_of(&mut self.faults, path)?;
         match open_file(&self.rt, path) {
             Ok(reader) => Ok(reader),
             Err(error) => match error.kind() {
@@ -144,15 +148,16 @@ impl Files for Disk {
 
     /// Four system calls or some more for a large folder, and one for each entry.
     fn list(&mut self, alloc: Global, path: &[u8]) -> Result<Option<Vec<Entry>>, FileError> {
-        let Ok(path) = std::str::from_utf8(path) else {
-            return Err(not_utf8(&mut self.faults));
-        };
+        let path = text_of(&mut self.faults, path)?;
         match list_in(&self.rt, alloc, path) {
             Ok(entries) => Ok(Some(entries)),
             Err(error) => match error.kind() {
                 ErrorKind::NotFound | ErrorKind::NotADirectory => Ok(None),
                 ErrorKind::OutOfMemory => Err(FileError::Memory),
-                ErrorKind::InvalidFilename => Err(not_utf8(&mut self.faults)),
+                ErrorKind::InvalidFilename => {
+                    self.faults = self.faults.saturating_add(1);
+                    Err(FileError::NotUtf8)
+                }
                 kind => Err(fault(&mut self.faults, kind)),
             },
         }
@@ -160,9 +165,7 @@ impl Files for Disk {
 
     /// Two system calls.
     fn create_new(&mut self, path: &[u8]) -> Result<Create, FileError> {
-        let Ok(path) = std::str::from_utf8(path) else {
-            return Err(not_utf8(&mut self.faults));
-        };
+        let path = text_of(&mut self.faults, path)?;
         let made = OpenOptions::new()
             .write(true)
             .create_new(true)
@@ -177,11 +180,9 @@ impl Files for Disk {
         }
     }
 
-    /// One system call where the folder stands.
+    /// One system call where the folder exists.
     fn make_folders(&mut self, path: &[u8]) -> Result<bool, FileError> {
-        let Ok(path) = std::str::from_utf8(path) else {
-            return Err(not_utf8(&mut self.faults));
-        };
+        let path = text_of(&mut self.faults, path)?;
         if let Ok(about) = fs::metadata(&self.rt, path) {
             return Ok(about.is_dir());
         }
@@ -194,44 +195,35 @@ impl Files for Disk {
         }
     }
 
-    /// Three system calls.
+    /// Four system calls.
     fn append(&mut self, path: &[u8], bytes: &[u8]) -> Result<bool, FileError> {
-        let Ok(path) = std::str::from_utf8(path) else {
-            return Err(not_utf8(&mut self.faults));
-        };
+        let path = text_of(&mut self.faults, path)?;
         match append_to(&self.rt, path, bytes) {
-            Ok(()) => Ok(true),
+            Ok(appended) => Ok(appended),
             Err(error) => match error.kind() {
-                ErrorKind::NotFound | ErrorKind::NotADirectory | ErrorKind::IsADirectory => {
-                    Ok(false)
-                }
+                ErrorKind::NotFound | ErrorKind::NotADirectory => Ok(false),
                 kind => Err(fault(&mut self.faults, kind)),
             },
         }
     }
 
-    /// Two system calls: the first one sees that it is a file, since the second would move a folder too.
+    /// Two system calls: the first one looks whether it is a file, since the second would move a folder too.
     fn rename(&mut self, from: &[u8], to: &[u8]) -> Result<Rename, FileError> {
-        let (Ok(from), Ok(to)) = (std::str::from_utf8(from), std::str::from_utf8(to)) else {
-            return Err(not_utf8(&mut self.faults));
-        };
+        let from = text_of(&mut self.faults, from)?;
+        let to = text_of(&mut self.faults, to)?;
         match rename_file(&self.rt, from, to) {
             Ok(rename) => Ok(rename),
             Err(error) => Err(fault(&mut self.faults, error.kind())),
         }
     }
 
-    /// One system call.
+    /// Two system calls: the first one looks whether it is a file.
     fn remove_file(&mut self, path: &[u8]) -> Result<bool, FileError> {
-        let Ok(path) = std::str::from_utf8(path) else {
-            return Err(not_utf8(&mut self.faults));
-        };
-        match fs::remove_file(&self.rt, path) {
-            Ok(()) => Ok(true),
+        let path = text_of(&mut self.faults, path)?;
+        match remove_if_file(&self.rt, path) {
+            Ok(removed) => Ok(removed),
             Err(error) => match error.kind() {
-                ErrorKind::NotFound | ErrorKind::NotADirectory | ErrorKind::IsADirectory => {
-                    Ok(false)
-                }
+                ErrorKind::NotFound | ErrorKind::NotADirectory => Ok(false),
                 kind => Err(fault(&mut self.faults, kind)),
             },
         }
@@ -239,9 +231,7 @@ impl Files for Disk {
 
     /// One system call.
     fn remove_folder(&mut self, path: &[u8]) -> Result<bool, FileError> {
-        let Ok(path) = std::str::from_utf8(path) else {
-            return Err(not_utf8(&mut self.faults));
-        };
+        let path = text_of(&mut self.faults, path)?;
         match fs::remove_dir(&self.rt, path) {
             Ok(()) => Ok(true),
             Err(error) => match error.kind() {
@@ -254,30 +244,45 @@ impl Files for Disk {
     }
 }
 
-/// Reads a file into an empty buffer. A read of a file that gives fewer bytes than were asked for has come to its end,
-/// so a small file takes one read and no look at its length.
-fn read_into(rt: &HostRuntime, path: &str, buf: &mut Vec<u8>) -> io::Result<()> {
+/// What a path names. A FIFO, a socket and a device count as nothing.
+fn node_of(about: &fs::Metadata) -> Node {
+    if about.is_file() {
+        Node::File
+    } else if about.is_dir() {
+        Node::Folder
+    } else {
+        Node::Nothing
+    }
+}
+
+/// Reads a file into an empty buffer, after a look at what is there. A read that gives fewer bytes than were asked for
+/// has come to the end of the file, so a small file takes one read.
+fn read_into(rt: &HostRuntime, path: &str, buf: &mut Vec<u8>) -> io::Result<Node> {
+    let about = fs::metadata(rt, path)?;
+    let node = node_of(&about);
+    if node != Node::File {
+        return Ok(node);
+    }
     let mut file = File::open(rt, path)?;
     let mut small = [0; 512];
     let len = file.read(&mut small)?;
     if len < small.len() {
         buf.extend_from_slice(&small[..len])?;
-        return Ok(());
+        return Ok(Node::File);
     }
-    let whole = file.metadata()?.len();
-    buf.reserve(whole as usize)?;
+    buf.reserve(about.len() as usize)?;
     buf.extend_from_slice(&small)?;
     file.read_to_end(buf)?;
-    Ok(())
+    Ok(Node::File)
 }
 
-/// Opens a file and asks for its length; none for what is no file.
+/// Opens a file; `None` for what is no file.
 fn open_file(rt: &HostRuntime, path: &str) -> io::Result<Option<DiskReader>> {
-    let file = File::open(rt, path)?;
-    let about = file.metadata()?;
+    let about = fs::metadata(rt, path)?;
     if !about.is_file() {
         return Ok(None);
     }
+    let file = File::open(rt, path)?;
     let len = about.len();
     Ok(Some(DiskReader {
         file,
@@ -286,9 +291,23 @@ fn open_file(rt: &HostRuntime, path: &str) -> io::Result<Option<DiskReader>> {
     }))
 }
 
-fn append_to(rt: &HostRuntime, path: &str, bytes: &[u8]) -> io::Result<()> {
+/// Appends to a file; false where there is something else.
+fn append_to(rt: &HostRuntime, path: &str, bytes: &[u8]) -> io::Result<bool> {
+    if !fs::metadata(rt, path)?.is_file() {
+        return Ok(false);
+    }
     let mut file = OpenOptions::new().append(true).open(rt, path)?;
-    file.write_all(bytes)
+    file.write_all(bytes)?;
+    Ok(true)
+}
+
+/// Removes a file; false where there is something else.
+fn remove_if_file(rt: &HostRuntime, path: &str) -> io::Result<bool> {
+    if !fs::metadata(rt, path)?.is_file() {
+        return Ok(false);
+    }
+    fs::remove_file(rt, path)?;
+    Ok(true)
 }
 
 fn rename_file(rt: &HostRuntime, from: &str, to: &str) -> io::Result<Rename> {

@@ -69,20 +69,3 @@ all_snoc P (g ∷ fs) f all here = by_first (P g) (list_all P fs) (list_all P (f
     by_first : (a b c : Bool) → (a && b) ≡ true → (b ≡ true → c ≡ true) → (a && c) ≡ true
     by_first true b c both more = more both
     by_first false b c both more = both
-
--- folders at the fronts of a path change nothing at the path itself
-after_untouched : (T : Tree) (seen : Path) (xs : List ℕ) (p : Path) → seen ++ xs ≡ p → with_folders T (fronts_after seen xs) p ≡ T p
-after_untouched T seen [] p is = refl
-after_untouched T seen (c ∷ rest) p is =
-    by_byte (c == 47) (λ (S : Tree). after_untouched S (seen ++ c ∷ []) rest p (append_assoc seen (c ∷ []) rest ∙ is))
-  where
-    shorter : seen ≢ p
-    shorter same = absurd (omega (arith, ap (λ (l : Path). length l) (is ∙ sym same), length-append seen (c ∷ rest)))
-
-    by_byte : (slash : Bool) → ((S : Tree) → with_folders S (fronts_after (seen ++ c ∷ []) rest) p ≡ S p) → with_folders T (if slash then seen ∷ fronts_after (seen ++ c ∷ []) rest else fronts_after (seen ++ c ∷ []) rest) p ≡ T p
-    by_byte true later = later (put T seen (Some Folder)) ∙ put_other T seen p (Some Folder) shorter
-    by_byte false later = later T
-
-pub own_untouched : (T : Tree) (p : Path) → with_folders T (fronts p) p ≡ T p
-own_untouched T [] = refl
-own_untouched T (b ∷ p) = after_untouched T (b ∷ []) p (b ∷ p) refl

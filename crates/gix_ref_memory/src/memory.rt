@@ -131,7 +131,7 @@ impl Files for Memory {
     ghost use Rattle.gix_ref_files.specs.Files.{Leaves, Adds, count_after};
     ghost use Rattle.gix_ref_files.specs.Calls.{Only, emptied, Opens, Creates, Creating, MakesFolders, MakingFolders, is_in_the_way, Appends, Appending, Renames, Renaming, IsMovable, RemovesFile, RemovingFile, RemovesFolder, RemovingFolder, Lists};
     ghost use Rattle.gix_ref_memory.specs.Changes.{now_is_left, only_now};
-    ghost use Rattle.gix_ref_memory.specs.Turns.{KeepsTurn, AsBefore, InOneStep, IsDone};
+    ghost use Rattle.gix_ref_memory.specs.Turns.{KeepsTurn, NeverFails, LacksMemory, CannotGrow, CannotCreate, CannotRename, AsBefore, InOneStep, IsDone};
     ghost use Rattle.gix_ref_memory.specs.Memory.{meaning, tree_of, faults_of, next_turn, Counts};
     ghost use Rattle.gix_ref_memory.specs.Reader.{bytes_in, reader_calls, reader_faults, reader_plan};
     ghost use Rattle.gix_ref_memory.specs.Memory.{calls_of, plan_of};
@@ -155,7 +155,7 @@ impl Files for Memory {
         ensures leaves { Leaves (meaning self.old) (meaning self.new) (Only (tree_of self.old)) }
         ensures count { faults_of self.new ≡ count_after result (faults_of self.old) }
         ensures memory { IsErrOf result FileError.Memory → ⊥ }
-        ensures turn { KeepsTurn (next_turn self.old) result (tree_of self.old) (tree_of self.new) (AsBefore (tree_of self.old)) }
+        ensures turn { KeepsTurn NeverFails NeverFails (next_turn self.old) result (tree_of self.old) (tree_of self.new) (AsBefore (tree_of self.old)) }
         ensures counts { Counts self.old self.new }
     {
         if self.turns.next() != Turn::Go {
@@ -175,7 +175,7 @@ impl Files for Memory {
         ensures emptied { emptied result buf.new.items }
         ensures leaves { Leaves (meaning self.old) (meaning self.new) (Only (tree_of self.old)) }
         ensures count { faults_of self.new ≡ count_after result (faults_of self.old) }
-        ensures turn { KeepsTurn (next_turn self.old) result (tree_of self.old) (tree_of self.new) (AsBefore (tree_of self.old)) }
+        ensures turn { KeepsTurn LacksMemory NeverFails (next_turn self.old) result (tree_of self.old) (tree_of self.new) (AsBefore (tree_of self.old)) }
         ensures counts { Counts self.old self.new }
     {
         buf.clear();
@@ -197,7 +197,7 @@ impl Files for Memory {
         ensures answer { IfOk result (λ reader. Opens (Unit {0}) bytes_in (tree_of self.old) path.now reader) }
         ensures leaves { Leaves (meaning self.old) (meaning self.new) (Only (tree_of self.old)) }
         ensures count { faults_of self.new ≡ count_after result (faults_of self.old) }
-        ensures turn { KeepsTurn (next_turn self.old) result (tree_of self.old) (tree_of self.new) (AsBefore (tree_of self.old)) }
+        ensures turn { KeepsTurn LacksMemory NeverFails (next_turn self.old) result (tree_of self.old) (tree_of self.new) (AsBefore (tree_of self.old)) }
         ensures counts { Counts self.old self.new }
         // The reader counts its calls on from the call that opened it, by the same plan.
         ensures reader_calls { IfOk result (λ reader. IfSome reader (λ reader. reader_calls reader ≡ calls_of self.new)) }
@@ -224,7 +224,7 @@ impl Files for Memory {
         ensures answer { IfOk result (Lists (tree_of self.old) path.now) }
         ensures leaves { Leaves (meaning self.old) (meaning self.new) (Only (tree_of self.old)) }
         ensures count { faults_of self.new ≡ count_after result (faults_of self.old) }
-        ensures turn { KeepsTurn (next_turn self.old) result (tree_of self.old) (tree_of self.new) (AsBefore (tree_of self.old)) }
+        ensures turn { KeepsTurn LacksMemory NeverFails (next_turn self.old) result (tree_of self.old) (tree_of self.new) (AsBefore (tree_of self.old)) }
         ensures counts { Counts self.old self.new }
     {
         if self.turns.next() != Turn::Go {
@@ -245,7 +245,7 @@ impl Files for Memory {
         ensures leaves { Leaves (meaning self.old) (meaning self.new) (Creating (tree_of self.old) path.now) }
         ensures count { faults_of self.new ≡ count_after result (faults_of self.old) }
         ensures memory { IsErrOf result FileError.Memory → ⊥ }
-        ensures turn { KeepsTurn (next_turn self.old) result (tree_of self.old) (tree_of self.new) (AsBefore (tree_of self.old)) }
+        ensures turn { KeepsTurn (CannotCreate (tree_of self.old) path.now) NeverFails (next_turn self.old) result (tree_of self.old) (tree_of self.new) (AsBefore (tree_of self.old)) }
         ensures counts { Counts self.old self.new }
     {
         if self.turns.next() != Turn::Go {
@@ -264,7 +264,7 @@ impl Files for Memory {
         ensures adds { OnOk result (Adds (meaning self.old) (meaning self.new) (MakingFolders (tree_of self.old) path.now)) }
         ensures count { faults_of self.new ≡ count_after result (faults_of self.old) }
         ensures memory { IsErrOf result FileError.Memory → ⊥ }
-        ensures turn { KeepsTurn (next_turn self.old) result (tree_of self.old) (tree_of self.new) (λ n T. IsDone (tree_of self.old) (is_in_the_way (tree_of self.old) path.now ≡ false) (with_folders (tree_of self.old) (take n (folders_to path.now))) T) }
+        ensures turn { KeepsTurn CannotGrow CannotGrow (next_turn self.old) result (tree_of self.old) (tree_of self.new) (λ n T. IsDone (tree_of self.old) (is_in_the_way (tree_of self.old) path.now ≡ false) (with_folders (tree_of self.old) (take n (folders_to path.now))) T) }
         ensures counts { Counts self.old self.new }
     {
         match self.turns.next() {
@@ -286,7 +286,7 @@ impl Files for Memory {
         ensures adds { OnOk result (Adds (meaning self.old) (meaning self.new) (Appending (tree_of self.old) path.now bytes.now)) }
         ensures count { faults_of self.new ≡ count_after result (faults_of self.old) }
         ensures memory { IsErrOf result FileError.Memory → ⊥ }
-        ensures turn { KeepsTurn (next_turn self.old) result (tree_of self.old) (tree_of self.new) (λ n T. T ≡ appended (tree_of self.old) path.now (take n bytes.now)) }
+        ensures turn { KeepsTurn CannotGrow CannotGrow (next_turn self.old) result (tree_of self.old) (tree_of self.new) (λ n T. T ≡ appended (tree_of self.old) path.now (take n bytes.now)) }
         ensures counts { Counts self.old self.new }
     {
         match self.turns.next() {
@@ -307,7 +307,7 @@ impl Files for Memory {
         ensures leaves { Leaves (meaning self.old) (meaning self.new) (Renaming (tree_of self.old) from.now to.now) }
         ensures count { faults_of self.new ≡ count_after result (faults_of self.old) }
         ensures memory { IsErrOf result FileError.Memory → ⊥ }
-        ensures turn { KeepsTurn (next_turn self.old) result (tree_of self.old) (tree_of self.new) (InOneStep (tree_of self.old) (IsMovable (tree_of self.old) from.now to.now) (moved (tree_of self.old) from.now to.now)) }
+        ensures turn { KeepsTurn (CannotRename (tree_of self.old) from.now to.now) CannotGrow (next_turn self.old) result (tree_of self.old) (tree_of self.new) (InOneStep (tree_of self.old) (IsMovable (tree_of self.old) from.now to.now) (moved (tree_of self.old) from.now to.now)) }
         ensures counts { Counts self.old self.new }
     {
         match self.turns.next() {
@@ -329,7 +329,7 @@ impl Files for Memory {
         ensures leaves { Leaves (meaning self.old) (meaning self.new) (RemovingFile (tree_of self.old) path.now) }
         ensures count { faults_of self.new ≡ count_after result (faults_of self.old) }
         ensures memory { IsErrOf result FileError.Memory → ⊥ }
-        ensures turn { KeepsTurn (next_turn self.old) result (tree_of self.old) (tree_of self.new) (InOneStep (tree_of self.old) (is_file (tree_of self.old path.now) ≡ true) (removed (tree_of self.old) path.now)) }
+        ensures turn { KeepsTurn CannotGrow CannotGrow (next_turn self.old) result (tree_of self.old) (tree_of self.new) (InOneStep (tree_of self.old) (is_file (tree_of self.old path.now) ≡ true) (removed (tree_of self.old) path.now)) }
         ensures counts { Counts self.old self.new }
     {
         match self.turns.next() {
@@ -350,7 +350,7 @@ impl Files for Memory {
         ensures leaves { Leaves (meaning self.old) (meaning self.new) (RemovingFolder (tree_of self.old) path.now) }
         ensures count { faults_of self.new ≡ count_after result (faults_of self.old) }
         ensures memory { IsErrOf result FileError.Memory → ⊥ }
-        ensures turn { KeepsTurn (next_turn self.old) result (tree_of self.old) (tree_of self.new) (InOneStep (tree_of self.old) (IsEmptyFolder (tree_of self.old) path.now) (removed (tree_of self.old) path.now)) }
+        ensures turn { KeepsTurn CannotGrow CannotGrow (next_turn self.old) result (tree_of self.old) (tree_of self.new) (InOneStep (tree_of self.old) (IsEmptyFolder (tree_of self.old) path.now) (removed (tree_of self.old) path.now)) }
         ensures counts { Counts self.old self.new }
     {
         match self.turns.next() {

@@ -4,11 +4,11 @@ use Rattle.gix_ref_hash.specs.declared.hash.Kind.{Kind}
 use Rattle.gix_ref_hash.specs.declared.hash.ObjectId.{ObjectId}
 use Rattle.gix_ref_files.specs.Files.{Meaning, Leaves}
 use Rattle.gix_ref_files.proofs.Moments.{weaken}
-use Rattle.gix_ref.specs.Prepared.{IsOneUpdate, tree_of}
-use Rattle.gix_ref.specs.Store.{files_of, meaning_of}
-use Rattle.gix_ref.specs.Transactions.{new_of}
-use Rattle.gix_ref.specs.declared.file.store.Store.{Store}
-use Rattle.gix_ref.specs.declared.transaction.RefEdit.{RefEdit}
+use Rattle.gix_ref_store.specs.Prepared.{IsOneUpdate, tree_of}
+use Rattle.gix_ref_store.specs.Store.{files_of, meaning_of}
+use Rattle.gix_ref_store.specs.Transactions.{new_of}
+use Rattle.gix_ref_store.specs.declared.file.store.Store.{Store}
+use Rattle.gix_ref_store.specs.declared.transaction.RefEdit.{RefEdit}
 use Rattle.gix_ref_program.specs.Updates.{IsStopOf}
 use Rattle.gix_ref_program.specs.Words.{Update, Line}
 use Rattle.gix_ref_program.specs.Runs.{IsAskedFor, IsOpened, EditComesTo, UpdateComesTo, ComesTo, LineComesTo, IsStop, IsStopIn}

@@ -5,19 +5,19 @@ use Rattle.gix_ref_base.specs.Targets.{TargetValue}
 use Rattle.gix_ref_files.specs.Tree.{Path}
 use Rattle.gix_ref_files.specs.Files.{Meaning, Leaves, HasRisen}
 use Rattle.gix_ref_files.proofs.Moments.{weaken, joins}
-use Rattle.gix_ref.specs.AddedLocks.{is_in, paths_of}
-use Rattle.gix_ref.specs.Committing.{AreCommitted, CommitsFrom, EndsFrom, FailsFor, left_of, names_of}
-use Rattle.gix_ref.specs.Prepared.{IsOneUpdate, PreparesFrom, RefusesFrom, tree_of}
-use Rattle.gix_ref.specs.Store.{files_of, meaning_of}
-use Rattle.gix_ref.specs.Transactions.{AreCarried}
-use Rattle.gix_ref.specs.declared.transaction.RefEdit.{RefEdit}
-use Rattle.gix_ref.specs.declared.file.store.Store.{Store}
-use Rattle.gix_ref.specs.declared.file.transaction.Done.{Done}
-use Rattle.gix_ref.specs.declared.file.transaction.Failed.{Failed}
-use Rattle.gix_ref.specs.declared.file.transaction.setting.Paths.{Paths}
-use Rattle.gix_ref.specs.declared.file.transaction.prepare.error.Error.{Error as Cause}
-use Rattle.gix_ref.specs.declared.file.transaction.commit.error.Error.{Error}
-use Rattle.gix_ref.specs.declared.file.transaction.commit.error.Error.TheVariants.{LockCommit, FolderInPlace}
+use Rattle.gix_ref_store.specs.AddedLocks.{is_in, paths_of}
+use Rattle.gix_ref_store.specs.Committing.{AreCommitted, CommitsFrom, EndsFrom, FailsFor, left_of, names_of}
+use Rattle.gix_ref_store.specs.Prepared.{IsOneUpdate, PreparesFrom, RefusesFrom, tree_of}
+use Rattle.gix_ref_store.specs.Store.{files_of, meaning_of}
+use Rattle.gix_ref_store.specs.Transactions.{AreCarried}
+use Rattle.gix_ref_store.specs.declared.transaction.RefEdit.{RefEdit}
+use Rattle.gix_ref_store.specs.declared.file.store.Store.{Store}
+use Rattle.gix_ref_store.specs.declared.file.transaction.Done.{Done}
+use Rattle.gix_ref_store.specs.declared.file.transaction.Failed.{Failed}
+use Rattle.gix_ref_store.specs.declared.file.transaction.setting.Paths.{Paths}
+use Rattle.gix_ref_store.specs.declared.file.transaction.prepare.error.Error.{Error as Cause}
+use Rattle.gix_ref_store.specs.declared.file.transaction.commit.error.Error.{Error}
+use Rattle.gix_ref_store.specs.declared.file.transaction.commit.error.Error.TheVariants.{LockCommit, FolderInPlace}
 use Rattle.gix_ref_program.specs.Updates.{IsStopOf, IsUnmade, AreNamed, HasFailed, unmade_of}
 use Rattle.gix_ref_program.specs.declared.update.Unmade.{Unmade}
 use Rattle.gix_ref_program.specs.declared.update.Unmade.TheVariants.{Commit}

@@ -9,20 +9,19 @@ use Rattle.gix_ref_hash.specs.declared.hash.Kind.{Kind}
 use Rattle.gix_ref_hash.specs.declared.hash.ObjectId.{ObjectId}
 use Rattle.gix_ref_files.specs.Tree.{Tree}
 use Rattle.gix_ref_files.specs.Files.{Meaning, Leaves}
-use Rattle.gix_ref.specs.AddedLocks.{paths_of}
-use Rattle.gix_ref_theory.specs.Carried.{view_of}
-use Rattle.gix_ref.specs.CleanPaths.{is_clean}
-use Rattle.gix_ref.specs.Committing.{AreCommitted}
-use Rattle.gix_ref.specs.Lookup.{Finds, FailsBy}
-use Rattle.gix_ref.specs.Prepared.{tree_of}
-use Rattle.gix_ref.specs.Store.{files_of, folders, kind_of, meaning_of}
-use Rattle.gix_ref.specs.Transactions.{name_of, new_of, mode_of, expected_of, matched}
-use Rattle.gix_ref.specs.declared.file.store.Store.{Store}
-use Rattle.gix_ref.specs.declared.store.WriteReflog.TheVariants.{Disable}
-use Rattle.gix_ref.specs.declared.transaction.PreviousValue.{PreviousValue}
-use Rattle.gix_ref.specs.declared.transaction.PreviousValue.TheVariants.{Any, MustNotExist}
-use Rattle.gix_ref.specs.declared.transaction.RefEdit.{RefEdit}
-use Rattle.gix_ref.specs.declared.transaction.RefLog.TheVariants.{AndReference}
+use Rattle.gix_ref_store.specs.AddedLocks.{paths_of}
+use Rattle.gix_ref_store.specs.CleanPaths.{is_clean}
+use Rattle.gix_ref_store.specs.Committing.{AreCommitted}
+use Rattle.gix_ref_store.specs.Lookup.{FindsIn, FailsIn}
+use Rattle.gix_ref_store.specs.Prepared.{tree_of}
+use Rattle.gix_ref_store.specs.Store.{files_of, folders, kind_of, meaning_of}
+use Rattle.gix_ref_store.specs.Transactions.{name_of, new_of, mode_of, is_forced, message_of, expected_of, matched}
+use Rattle.gix_ref_store.specs.declared.file.store.Store.{Store}
+use Rattle.gix_ref_store.specs.declared.store.WriteReflog.TheVariants.{Disable}
+use Rattle.gix_ref_store.specs.declared.transaction.PreviousValue.{PreviousValue}
+use Rattle.gix_ref_store.specs.declared.transaction.PreviousValue.TheVariants.{Any, MustNotExist}
+use Rattle.gix_ref_store.specs.declared.transaction.RefEdit.{RefEdit}
+use Rattle.gix_ref_store.specs.declared.transaction.RefLog.TheVariants.{AndReference}
 use Rattle.gix_ref_program.specs.Outcomes.{printed, status_of}
 use Rattle.gix_ref_program.specs.Updates.{IsUnmade, AreNamed, IsStopOf}
 use Rattle.gix_ref_program.specs.Words.{Asked, Update, Show, Line, IsLine}
@@ -42,11 +41,14 @@ pub record IsEditOf (name : List ℕ) (id : ObjectId) (expected : PreviousValue)
   pub name_is : name_of edit ≡ name
   pub new : new_of edit.change ≡ Some (object_id id)
   pub mode : mode_of edit.change ≡ AndReference
+  pub not_forced : is_forced edit.change ≡ false
+  pub no_message : message_of edit.change ≡ []
   pub no_deref : edit.deref ≡ false
   pub expects : expected_of edit.change ≡ expected
 
 -- and of one with this OLD
 pub record IsAskedFor (kind : Kind) (name : List ℕ) (id : ObjectId) (old : Option ObjectId) (edit : RefEdit) : Type 0 where
+  pub full : full_error name ≡ None
   pub expected : PreviousValue
   pub is_expected : IsExpected kind old expected
   pub is_edit : IsEditOf name id expected edit
@@ -79,6 +81,11 @@ abbrev pub IsUnopened : Line → Refusal → Type 0
 IsUnopened line refusal = IsNoFolder line.dir refusal ⊎ ((is_clean line.dir ≡ true) × NoNamespace line.namespace refusal)
 
 module _ {F : Type 0} where
+  -- names are as they are spelled, and no component is prohibited
+  pub record IsPlain (store : Store F) : Type 0 where
+    pub composes : store.precompose_unicode ≡ false
+    pub prohibits : store.prohibit_windows_device_names ≡ false
+
   -- a store in a folder, without a namespace, which writes no log lines
   pub record IsAt (files : F) (dir : List ℕ) (kind : Kind) (store : Store F) : Type 0 where
     pub files_are : files_of store ≡ files
@@ -87,6 +94,7 @@ module _ {F : Type 0} where
     pub common : (folders store).common ≡ dir
     pub of_kind : kind_of store ≡ kind
     pub quiet : store.write_reflog ≡ Disable
+    pub plain : IsPlain store
 
   -- the store of a line, which writes no log lines
   pub record IsOpened (files : F) (line : Line) (store : Store F) : Type 0 where
@@ -97,6 +105,7 @@ module _ {F : Type 0} where
     pub namespace : (folders store).namespace ≡ namespace_of line.namespace
     pub of_kind : kind_of store ≡ line.kind
     pub quiet : store.write_reflog ≡ Disable
+    pub plain : IsPlain store
 
   module _ (honest : Type 0) (means : F → Meaning) (faults : F → ℕ) where
     -- An edit: it is committed, but for locks that stay; or it was not made, and locks may stay; or there was no memory for it.
@@ -119,11 +128,11 @@ module _ {F : Type 0} where
 
     -- A lookup: what it finds is shown; or there is nothing; or it fails; or its name breaks a rule.
     abbrev pub ShowComesTo : (old new : Store F) → (name : List ℕ) → Outcome → Type 0
-    ShowComesTo old new name (outcomes.Shown reference) = honest → Finds (meaning_of old) (view_of (tree_of honest means faults old)) name (Some reference)
+    ShowComesTo old new name (outcomes.Shown reference) = honest → FindsIn means old name (Some reference)
     ShowComesTo old new name (outcomes.Refused refusals.NotFound locks) =
-        (honest → Finds (meaning_of old) (view_of (tree_of honest means faults old)) name None) × (locks.items ≡ [])
+        (honest → FindsIn means old name None) × (locks.items ≡ [])
     ShowComesTo old new name (outcomes.Refused (refusals.Find error) locks) =
-        FailsBy honest (meaning_of old) (view_of (tree_of honest means faults old)) name (faults (files_of old)) (faults (files_of new)) error × (locks.items ≡ [])
+        FailsIn honest means faults old new name error × (locks.items ≡ [])
     ShowComesTo old new name (outcomes.Refused (refusals.Name error) locks) = (partial_error name ≡ Some error) × (new ≡ old) × (locks.items ≡ [])
     ShowComesTo old new name outcome = ⊥
 

@@ -3,19 +3,19 @@ use Rattle.std.specs.Prelude.{◌≡◌, ◌⊎◌, ℕ, List, [], true, false, 
 use Rattle.gix_ref_base.specs.Names.{full_bytes}
 use Rattle.gix_ref_files.specs.Tree.{Tree, Path, is_file, is_folder}
 use Rattle.gix_ref_files.specs.Files.{Meaning, HasRisen}
-use Rattle.gix_ref.specs.AddedLocks.{is_in, AddsLocks}
-use Rattle.gix_ref.specs.Causes.{locks_of}
-use Rattle.gix_ref.specs.Committing.{AreLeftWell, names_of}
-use Rattle.gix_ref.specs.Prepared.{RefusesFrom, tree_of, locks_in}
+use Rattle.gix_ref_store.specs.AddedLocks.{is_in, AddsLocks}
+use Rattle.gix_ref_store.specs.Causes.{locks_of}
+use Rattle.gix_ref_store.specs.Committing.{AreLeftWell, names_of}
+use Rattle.gix_ref_store.specs.Prepared.{RefusesFrom, tree_of, locks_in}
 use Rattle.gix_ref_theory.specs.Readings as readings
-use Rattle.gix_ref.specs.Store.{files_of, meaning_of}
-use Rattle.gix_ref.specs.Taken.{places_of}
-use Rattle.gix_ref.specs.declared.file.store.Store.{Store}
-use Rattle.gix_ref.specs.declared.transaction.RefEdit.{RefEdit}
-use Rattle.gix_ref.specs.declared.file.transaction.Done.{Done}
-use Rattle.gix_ref.specs.declared.file.transaction.Failed.{Failed}
-use Rattle.gix_ref.specs.declared.file.transaction.commit.error.Error as commits
-use Rattle.gix_ref.specs.declared.file.transaction.commit.error.Error.TheVariants.{LockCommit, FolderInPlace}
+use Rattle.gix_ref_store.specs.Store.{files_of, meaning_of}
+use Rattle.gix_ref_store.specs.Taken.{places_of}
+use Rattle.gix_ref_store.specs.declared.file.store.Store.{Store}
+use Rattle.gix_ref_store.specs.declared.transaction.RefEdit.{RefEdit}
+use Rattle.gix_ref_store.specs.declared.file.transaction.Done.{Done}
+use Rattle.gix_ref_store.specs.declared.file.transaction.Failed.{Failed}
+use Rattle.gix_ref_store.specs.declared.file.transaction.commit.error.Error as commits
+use Rattle.gix_ref_store.specs.declared.file.transaction.commit.error.Error.TheVariants.{LockCommit, FolderInPlace}
 use Rattle.gix_ref_program.specs.declared.update.Unmade.{Unmade}
 use Rattle.gix_ref_program.specs.declared.update.Unmade.TheVariants.{Prepare, Commit}
 

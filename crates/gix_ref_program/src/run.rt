@@ -1,10 +1,10 @@
 //! One run of the program, over any files.
 ghost use Rattle.std.specs.Prelude.{◌≡◌, ◌⊎◌, [], ◌∷◌, false, IsSome, IfOk, MatchResult};
 ghost use Rattle.std.specs.Option.{option_map};
-ghost use Rattle.gix_ref.specs.StoreLayout.{namespace_text};
-ghost use Rattle.gix_ref.specs.Store.{files_of, meaning_of};
-ghost use Rattle.gix_ref.specs.Prepared.{tree_of};
-ghost use Rattle.gix_ref.specs.Transactions.{new_of};
+ghost use Rattle.gix_ref_store.specs.StoreLayout.{namespace_text};
+ghost use Rattle.gix_ref_store.specs.Store.{files_of, meaning_of};
+ghost use Rattle.gix_ref_store.specs.Prepared.{tree_of};
+ghost use Rattle.gix_ref_store.specs.Transactions.{new_of};
 ghost use Rattle.gix_ref_files.specs.Calls.{Only};
 ghost use Rattle.gix_ref_files.specs.Files.{Leaves};
 ghost use Rattle.gix_ref_program.specs.Runs.{IsExpected, IsEditOf, NoNamespace, NoEdit, IsNoFolder, IsAt, namespace_of, IsOpened, EditComesTo, ShowComesTo, ComesTo, IsStop, IsUnopened, LineComesTo, IsStopIn, RunsWrong, RunsLine};
@@ -15,10 +15,10 @@ use crate::outcome::{Outcome, print};
 use crate::refusal::Refusal;
 use crate::update::{Updated, update};
 use crate::words::{Command, Line, parse};
-use gix_ref::file::transaction::PackedRefs;
-use gix_ref::file::{Store, store};
-use gix_ref::store::{Options, WriteReflog};
-use gix_ref::transaction::{Change, LogChange, PreviousValue, RefEdit};
+use gix_ref_store::file::transaction::PackedRefs;
+use gix_ref_store::file::{Store, store};
+use gix_ref_store::store::{Options, WriteReflog};
+use gix_ref_store::transaction::{Change, LogChange, PreviousValue, RefEdit};
 use gix_ref_base::name::{FullNameRef, PartialNameRef};
 use gix_ref_base::namespace::{Namespace, expand};
 use gix_ref_base::target::Target;
@@ -156,6 +156,7 @@ fn make_update<F: Files>(
     requires quiet { store.old.write_reflog ≡ WriteReflog.Disable }
     requires update { IsSome (new_of edit.change) }
     requires no_deref { edit.deref ≡ false }
+    ensures packed_refs { result.0 ≡ packed_refs }
     ensures outcome { EditComesTo F.honest F.means F.faults store.old store.new edit result.1 }
     ensures leaves { F.honest → Leaves (F.means (files_of store.old)) (F.means (files_of store.new)) (λ T. (T ≡ tree_of F.honest F.means F.faults store.old) ⊎ IsStopOf (meaning_of store.old) (edit ∷ []) (tree_of F.honest F.means F.faults store.old) T) }
 {
@@ -202,6 +203,7 @@ fn perform<F: Files>(
     command: &Command<'_>,
 ) -> (PackedRefs, Outcome)
     requires quiet { store.old.write_reflog ≡ WriteReflog.Disable }
+    ensures packed_refs { result.0 ≡ packed_refs }
     ensures outcome { ComesTo F.honest F.means F.faults store.old store.new kind (asked_of command.now) result.1 }
     ensures leaves { F.honest → Leaves (F.means (files_of store.old)) (F.means (files_of store.new)) (IsStop F.honest F.means F.faults store.old kind (asked_of command.now)) }
 {
@@ -221,6 +223,7 @@ fn follow<F: Files>(
     packed_refs: PackedRefs,
     line: &Line<'_>,
 ) -> (F, PackedRefs, Outcome)
+    ensures packed_refs { result.1 ≡ packed_refs }
     ensures outcome { LineComesTo F.honest F.means F.faults files result.0 (line_of line.now) result.2 }
     ensures leaves { F.honest → Leaves (F.means files) (F.means result.0) (IsStopIn F.honest F.means F.faults files (line_of line.now)) }
 {
@@ -253,7 +256,8 @@ pub fn run<F: Files, W: Write>(
     words: &[String],
     out: &mut W,
 ) -> Ran<F>
-    ensures { RunsWrong F.honest F.means F.faults files result.files (texts words.now) (W.contents out.old) (W.contents out.new) result.status
+    ensures packed_refs { result.packed_refs ≡ packed_refs }
+    ensures ran { RunsWrong F.honest F.means F.faults files result.files (texts words.now) (W.contents out.old) (W.contents out.new) result.status
         ⊎ RunsLine F.honest F.means F.faults files result.files (texts words.now) (W.contents out.old) (W.contents out.new) result.status }
 {
     let Some(line) = parse(words) else {

@@ -1,16 +1,16 @@
 //! An update from its preparation to its commit.
 ghost use Rattle.std.specs.Prelude.{◌≡◌, None, IfSome};
 ghost use Rattle.gix_ref_files.specs.Files.{Leaves};
-ghost use Rattle.gix_ref.specs.AddedLocks.{paths_of};
-ghost use Rattle.gix_ref.specs.Committing.{AreCommitted, left_of};
-ghost use Rattle.gix_ref.specs.Prepared.{IsOneUpdate, tree_of};
-ghost use Rattle.gix_ref.specs.Store.{files_of, meaning_of, IsSameStore};
+ghost use Rattle.gix_ref_store.specs.AddedLocks.{paths_of};
+ghost use Rattle.gix_ref_store.specs.Committing.{AreCommitted, left_of, mode_of};
+ghost use Rattle.gix_ref_store.specs.Prepared.{IsOneUpdate, tree_of};
+ghost use Rattle.gix_ref_store.specs.Store.{files_of, meaning_of, IsSameStore};
 ghost use Rattle.gix_ref_program.specs.Updates.{IsStopOf, IsUnmade, AreNamed, unmade_of};
 
-use gix_ref::file::Store;
-use gix_ref::file::transaction::{Done, Failed, PackedRefs, Refused, commit, prepare};
-use gix_ref::store::WriteReflog;
-use gix_ref::transaction::RefEdit;
+use gix_ref_store::file::Store;
+use gix_ref_store::file::transaction::{Done, Failed, PackedRefs, Refused, commit, prepare};
+use gix_ref_store::store::WriteReflog;
+use gix_ref_store::transaction::RefEdit;
 use gix_ref_files::files::Files;
 use std::alloc::Global;
 
@@ -51,6 +51,7 @@ pub fn update<F: Files>(
     ensures unmade { IfSome result.unmade (λ unmade. IsUnmade F.honest F.means F.faults store.old store.new edits.items unmade (paths_of result.locks_left.items)) }
     ensures leaves { F.honest → Leaves (F.means (files_of store.old)) (F.means (files_of store.new)) (IsStopOf (meaning_of store.old) edits.items (tree_of F.honest F.means F.faults store.old)) }
     ensures named { AreNamed F.honest F.means F.faults store.old store.new edits.items (paths_of result.locks_left.items) }
+    ensures packed_refs { result.packed_refs ≡ packed_refs }
     ensures same { IsSameStore store.old store.new }
 {
     match store.transaction(packed_refs).prepare(alloc, edits) {
@@ -73,6 +74,7 @@ pub fn update<F: Files>(
 /// What a commit answers.
 fn told(answer: Result<Done, Failed>) -> Updated
     ensures unmade { result.unmade ≡ unmade_of answer }
+    ensures packed_refs { result.packed_refs ≡ mode_of answer }
     ensures left { paths_of result.locks_left.items ≡ left_of answer }
 {
     match answer {

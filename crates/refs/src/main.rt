@@ -3,7 +3,7 @@
 //! words.
 #![tactic(auto)]
 
-use gix_ref::file::transaction::PackedRefs;
+use gix_ref_store::file::transaction::PackedRefs;
 use gix_ref_files::disk::Disk;
 use gix_ref_program::run::run;
 use std::process::ExitCode;

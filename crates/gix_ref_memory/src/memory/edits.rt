@@ -5,6 +5,7 @@ ghost use Rattle.gix_ref_files.specs.Files.{Leaves, Adds};
 ghost use Rattle.gix_ref_files.specs.Calls.{Appends, Appending, Renames, Renaming, IsMovable, RemovesFile, RemovingFile, RemovesFolder, RemovingFolder, Creates, Creating};
 ghost use Rattle.gix_ref_files.specs.Tree.Content.{File};
 ghost use Rattle.gix_ref_memory.specs.Changes.{after, meaning_of, Puts};
+ghost use Rattle.gix_ref_memory.specs.Turns.{HasNoWay};
 
 use super::changes::{
     Change, Stands, Stored, find, is_below_file, is_file_at, is_folder_at, stands_in_folders,
@@ -108,7 +109,7 @@ pub fn remove_file_now(
     Ok(true)
 }
 
-/// Makes an empty file; none where a folder is missing.
+/// Makes an empty file; `None` where a folder on the way is missing.
 pub fn create_now(
     alloc: Global,
     changes: &mut Vec<Change>,
@@ -116,6 +117,7 @@ pub fn create_now(
 ) -> Result<Option<Create>, AllocError>
     ensures answer { IfOk result (λ answer. IfSome answer (Creates (after changes.old.items no_tree) path.now (after changes.new.items no_tree))) }
     ensures none { IfOk result (λ answer. IfNone answer (changes.new.items ≡ changes.old.items)) }
+    ensures no_way { IfOk result (λ answer. IfNone answer (HasNoWay (after changes.old.items no_tree) path.now)) }
     ensures failed { OnErr result (changes.new.items ≡ changes.old.items) }
     ensures shape { IsShaped (after changes.old.items no_tree) → IsShaped (after changes.new.items no_tree) }
     ensures leaves { Leaves (meaning_of changes.old.items) (meaning_of changes.new.items) (Creating (after changes.old.items no_tree) path.now) }

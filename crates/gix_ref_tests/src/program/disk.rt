@@ -76,7 +76,7 @@ fn a_fault_of_the_writer_is_told(rt: HostRuntime) -> Result<(), Fail> {
     let ran = gix_ref_program::run::run(
         alloc,
         Disk::new(rt.clone()?),
-        gix_ref::file::transaction::PackedRefs::default(),
+        gix_ref_store::file::transaction::PackedRefs::default(),
         &[],
         &mut Closed,
     );

@@ -1,6 +1,6 @@
 //! Runs of the program in tests.
 use crate::made::bytes;
-use gix_ref::file::transaction::PackedRefs;
+use gix_ref_store::file::transaction::PackedRefs;
 use gix_ref_files::files::Files;
 use gix_ref_memory::memory::Memory;
 use gix_ref_program::run::run;

@@ -1,8 +1,8 @@
 //! Lookups: a reference is found under its own full name, in its loose file, at the place of its name.
 use crate::made::{bytes, namespace, partial, shown};
-use gix_ref::file::find::{self, existing};
-use gix_ref::file::Store;
-use gix_ref::raw::Reference;
+use gix_ref_store::file::find::{self, existing};
+use gix_ref_store::file::Store;
+use gix_ref_store::raw::Reference;
 use gix_ref_files::files::{FileError, Files};
 use gix_ref_hash::hash::Kind;
 use gix_ref_memory::memory::Memory;

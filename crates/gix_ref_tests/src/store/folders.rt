@@ -1,8 +1,8 @@
 //! Where a store can stand.
 use crate::made::bytes;
-use gix_ref::file::store::Error;
-use gix_ref::file::Store;
-use gix_ref::store::{Options, WriteReflog};
+use gix_ref_store::file::store::Error;
+use gix_ref_store::file::Store;
+use gix_ref_store::store::{Options, WriteReflog};
 use gix_ref_hash::hash::Kind;
 use gix_ref_memory::memory::Memory;
 use std::alloc::Global;

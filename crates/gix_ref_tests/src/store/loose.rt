@@ -1,6 +1,6 @@
 //! Loose texts and what they hold.
 use crate::made::{copy, full_name, shown};
-use gix_ref::file::loose::{Error, Reference};
+use gix_ref_store::file::loose::{Error, Reference};
 use gix_ref_base::{name, target};
 use gix_ref_hash::hash::Kind;
 use std::alloc::Global;

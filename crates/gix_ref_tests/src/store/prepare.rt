@@ -1,11 +1,11 @@
 //! One update prepared and rolled back: each cause, what the lock holds, and that nothing else changes.
-ghost use Rattle.gix_ref.specs.Prepared.{IsOneUpdate};
+ghost use Rattle.gix_ref_store.specs.Prepared.{IsOneUpdate};
 
 use crate::made::{bytes, full_name, id, namespace};
-use gix_ref::file::Store;
-use gix_ref::file::transaction::PackedRefs;
-use gix_ref::file::transaction::prepare::Error;
-use gix_ref::transaction::{Change, LogChange, PreviousValue, RefEdit};
+use gix_ref_store::file::Store;
+use gix_ref_store::file::transaction::PackedRefs;
+use gix_ref_store::file::transaction::prepare::Error;
+use gix_ref_store::transaction::{Change, LogChange, PreviousValue, RefEdit};
 use gix_ref_base::name::FullName;
 use gix_ref_base::target::Target;
 use gix_ref_hash::hash::Kind;

@@ -1,6 +1,6 @@
 //! Edits as values.
 use crate::made::{bytes, copy, full_name, id};
-use gix_ref::transaction::{Change, LogChange, PreviousValue, RefEdit, RefLog};
+use gix_ref_store::transaction::{Change, LogChange, PreviousValue, RefEdit, RefLog};
 use gix_ref_base::target::{Target, TargetRef};
 
 #[test]

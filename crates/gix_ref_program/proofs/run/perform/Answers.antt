@@ -1,6 +1,6 @@
 use Rattle.std.proofs.Common.{sym, subst}
 use Rattle.gix_ref_files.specs.Files.{Leaves}
-use Rattle.gix_ref.specs.Store.{files_of}
+use Rattle.gix_ref_store.specs.Store.{files_of}
 use Rattle.gix_ref_program.specs.Words.{asked_of}
 use Rattle.gix_ref_program.specs.Runs.{IsAskedFor, ComesTo, IsStop}
 use Rattle.gix_ref_program.proofs.RunLemmas.{update_comes, update_stops}

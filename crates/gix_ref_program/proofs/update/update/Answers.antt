@@ -1,9 +1,9 @@
 use Rattle.std.proofs.Common.{rules, ◌≡◌, None, IfSome}
 use Rattle.gix_ref_files.specs.Files.{Leaves}
-use Rattle.gix_ref.specs.AddedLocks.{paths_of}
-use Rattle.gix_ref.specs.Committing.{AreCommitted, left_of}
-use Rattle.gix_ref.specs.Prepared.{PreparesFrom, RefusesFrom, tree_of}
-use Rattle.gix_ref.specs.Store.{files_of, meaning_of}
+use Rattle.gix_ref_store.specs.AddedLocks.{paths_of}
+use Rattle.gix_ref_store.specs.Committing.{AreCommitted, left_of}
+use Rattle.gix_ref_store.specs.Prepared.{PreparesFrom, RefusesFrom, tree_of}
+use Rattle.gix_ref_store.specs.Store.{files_of, meaning_of}
 use Rattle.gix_ref_program.specs.Updates.{IsStopOf, IsUnmade, AreNamed}
 use Rattle.gix_ref_program.proofs.Updating.{at_same, refused_named, refused_stops, done, told, stops, named}
 use Rattle.gix_ref_program.proofs.update.update.Goals as goal

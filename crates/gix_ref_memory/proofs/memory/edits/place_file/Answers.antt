@@ -4,8 +4,7 @@ use Rattle.gix_ref_files.specs.Tree.{Tree, Path, is_folder, has_folders, IsShape
 use Rattle.gix_ref_files.specs.Tree.Content.{File}
 use Rattle.gix_ref_memory.specs.Changes.{after}
 use Rattle.gix_ref_files.proofs.Puts.{shaped_put}
-use Rattle.gix_ref_files.proofs.PathFronts.{fronts_short}
-use Rattle.gix_ref_memory.proofs.Folders.{own_untouched}
+use Rattle.gix_ref_files.proofs.PathFronts.{fronts_short, own_untouched}
 use Rattle.gix_ref_memory.proofs.Grows.{put_more}
 use Rattle.gix_ref_memory.proofs.memory.edits.place_file.Goals as goal
 

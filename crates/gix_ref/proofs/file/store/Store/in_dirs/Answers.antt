@@ -1,9 +1,0 @@
-use Rattle.std.proofs.Common.{subst₂}
-use Rattle.gix_ref_base.specs.Layout.{AreCompatible}
-use Rattle.gix_ref.proofs.FolderLemmas.{laid_test}
-use Rattle.gix_ref.proofs.file.store.Store.in_dirs.Goals as goal
-
-pub invariant_of-result : goal.invariant_of-result
-invariant_of-result g c =
-    let laid = c.dirs_are_compatible.ensures.0 c.if-not-dirs_are_compatible.false in
-    record { laid = laid_test _ _ (subst₂ AreCompatible c.deref.ensures.value c.resolved.ensures laid) }

@@ -1,8 +1,0 @@
-//! The store over files: its folders, loose references and their places.
-pub mod find;
-mod folders;
-pub mod loose;
-pub mod store;
-pub mod transaction;
-
-pub use store::Store;

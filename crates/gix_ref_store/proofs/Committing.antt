@@ -1,0 +1,192 @@
+-- A commit of one update: its steps carry out its plan, and what they and the release of its lock leave.
+use Rattle.std.proofs.Common.{◌≡◌, inl, ⊎_elim, ℕ, List, [], ◌∷◌, ◌++◌, Bool, true, false, not, ◌&&◌, ◌||◌, Option, Some, None, IsSome, MatchOption, is_none, refl, sym, ◌∙◌, ap, subst, if◌then◌else◌}
+use Rattle.gix_ref_hash.specs.Bytes.{components}
+use Rattle.gix_ref_base.specs.NameGrammar.{IsPartialName}
+use Rattle.gix_ref_base.specs.Targets.{TargetValue, target_value}
+use Rattle.gix_ref_base.specs.Targets.TargetValue.{object_id, symbolic_name}
+use Rattle.gix_ref_hash.specs.declared.hash.Kind.{Kind}
+use Rattle.gix_ref_files.specs.Tree.{Tree, Path}
+use Rattle.gix_ref_files.specs.Steps.Step.{Rename}
+use Rattle.gix_ref_base.specs.Layout.{Layout}
+use Rattle.gix_ref_theory.specs.Views.{View, Write, IsSameButLocks, lock_of, file_bytes}
+use Rattle.gix_ref_theory.specs.Views.Write.{Put}
+use Rattle.gix_ref_theory.specs.Readings.{Store, Record, reading, reading_of_loose, records_in, as_read}
+use Rattle.gix_ref_theory.specs.Readings.Reading.{Is, Fault, Absent}
+use Rattle.gix_ref_theory.specs.Stores.{store_of, below_folders, loose_text, is_composed}
+use Rattle.gix_ref_base.specs.Locations.{is_safe, paths_at}
+use Rattle.gix_ref_store.specs.StoreLayout.{loose_alone}
+use Rattle.gix_ref_store.specs.LooseText.{target_in}
+use Rattle.gix_ref_theory.specs.Edits.{Edit, Change, Effect, has_already, effect, alters_change, alters_packed}
+use Rattle.gix_ref_theory.specs.Edits.Change.{Update}
+use Rattle.gix_ref_theory.specs.Edits.Mode.{DeletionsOnly}
+use Rattle.gix_ref_theory.specs.Edits.Effect.{Writes, Leaves as LeavesIt}
+use Rattle.gix_ref_theory.specs.Plan.{plan, place_writes, place_removal}
+use Rattle.gix_ref_theory.specs.Between.{IsPrepared}
+use Rattle.gix_ref_theory.specs.Carried.{view_of, CarryOut, IsCommitRun}
+use Rattle.gix_ref_store.specs.Causes.{found, found_by, decoded, IsFullTarget, IsOfKind, IsWholeTarget}
+use Rattle.gix_ref_store.specs.Taken.{is_found}
+use Rattle.gix_ref_store.specs.Transactions.{new_of, change_of, matched, Expects}
+use Rattle.gix_ref_store.specs.declared.transaction.Change.{Change as GivenChange}
+use Rattle.gix_ref_store.specs.declared.transaction.Change.TheVariants as given
+use Rattle.gix_ref_store.specs.declared.transaction.PreviousValue.{PreviousValue}
+use Rattle.gix_ref_store.specs.declared.transaction.PreviousValue.TheVariants.{Any, MustExist, MustNotExist, MustExistAndMatch, ExistingMustMatch}
+use Rattle.gix_ref_store.proofs.Adds.{clash, false_is_true}
+use Rattle.gix_ref_store.proofs.LookupLemmas.{alone, file_reading, no_device}
+use Rattle.gix_ref_store.proofs.LooseLemmas.{id_reads_back, name_reads_back}
+use Rattle.gix_ref_theory.proofs.Writes.{same_true}
+
+-- an edit of this change, as the plan of a commit has it
+abbrev pub edit_with : List ℕ → Bool → Change → Edit
+edit_with name r change = record { name = name; change = change; and_reference = r; line = None; peeled = None }
+
+-- what an update is
+pub update_is : (c : GivenChange) → IsSome (new_of c) → (t : TargetValue) × (new_of c ≡ Some t) × (change_of c ≡ Update t)
+update_is (given.Update log expected new) h = (target_value new, refl, refl)
+update_is (given.Delete expected log) h = false_is_true h
+
+pub new_is : (c : GivenChange) (t : TargetValue) → change_of c ≡ Update t → new_of c ≡ Some t
+new_is (given.Update log expected new) t h = ap Some (inner h)
+  where
+    inner : {a b : TargetValue} → Update a ≡ Update b → a ≡ b
+    inner e = cc
+new_is (given.Delete expected log) t h = cc
+
+-- an expectation that meets nothing names no target that must be there
+none_matched : (x : PreviousValue) (new : Option TargetValue) → Expects x new None → matched x ≡ None
+none_matched Any new h = refl
+none_matched MustExist new h = refl
+none_matched MustNotExist new h = refl
+none_matched (MustExistAndMatch target) new h = cc
+none_matched (ExistingMustMatch target) new h = refl
+
+-- a carried edit expects what was found
+pub matched_is : (was : Option TargetValue) (x y : PreviousValue) (new : Option TargetValue) → MatchOption was (y ≡ x) (λ target. matched y ≡ Some target) → Expects x new was → matched y ≡ was
+matched_is None x y new carried expects = ap matched carried ∙ none_matched x new expects
+matched_is (Some target) x y new carried expects = carried
+
+module _ (f : Layout) (kind : Kind) where
+  abbrev s : Store
+  s = store_of f (loose_alone kind)
+
+  no_records : (file : Option (List ℕ)) → records_in s file ≡ []
+  no_records None = refl
+  no_records (Some bytes) = refl
+
+  -- a reference has an object already where that is found
+  already_by : (old new : TargetValue) → has_already (Is old) new ≡ is_found (Some old) new
+  already_by (object_id a) (object_id b) = refl
+  already_by (object_id a) (symbolic_name b) = refl
+  already_by (symbolic_name a) (object_id b) = refl
+  already_by (symbolic_name a) (symbolic_name b) = refl
+
+  not_already : (t : TargetValue) → (has_already Absent t ≡ false) × (has_already Fault t ≡ false) × (is_found None t ≡ false)
+  not_already (object_id b) = (refl, refl, refl)
+  not_already (symbolic_name b) = (refl, refl, refl)
+
+  none_found : (key : Option (List ℕ)) (t : TargetValue) → is_found (found_by s key None []) t ≡ false
+  none_found None t = (not_already t).2
+  none_found (Some key) t = (not_already t).2
+
+  already_decoded : (key : Option (List ℕ)) (o : Option TargetValue) (t : TargetValue) → has_already (reading_of_loose s o) t ≡ is_found (found_by s key o []) t
+  already_decoded key None t = (not_already t).1 ∙ sym (none_found key t)
+  already_decoded key (Some old) t = already_by (as_read s old) t
+
+  already_file : (key : Option (List ℕ)) (file : Option (List ℕ)) (t : TargetValue) → has_already (file_reading s file) t ≡ is_found (found_by s key (decoded s file) []) t
+  already_file key None t = (not_already t).0 ∙ sym (none_found key t)
+  already_file key (Some bytes) t = already_decoded key (s.target_of bytes) t
+
+  pub already_is : (before start : View) (name : List ℕ) (t : TargetValue) → start (s.place name) ≡ before (s.place name) → has_already (reading s start name) t ≡ is_found (found s before name) t
+  already_is before start name t same =
+      ap (λ r. has_already r t) (alone f kind start name ∙ ap (file_reading s) same)
+      ∙ (already_file (s.key name) (before (s.place name)) t
+      ∙ ap (λ records. is_found (found_by s (s.key name) (decoded s (before (s.place name))) records) t) (sym (no_records (before s.packed_path))))
+
+  -- an update alters no record where records are removed alone
+  alters_none : (key : Option (List ℕ)) (t : TargetValue) (records : List Record) → alters_change DeletionsOnly key (Update t) records ≡ false
+  alters_none None t records = refl
+  alters_none (Some key) t records = refl
+
+  pub alters_no : (name : List ℕ) (r : Bool) (t : TargetValue) (records : List Record) → alters_packed s DeletionsOnly records (edit_with name r (Update t) ∷ []) ≡ false
+  alters_no name r t records = ap (λ a. (r && a) || false) (alters_none (s.key name) t records) ∙ last r
+    where
+      last : (r : Bool) → ((r && false) || false) ≡ false
+      last true = refl
+      last false = refl
+
+  -- what becomes of the loose file
+  effect_is : (view : View) (name : List ℕ) (r : Bool) (t : TargetValue) (already : Bool) → has_already (reading s view name) t ≡ already →
+      effect s DeletionsOnly view (edit_with name r (Update t)) ≡ (if r && not already then Writes (loose_text t) else LeavesIt)
+  effect_is view name r t already is = ap (λ a. if r then (if a then LeavesIt else Writes (loose_text t)) else LeavesIt) is ∙ pick r already
+    where
+      pick : (r a : Bool) → (if r then (if a then LeavesIt else Writes (loose_text t)) else LeavesIt) ≡ (if r && not a then Writes (loose_text t) else LeavesIt)
+      pick true true = refl
+      pick true false = refl
+      pick false a = refl
+
+  pub plan_is : (view : View) (name : List ℕ) (r : Bool) (t : TargetValue) (written : Bool) →
+      effect s DeletionsOnly view (edit_with name r (Update t)) ≡ (if written then Writes (loose_text t) else LeavesIt) →
+      plan s DeletionsOnly view (edit_with name r (Update t) ∷ []) [] ≡ (if written then Put (s.place name) (loose_text t) ∷ [] else [])
+  plan_is view name r t written is =
+      ap (λ alters. (place_writes place does ++ []) ++ ([] ++ ((if alters then Write.Remove s.packed_path ∷ [] else []) ++ (place_removal place does ++ [])))) (alters_no name r t (records_in s (view s.packed_path)))
+      ∙ (ap (λ e. (place_writes place e ++ []) ++ (place_removal place e ++ [])) is ∙ by written)
+    where
+      place : Path
+      place = s.place name
+
+      does : Effect
+      does = effect s DeletionsOnly view (edit_with name r (Update t))
+
+      by : (written : Bool) →
+          (place_writes place (if written then Writes (loose_text t) else LeavesIt) ++ []) ++ (place_removal place (if written then Writes (loose_text t) else LeavesIt) ++ [])
+          ≡ (if written then Put place (loose_text t) ∷ [] else [])
+      by true = refl
+      by false = refl
+
+  -- what `prepare` has seen to
+  pub reads_back : (t : TargetValue) → IsFullTarget (Some t) → IsOfKind kind (Some t) → IsWholeTarget (Some t) → target_in kind (loose_text t) ≡ Some t
+  reads_back (object_id id) full of_kind whole = id_reads_back kind id of_kind whole
+  reads_back (symbolic_name name) full of_kind whole = name_reads_back kind name full
+
+  composes : (key : Option (List ℕ)) → is_composed (loose_alone kind) key ≡ true
+  composes None = refl
+  composes (Some key) = same_true key key refl
+
+  pub is_reference : (name : List ℕ) → IsPartialName name → is_safe name ≡ true → s.is_reference name ≡ true
+  is_reference name partial safe =
+      ap (λ e. (is_none e && is_safe name) && is_composed (loose_alone kind) (paths_at f name).key) partial
+      ∙ (ap (λ b. b && is_composed (loose_alone kind) (paths_at f name).key) safe ∙ composes (paths_at f name).key)
+
+  pub prepared : (view : View) (name : List ℕ) (r : Bool) (t : TargetValue) → s.is_reference name ≡ true → target_in kind (loose_text t) ≡ Some t →
+      IsPrepared s DeletionsOnly view (edit_with name r (Update t) ∷ []) []
+  prepared view name r t is back = record {
+    apart = (is, λ x h. absurd h, tt);
+    allowed = λ x h. no_device (components (below_folders f (s.place x.name)));
+    targets_read_back = λ x target h update. ⊎_elim (λ (here : edit_with name r (Update t) ≡ x). subst (λ u. target_in kind (loose_text u) ≡ Some u) (inner (ap (λ (y : Edit). y.change) here ∙ update)) back) (λ other. absurd other) h;
+    records_are_merged = λ alters. clash alters (alters_no name r t (records_in s (view s.packed_path)));
+    records_read_back = λ alters. clash alters (alters_no name r t (records_in s (view s.packed_path)));
+  }
+    where
+      inner : {a b : TargetValue} → Update a ≡ Update b → a ≡ b
+      inner e = cc
+
+  -- the steps carry out the plan
+  pub carries : (view : View) (place : Path) (t : TargetValue) (written : Bool) → (written ≡ true → view (lock_of place) ≡ Some (loose_text t)) →
+      CarryOut (place ∷ []) view ((if written then Rename (lock_of place) place ∷ [] else []) ++ []) (if written then Put place (loose_text t) ∷ [] else [])
+  carries view place t true holds = ([], inl refl, ap (λ (file : Option (List ℕ)). Put place (file_bytes file) ∷ []) (sym (holds refl)), refl)
+  carries view place t false holds = refl
+
+  pub run_is : (before start : Tree) (name : List ℕ) (r : Bool) (t : TargetValue) (written : Bool) → s.is_reference name ≡ true → target_in kind (loose_text t) ≡ Some t →
+      IsSameButLocks (s.place name ∷ []) (view_of before) (view_of start) →
+      has_already (reading s (view_of start) name) t ≡ is_found (found s (view_of before) name) t →
+      (r && not (is_found (found s (view_of before) name) t)) ≡ written →
+      (written ≡ true → view_of start (lock_of (s.place name)) ≡ Some (loose_text t)) →
+      IsCommitRun s DeletionsOnly (s.place name ∷ []) (edit_with name r (Update t) ∷ []) before start ((if written then Rename (lock_of (s.place name)) (s.place name) ∷ [] else []) ++ [])
+  run_is before start name r t written is back alike already writes holds = record {
+    merged = [];
+    prepared = prepared (view_of start) name r t is back;
+    locks = alike;
+    steps_are_planned = subst (CarryOut (s.place name ∷ []) (view_of start) ((if written then Rename (lock_of (s.place name)) (s.place name) ∷ [] else []) ++ []))
+        (sym (plan_is (view_of start) name r t written
+        (effect_is (view_of start) name r t (is_found (found s (view_of before) name) t) already ∙ ap (λ b. if b then Writes (loose_text t) else LeavesIt) writes)))
+        (carries (view_of start) (s.place name) t written holds);
+  }

@@ -1,0 +1,32 @@
+use Rattle.std.proofs.Common.{◌≡◌, ◌≤◌, [], true, None, take, drop, map, vec_len}
+use Rattle.gix_ref_files.specs.Files.{Leaves}
+use Rattle.gix_ref_files.specs.Tree.{Path}
+use Rattle.gix_ref_store.specs.AddedLocks.{AddsLocks, is_in}
+use Rattle.gix_ref_store.specs.Causes.{NoCause, IsFirstCause, locks_of}
+use Rattle.gix_ref_store.specs.Taken.{setting_of, value_of, HoldTexts, founds}
+use Rattle.gix_ref_store.specs.declared.file.transaction.prepare.error.Error.{Error}
+use Rattle.gix_ref_store.proofs.file.transaction.prepare.take.take_locks.Given as goal
+
+-- the locks of the edits that were seen are taken, and what the rest tells is what all tell
+abbrev pub invariant-loop-i : goal.invariant-loop-i
+invariant-loop-i g l =
+    let means = g.F.Files.means in
+    let first = means l.fn.files in
+    let now = means l.files in
+    let s = setting_of l.setting in
+    let kind = l.setting.kind in
+    let seen = take l.i l.edits in
+    let rest = drop l.i l.edits in
+    let all = locks_of s l.edits in
+    record {
+      no_fewer : g.F.Files.faults l.fn.files ≤ g.F.Files.faults l.files;
+      len : vec_len l.found ≡ l.i;
+      counted : l.taken ≡ l.i;
+      found : g.F.Files.honest → map value_of l.found.items ≡ founds s first.tree seen;
+      fault : g.F.Files.honest → (error : Error) → IsFirstCause s kind first.tree seen rest error → IsFirstCause s kind first.tree [] l.edits error;
+      pass : g.F.Files.honest → NoCause s kind first.tree seen rest → NoCause s kind first.tree [] l.edits;
+      adds : g.F.Files.honest → AddsLocks (locks_of s seen) all first.tree now.tree;
+      free : g.F.Files.honest → (q : Path) → is_in (locks_of s seen) q ≡ true → first.tree q ≡ None;
+      texts : g.F.Files.honest → HoldTexts s first.tree now.tree seen;
+      leaves : g.F.Files.honest → Leaves first now (AddsLocks all all first.tree);
+    }

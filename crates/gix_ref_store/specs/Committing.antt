@@ -1,0 +1,91 @@
+-- What `commit` answers and leaves.
+use Rattle.std.specs.Prelude.{◌≡◌, ℕ, List, true, false, map, get_or, [], Option, Some, None, Result, Ok, Err}
+use Rattle.gix_ref_base.specs.Names.{full_bytes}
+use Rattle.gix_ref_files.specs.Tree.{Tree, Path, is_file, is_folder}
+use Rattle.gix_ref_files.specs.Files.{Meaning, Leaves, HasRisen}
+use Rattle.gix_ref_store.specs.AddedLocks.{is_in, paths_of}
+use Rattle.gix_ref_theory.specs.Between.{IsCommitted}
+use Rattle.gix_ref_theory.specs.Carried.{view_of, IsLeftWell}
+use Rattle.gix_ref_store.specs.Causes.{locks_of}
+use Rattle.gix_ref_theory.specs.Edits as plan
+use Rattle.gix_ref_theory.specs.Edits.Mode.{DeletionsOnly}
+use Rattle.gix_ref_store.specs.Prepared.{IsOneUpdate, PreparesFrom, tree_of, locks_in}
+use Rattle.gix_ref_theory.specs.Readings as readings
+use Rattle.gix_ref_store.specs.Store.{files_of, meaning_of}
+use Rattle.gix_ref_store.specs.Taken.{place_paths, places_of}
+use Rattle.gix_ref_store.specs.Transactions.{name_of, edit_of}
+use Rattle.gix_ref_theory.specs.Views.{IsOwnLock}
+use Rattle.gix_ref_store.specs.declared.transaction.RefEdit.{RefEdit}
+use Rattle.gix_ref_store.specs.declared.file.store.Store.{Store}
+use Rattle.gix_ref_store.specs.declared.file.transaction.Done.{Done}
+use Rattle.gix_ref_store.specs.declared.file.transaction.PackedRefs.{PackedRefs}
+use Rattle.gix_ref_store.specs.declared.file.transaction.Failed.{Failed}
+use Rattle.gix_ref_files.specs.declared.files.FileError.{FileError}
+use Rattle.gix_ref_store.specs.declared.file.transaction.setting.Paths.{Paths}
+use Rattle.gix_ref_store.specs.declared.file.transaction.commit.error.Error.{Error}
+use Rattle.gix_ref_store.specs.declared.file.transaction.commit.error.Error.TheVariants.{LockCommit, FolderInPlace}
+
+-- the edits as the plan of a commit has them
+abbrev pub planned : List RefEdit → List plan.Edit
+planned edits = map edit_of edits
+
+-- From the tree `before` the locks were taken, the edits are committed in T, but for these locks that stay.
+abbrev pub AreCommitted : readings.Store → List RefEdit → (before : Tree) (left : List Path) → Tree → Type 0
+AreCommitted s edits before left T =
+    (staying : List Path) → ((q : Path) → is_in left q ≡ true → IsOwnLock staying q) →
+    IsCommitted s DeletionsOnly staying (planned edits) (view_of before) (view_of T)
+
+-- In T every reference reads as before or as edited, and every file is as before or as edited; one that is at no place and no lock of the
+-- edits is as before, and so is all that lies outside of the store's namespace.
+pub record AreLeftWell (s : readings.Store) (edits : List RefEdit) (before T : Tree) : Type 0 where
+  pub well : IsLeftWell s DeletionsOnly (places_of s edits) (planned edits) before T
+  pub elsewhere : (q : Path) → is_in (places_of s edits) q ≡ false → is_in (locks_of s edits) q ≡ false → view_of T q ≡ view_of before q
+
+-- the names of edits
+abbrev pub names_of : List RefEdit → List (List ℕ)
+names_of edits = map name_of edits
+
+-- the locks that the answer of a commit names
+abbrev pub left_of : Result Done Failed → List Path
+left_of (Ok done) = paths_of done.locks_left.items
+left_of (Err failed) = paths_of failed.locks_left.items
+
+-- the mode that the answer of a commit hands back
+abbrev pub mode_of : Result Done Failed → PackedRefs
+mode_of (Ok done) = done.packed_refs
+mode_of (Err failed) = failed.packed_refs
+
+-- what an error tells of the renames of these edits, where they ended at one of them, by this fault or by a folder at this place
+abbrev pub TellsOf : List RefEdit → (at : ℕ) → Path → Option FileError → Error → Type 0
+TellsOf edits at place None (FolderInPlace path) = path.items ≡ place
+TellsOf edits at place (Some fault) (LockCommit source name) = (source ≡ fault) × (full_bytes name ≡ get_or (names_of edits) at [])
+TellsOf edits at place fault error = ⊥
+
+module _ {F : Type 0} (honest : Type 0) (means : F → Meaning) (faults : F → ℕ) where
+  -- A commit, from the store `start` with these edits and paths of a `prepare` that began with the store `old`: every stop leaves each
+  -- reference as before or as edited; of the locks only those stay that are named, and one is named only where a fault came.
+  pub record LeavesWell (old start new : Store F) (given : List RefEdit) (left : List Path) : Type 0 where
+    -- the tree with which it begins, which a stop before its first change leaves
+    pub began : honest → AreLeftWell (meaning_of old) given (tree_of honest means faults old) (tree_of honest means faults start)
+    pub leaves : honest → Leaves (means (files_of start)) (means (files_of new)) (AreLeftWell (meaning_of old) given (tree_of honest means faults old))
+    pub gone : honest → (q : Path) → is_in (locks_in honest means faults old given) q ≡ true → is_in left q ≡ false → is_file (tree_of honest means faults new q) ≡ false
+    pub ours : (q : Path) → is_in left q ≡ true → is_in (locks_in honest means faults old given) q ≡ true
+
+  -- and so for every store and every update from which `prepare` gave these edits and paths
+  abbrev pub EndsFrom : (start new : Store F) → List RefEdit → List Paths → List Path → Type 0
+  EndsFrom start new edits paths left =
+      (old : Store F) (given : List RefEdit) → IsOneUpdate given → PreparesFrom honest means faults old start given edits paths →
+      LeavesWell old start new given left
+
+  -- a commit that succeeds: the edits are committed
+  abbrev pub CommitsFrom : (start new : Store F) → List RefEdit → List Paths → List Path → Type 0
+  CommitsFrom start new edits paths left =
+      (old : Store F) (given : List RefEdit) → IsOneUpdate given → PreparesFrom honest means faults old start given edits paths → honest →
+      AreCommitted (meaning_of old) given (tree_of honest means faults old) left (tree_of honest means faults new)
+
+  -- Why a commit failed, with these edits and paths: a rename that failed, only where a fault came; or a folder at the place of a reference.
+  abbrev pub FailsFor : (start new : Store F) → List RefEdit → List Paths → Error → Type 0
+  FailsFor start new edits paths (LockCommit source name) =
+      HasRisen (faults (files_of start)) (faults (files_of new)) × (is_in (names_of edits) (full_bytes name) ≡ true)
+  FailsFor start new edits paths (FolderInPlace path) =
+      (is_in (place_paths paths) path.items ≡ true) × (honest → is_folder (tree_of honest means faults new path.items) ≡ true)

@@ -1,0 +1,15 @@
+pub mod AddedLocks
+pub mod Causes
+pub mod CleanPaths
+pub mod Committed
+pub mod Committing
+pub mod First
+pub mod Lookup
+pub mod LooseText
+pub mod Options
+pub mod Prepared
+pub mod Store
+pub mod StoreLayout
+pub mod Taken
+pub mod Transacted
+pub mod Transactions

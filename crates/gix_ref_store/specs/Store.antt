@@ -1,0 +1,63 @@
+-- A store as a value: what stands where in it, and when there is none.
+use Rattle.std.specs.Prelude.{◌≡◌, true, false, Option, None, Vec, vec_items, ℕ, List}
+use Rattle.std.specs.Option.{option_map}
+use Rattle.std.specs.declared.alloc.Global.{Global}
+use Rattle.gix_ref_hash.specs.declared.hash.Kind.{Kind}
+use Rattle.gix_ref_base.specs.Layout.{Layout, AreCompatible}
+use Rattle.gix_ref_store.specs.CleanPaths.{are_clean, common_of}
+use Rattle.gix_ref_store.specs.StoreLayout.{folders_of, loose_alone}
+use Rattle.gix_ref_theory.specs.Readings as readings
+use Rattle.gix_ref_theory.specs.Stores.{store_of}
+use Rattle.gix_ref_store.specs.declared.file.store.Store.{Store}
+use Rattle.gix_ref_store.specs.declared.file.store.Error.{Error}
+use Rattle.gix_ref_store.specs.declared.file.store.Error.TheVariants.{PathNotClean, FoldersMeet}
+use Rattle.gix_ref_store.specs.declared.store.Options.{Options}
+
+-- the files that a store keeps
+abbrev pub files_of : {F : Type 0} → Store F → F
+files_of store = store.files
+
+-- its folders, with its namespace
+abbrev pub folders : {F : Type 0} → Store F → Layout
+folders store = folders_of store.dirs store.namespace
+
+-- the common folder, where one was given
+abbrev pub given_common : {F : Type 0} → Store F → Option (List ℕ)
+given_common store = option_map vec_items store.dirs.common_dir
+
+-- the kind of its ids
+abbrev pub kind_of : {F : Type 0} → Store F → Kind
+kind_of store = store.object_hash
+
+-- where it keeps names and what it reads
+abbrev pub meaning_of : {F : Type 0} → Store F → readings.Store
+meaning_of store = store_of (folders store) (loose_alone (kind_of store))
+
+-- the same store, but for what its files hold
+pub record IsSameStore {F : Type 0} (old new : Store F) : Type 0 where
+  pub dirs : new.dirs ≡ old.dirs
+  pub namespace : new.namespace ≡ old.namespace
+  pub of_kind : kind_of new ≡ kind_of old
+  pub reflogs : new.write_reflog ≡ old.write_reflog
+  pub composes : new.precompose_unicode ≡ old.precompose_unicode
+  pub prohibits : new.prohibit_windows_device_names ≡ old.prohibit_windows_device_names
+
+-- a store that was made of this
+pub record IsMade {F : Type 0} (files : F) (git_dir : Vec ℕ Global) (common_dir : Option (Vec ℕ Global)) (kind : Kind) (options : Options) (store : Store F) : Type 0 where
+  pub files_are : files_of store ≡ files
+  pub git : store.dirs.git_dir ≡ git_dir
+  pub common : store.dirs.common_dir ≡ common_dir
+  pub no_namespace : store.namespace ≡ None
+  pub of_kind : kind_of store ≡ kind
+  pub reflogs : store.write_reflog ≡ options.write_reflog
+  pub composes : store.precompose_unicode ≡ options.precompose_unicode
+  pub prohibits : store.prohibit_windows_device_names ≡ options.prohibit_windows_device_names
+
+-- there is a store in these folders
+abbrev pub AreDirs : Vec ℕ Global → Option (Vec ℕ Global) → Type 0
+AreDirs git common = (are_clean git common ≡ true) × AreCompatible git.items (common_of git common)
+
+-- why there is none; the files are handed back
+abbrev pub IsRefused : {F : Type 0} → F → Vec ℕ Global → Option (Vec ℕ Global) → Error F → Type 0
+IsRefused files git common (PathNotClean back) = (back ≡ files) × (are_clean git common ≡ false)
+IsRefused files git common (FoldersMeet back) = (back ≡ files) × (are_clean git common ≡ true) × (AreCompatible git.items (common_of git common) → ⊥)

@@ -1,0 +1,186 @@
+//! The file store: where it stands, and its options.
+ghost use Rattle.std.specs.Prelude.{◌≡◌};
+ghost use Rattle.gix_ref_store.specs.CleanPaths.{are_clean};
+
+use crate::file::folders::{Dirs, dirs_are_compatible, is_clean_path, resolved};
+use crate::store::{Options, WriteReflog};
+use gix_ref_base::namespace::Namespace;
+use gix_ref_hash::hash::Kind;
+use std::alloc::{AllocError, Global};
+use std::fmt::Debug;
+use thiserror::Error;
+
+/// A store of references in files: loose files below the git folder and the common folder.
+#[derive(Drop)]
+pub struct Store<F> {
+    /// When log lines are written.
+    pub write_reflog: WriteReflog,
+    /// The namespace in which all names are read and written, if there is one (`gitnamespaces`).
+    pub namespace: Option<Namespace>,
+    /// Whether components such as `CON` are faults. Without effect yet.
+    pub prohibit_windows_device_names: bool,
+    /// Whether names are asked of `packed-refs` in composed form. Without effect yet.
+    pub precompose_unicode: bool,
+    pub(crate) files: F,
+    pub(crate) dirs: Dirs,
+    pub(crate) object_hash: Kind,
+}
+
+/// Why there is no store in these folders. The files are handed back.
+#[derive(Debug, Drop, Error)]
+#[error_bound(F: Debug)]
+pub enum Error<F> {
+    /// A folder is not a clean path: it is empty, ends with a slash, or has a NUL, an empty component but for one leading
+    /// slash, or a component `.` or `..`.
+    #[error("a folder of the repository is not a clean path")]
+    PathNotClean { files: F },
+    /// One of the folders lies in the other, and the git folder is not that of a linked worktree,
+    /// `<common folder>/worktrees/<one component>`.
+    #[error("one folder of the repository lies in the other")]
+    FoldersMeet { files: F },
+}
+
+/// Whether both folders are clean.
+fn are_clean_paths(git_dir: &Vec<u8>, common_dir: &Option<Vec<u8>>) -> bool
+    ensures { result ≡ are_clean git_dir.now common_dir.now }
+{
+    is_clean_path(git_dir) && is_clean_path(resolved(git_dir, common_dir))
+}
+
+impl<F> Store<F> {
+    ghost use Rattle.std.specs.Prelude.{◌≡◌, IfOk, IfErr, MatchResult, MatchOption, Some, None};
+    ghost use Rattle.gix_ref_base.specs.Layout.{packed_refs};
+    ghost use Rattle.std.specs.Option.{option_map};
+    ghost use Rattle.gix_ref_store.specs.Options.{default_options};
+    ghost use Rattle.gix_ref_store.specs.Store.{files_of, folders, given_common, kind_of, IsMade, AreDirs, IsRefused};
+
+    /// The store in a git folder that is the common folder too, with the default options. The folder is bytes with
+    /// slashes; `object_hash` is the kind of all ids. `PathNotClean` hands the files back.
+    pub fn at(files: F, git_dir: Vec<u8>, object_hash: Kind) -> Result<Store<F>, Error<F>>
+        ensures made { IfOk result (IsMade files git_dir None object_hash default_options) }
+        ensures found { MatchResult result (λ _. AreDirs git_dir None) (IsRefused files git_dir None) }
+    {
+        Store::at_opts(files, git_dir, object_hash, Options::default())
+    }
+
+    /// As `at`, with options.
+    pub fn at_opts(
+        files: F,
+        git_dir: Vec<u8>,
+        object_hash: Kind,
+        options: Options,
+    ) -> Result<Store<F>, Error<F>>
+        ensures made { IfOk result (IsMade files git_dir None object_hash options) }
+        ensures found { MatchResult result (λ _. AreDirs git_dir None) (IsRefused files git_dir None) }
+    {
+        Store::in_dirs(files, git_dir, None, object_hash, options)
+    }
+
+    /// The store of a linked worktree, whose git folder is `<common_dir>/worktrees/<one component>`, or apart from the
+    /// common folder, with the default options (`git worktree`). `PathNotClean` and `FoldersMeet` hand the files back.
+    pub fn for_linked_worktree(
+        files: F,
+        git_dir: Vec<u8>,
+        common_dir: Vec<u8>,
+        object_hash: Kind,
+    ) -> Result<Store<F>, Error<F>>
+        ensures made { IfOk result (IsMade files git_dir (Some common_dir) object_hash default_options) }
+        ensures found { MatchResult result (λ _. AreDirs git_dir (Some common_dir)) (IsRefused files git_dir (Some common_dir)) }
+    {
+        Store::for_linked_worktree_opts(files, git_dir, common_dir, object_hash, Options::default())
+    }
+
+    /// As `for_linked_worktree`, with options.
+    pub fn for_linked_worktree_opts(
+        files: F,
+        git_dir: Vec<u8>,
+        common_dir: Vec<u8>,
+        object_hash: Kind,
+        options: Options,
+    ) -> Result<Store<F>, Error<F>>
+        ensures made { IfOk result (IsMade files git_dir (Some common_dir) object_hash options) }
+        ensures found { MatchResult result (λ _. AreDirs git_dir (Some common_dir)) (IsRefused files git_dir (Some common_dir)) }
+    {
+        Store::in_dirs(files, git_dir, Some(common_dir), object_hash, options)
+    }
+
+    /// The store in these folders.
+    fn in_dirs(
+        files: F,
+        git_dir: Vec<u8>,
+        common_dir: Option<Vec<u8>>,
+        object_hash: Kind,
+        options: Options,
+    ) -> Result<Store<F>, Error<F>>
+        ensures made { IfOk result (IsMade files git_dir common_dir object_hash options) }
+        ensures found { MatchResult result (λ _. AreDirs git_dir common_dir) (IsRefused files git_dir common_dir) }
+    {
+        if !are_clean_paths(&git_dir, &common_dir) {
+            return Err(Error::PathNotClean { files });
+        }
+        if !dirs_are_compatible(&git_dir, resolved(&git_dir, &common_dir)) {
+            return Err(Error::FoldersMeet { files });
+        }
+        Ok(Store {
+            write_reflog: options.write_reflog,
+            namespace: None,
+            prohibit_windows_device_names: options.prohibit_windows_device_names,
+            precompose_unicode: options.precompose_unicode,
+            files,
+            dirs: Dirs {
+                git_dir,
+                common_dir,
+            },
+            object_hash,
+        })
+    }
+
+    /// The files, in place of the store.
+    pub fn into_files(self) -> F
+        ensures { result ≡ files_of self }
+    {
+        let Store {
+            write_reflog: _,
+            namespace: _,
+            prohibit_windows_device_names: _,
+            precompose_unicode: _,
+            files,
+            dirs: _,
+            object_hash: _,
+        } = self;
+        files
+    }
+
+    /// The git folder: where this worktree keeps what it has of its own.
+    pub fn git_dir(&self) -> &[u8]
+        ensures { result.now ≡ (folders self.now).git }
+    {
+        &self.dirs.git_dir
+    }
+
+    /// The common folder, where one was given.
+    pub fn common_dir(&self) -> Option<&[u8]>
+        ensures { option_map (λ dir. dir.now) result ≡ given_common self.now }
+    {
+        match &self.dirs.common_dir {
+            Some(dir) => Some(dir.as_slice()),
+            None => None,
+        }
+    }
+
+    /// The common folder of all worktrees: the one that was given, else the git folder.
+    pub fn common_dir_resolved(&self) -> &[u8]
+        ensures { result.now ≡ (folders self.now).common }
+    {
+        self.dirs.common()
+    }
+
+    /// The path of `packed-refs`. The error says that there was no memory for it.
+    pub fn packed_refs_path(&self, alloc: Global) -> Result<Vec<u8>, AllocError>
+        ensures { IfOk result (λ path. path.items ≡ packed_refs (folders self.now)) }
+    {
+        let mut path = self.dirs.common().to_vec(alloc)?;
+        path.extend_from_slice(b"/packed-refs")?;
+        Ok(path)
+    }
+}

@@ -1,0 +1,44 @@
+//! What a commit tells of renames that ended early.
+ghost use Rattle.std.specs.Prelude.{◌≡◌, ◌<◌, vec_len};
+ghost use Rattle.gix_ref_store.specs.Committed.{place_at};
+ghost use Rattle.gix_ref_store.specs.Committing.{TellsOf};
+ghost use Rattle.gix_ref_store.specs.Taken.{lock_paths};
+
+use crate::file::transaction::commit::Error;
+use crate::file::transaction::setting::Paths;
+use crate::transaction::RefEdit;
+use gix_ref_files::files::FileError;
+use std::alloc::Global;
+use std::mem;
+
+/// Takes the place at an index out of the paths; their locks stay. Takes no memory.
+pub(crate) fn take_place(alloc: Global, paths: &mut Vec<Paths>, at: usize) -> Vec<u8>
+    requires { at < vec_len paths.old }
+    ensures place { result.items ≡ place_at paths.old.items at }
+    ensures locks { lock_paths paths.new.items ≡ lock_paths paths.old.items }
+    ensures len { vec_len paths.new ≡ vec_len paths.old }
+{
+    mem::replace(&mut paths[at].place, Vec::new(alloc))
+}
+
+/// The error of renames that ended at an edit: by a fault, or by a folder at its place.
+pub(crate) fn failure(
+    mut edits: Vec<RefEdit>,
+    at: usize,
+    place: Vec<u8>,
+    source: Option<FileError>,
+) -> Error
+    requires { at < vec_len edits }
+    ensures { TellsOf edits.items at place.items source result }
+{
+    match source {
+        None => Error::FolderInPlace { path: place },
+        Some(source) => {
+            let edit = edits.swap_remove(at);
+            Error::LockCommit {
+                source,
+                full_name: edit.name,
+            }
+        }
+    }
+}

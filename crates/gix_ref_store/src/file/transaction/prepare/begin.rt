@@ -1,0 +1,56 @@
+//! The checks and locks of a transaction, from a store.
+ghost use Rattle.std.specs.Prelude.{◌≡◌, ◌≤◌, [], IfOk, IfErr, vec_len, length, map};
+ghost use Rattle.std.specs.Vec.{vec_capacity};
+ghost use Rattle.gix_ref_store.specs.AddedLocks.{paths_of};
+ghost use Rattle.gix_ref_store.specs.Prepared.{IsOneUpdate, RefusesFrom, HoldsFrom};
+ghost use Rattle.gix_ref_store.specs.Store.{meaning_of};
+ghost use Rattle.gix_ref_store.specs.Taken.{value_of, lock_paths, place_paths, places_of};
+ghost use Rattle.gix_ref_store.specs.Causes.{locks_of};
+
+use crate::file::store::Store;
+use crate::file::transaction::prepare::check::check_edits;
+use crate::file::transaction::prepare::Error;
+use crate::file::transaction::prepare::hold::{Taken, Untaken, hold, reserve};
+use crate::file::transaction::setting::Setting;
+use crate::transaction::RefEdit;
+use gix_ref_files::files::Files;
+use std::alloc::Global;
+
+/// A refusal before any lock was tried.
+fn untouched(alloc: Global, error: Error) -> Untaken
+    ensures error { result.error ≡ error }
+    ensures none { result.locks_left.items ≡ [] }
+{
+    Untaken {
+        error,
+        locks_left: Vec::new(alloc),
+    }
+}
+
+impl<F: Files> Store<F> {
+    /// Looks at all edits, and takes their locks with their texts.
+    pub(crate) fn begin(&mut self, alloc: Global, edits: &[RefEdit]) -> Result<Taken, Untaken>
+        requires { IsOneUpdate edits.now }
+        ensures refused { IfErr result (λ u. RefusesFrom F.honest F.means F.faults self.old self.new edits.now u.error (paths_of u.locks_left.items)) }
+        ensures held { IfOk result (λ t. HoldsFrom F.honest F.means F.faults self.old self.new edits.now (map value_of t.found.items)) }
+        ensures len { IfOk result (λ t. vec_len t.found ≡ length edits.now) }
+        ensures paths { IfOk result (λ t. vec_len t.paths ≡ length edits.now) }
+        ensures places { IfOk result (λ t. place_paths t.paths.items ≡ places_of (meaning_of self.old) edits.now) }
+        ensures locks { IfOk result (λ t. lock_paths t.paths.items ≡ locks_of (meaning_of self.old) edits.now) }
+        ensures room { IfOk result (λ t. vec_len t.paths ≤ vec_capacity t.left) }
+        ensures none { IfOk result (λ t. t.left.items ≡ []) }
+    {
+        let setting = Setting {
+            dirs: &self.dirs,
+            namespace: &self.namespace,
+            kind: self.object_hash,
+        };
+        if let Err(error) = check_edits(edits, setting.kind) {
+            return Err(untouched(alloc, error));
+        }
+        match reserve(alloc, &setting, edits) {
+            Ok((paths, left)) => hold(alloc, &mut self.files, &setting, edits, paths, left),
+            Err(_) => Err(untouched(alloc, Error::Memory)),
+        }
+    }
+}

@@ -1,0 +1,79 @@
+//! What each edit has to meet by itself.
+ghost use Rattle.std.specs.Prelude.{◌≡◌, ◌↔◌, [], IsTrue, MatchResult, IfErr, Option, Some, None};
+ghost use Rattle.std.specs.Option.{option_map};
+ghost use Rattle.gix_ref_hash.specs.Ids.{id_kind, IsWhole};
+ghost use Rattle.gix_ref_base.specs.Targets.{target_ref_value};
+ghost use Rattle.gix_ref_store.specs.Causes.{IsSound, IsUnsound, AllSound, IsFirstUnsound, IsFullTarget, IsOfKind, IsWholeTarget, HasKind, IsInside};
+ghost use Rattle.gix_ref_base.specs.Locations.{is_safe};
+ghost use Rattle.gix_ref_store.specs.Transactions.{name_of, new_of};
+
+use crate::file::transaction::prepare::Error;
+use crate::transaction::RefEdit;
+use gix_ref_base::layout::location_of;
+use gix_ref_base::name::FullNameRef;
+use gix_ref_base::target::TargetRef;
+use gix_ref_hash::hash::{Kind, ObjectId};
+
+/// Whether the name of a new symbolic target is a full name.
+fn is_full_target(new: Option<TargetRef<'_>>) -> bool
+    ensures { IsTrue result ↔ IsFullTarget (option_map target_ref_value new.entry) }
+{
+    match new {
+        Some(TargetRef::Symbolic(name)) => FullNameRef::try_from(name.to_path()).is_ok(),
+        _ => true,
+    }
+}
+
+/// Whether an id is of the kind: it has as many bytes.
+fn is_id_of(id: &ObjectId, kind: Kind) -> bool
+    ensures of_kind { IsTrue result ↔ (id_kind id.now ≡ kind) }
+    ensures whole { IsWhole id.now }
+{
+    id.as_bytes().len() == kind.len_in_bytes()
+}
+
+/// Whether the id of a target is of the kind.
+fn is_of_kind(target: Option<TargetRef<'_>>, kind: Kind) -> bool
+    ensures of_kind { IsTrue result ↔ IsOfKind kind (option_map target_ref_value target.entry) }
+    ensures whole { IsWholeTarget (option_map target_ref_value target.entry) }
+{
+    match target {
+        Some(TargetRef::Object(id)) => is_id_of(&id, kind),
+        _ => true,
+    }
+}
+
+/// Whether both ids of an edit are of the kind.
+fn has_kind(edit: &RefEdit, kind: Kind) -> bool
+    ensures kinds { IsTrue result ↔ HasKind kind edit.now }
+    ensures whole { IsWholeTarget (new_of edit.now.change) }
+{
+    is_of_kind(edit.change.new_value(), kind) && is_of_kind(edit.change.previous_value(), kind)
+}
+
+fn check_edit(edit: &RefEdit, kind: Kind) -> Result<(), Error>
+    ensures sound { MatchResult result (λ _. IsSound kind edit.now) (IsUnsound kind edit.now) }
+    ensures inside { IfErr result IsInside }
+{
+    if location_of(edit.name.as_ref()).is_none() {
+        return Err(Error::UnsafeName);
+    }
+    if !is_full_target(edit.change.new_value()) {
+        return Err(Error::TargetNotFull);
+    }
+    if !has_kind(edit, kind) {
+        return Err(Error::OtherHashKind);
+    }
+    Ok(())
+}
+
+/// Each edit by itself, in order, up to the first that is not sound.
+pub(crate) fn check_edits(edits: &[RefEdit], kind: Kind) -> Result<(), Error>
+    ensures sound { MatchResult result (λ _. AllSound kind [] edits.now) (IsFirstUnsound kind [] edits.now) }
+    ensures inside { IfErr result IsInside }
+{
+    for edit in edits {
+        check_edit(edit, kind)?;
+    }
+    Ok(())
+}
