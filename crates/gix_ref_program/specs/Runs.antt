@@ -38,6 +38,7 @@ IsExpected kind (Some old) expected =
 
 -- the edit of an update
 pub record IsEditOf (name : List ℕ) (id : ObjectId) (expected : PreviousValue) (edit : RefEdit) : Type 0 where
+  pub full : full_error name ≡ None
   pub name_is : name_of edit ≡ name
   pub new : new_of edit.change ≡ Some (object_id id)
   pub mode : mode_of edit.change ≡ AndReference
@@ -48,7 +49,6 @@ pub record IsEditOf (name : List ℕ) (id : ObjectId) (expected : PreviousValue)
 
 -- and of one with this OLD
 pub record IsAskedFor (kind : Kind) (name : List ℕ) (id : ObjectId) (old : Option ObjectId) (edit : RefEdit) : Type 0 where
-  pub full : full_error name ≡ None
   pub expected : PreviousValue
   pub is_expected : IsExpected kind old expected
   pub is_edit : IsEditOf name id expected edit

@@ -19,11 +19,7 @@ mod names;
 mod namespaces;
 #[cfg(test)]
 mod packed;
-#[cfg(test)]
-mod program;
 pub mod publish;
-#[cfg(test)]
-mod store;
 #[cfg(test)]
 mod targets;
 pub mod uses;

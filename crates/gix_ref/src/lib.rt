@@ -1,0 +1,18 @@
+//! `gix_ref`, the references of a Git repository: every public item, under the paths of the Rust crate `gix-ref`.
+//!
+//! - `name`, `namespace`, `target`, `hash`: names of references, namespaces, targets and ids.
+//! - `file`: the store over files, its lookups and its transactions; `store`: its options; `transaction`: edits.
+//! - `packed`, `log`, `raw`, `actor`: `packed-refs`, reflogs, references as values, and signatures.
+//! - `files`: the file system that a store is over, with `Disk` for the disk and `Memory` for tests; `lock`: lock files.
+//! - `layout`: where a name is kept; `theorems`: what is proved of definitions alone.
+#![tactic(auto)]
+
+pub mod files;
+
+pub use gix_ref_base::{layout, name, namespace, target};
+pub use gix_ref_files::{lock, steps};
+pub use gix_ref_hash::hash;
+pub use gix_ref_log::{actor, log};
+pub use gix_ref_packed::{packed, raw};
+pub use gix_ref_store::{file, store, transaction};
+pub use gix_ref_theory::theorems;

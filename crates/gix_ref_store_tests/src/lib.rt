@@ -1,0 +1,15 @@
+//! Tests of the store: folders, loose texts, lookups and transactions.
+#![tactic(auto)]
+
+#[cfg(test)]
+mod edits;
+#[cfg(test)]
+mod find;
+#[cfg(test)]
+mod folders;
+#[cfg(test)]
+mod loose;
+#[cfg(test)]
+mod made;
+#[cfg(test)]
+mod transactions;

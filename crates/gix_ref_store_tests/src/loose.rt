@@ -1,0 +1,132 @@
+//! Loose texts and the targets that they hold.
+use crate::made::full_name;
+use gix_ref_base::name;
+use gix_ref_base::target::{Kind as TargetKind, Target};
+use gix_ref_hash::hash::Kind;
+use gix_ref_store::file::loose::{Error, Reference};
+use gix_ref_store::raw;
+use std::alloc::{AllocError, Global};
+use std::process::Abort;
+
+/// Forty digits `1`.
+const ONES: &[u8] = b"1111111111111111111111111111111111111111";
+
+/// Sixty-four digits `2`.
+const TWOS: &[u8] = b"2222222222222222222222222222222222222222222222222222222222222222";
+
+/// What a text is decoded to.
+#[derive(Clone, Copy, Debug, PartialEq, Eq)]
+enum Answer {
+    /// An id of this kind.
+    Object(Kind),
+    /// The name `refs/heads/a`.
+    Branch,
+    /// Another name.
+    OtherName,
+    /// Neither an id nor a symbolic reference.
+    Parse,
+    /// A path that breaks this rule.
+    Rule(name::Error),
+    Memory,
+}
+
+/// What a text is decoded to.
+fn decoded(rt: &impl Abort, alloc: Global, text: &[u8], kind: Kind) -> Answer {
+    let name = full_name(rt, alloc, "refs/heads/x");
+    match Reference::try_from_path(alloc, name, text, kind) {
+        Ok(Reference {
+            name: _name,
+            target: Target::Object(id),
+        }) => Answer::Object(id.kind()),
+        Ok(Reference {
+            name: _name,
+            target: Target::Symbolic(target),
+        }) => {
+            if target.eq_bytes(b"refs/heads/a") {
+                Answer::Branch
+            } else {
+                Answer::OtherName
+            }
+        }
+        Err(Error::Parse { .. }) => Answer::Parse,
+        Err(Error::RefnameValidation { source, .. }) => Answer::Rule(source),
+        Err(Error::Memory) => Answer::Memory,
+    }
+}
+
+#[test]
+fn texts_and_targets(rt: HostRuntime) {
+    let upper = b"AAAAAAAAAAAAAAAAAAAAAAAAAAAAAAAAAAAAAAAA";
+    let rows: [(&str, &[u8], Kind, Answer); 19] = [
+        ("as git writes it", b"ref: refs/heads/a\n", Kind::Sha1, Answer::Branch),
+        ("spaces, NUL, junk", b"ref:   refs/heads/a\0junk", Kind::Sha1, Answer::Branch),
+        ("CR and LF", b"ref: refs/heads/a\r\n", Kind::Sha1, Answer::Branch),
+        ("no line end", b"ref: refs/heads/a", Kind::Sha1, Answer::Branch),
+        ("the first line only", b"ref: HEAD\nrefs/heads/a", Kind::Sha1, Answer::OtherName),
+        ("a partial name", b"ref: main", Kind::Sha1, Answer::Rule(name::Error::SomeLowercase)),
+        ("no name", b"ref: \n", Kind::Sha1, Answer::Rule(name::Error::Empty)),
+        (
+            "a blank after the name",
+            b"ref: refs/heads/a \n",
+            Kind::Sha1,
+            Answer::Rule(name::Error::InvalidByte { byte: b' ' }),
+        ),
+        ("no space", b"ref:refs/heads/a\n", Kind::Sha1, Answer::Parse),
+        ("an id", ONES, Kind::Sha1, Answer::Object(Kind::Sha1)),
+        ("upper case", upper, Kind::Sha1, Answer::Object(Kind::Sha1)),
+        (
+            "an id and junk",
+            b"1111111111111111111111111111111111111111g",
+            Kind::Sha1,
+            Answer::Object(Kind::Sha1),
+        ),
+        ("41 digits", b"11111111111111111111111111111111111111111", Kind::Sha1, Answer::Parse),
+        ("39 digits", b"111111111111111111111111111111111111111\n", Kind::Sha1, Answer::Parse),
+        ("an empty file", b"", Kind::Sha1, Answer::Parse),
+        ("64 digits", TWOS, Kind::Sha256, Answer::Object(Kind::Sha256)),
+        ("64 digits for SHA-1", TWOS, Kind::Sha1, Answer::Parse),
+        ("40 digits for SHA-256", ONES, Kind::Sha256, Answer::Parse),
+        ("63 digits", &TWOS[1..], Kind::Sha256, Answer::Parse),
+    ];
+    for (meaning, text, kind, want) in rows {
+        assert_eq!(rt; decoded(&rt, rt.alloc(), text, kind), want, "{meaning}");
+    }
+}
+
+#[test]
+fn any_byte_anywhere(rt: HostRuntime) {
+    let alloc = rt.alloc();
+    for place in 0..41usize {
+        for byte in 0..=255u8 {
+            let mut text = [b'1'; 41];
+            text[40] = b'\n';
+            text[place] = byte;
+            let is_id = byte.is_ascii_hexdigit() == (place < 40);
+            let want = if is_id {
+                Answer::Object(Kind::Sha1)
+            } else {
+                Answer::Parse
+            };
+            assert_eq!(rt; decoded(&rt, alloc, &text, Kind::Sha1), want, "{byte} at {place}");
+        }
+    }
+}
+
+#[test]
+fn references_as_values(rt: HostRuntime) {
+    let alloc = rt.alloc();
+    let name = full_name(&rt, alloc, "refs/heads/x");
+    let made = Reference::try_from_path(alloc, name, b"ref: HEAD\n", Kind::Sha1);
+    let Ok(reference) = made else {
+        panic!(rt; "a symbolic reference");
+    };
+    assert_eq!(rt; reference.kind(), TargetKind::Symbolic);
+    assert!(rt; reference.eq_bytes(b"refs/heads/x") && !reference.eq_bytes(b"refs/heads/y"));
+    let copy: Result<Reference, AllocError> = reference.clone();
+    let copy = copy.expect(&rt, "memory");
+    assert!(rt; copy == reference, "a copy");
+    let as_raw: raw::Reference = copy.into();
+    assert!(rt; as_raw.eq_bytes(b"refs/heads/x") && as_raw.peeled.is_none());
+    let back: Reference = as_raw.into();
+    assert!(rt; back == reference, "and back");
+}
