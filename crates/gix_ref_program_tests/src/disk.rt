@@ -1,10 +1,14 @@
-//! The program over the disk, in a folder of the test's own.
-use crate::program::ran::{is_text, told};
+//! The program over the disk, in a folder that the test makes and removes.
+use crate::ran::{I1, I2, ONE, run_words};
 use gix_ref_files::disk::Disk;
+use gix_ref_files::files::{Create, Files, Node};
+use gix_ref_program::run::run;
+use gix_ref_store::file::transaction::PackedRefs;
+use std::os::unix::fs::symlink;
 use std::test::Fail;
 use std::{fs, io};
 
-/// Takes no byte.
+/// A writer that takes no byte.
 #[derive(Drop)]
 struct Closed;
 
@@ -21,65 +25,57 @@ impl io::Write for Closed {
 #[test]
 fn updates_shows_and_refuses(rt: HostRuntime) -> Result<(), Fail> {
     let alloc = rt.alloc();
-    let rows: [(&[&str], &str, u8); 7] = [
-        (&["v/git", "show", "refs/heads/a"], "refused: NotFound\n", 1),
-        (&["v/git", "update", "refs/heads/a", "I1"], "", 0),
+    let rows: [(&[&str], &str); 7] = [
+        (&["v/git", "show", "refs/heads/a"], "refused: NotFound\n"),
+        (&["v/git", "update", "refs/heads/a", I1], ""),
         (
             &["v/git", "show", "refs/heads/a"],
             "1111111111111111111111111111111111111111 refs/heads/a\n",
-            0,
         ),
-        (
-            &["v/git", "update", "refs/heads/a", "I2", "I2"],
-            "refused: ReferenceOutOfDate\n",
-            1,
-        ),
-        (
-            &["v/git", "update", "refs/heads/a/b", "I1"],
-            "refused: PathCollision\n",
-            1,
-        ),
-        (
-            &["v/git", "update", "refs/heads", "I1"],
-            "refused: FolderInPlace\n",
-            1,
-        ),
-        (
-            &["v/git", "update", "logs/HEAD", "I1"],
-            "refused: UnsafeName\n",
-            1,
-        ),
+        (&["v/git", "update", "refs/heads/a", I2, I2], "refused: ReferenceOutOfDate\n"),
+        (&["v/git", "update", "refs/heads/a/b", I1], "refused: PathCollision\n"),
+        (&["v/git", "update", "refs/heads", I1], "refused: FolderInPlace\n"),
+        (&["v/git", "update", "logs/HEAD", I1], "refused: UnsafeName\n"),
     ];
-    for (words, output, status) in rows {
-        let ran = told(&rt, alloc, Disk::new(rt.clone()?), words);
-        assert!(rt; is_text(&rt, alloc, &ran.output, output), "what is printed");
-        assert_eq!(rt; ran.status, status);
+    for (words, output) in rows {
+        let ran = run_words(&rt, alloc, Disk::new(rt.clone()?), words);
+        assert!(rt; ran.output.as_slice() == output.as_bytes(), "{output}");
     }
     let text = fs::read(&rt, "v/git/refs/heads/a")?;
     let lock = fs::metadata(&rt, "v/git/refs/heads/a.lock");
     fs::remove_dir_all(&rt, "v")?;
-    assert!(rt;
-        is_text(
-            &rt,
-            alloc,
-            &text,
-            "1111111111111111111111111111111111111111\n"
-        )
-    );
+    assert!(rt; text.as_slice() == ONE.as_bytes(), "the file");
     assert!(rt; lock.is_err(), "no lock");
     Ok(())
 }
 
 #[test]
-fn a_fault_of_the_writer_is_told(rt: HostRuntime) -> Result<(), Fail> {
+fn a_device_counts_as_nothing(rt: HostRuntime) -> Result<(), Fail> {
     let alloc = rt.alloc();
-    let ran = gix_ref_program::run::run(
-        alloc,
-        Disk::new(rt.clone()?),
-        gix_ref_store::file::transaction::PackedRefs::default(),
-        &[],
-        &mut Closed,
-    );
+    fs::create_dir_all(&rt, "w/refs/heads")?;
+    // `/dev/zero` has no end: a program that reads it does not come back.
+    symlink(&rt, "/dev/zero", "w/refs/heads/x")?;
+    let shown = run_words(&rt, alloc, Disk::new(rt.clone()?), &["w", "show", "refs/heads/x"]);
+    let mut disk = Disk::new(rt.clone()?);
+    let mut text = Vec::new(alloc);
+    let read = disk.read(alloc, b"w/refs/heads/x", &mut text);
+    let opened = disk.open(alloc, b"w/refs/heads/x");
+    let appended = disk.append(b"w/refs/heads/x", b"1");
+    let created = disk.create_new(b"w/refs/heads/x");
+    let removed = disk.remove_file(b"w/refs/heads/x");
+    let kind = disk.kind(b"w/refs/heads/x");
+    fs::remove_dir_all(&rt, "w")?;
+    assert!(rt; shown.output.as_slice() == b"refused: NotFound\n".as_slice());
+    assert!(rt; read == Ok(Node::Nothing) && text.is_empty() && kind == Ok(Node::Nothing));
+    assert!(rt; matches!(&opened, Ok(None)) && appended == Ok(false) && removed == Ok(false));
+    assert!(rt; created == Ok(Create::Standing), "something is there");
+    Ok(())
+}
+
+#[test]
+fn a_fault_of_the_writer_is_answered(rt: HostRuntime) -> Result<(), Fail> {
+    let files = Disk::new(rt.clone()?);
+    let ran = run(rt.alloc(), files, PackedRefs::default(), &[], &mut Closed);
     match ran.status {
         Ok(_) => panic!(rt; "no byte can be printed"),
         Err(error) => assert_eq!(rt; error.kind(), io::ErrorKind::BrokenPipe),

@@ -1,11 +1,25 @@
 //! Runs of the program in tests.
-use crate::made::bytes;
-use gix_ref_store::file::transaction::PackedRefs;
 use gix_ref_files::files::Files;
 use gix_ref_memory::memory::Memory;
 use gix_ref_program::run::run;
+use gix_ref_store::file::transaction::PackedRefs;
 use std::alloc::Global;
 use std::process::Abort;
+
+/// Ids of one digit, in words: forty digits, or sixty-four.
+pub const I0: &str = "0000000000000000000000000000000000000000";
+pub const I1: &str = "1111111111111111111111111111111111111111";
+pub const I2: &str = "2222222222222222222222222222222222222222";
+pub const L0: &str = "0000000000000000000000000000000000000000000000000000000000000000";
+pub const L1: &str = "1111111111111111111111111111111111111111111111111111111111111111";
+
+/// Loose texts of two of them.
+pub const ONE: &str = "1111111111111111111111111111111111111111\n";
+pub const TWO: &str = "2222222222222222222222222222222222222222\n";
+
+/// The path of a branch, and its lock.
+pub const A: &str = "/r/refs/heads/a";
+pub const LOCK: &str = "/r/refs/heads/a.lock";
 
 /// What a run printed, and its status.
 #[derive(Drop)]
@@ -15,28 +29,16 @@ pub struct Printed<F> {
     pub status: u8,
 }
 
-/// The word that stands for another: ids of one digit.
-pub fn spelled<'a>(word: &'a str) -> &'a str {
-    match word {
-        "I0" => "0000000000000000000000000000000000000000",
-        "I1" => "1111111111111111111111111111111111111111",
-        "I2" => "2222222222222222222222222222222222222222",
-        "IA" => "AAAAAAAAAAAAAAAAAAAAAAAAAAAAAAAAAAAAAAAA",
-        "L1" => "1111111111111111111111111111111111111111111111111111111111111111",
-        "D39" => "111111111111111111111111111111111111111",
-        "D41" => "11111111111111111111111111111111111111111",
-        "D63" => "111111111111111111111111111111111111111111111111111111111111111",
-        "D65" => "11111111111111111111111111111111111111111111111111111111111111111",
-        "G40" => "g111111111111111111111111111111111111111",
-        _ => word,
-    }
-}
-
 /// Runs the program with these words.
-pub fn told<F: Files>(rt: &impl Abort, alloc: Global, files: F, words: &[&str]) -> Printed<F> {
+pub fn run_words<F: Files>(
+    rt: &impl Abort,
+    alloc: Global,
+    files: F,
+    words: &[&str],
+) -> Printed<F> {
     let mut line = Vec::new(alloc);
     for word in words {
-        let word = String::from_str(alloc, spelled(word)).expect(rt, "memory");
+        let word = String::from_str(alloc, word).expect(rt, "memory");
         line.push(word).expect(rt, "memory");
     }
     let mut output = Vec::new(alloc);
@@ -48,18 +50,12 @@ pub fn told<F: Files>(rt: &impl Abort, alloc: Global, files: F, words: &[&str]) 
     }
 }
 
-/// Memory with these files.
-pub fn with_files(rt: &impl Abort, alloc: Global, files: &[(&str, &str)]) -> Memory {
+/// Memory with one file, or none where the path is empty.
+pub fn with_file(rt: &impl Abort, alloc: Global, path: &str, text: &str) -> Memory {
     let mut memory = Memory::new(alloc);
-    for (path, text) in files {
+    if !path.is_empty() {
         let put = memory.put(path.as_bytes(), text.as_bytes());
-        assert!(rt; put.expect(rt, "memory"));
+        assert!(rt; put.expect(rt, "memory"), "{path}");
     }
     memory
-}
-
-/// Whether a text is that of the bytes.
-pub fn is_text(rt: &impl Abort, alloc: Global, got: &[u8], text: &str) -> bool {
-    let wanted = bytes(rt, alloc, text);
-    got == wanted.as_slice()
 }

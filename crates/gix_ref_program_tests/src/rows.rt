@@ -1,358 +1,315 @@
-//! Rows of runs: the files before, the words, what is printed, the status, and a file after.
-use crate::program::ran::{is_text, told, with_files};
+//! Rows of runs: a file before, the words, what is printed, and a file after.
+use crate::ran::{A, I0, I1, I2, L0, L1, LOCK, ONE, TWO, run_words, with_file};
 use std::alloc::Global;
 use std::process::Abort;
 
-const A: &str = "/r/refs/heads/a";
+/// What is printed, and the status that comes with it.
+#[derive(Clone, Copy, Debug, PartialEq, Eq)]
+enum Printed<'a> {
+    /// Nothing, and 0.
+    Nothing,
+    /// This text, and 0.
+    Text(&'a str),
+    /// The line of a refusal, and 1.
+    Refused(&'a str),
+    /// `wrong words`, and 2.
+    WrongWords,
+}
 
-const ONE: &str = "1111111111111111111111111111111111111111\n";
+/// A row. The file before has an empty path where there is none; the text after is `-` where no file is there.
+#[derive(Clone, Copy)]
+struct Row<'a> {
+    meaning: &'a str,
+    before: (&'a str, &'a str),
+    words: &'a [&'a str],
+    printed: Printed<'a>,
+    after: (&'a str, &'a str),
+}
 
-const TWO: &str = "2222222222222222222222222222222222222222\n";
+/// Whether this was printed.
+fn is_printed(output: &[u8], status: u8, printed: Printed<'_>) -> bool {
+    match printed {
+        Printed::Nothing => status == 0 && output.is_empty(),
+        Printed::Text(text) => status == 0 && output == text.as_bytes(),
+        Printed::Refused(variant) => {
+            status == 1
+                && output.strip_prefix(b"refused: ".as_slice())
+                    .and_then(|rest| rest.strip_suffix(b"\n".as_slice()))
+                    == Some(variant.as_bytes())
+        }
+        Printed::WrongWords => status == 2 && output == b"wrong words\n".as_slice(),
+    }
+}
 
-/// The file before, if its path is not empty; the words; what is printed; the status; and the file after, with `-` for none.
-type Row<'a> = (
-    (&'a str, &'a str),
-    &'a [&'a str],
-    &'a str,
-    u8,
-    (&'a str, &'a str),
-);
+/// Runs a row. No lock is left but one that was there before.
+fn check(rt: &impl Abort, alloc: Global, row: Row<'_>) {
+    let memory = with_file(rt, alloc, row.before.0, row.before.1);
+    let ran = run_words(rt, alloc, memory, row.words);
+    let meaning = row.meaning;
+    assert!(rt; is_printed(&ran.output, ran.status, row.printed), "{meaning}: printed");
+    match ran.files.get(row.after.0.as_bytes()) {
+        Some(got) => assert!(rt; got == row.after.1.as_bytes(), "{meaning}: the file after"),
+        None => assert_eq!(rt; row.after.1, "-", "{meaning}: no file after"),
+    }
+    let is_left = ran.files.get(LOCK.as_bytes()).is_some();
+    assert_eq!(rt; is_left, row.before.0 == LOCK, "{meaning}: no lock is left");
+}
 
 #[test]
 fn updates(rt: HostRuntime) {
-    let rows: [Row<'_>; 14] = [
-        (
-            ("", ""),
-            &["/r", "update", "refs/heads/a", "I1"],
-            "",
-            0,
-            (A, ONE),
-        ),
-        (
-            (A, ONE),
-            &["/r", "update", "refs/heads/a", "I2"],
-            "",
-            0,
-            (A, TWO),
-        ),
-        (
-            (A, ONE),
-            &["/r", "update", "refs/heads/a", "I2", "I1"],
-            "",
-            0,
-            (A, TWO),
-        ),
-        (
-            (A, ONE),
-            &["/r", "update", "refs/heads/a", "I1", "I0"],
-            "",
-            0,
-            (A, ONE),
-        ),
-        (
-            (A, ONE),
-            &["/r", "update", "refs/heads/a", "I2", "I2"],
-            "refused: ReferenceOutOfDate\n",
-            1,
-            (A, ONE),
-        ),
-        (
-            (A, ONE),
-            &["/r", "update", "refs/heads/a", "I2", "I0"],
-            "refused: MustNotExist\n",
-            1,
-            (A, ONE),
-        ),
-        (
-            ("", ""),
-            &["/r", "update", "refs/heads/a", "I2", "I1"],
-            "refused: MustExist\n",
-            1,
-            (A, "-"),
-        ),
-        (
-            ("", ""),
-            &["/r", "update", "refs/heads/a", "L1"],
-            "refused: OtherHashKind\n",
-            1,
-            (A, "-"),
-        ),
-        (
-            ("", ""),
-            &["/r", "update", "logs/HEAD", "I1"],
-            "refused: UnsafeName\n",
-            1,
-            ("/r/logs/HEAD", "-"),
-        ),
-        (
-            ("/r/refs/heads/a.lock", "kept"),
-            &["/r", "update", "refs/heads/a", "I1"],
-            "refused: LockAcquire\n",
-            1,
-            ("/r/refs/heads/a.lock", "kept"),
-        ),
-        (
-            ("/r/refs/heads/a/b", ONE),
-            &["/r", "update", "refs/heads/a", "I1"],
-            "refused: FolderInPlace\n",
-            1,
-            ("/r/refs/heads/a.lock", "-"),
-        ),
-        (
-            ("/r", "x"),
-            &["/r", "update", "refs/heads/a", "I1"],
-            "refused: PathCollision\n",
-            1,
-            ("/r", "x"),
-        ),
-        (
-            ("", ""),
-            &["/r", "update", "refs/heads/a", "IA"],
-            "",
-            0,
-            (A, "aaaaaaaaaaaaaaaaaaaaaaaaaaaaaaaaaaaaaaaa\n"),
-        ),
-        (
-            ("", ""),
-            &["/r", "--namespace", "foo", "update", "refs/heads/a", "I1"],
-            "",
-            0,
-            ("/r/refs/namespaces/foo/refs/heads/a", ONE),
-        ),
+    let rows: [Row<'_>; 16] = [
+        Row {
+            meaning: "a new branch",
+            before: ("", ""),
+            words: &["/r", "update", "refs/heads/a", I1],
+            printed: Printed::Nothing,
+            after: (A, ONE),
+        },
+        Row {
+            meaning: "an old one",
+            before: (A, ONE),
+            words: &["/r", "update", "refs/heads/a", I2],
+            printed: Printed::Nothing,
+            after: (A, TWO),
+        },
+        Row {
+            meaning: "with its old value",
+            before: (A, ONE),
+            words: &["/r", "update", "refs/heads/a", I2, I1],
+            printed: Printed::Nothing,
+            after: (A, TWO),
+        },
+        Row {
+            meaning: "to the value it has",
+            before: (A, ONE),
+            words: &["/r", "update", "refs/heads/a", I1, I0],
+            printed: Printed::Nothing,
+            after: (A, ONE),
+        },
+        Row {
+            meaning: "another old value",
+            before: (A, ONE),
+            words: &["/r", "update", "refs/heads/a", I2, I2],
+            printed: Printed::Refused("ReferenceOutOfDate"),
+            after: (A, ONE),
+        },
+        Row {
+            meaning: "it must not exist",
+            before: (A, ONE),
+            words: &["/r", "update", "refs/heads/a", I2, I0],
+            printed: Printed::Refused("MustNotExist"),
+            after: (A, ONE),
+        },
+        Row {
+            meaning: "it must exist",
+            before: ("", ""),
+            words: &["/r", "update", "refs/heads/a", I2, I1],
+            printed: Printed::Refused("MustExist"),
+            after: (A, "-"),
+        },
+        Row {
+            meaning: "an id of SHA-256",
+            before: ("", ""),
+            words: &["/r", "update", "refs/heads/a", L1],
+            printed: Printed::Refused("OtherHashKind"),
+            after: (A, "-"),
+        },
+        Row {
+            meaning: "in a store of SHA-256",
+            before: ("", ""),
+            words: &["/r", "--sha256", "update", "refs/heads/a", L1, L0],
+            printed: Printed::Nothing,
+            after: (A, "1111111111111111111111111111111111111111111111111111111111111111\n"),
+        },
+        Row {
+            meaning: "an id of SHA-1 there",
+            before: ("", ""),
+            words: &["/r", "--sha256", "update", "refs/heads/a", I1],
+            printed: Printed::Refused("OtherHashKind"),
+            after: (A, "-"),
+        },
+        Row {
+            meaning: "an unsafe name",
+            before: ("", ""),
+            words: &["/r", "update", "logs/HEAD", I1],
+            printed: Printed::Refused("UnsafeName"),
+            after: ("/r/logs/HEAD", "-"),
+        },
+        Row {
+            meaning: "a lock of another",
+            before: (LOCK, "kept"),
+            words: &["/r", "update", "refs/heads/a", I1],
+            printed: Printed::Refused("LockAcquire"),
+            after: (LOCK, "kept"),
+        },
+        Row {
+            meaning: "a folder in place",
+            before: ("/r/refs/heads/a/b", ONE),
+            words: &["/r", "update", "refs/heads/a", I1],
+            printed: Printed::Refused("FolderInPlace"),
+            after: (LOCK, "-"),
+        },
+        Row {
+            meaning: "a file on the way",
+            before: ("/r", "x"),
+            words: &["/r", "update", "refs/heads/a", I1],
+            printed: Printed::Refused("PathCollision"),
+            after: ("/r", "x"),
+        },
+        Row {
+            meaning: "digits in upper case",
+            before: ("", ""),
+            words: &["/r", "update", "refs/heads/a", "AAAAAAAAAAAAAAAAAAAAAAAAAAAAAAAAAAAAAAAA"],
+            printed: Printed::Nothing,
+            after: (A, "aaaaaaaaaaaaaaaaaaaaaaaaaaaaaaaaaaaaaaaa\n"),
+        },
+        Row {
+            meaning: "in a namespace",
+            before: ("", ""),
+            words: &["/r", "--namespace", "foo", "update", "refs/heads/a", I1],
+            printed: Printed::Nothing,
+            after: ("/r/refs/namespaces/foo/refs/heads/a", ONE),
+        },
     ];
-    check(&rt, rt.alloc(), &rows);
+    for row in rows {
+        check(&rt, rt.alloc(), row);
+    }
 }
 
 #[test]
 fn shows(rt: HostRuntime) {
     let rows: [Row<'_>; 9] = [
-        (
-            (A, ONE),
-            &["/r", "show", "refs/heads/a"],
-            "1111111111111111111111111111111111111111 refs/heads/a\n",
-            0,
-            (A, ONE),
-        ),
-        (
-            ("/r/HEAD", "ref: refs/heads/main\n"),
-            &["/r", "show", "HEAD"],
-            "ref: refs/heads/main HEAD\n",
-            0,
-            (A, "-"),
-        ),
-        (
-            ("", ""),
-            &["/r", "show", "refs/heads/a"],
-            "refused: NotFound\n",
-            1,
-            (A, "-"),
-        ),
-        (
-            (A, "xyz"),
-            &["/r", "show", "refs/heads/a"],
-            "refused: ReferenceCreation\n",
-            1,
-            (A, "xyz"),
-        ),
-        (
-            ("/r", "x"),
-            &["/r", "show", "refs/heads/a"],
-            "refused: NotFound\n",
-            1,
-            ("/r", "x"),
-        ),
-        (
-            ("/r/refs/namespaces/foo/refs/heads/a", ONE),
-            &["/r", "--namespace", "foo", "show", "refs/heads/a"],
-            "1111111111111111111111111111111111111111 refs/heads/a\n",
-            0,
-            (A, "-"),
-        ),
-        (
-            (A, ONE),
-            &["/r", "--namespace", "foo", "show", "refs/heads/a"],
-            "refused: NotFound\n",
-            1,
-            (A, ONE),
-        ),
-        (
-            (
-                A,
-                "1111111111111111111111111111111111111111111111111111111111111111\n",
-            ),
-            &["/r", "--sha256", "show", "refs/heads/a"],
-            "1111111111111111111111111111111111111111111111111111111111111111 refs/heads/a\n",
-            0,
-            (
-                A,
-                "1111111111111111111111111111111111111111111111111111111111111111\n",
-            ),
-        ),
-        (
-            (
-                A,
-                "1111111111111111111111111111111111111111111111111111111111111111\n",
-            ),
-            &["/r", "show", "refs/heads/a"],
-            "refused: ReferenceCreation\n",
-            1,
-            ("/r/refs/heads/b", "-"),
-        ),
+        Row {
+            meaning: "an id",
+            before: (A, ONE),
+            words: &["/r", "show", "refs/heads/a"],
+            printed: Printed::Text("1111111111111111111111111111111111111111 refs/heads/a\n"),
+            after: (A, ONE),
+        },
+        Row {
+            meaning: "a symbolic reference",
+            before: ("/r/HEAD", "ref: refs/heads/main\n"),
+            words: &["/r", "show", "HEAD"],
+            printed: Printed::Text("ref: refs/heads/main HEAD\n"),
+            after: (A, "-"),
+        },
+        Row {
+            meaning: "nothing there",
+            before: ("", ""),
+            words: &["/r", "show", "refs/heads/a"],
+            printed: Printed::Refused("NotFound"),
+            after: (A, "-"),
+        },
+        Row {
+            meaning: "undecodable",
+            before: (A, "xyz"),
+            words: &["/r", "show", "refs/heads/a"],
+            printed: Printed::Refused("ReferenceCreation"),
+            after: (A, "xyz"),
+        },
+        Row {
+            meaning: "a file on the way",
+            before: ("/r", "x"),
+            words: &["/r", "show", "refs/heads/a"],
+            printed: Printed::Refused("NotFound"),
+            after: ("/r", "x"),
+        },
+        Row {
+            meaning: "in a namespace",
+            before: ("/r/refs/namespaces/foo/refs/heads/a", ONE),
+            words: &["/r", "--namespace", "foo", "show", "refs/heads/a"],
+            printed: Printed::Text("1111111111111111111111111111111111111111 refs/heads/a\n"),
+            after: (A, "-"),
+        },
+        Row {
+            meaning: "outside of it",
+            before: (A, ONE),
+            words: &["/r", "--namespace", "foo", "show", "refs/heads/a"],
+            printed: Printed::Refused("NotFound"),
+            after: (A, ONE),
+        },
+        Row {
+            meaning: "an id of SHA-256",
+            before: (A, "1111111111111111111111111111111111111111111111111111111111111111\n"),
+            words: &["/r", "--sha256", "show", "refs/heads/a"],
+            printed: Printed::Text("1111111111111111111111111111111111111111111111111111111111111111 refs/heads/a\n"),
+            after: (A, "1111111111111111111111111111111111111111111111111111111111111111\n"),
+        },
+        Row {
+            meaning: "in a store of SHA-1",
+            before: (A, "1111111111111111111111111111111111111111111111111111111111111111\n"),
+            words: &["/r", "show", "refs/heads/a"],
+            printed: Printed::Refused("ReferenceCreation"),
+            after: (A, "1111111111111111111111111111111111111111111111111111111111111111\n"),
+        },
     ];
-    check(&rt, rt.alloc(), &rows);
+    for row in rows {
+        check(&rt, rt.alloc(), row);
+    }
 }
 
-/// What the broken words of a line and the names that break a rule come to: nothing changes.
-type Refusal<'a> = (&'a [&'a str], &'a str, u8);
+/// Runs words that are refused before any file is touched.
+fn refuses(rt: &impl Abort, alloc: Global, words: &[&str], printed: Printed<'_>) {
+    let ran = run_words(rt, alloc, with_file(rt, alloc, "", ""), words);
+    assert!(rt; is_printed(&ran.output, ran.status, printed));
+    assert!(rt; ran.files.get(A.as_bytes()).is_none());
+}
 
 #[test]
-fn words_that_are_no_line(rt: HostRuntime) {
+fn wrong_words(rt: HostRuntime) {
     let lines: [&[&str]; 20] = [
         &[],
         &["/r"],
         &["/r", "show"],
         &["/r", "show", "a", "b"],
         &["/r", "update", "refs/heads/a"],
-        &["/r", "update", "refs/heads/a", "I1", "I2", "I1"],
-        &["/r", "update", "refs/heads/a", "D39"],
-        &["/r", "update", "refs/heads/a", "D41"],
-        &["/r", "update", "refs/heads/a", "D63"],
-        &["/r", "update", "refs/heads/a", "D65"],
-        &["/r", "update", "refs/heads/a", "G40"],
-        &["/r", "update", "refs/heads/a", "I1", "D39"],
-        &["/r", "update", "--deref", "refs/heads/a", "I1"],
-        &["/r", "update", "--deref", "I1"],
+        &["/r", "update", "refs/heads/a", I1, I2, I1],
+        &["/r", "update", "refs/heads/a", "111111111111111111111111111111111111111"],
+        &["/r", "update", "refs/heads/a", "11111111111111111111111111111111111111111"],
+        &["/r", "update", "refs/heads/a", "111111111111111111111111111111111111111111111111111111111111111"],
+        &["/r", "update", "refs/heads/a", "11111111111111111111111111111111111111111111111111111111111111111"],
+        &["/r", "update", "refs/heads/a", "g111111111111111111111111111111111111111"],
+        &["/r", "update", "refs/heads/a", I1, "111111111111111111111111111111111111111"],
+        &["/r", "update", "--deref", "refs/heads/a", I1],
+        &["/r", "update", "--deref", I1],
         &["/r", "delete", "refs/heads/a"],
         &["/r", "--namespace"],
         &["/r", "--namespace", "foo"],
         &["/r", "--sha256", "--sha256", "show", "refs/heads/a"],
-        &[
-            "/r",
-            "--namespace",
-            "foo",
-            "--sha256",
-            "show",
-            "refs/heads/a",
-        ],
-        &[".", "update", "refs//a", "D39"],
+        &["/r", "--namespace", "foo", "--sha256", "show", "refs/heads/a"],
+        &[".", "update", "refs//a", "111111111111111111111111111111111111111"],
     ];
     for words in lines {
-        refuses(&rt, rt.alloc(), &(words, "wrong words\n", 2));
+        refuses(&rt, rt.alloc(), words, Printed::WrongWords);
     }
 }
 
 #[test]
 fn folders_and_names(rt: HostRuntime) {
-    let rows: [Refusal<'_>; 21] = [
-        (&[".", "show", "refs//a"], "refused: PathNotClean\n", 1),
-        (&["/", "show", "refs/heads/a"], "refused: PathNotClean\n", 1),
-        (
-            &["/r/", "--namespace", "a..b", "show", "refs//a"],
-            "refused: PathNotClean\n",
-            1,
-        ),
-        (
-            &["", "update", "refs/heads/a", "I1"],
-            "refused: PathNotClean\n",
-            1,
-        ),
-        (
-            &["/r", "--namespace", "a..b", "show", "refs//a"],
-            "refused: RepeatedDot\n",
-            1,
-        ),
-        (
-            &["/r", "--namespace", "", "show", "refs//a"],
-            "refused: Empty\n",
-            1,
-        ),
-        (&["/r", "show", "refs//a"], "refused: RepeatedSlash\n", 1),
-        (&["/r", "update", "", "I1"], "refused: Empty\n", 1),
-        (
-            &["/r", "update", "refs/heads/a:b", "I1"],
-            "refused: InvalidByte\n",
-            1,
-        ),
-        (
-            &["/r", "update", "refs/heads/*", "I1"],
-            "refused: Asterisk\n",
-            1,
-        ),
-        (
-            &["/r", "update", "/refs/heads/a", "I1"],
-            "refused: StartsWithSlash\n",
-            1,
-        ),
-        (
-            &["/r", "update", "refs/heads/", "I1"],
-            "refused: EndsWithSlash\n",
-            1,
-        ),
-        (
-            &["/r", "update", "refs//a", "I1"],
-            "refused: RepeatedSlash\n",
-            1,
-        ),
-        (
-            &["/r", "update", "refs/.a", "I1"],
-            "refused: StartsWithDot\n",
-            1,
-        ),
-        (
-            &["/r", "update", "refs/heads/a.", "I1"],
-            "refused: EndsWithDot\n",
-            1,
-        ),
-        (
-            &["/r", "update", "refs/a..b", "I1"],
-            "refused: RepeatedDot\n",
-            1,
-        ),
-        (
-            &["/r", "update", "refs/heads/a.lock", "I1"],
-            "refused: LockFileSuffix\n",
-            1,
-        ),
-        (
-            &["/r", "update", "refs/heads/a@{b", "I1"],
-            "refused: ReflogPortion\n",
-            1,
-        ),
-        (&["/r", "update", "@", "I1"], "refused: SingleAt\n", 1),
-        (
-            &["/r", "update", "main", "I1"],
-            "refused: SomeLowercase\n",
-            1,
-        ),
-        (&["/r", "show", "main"], "refused: NotFound\n", 1),
+    let rows: [(&[&str], &str); 21] = [
+        (&[".", "show", "refs//a"], "PathNotClean"),
+        (&["/", "show", "refs/heads/a"], "PathNotClean"),
+        (&["/r/", "--namespace", "a..b", "show", "refs//a"], "PathNotClean"),
+        (&["", "update", "refs/heads/a", I1], "PathNotClean"),
+        (&["/r", "--namespace", "a..b", "show", "refs//a"], "RepeatedDot"),
+        (&["/r", "--namespace", "", "show", "refs//a"], "Empty"),
+        (&["/r", "show", "refs//a"], "RepeatedSlash"),
+        (&["/r", "update", "", I1], "Empty"),
+        (&["/r", "update", "refs/heads/a:b", I1], "InvalidByte"),
+        (&["/r", "update", "refs/heads/*", I1], "Asterisk"),
+        (&["/r", "update", "/refs/heads/a", I1], "StartsWithSlash"),
+        (&["/r", "update", "refs/heads/", I1], "EndsWithSlash"),
+        (&["/r", "update", "refs//a", I1], "RepeatedSlash"),
+        (&["/r", "update", "refs/.a", I1], "StartsWithDot"),
+        (&["/r", "update", "refs/heads/a.", I1], "EndsWithDot"),
+        (&["/r", "update", "refs/a..b", I1], "RepeatedDot"),
+        (&["/r", "update", "refs/heads/a.lock", I1], "LockFileSuffix"),
+        (&["/r", "update", "refs/heads/a@{b", I1], "ReflogPortion"),
+        (&["/r", "update", "@", I1], "SingleAt"),
+        (&["/r", "update", "main", I1], "SomeLowercase"),
+        (&["/r", "show", "main"], "NotFound"),
     ];
-    for row in rows {
-        refuses(&rt, rt.alloc(), &row);
+    for (words, variant) in rows {
+        refuses(&rt, rt.alloc(), words, Printed::Refused(variant));
     }
-}
-
-/// Runs a row: what is printed, the status, and the file after; no lock is left but one that stood.
-fn check(rt: &impl Abort, alloc: Global, rows: &[Row<'_>]) {
-    for ((path, text), words, output, status, (after, wanted)) in rows {
-        let mut memory = with_files(rt, alloc, &[]);
-        if !path.is_empty() {
-            memory = with_files(rt, alloc, &[(path, text)]);
-        }
-        let ran = told(rt, alloc, memory, words);
-        assert!(rt; is_text(rt, alloc, &ran.output, output), "what is printed");
-        assert_eq!(rt; ran.status, *status, "the status");
-        match ran.files.get(after.as_bytes()) {
-            Some(got) => assert!(rt; is_text(rt, alloc, got, wanted), "the file after"),
-            None => assert_eq!(rt; *wanted, "-", "no file after"),
-        }
-    }
-}
-
-/// Runs words that are refused before any file is touched.
-fn refuses(rt: &impl Abort, alloc: Global, row: &Refusal<'_>) {
-    let (words, output, status) = row;
-    let ran = told(rt, alloc, with_files(rt, alloc, &[]), words);
-    assert!(rt; is_text(rt, alloc, &ran.output, output), "what is printed");
-    assert_eq!(rt; ran.status, *status, "the status");
-    assert!(rt; ran.files.get(b"/r/refs/heads/a").is_none());
 }

@@ -1,57 +1,43 @@
 //! The first update of a name, stopped and failed at each call of files: the reference is absent or new, and after a
-//! restart the next run meets the lock, where one stands, or does its work.
-use crate::program::ran::{is_text, told, with_files};
+//! restart the next run meets the lock, where there is one, or does its work.
+use crate::ran::{A, I1, LOCK, ONE, run_words, with_file};
 use gix_ref_files::files::Files;
 use gix_ref_memory::memory::Memory;
 use std::alloc::Global;
 use std::process::Abort;
 
-const LINE: &str = "1111111111111111111111111111111111111111\n";
-
-const UPDATE: [&str; 4] = ["/r", "update", "refs/heads/a", "I1"];
+const UPDATE: [&str; 4] = ["/r", "update", "refs/heads/a", I1];
 
 const SHOW: [&str; 3] = ["/r", "show", "refs/heads/a"];
 
-/// The number of calls of files that the update makes: it makes the folders of the lock and the lock, looks at the place,
+const NEW: &[u8] = b"1111111111111111111111111111111111111111 refs/heads/a\n";
+
+/// The number of calls of files that the update makes: it makes the folders of the lock and the lock, reads the reference,
 /// writes the text and renames the lock.
 const CALLS: u64 = 5;
 
-/// After a restart: the reference is absent or new. The next update meets the lock where one stands; without it, it works.
-fn recovers(rt: &impl Abort, alloc: Global, memory: Memory) {
-    let mut memory = memory;
+/// After a restart: the reference is absent or new. The next update meets the lock where there is one; without it, it works.
+fn recovers(rt: &impl Abort, alloc: Global, mut memory: Memory) {
     memory.restart();
-    let shown = told(rt, alloc, memory, &SHOW);
-    let new = is_text(
-        rt,
-        alloc,
-        &shown.output,
-        "1111111111111111111111111111111111111111 refs/heads/a\n",
-    );
-    let absent = is_text(rt, alloc, &shown.output, "refused: NotFound\n");
-    assert!(rt; new || absent, "absent or new");
-    let locked = shown.files.get(b"/r/refs/heads/a.lock").is_some();
-    let again = told(rt, alloc, shown.files, &UPDATE);
-    if locked {
-        assert!(rt; is_text(rt, alloc, &again.output, "refused: LockAcquire\n"));
-    } else {
-        assert_eq!(rt; again.status, 0);
-    }
+    let shown = run_words(rt, alloc, memory, &SHOW);
+    let is_absent = shown.output.as_slice() == b"refused: NotFound\n".as_slice();
+    assert!(rt; is_absent || shown.output.as_slice() == NEW, "absent or new");
+    let is_locked = shown.files.get(LOCK.as_bytes()).is_some();
+    let again = run_words(rt, alloc, shown.files, &UPDATE);
+    assert_eq!(rt; again.status, u8::from(is_locked), "refused where it is locked");
     let mut files = again.files;
-    let _ = files.remove_file(b"/r/refs/heads/a.lock");
-    let last = told(rt, alloc, files, &UPDATE);
+    let _ = files.remove_file(LOCK.as_bytes());
+    let last = run_words(rt, alloc, files, &UPDATE);
     assert_eq!(rt; last.status, 0);
-    match last.files.get(b"/r/refs/heads/a") {
-        Some(text) => assert!(rt; is_text(rt, alloc, text, LINE)),
-        None => panic!(rt; "the reference"),
-    }
+    assert!(rt; last.files.get(A.as_bytes()) == Some(ONE.as_bytes()), "the reference");
 }
 
 #[test]
 fn five_calls_of_files(rt: HostRuntime) {
     let alloc = rt.alloc();
-    let ran = told(&rt, alloc, with_files(&rt, alloc, &[]), &UPDATE);
+    let ran = run_words(&rt, alloc, with_file(&rt, alloc, "", ""), &UPDATE);
     assert_eq!(rt; ran.files.calls(), CALLS);
-    let shown = told(&rt, alloc, ran.files, &SHOW);
+    let shown = run_words(&rt, alloc, ran.files, &SHOW);
     assert_eq!(rt; shown.files.calls(), CALLS + 1, "one read");
 }
 
@@ -59,10 +45,10 @@ fn five_calls_of_files(rt: HostRuntime) {
 fn stopped_at_each_call(rt: HostRuntime) {
     let alloc = rt.alloc();
     for k in 1..=CALLS {
-        for n in 0..=LINE.len() {
-            let mut memory = with_files(&rt, alloc, &[]);
+        for n in 0..=ONE.len() {
+            let mut memory = with_file(&rt, alloc, "", "");
             memory.stop_at(k, n);
-            let ran = told(&rt, alloc, memory, &UPDATE);
+            let ran = run_words(&rt, alloc, memory, &UPDATE);
             assert_eq!(rt; ran.status, 1);
             recovers(&rt, alloc, ran.files);
         }
@@ -72,20 +58,18 @@ fn stopped_at_each_call(rt: HostRuntime) {
 #[test]
 fn failed_at_each_call(rt: HostRuntime) {
     let alloc = rt.alloc();
-    let words = [
-        "refused: Io\n",
-        "refused: Io\n",
-        "refused: Io\n",
-        "refused: Io\n",
-        "refused: LockCommit\n",
-    ];
-    for (i, output) in words.iter().enumerate() {
-        let mut memory = with_files(&rt, alloc, &[]);
-        memory.fail_at(i as u64 + 1);
-        let ran = told(&rt, alloc, memory, &UPDATE);
-        assert!(rt; is_text(&rt, alloc, &ran.output, output), "call {i}");
-        assert!(rt; ran.files.get(b"/r/refs/heads/a").is_none());
-        assert!(rt; ran.files.get(b"/r/refs/heads/a.lock").is_none(), "no lock");
+    for k in 1..=CALLS {
+        let mut memory = with_file(&rt, alloc, "", "");
+        memory.fail_at(k);
+        let ran = run_words(&rt, alloc, memory, &UPDATE);
+        let want: &[u8] = if k == CALLS {
+            b"refused: LockCommit\n"
+        } else {
+            b"refused: Io\n"
+        };
+        assert!(rt; ran.output.as_slice() == want, "call {k}");
+        assert!(rt; ran.files.get(A.as_bytes()).is_none());
+        assert!(rt; ran.files.get(LOCK.as_bytes()).is_none(), "no lock");
         recovers(&rt, alloc, ran.files);
     }
 }
@@ -94,17 +78,11 @@ fn failed_at_each_call(rt: HostRuntime) {
 fn a_lock_that_stays_is_named(rt: HostRuntime) {
     let alloc = rt.alloc();
     // From the stopped rename on every call fails, so the lock cannot be removed.
-    let mut memory = with_files(&rt, alloc, &[]);
+    let mut memory = with_file(&rt, alloc, "", "");
     memory.stop_at(CALLS, 0);
-    let ran = told(&rt, alloc, memory, &UPDATE);
-    assert!(rt;
-        is_text(
-            &rt,
-            alloc,
-            &ran.output,
-            "refused: LockCommit\nlock left: /r/refs/heads/a.lock\n"
-        )
-    );
+    let ran = run_words(&rt, alloc, memory, &UPDATE);
+    let want: &[u8] = b"refused: LockCommit\nlock left: /r/refs/heads/a.lock\n";
+    assert!(rt; ran.output.as_slice() == want);
     assert_eq!(rt; ran.status, 1);
     recovers(&rt, alloc, ran.files);
 }

@@ -20,7 +20,7 @@ enum Answer<'a> {
 }
 
 /// What a lookup answered: an object is forty digits `1`, and a symbolic target has this name.
-fn answer<'a>(found: &'a Result<Reference, existing::Error>) -> Answer<'a> {
+fn answer_of<'a>(found: &'a Result<Reference, existing::Error>) -> Answer<'a> {
     match found {
         Ok(reference) => match &reference.target {
             Target::Object(_) => Answer::Object,
@@ -64,7 +64,7 @@ fn places(rt: HostRuntime) {
         let memory = files(&rt, alloc, place, ID);
         let mut store = store(&rt, alloc, memory, worktree, space);
         let found = store.find(alloc, partial(&rt, name));
-        assert_eq!(rt; answer(&found), Answer::Object, "{name} at {place}");
+        assert_eq!(rt; answer_of(&found), Answer::Object, "{name} at {place}");
         assert_eq!(rt; store.into_files().calls(), 1, "one file is read");
     }
 }
@@ -104,7 +104,7 @@ fn answers(rt: HostRuntime) {
         let memory = files(&rt, alloc, path, text);
         let mut store = store(&rt, alloc, memory, "", space);
         let found = store.find(alloc, partial(&rt, name));
-        assert_eq!(rt; answer(&found), want, "{meaning}");
+        assert_eq!(rt; answer_of(&found), want, "{meaning}");
     }
 }
 
@@ -137,5 +137,5 @@ fn a_fault_is_no_answer(rt: HostRuntime) {
         _ => panic!(rt; "the read fails"),
     }
     let found = store.find(alloc, partial(&rt, "HEAD"));
-    assert_eq!(rt; answer(&found), Answer::Object, "the next read answers");
+    assert_eq!(rt; answer_of(&found), Answer::Object, "the next read answers");
 }

@@ -17,7 +17,7 @@ enum Answer {
 }
 
 /// What becomes of a store in these folders.
-fn answer(rt: &impl Abort, alloc: Global, git_dir: &str, common_dir: Option<&str>) -> Answer {
+fn answer_in(rt: &impl Abort, alloc: Global, git_dir: &str, common_dir: Option<&str>) -> Answer {
     let files = Memory::new(alloc);
     let git_dir = bytes(rt, alloc, git_dir);
     let made = match common_dir {
@@ -58,7 +58,7 @@ fn clean_folders_that_do_not_meet(rt: HostRuntime) {
         ("a common folder", "/r/worktrees/a", Some("/r/"), Answer::PathNotClean),
     ];
     for (meaning, git_dir, common_dir, want) in rows {
-        assert_eq!(rt; answer(&rt, rt.alloc(), git_dir, common_dir), want, "{meaning}");
+        assert_eq!(rt; answer_in(&rt, rt.alloc(), git_dir, common_dir), want, "{meaning}");
     }
 }
 

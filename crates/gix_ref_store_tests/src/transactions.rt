@@ -1,30 +1,85 @@
-//! One update prepared and rolled back: each cause, what the lock holds, and that nothing else changes.
+//! One update, prepared and then committed or rolled back: each cause, the files after it, and the values handed back.
 ghost use Rattle.gix_ref_store.specs.Prepared.{IsOneUpdate};
 
-use crate::made::{bytes, full_name, id, namespace};
-use gix_ref_store::file::Store;
-use gix_ref_store::file::transaction::PackedRefs;
-use gix_ref_store::file::transaction::prepare::Error;
-use gix_ref_store::transaction::{Change, LogChange, PreviousValue, RefEdit};
-use gix_ref_base::name::FullName;
+use crate::made::{Id, digits, files, full_name, object, partial, store};
+use gix_ref_base::namespace::expand;
 use gix_ref_base::target::Target;
-use gix_ref_hash::hash::Kind;
 use gix_ref_memory::memory::Memory;
+use gix_ref_store::file::Store;
+use gix_ref_store::file::transaction::prepare::Error;
+use gix_ref_store::file::transaction::{PackedRefs, commit};
+use gix_ref_store::store::WriteReflog;
+use gix_ref_store::transaction::{Change, LogChange, PreviousValue, RefEdit};
 use std::alloc::Global;
 use std::process::Abort;
 
-/// Forty digits `1` and `2`, and sixty-four digits `3`.
-const ONE: &str = "1111111111111111111111111111111111111111";
+/// The path of the branch of most rows.
+const A: &str = "/r/refs/heads/a";
 
-const TWO: &str = "2222222222222222222222222222222222222222";
+/// Its lock.
+const LOCK: &str = "/r/refs/heads/a.lock";
 
-const LONG: &str = "3333333333333333333333333333333333333333333333333333333333333333";
+/// A loose text of forty digits `1`.
+const ONE: &[u8] = b"1111111111111111111111111111111111111111\n";
+
+/// What an update expects.
+#[derive(Clone, Copy, Debug, PartialEq, Eq)]
+enum Expect {
+    Any,
+    MustExist,
+    MustNotExist,
+    Match(Id),
+    Existing(Id),
+}
+
+/// What `prepare` answers.
+#[derive(Clone, Copy, Debug, PartialEq, Eq)]
+enum Answer {
+    Prepared,
+    UnsafeName,
+    TargetNotFull,
+    OtherHashKind,
+    PathCollision,
+    LockAcquire,
+    MustExist,
+    MustNotExist,
+    ReferenceOutOfDate,
+    Io,
+    Memory,
+}
+
+/// The variant of an error.
+fn answer_of(error: &Error) -> Answer {
+    match error {
+        Error::UnsafeName => Answer::UnsafeName,
+        Error::TargetNotFull => Answer::TargetNotFull,
+        Error::OtherHashKind => Answer::OtherHashKind,
+        Error::PathCollision { .. } => Answer::PathCollision,
+        Error::LockAcquire { .. } => Answer::LockAcquire,
+        Error::MustExist { .. } => Answer::MustExist,
+        Error::MustNotExist { .. } => Answer::MustNotExist,
+        Error::ReferenceOutOfDate { .. } => Answer::ReferenceOutOfDate,
+        Error::Io(_) => Answer::Io,
+        Error::Memory => Answer::Memory,
+    }
+}
+
+/// An expectation as the store takes it.
+fn expected(rt: &impl Abort, expect: Expect) -> PreviousValue {
+    match expect {
+        Expect::Any => PreviousValue::Any,
+        Expect::MustExist => PreviousValue::MustExist,
+        Expect::MustNotExist => PreviousValue::MustNotExist,
+        Expect::Match(id) => PreviousValue::MustExistAndMatch(object(rt, id)),
+        Expect::Existing(id) => PreviousValue::ExistingMustMatch(object(rt, id)),
+    }
+}
 
 /// One update of a name.
 fn update(
     rt: &impl Abort,
     alloc: Global,
-    name: FullName,
+    name: &str,
     expected: PreviousValue,
     new: Target,
 ) -> Vec<RefEdit>
@@ -36,7 +91,7 @@ fn update(
             expected,
             new,
         },
-        name,
+        name: full_name(rt, alloc, name),
         deref: false,
     };
     let mut edits = Vec::with_capacity(alloc, 1).expect(rt, "memory");
@@ -44,296 +99,83 @@ fn update(
     edits
 }
 
-/// The store in `/r`, in a namespace if there is one.
-fn store(rt: &impl Abort, alloc: Global, memory: Memory, space: &str) -> Store<Memory> {
-    let Ok(mut store) = Store::at(memory, bytes(rt, alloc, "/r"), Kind::Sha1) else {
-        panic!(rt; "a clean folder");
-    };
-    if !space.is_empty() {
-        store.namespace = Some(namespace(rt, alloc, space));
-    }
-    store
-}
-
-/// The name of an error.
-fn told(error: &Error) -> &'static str {
-    match error {
-        Error::UnsafeName => "UnsafeName",
-        Error::TargetNotFull => "TargetNotFull",
-        Error::OtherHashKind => "OtherHashKind",
-        Error::PathCollision { .. } => "PathCollision",
-        Error::LockAcquire { .. } => "LockAcquire",
-        Error::MustExist { .. } => "MustExist",
-        Error::MustNotExist { .. } => "MustNotExist",
-        Error::ReferenceOutOfDate { .. } => "ReferenceOutOfDate",
-        Error::Io(_) => "Io",
-        Error::Memory => "Memory",
-    }
-}
-
-/// An object of these digits.
-fn object(rt: &impl Abort, digits: &str) -> Target {
-    Target::Object(id(rt, digits.as_bytes()))
-}
-
-/// An expectation by its word and digits.
-fn expectation(rt: &impl Abort, word: &str, digits: &str) -> PreviousValue {
-    match word {
-        "MustExist" => PreviousValue::MustExist,
-        "MustNotExist" => PreviousValue::MustNotExist,
-        "MustExistAndMatch" => PreviousValue::MustExistAndMatch(object(rt, digits)),
-        "ExistingMustMatch" => PreviousValue::ExistingMustMatch(object(rt, digits)),
-        _ => PreviousValue::Any,
-    }
-}
-
-/// Prepares an update and rolls it back. Answers the error's name, or `Prepared`, with the files.
+/// Prepares an update and rolls it back. Answers what `prepare` did, with the files.
 fn prepared(
-    rt: &impl Abort,
     alloc: Global,
-    store: Store<Memory>,
+    mut store: Store<Memory>,
     edits: Vec<RefEdit>,
-) -> (&'static str, Memory)
+) -> (Answer, Memory)
     requires { IsOneUpdate edits.items }
 {
-    let mut store = store;
-    let word = match store
-        .transaction(PackedRefs::default())
-        .prepare(alloc, edits)
-    {
-        Err(refused) => {
-            assert!(rt; refused.locks_left.is_empty());
-            told(&refused.error)
-        }
+    let answer = match store.transaction(PackedRefs::default()).prepare(alloc, edits) {
+        Err(refused) => answer_of(&refused.error),
         Ok(prepared) => {
-            let back = prepared.rollback();
-            assert!(rt; back.locks_left.is_empty());
-            assert_eq!(rt; back.edits.len(), 1);
-            "Prepared"
+            let _ = prepared.rollback();
+            Answer::Prepared
         }
     };
-    (word, store.into_files())
+    (answer, store.into_files())
 }
+
+/// A file before, the name, the new id, what is expected, and the answer.
+type Row<'a> = (&'a str, (&'a str, &'a [u8]), &'a str, Id, Expect, Answer);
 
 #[test]
 fn causes(rt: HostRuntime) {
     let alloc = rt.alloc();
-    let a = "/r/refs/heads/a";
-    let rows: [(&str, &[u8], &str, &str, &str, &str, &str); 19] = [
-        ("", b"", "refs/heads/a", "Any", "", ONE, "Prepared"),
-        ("", b"", "logs/HEAD", "Any", "", ONE, "UnsafeName"),
-        ("", b"", "refs/heads/a", "Any", "", LONG, "OtherHashKind"),
+    let none: (&str, &[u8]) = ("", b"");
+    let one: (&str, &[u8]) = (A, ONE);
+    let bad: (&str, &[u8]) = (A, b"xyz");
+    let a = "refs/heads/a";
+    let rows: [Row<'_>; 19] = [
+        ("a new branch", none, a, Id::One, Expect::Any, Answer::Prepared),
+        ("an unsafe name", none, "logs/HEAD", Id::One, Expect::Any, Answer::UnsafeName),
+        ("an id of SHA-256", none, a, Id::Long, Expect::Any, Answer::OtherHashKind),
+        ("expected", none, a, Id::One, Expect::Existing(Id::Long), Answer::OtherHashKind),
+        ("a lock", (LOCK, b""), a, Id::One, Expect::Any, Answer::LockAcquire),
+        ("a file on the way", ("/r/refs", b""), a, Id::One, Expect::Any, Answer::PathCollision),
+        ("undecodable", bad, a, Id::One, Expect::Any, Answer::Prepared),
+        ("undecodable is absent", bad, a, Id::One, Expect::MustExist, Answer::MustExist),
+        ("absent", none, a, Id::One, Expect::MustExist, Answer::MustExist),
+        ("absent, not as told", none, a, Id::One, Expect::Match(Id::Two), Answer::MustExist),
+        ("absent, as told", none, a, Id::One, Expect::MustNotExist, Answer::Prepared),
+        ("absent may be", none, a, Id::One, Expect::Existing(Id::Two), Answer::Prepared),
+        ("there", one, a, Id::Two, Expect::MustExist, Answer::Prepared),
+        ("the new value already", one, a, Id::One, Expect::MustNotExist, Answer::Prepared),
+        ("there, not as told", one, a, Id::Two, Expect::MustNotExist, Answer::MustNotExist),
+        ("the old value", one, a, Id::Two, Expect::Match(Id::One), Answer::Prepared),
+        ("another", one, a, Id::Two, Expect::Match(Id::Two), Answer::ReferenceOutOfDate),
+        ("another one", one, a, Id::Two, Expect::Existing(Id::Two), Answer::ReferenceOutOfDate),
         (
-            "",
-            b"",
-            "refs/heads/a",
-            "ExistingMustMatch",
-            LONG,
-            ONE,
-            "OtherHashKind",
-        ),
-        (
-            "/r/refs/heads/a.lock",
-            b"",
-            "refs/heads/a",
-            "Any",
-            "",
-            ONE,
-            "LockAcquire",
-        ),
-        (
-            "/r/refs/heads",
-            b"",
-            "refs/heads/a",
-            "Any",
-            "",
-            ONE,
-            "PathCollision",
-        ),
-        (a, b"xyz", "refs/heads/a", "Any", "", ONE, "Prepared"),
-        (a, b"xyz", "refs/heads/a", "MustExist", "", ONE, "MustExist"),
-        ("", b"", "refs/heads/a", "MustExist", "", ONE, "MustExist"),
-        (
-            "",
-            b"",
-            "refs/heads/a",
-            "MustExistAndMatch",
-            TWO,
-            ONE,
-            "MustExist",
-        ),
-        ("", b"", "refs/heads/a", "MustNotExist", "", ONE, "Prepared"),
-        (
-            "",
-            b"",
-            "refs/heads/a",
-            "ExistingMustMatch",
-            TWO,
-            ONE,
-            "Prepared",
-        ),
-        (
+            "a name for an id",
+            (A, b"ref: HEAD\n"),
             a,
-            b"1111111111111111111111111111111111111111\n",
-            "refs/heads/a",
-            "MustExist",
-            "",
-            TWO,
-            "Prepared",
-        ),
-        (
-            a,
-            b"1111111111111111111111111111111111111111\n",
-            "refs/heads/a",
-            "MustNotExist",
-            "",
-            ONE,
-            "Prepared",
-        ),
-        (
-            a,
-            b"1111111111111111111111111111111111111111\n",
-            "refs/heads/a",
-            "MustNotExist",
-            "",
-            TWO,
-            "MustNotExist",
-        ),
-        (
-            a,
-            b"1111111111111111111111111111111111111111\n",
-            "refs/heads/a",
-            "MustExistAndMatch",
-            ONE,
-            TWO,
-            "Prepared",
-        ),
-        (
-            a,
-            b"1111111111111111111111111111111111111111\n",
-            "refs/heads/a",
-            "MustExistAndMatch",
-            TWO,
-            TWO,
-            "ReferenceOutOfDate",
-        ),
-        (
-            a,
-            b"1111111111111111111111111111111111111111\n",
-            "refs/heads/a",
-            "ExistingMustMatch",
-            TWO,
-            TWO,
-            "ReferenceOutOfDate",
-        ),
-        (
-            a,
-            b"ref: HEAD\n",
-            "refs/heads/a",
-            "MustExistAndMatch",
-            ONE,
-            TWO,
-            "ReferenceOutOfDate",
+            Id::Two,
+            Expect::Match(Id::One),
+            Answer::ReferenceOutOfDate,
         ),
     ];
-    for (path, text, name, word, digits, new, want) in rows {
-        let mut memory = Memory::new(alloc);
-        if !path.is_empty() {
-            assert!(rt; memory.put(path.as_bytes(), text).expect(&rt, "memory"));
-        }
-        let store = store(&rt, alloc, memory, "");
-        let edits = update(
-            &rt,
-            alloc,
-            full_name(&rt, alloc, name),
-            expectation(&rt, word, digits),
-            object(&rt, new),
-        );
-        let (told, memory) = prepared(&rt, alloc, store, edits);
-        assert!(rt; told == want, "{name} {word}");
-        if !path.is_empty() {
-            assert!(rt;
-                memory.get(path.as_bytes()) == Some(text),
-                "the file is as it was"
-            );
-        }
-        let is_left = memory.get(b"/r/refs/heads/a.lock").is_some();
-        assert_eq!(rt;
-            is_left,
-            path == "/r/refs/heads/a.lock",
-            "no lock but one that stood"
-        );
-    }
-}
-
-#[test]
-fn the_lock_has_the_whole_text(rt: HostRuntime) {
-    let alloc = rt.alloc();
-    let rows: [(&str, &[u8], &str, &str); 3] = [
-        ("", b"", "", "/r/refs/heads/a.lock"),
-        ("", b"", "foo", "/r/refs/namespaces/foo/refs/heads/a.lock"),
-        (
-            "/r/refs/heads/a",
-            b"1111111111111111111111111111111111111111\n",
-            "",
-            "/r/refs/heads/a.lock",
-        ),
-    ];
-    for (path, text, space, lock) in rows {
-        let mut memory = Memory::new(alloc);
-        if !path.is_empty() {
-            assert!(rt; memory.put(path.as_bytes(), text).expect(&rt, "memory"));
-        }
-        // The append is the fourth call, and the process ends in it after all of its bytes.
-        memory.stop_at(4, 100);
-        let mut store = store(&rt, alloc, memory, space);
-        let edits = update(
-            &rt,
-            alloc,
-            full_name(&rt, alloc, "refs/heads/a"),
-            PreviousValue::Any,
-            object(&rt, TWO),
-        );
-        match store
-            .transaction(PackedRefs::DeletionsOnly)
-            .prepare(alloc, edits)
-        {
-            Ok(prepared) => {
-                let _ = prepared.rollback();
-                panic!(rt; "the process ends");
-            }
-            Err(refused) => {
-                assert_eq!(rt; told(&refused.error), "Io");
-                assert_eq!(rt; refused.locks_left.len(), 1);
-                let left = refused.locks_left.first().expect(&rt, "one lock");
-                assert!(rt; left.as_slice() == lock.as_bytes(), "{lock}");
-            }
-        }
-        let memory = store.into_files();
-        assert!(rt;
-            memory.get(lock.as_bytes())
-                == Some(b"2222222222222222222222222222222222222222\n".as_slice()),
-            "{lock}"
-        );
+    for (meaning, (path, text), name, new, expect, want) in rows {
+        let store = store(&rt, alloc, files(&rt, alloc, path, text), "", "");
+        let edits = update(&rt, alloc, name, expected(&rt, expect), object(&rt, new));
+        let (answer, memory) = prepared(alloc, store, edits);
+        assert_eq!(rt; answer, want, "{meaning}");
+        assert_eq!(rt; memory.get(LOCK.as_bytes()).is_some(), path == LOCK, "no other lock");
     }
 }
 
 #[test]
 fn a_symbolic_target_is_a_full_name(rt: HostRuntime) {
     let alloc = rt.alloc();
-    let mut partial = full_name(&rt, alloc, "refs/namespaces/foo/main");
-    partial.strip_namespace(&namespace(&rt, alloc, "foo"));
-    let store = store(&rt, alloc, Memory::new(alloc), "");
-    let edits = update(
-        &rt,
-        alloc,
-        full_name(&rt, alloc, "HEAD"),
-        PreviousValue::Any,
-        Target::Symbolic(partial),
-    );
-    let (told, memory) = prepared(&rt, alloc, store, edits);
-    assert_eq!(rt; told, "TargetNotFull");
-    assert_eq!(rt; memory.calls(), 0);
+    let mut merely_partial = full_name(&rt, alloc, "refs/namespaces/foo/main");
+    let namespace = expand(alloc, partial(&rt, "foo")).expect(&rt, "memory");
+    merely_partial.strip_namespace(&namespace);
+    let store = store(&rt, alloc, Memory::new(alloc), "", "");
+    let target = Target::Symbolic(merely_partial);
+    let edits = update(&rt, alloc, "HEAD", PreviousValue::Any, target);
+    let (answer, memory) = prepared(alloc, store, edits);
+    assert_eq!(rt; answer, Answer::TargetNotFull);
+    assert_eq!(rt; memory.calls(), 0, "no file is touched");
 }
 
 #[test]
@@ -342,26 +184,134 @@ fn each_call_fails_once(rt: HostRuntime) {
     for k in 1..5u64 {
         let mut memory = Memory::new(alloc);
         memory.fail_at(k);
-        let store = store(&rt, alloc, memory, "");
-        let edits = update(
-            &rt,
-            alloc,
-            full_name(&rt, alloc, "refs/heads/a"),
-            PreviousValue::Any,
-            object(&rt, ONE),
-        );
-        let (told, memory) = prepared(&rt, alloc, store, edits);
-        assert_eq!(rt; told, "Io", "call {k}");
-        assert!(rt; memory.get(b"/r/refs/heads/a.lock").is_none(), "call {k}");
+        let store = store(&rt, alloc, memory, "", "");
+        let new = object(&rt, Id::One);
+        let edits = update(&rt, alloc, "refs/heads/a", PreviousValue::Any, new);
+        let (answer, memory) = prepared(alloc, store, edits);
+        assert_eq!(rt; answer, Answer::Io, "call {k}");
+        assert!(rt; memory.get(LOCK.as_bytes()).is_none(), "no lock after call {k}");
     }
+}
+
+#[test]
+fn a_stop_leaves_the_whole_text_in_the_lock(rt: HostRuntime) {
+    let alloc = rt.alloc();
+    let mut memory = files(&rt, alloc, A, ONE);
+    // The append is the fourth call, and the process ends in it after all of its bytes.
+    memory.stop_at(4, 100);
+    let mut store = store(&rt, alloc, memory, "", "");
+    let new = object(&rt, Id::Two);
+    let edits = update(&rt, alloc, "refs/heads/a", PreviousValue::Any, new);
+    match store.transaction(PackedRefs::DeletionsOnly).prepare(alloc, edits) {
+        Ok(prepared) => {
+            let _ = prepared.rollback();
+            panic!(rt; "the process ends");
+        }
+        Err(refused) => {
+            assert_eq!(rt; answer_of(&refused.error), Answer::Io);
+            assert_eq!(rt; refused.locks_left.len(), 1, "it cannot remove the lock");
+        }
+    }
+    let memory = store.into_files();
+    assert!(rt;
+        memory.get(LOCK.as_bytes()) == Some(b"2222222222222222222222222222222222222222\n".as_slice())
+    );
+    assert!(rt; memory.get(A.as_bytes()) == Some(ONE), "and the reference is as before");
+}
+
+/// Commits an update of a name to forty digits `2`: the folder that was in its place, or the edits.
+fn committed(
+    alloc: Global,
+    store: &mut Store<Memory>,
+    edits: Vec<RefEdit>,
+) -> Result<Vec<RefEdit>, commit::Error>
+    requires { IsOneUpdate edits.items }
+{
+    store.write_reflog = WriteReflog::Disable;
+    match store.transaction(PackedRefs::default()).prepare(alloc, edits) {
+        Err(_) => Ok(Vec::new(alloc)),
+        Ok(prepared) => match prepared.commit(alloc, None) {
+            Ok(done) => Ok(done.edits),
+            Err(failed) => Err(failed.error),
+        },
+    }
+}
+
+#[test]
+fn commits_in_their_places(rt: HostRuntime) {
+    let alloc = rt.alloc();
+    let rows: [(&str, &str, &str, &str, &str); 5] = [
+        ("a branch", "", "", "refs/heads/a", A),
+        ("in a namespace", "", "foo", "refs/heads/a", "/r/refs/namespaces/foo/refs/heads/a"),
+        ("of another worktree", "", "", "worktrees/w/refs/heads/a", A),
+        ("from a linked worktree", "/r/worktrees/w", "", "HEAD", "/r/worktrees/w/HEAD"),
+        ("shared from there", "/r/worktrees/w", "", "refs/heads/a", A),
+    ];
+    for (meaning, worktree, space, name, place) in rows {
+        let mut store = store(&rt, alloc, Memory::new(alloc), worktree, space);
+        let new = object(&rt, Id::One);
+        let edits = update(&rt, alloc, name, PreviousValue::Any, new);
+        let Ok(edits) = committed(alloc, &mut store, edits) else {
+            panic!(rt; "{meaning}");
+        };
+        assert_eq!(rt; edits.len(), 1, "{meaning}");
+        assert!(rt; store.into_files().get(place.as_bytes()) == Some(ONE), "{meaning}");
+    }
+}
+
+#[test]
+fn a_found_reference_is_expected_afterwards(rt: HostRuntime) {
+    let alloc = rt.alloc();
+    let mut store = store(&rt, alloc, files(&rt, alloc, A, ONE), "", "");
+    let new = object(&rt, Id::Two);
+    let edits = update(&rt, alloc, "refs/heads/a", PreviousValue::Any, new);
+    let Ok(edits) = committed(alloc, &mut store, edits) else {
+        panic!(rt; "it is committed");
+    };
+    match edits.first() {
+        Some(RefEdit {
+            change: Change::Update { expected, .. },
+            ..
+        }) => assert!(rt; *expected == PreviousValue::MustExistAndMatch(object(&rt, Id::One))),
+        _ => panic!(rt; "one update"),
+    }
+}
+
+#[test]
+fn an_equal_object_writes_no_file(rt: HostRuntime) {
+    let alloc = rt.alloc();
+    let text = b"1111111111111111111111111111111111111111 and junk";
+    let mut store = store(&rt, alloc, files(&rt, alloc, A, text), "", "");
+    let new = object(&rt, Id::One);
+    let edits = update(&rt, alloc, "refs/heads/a", PreviousValue::MustNotExist, new);
+    let done = committed(alloc, &mut store, edits);
+    assert!(rt; done.is_ok(), "{}", digits(Id::One));
+    let memory = store.into_files();
+    assert!(rt; memory.get(A.as_bytes()) == Some(text.as_slice()), "the file is as it was");
+    assert!(rt; memory.get(LOCK.as_bytes()).is_none(), "and the lock is gone");
+}
+
+#[test]
+fn a_folder_in_place(rt: HostRuntime) {
+    let alloc = rt.alloc();
+    let mut store = store(&rt, alloc, files(&rt, alloc, "/r/refs/heads/a/b", ONE), "", "");
+    let new = object(&rt, Id::One);
+    let edits = update(&rt, alloc, "refs/heads/a", PreviousValue::Any, new);
+    match committed(alloc, &mut store, edits) {
+        Err(commit::Error::FolderInPlace { path }) => {
+            assert!(rt; path.as_slice() == A.as_bytes());
+        }
+        _ => panic!(rt; "a folder is there"),
+    }
+    assert!(rt; store.into_files().get(LOCK.as_bytes()).is_none(), "the lock is gone");
 }
 
 #[test]
 fn given_up_before(rt: HostRuntime) {
     let alloc = rt.alloc();
-    let mut store = store(&rt, alloc, Memory::new(alloc), "");
+    let mut store = store(&rt, alloc, Memory::new(alloc), "", "");
     let back = store.transaction(PackedRefs::DeletionsOnly).rollback(alloc);
     assert!(rt; back.edits.is_empty() && back.locks_left.is_empty());
     assert_eq!(rt; back.packed_refs, PackedRefs::DeletionsOnly);
-    assert_eq!(rt; store.into_files().calls(), 0);
+    assert_eq!(rt; store.into_files().calls(), 0, "no file is touched");
 }

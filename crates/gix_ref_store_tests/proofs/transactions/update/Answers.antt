@@ -2,7 +2,7 @@ use Rattle.std.proofs.Common.{◌≡◌, [], ◌∷◌, ◌++◌, List, refl, �
 use Rattle.std.specs.Result.{is_ok}
 use Rattle.gix_ref_store.specs.declared.transaction.Change.TheVariants.{Update}
 use Rattle.gix_ref_store.specs.declared.transaction.RefEdit.{RefEdit}
-use Rattle.gix_ref_tests.proofs.store.prepare.update.Goals as goal
+use Rattle.gix_ref_store_tests.proofs.transactions.update.Goals as goal
 
 -- the list holds the one edit that was put into it
 pub returns : goal.returns

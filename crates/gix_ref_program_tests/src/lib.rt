@@ -1,0 +1,11 @@
+//! Tests of the program: rows of runs, stops and faults, and the disk.
+#![tactic(auto)]
+
+#[cfg(test)]
+mod disk;
+#[cfg(test)]
+mod ran;
+#[cfg(test)]
+mod rows;
+#[cfg(test)]
+mod stops;
