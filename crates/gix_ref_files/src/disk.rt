@@ -42,7 +42,8 @@ fn fault(faults: &mut u64, kind: ErrorKind) -> FileError
 /// The path as text. A path that is not UTF-8 is a fault, and is counted.
 fn text_of<'p>(faults: &mut u64, path: &'p [u8]) -> Result<&'p str, FileError>
     ensures text { OnOk result (faults.new ≡ faults.old) }
-    ensures counted { IfErr result (λ error. (error ≡ NotUtf8) × (faults.new ≡ one_more faults.old)) }
+    ensures counted { IfErr result (λ error. (error ≡ NotUtf8)
+        × (faults.new ≡ one_more faults.old)) }
 {
     match std::str::from_utf8(path) {
         Ok(path) => Ok(path),

@@ -126,83 +126,110 @@ pub trait Files {
 
     /// Tells what stands at a path.
     fn kind(&mut self, path: &[u8]) -> Result<Node, FileError>
-        ensures answer { honest → IfOk result (λ node. node ≡ node_at (means self.old).tree path.now) }
-        ensures leaves { honest → Leaves (means self.old) (means self.new) (Only (means self.old).tree) }
+        ensures answer { honest →
+            IfOk result (λ node. node ≡ node_at (means self.old).tree path.now) }
+        ensures leaves { honest → Leaves (means self.old) (means self.new)
+            (Only (means self.old).tree) }
         ensures count { faults self.new ≡ count_after result (faults self.old) }
         ensures memory { IsErrOf result FileError.Memory → ⊥ };
 
     /// Tells what stands at a path, and where it is a file puts its bytes into the buffer in place of what was there.
     /// At every other answer, and after an error, the buffer is empty.
     fn read(&mut self, alloc: Global, path: &[u8], buf: &mut Vec<u8>) -> Result<Node, FileError>
-        ensures answer { honest → IfOk result (λ node. node ≡ node_at (means self.old).tree path.now) }
-        ensures bytes { honest → IfOk result (λ node. node ≡ Node.File → buf.new.items ≡ bytes_of ((means self.old).tree path.now)) }
+        ensures answer { honest →
+            IfOk result (λ node. node ≡ node_at (means self.old).tree path.now) }
+        ensures bytes { honest → IfOk result (λ node. node ≡ Node.File →
+            buf.new.items ≡ bytes_of ((means self.old).tree path.now)) }
         ensures emptied { emptied result buf.new.items }
-        ensures leaves { honest → Leaves (means self.old) (means self.new) (Only (means self.old).tree) }
+        ensures leaves { honest → Leaves (means self.old) (means self.new)
+            (Only (means self.old).tree) }
         ensures count { faults self.new ≡ count_after result (faults self.old) };
 
     /// Opens a file for reading; none where no file stands.
     fn open(&mut self, alloc: Global, path: &[u8]) -> Result<Option<Self::Reader>, FileError>
-        ensures answer { honest → IfOk result (λ reader. Opens Self.Reader.honest Self.Reader.bytes (means self.old).tree path.now reader) }
-        ensures leaves { honest → Leaves (means self.old) (means self.new) (Only (means self.old).tree) }
+        ensures answer { honest →
+            IfOk result (λ reader. Opens Self.Reader.honest Self.Reader.bytes (means self.old).tree
+            path.now reader) }
+        ensures leaves { honest → Leaves (means self.old) (means self.new)
+            (Only (means self.old).tree) }
         ensures count { faults self.new ≡ count_after result (faults self.old) };
 
     /// Lists the files and folders in a folder, each once, in an order that is open; none where no folder stands.
     fn list(&mut self, alloc: Global, path: &[u8]) -> Result<Option<Vec<Entry>>, FileError>
         ensures answer { honest → IfOk result (Lists (means self.old).tree path.now) }
-        ensures leaves { honest → Leaves (means self.old) (means self.new) (Only (means self.old).tree) }
+        ensures leaves { honest → Leaves (means self.old) (means self.new)
+            (Only (means self.old).tree) }
         ensures count { faults self.new ≡ count_after result (faults self.old) };
 
     /// Makes an empty file where nothing stands and folders lead there. A fault leaves all as before.
     fn create_new(&mut self, path: &[u8]) -> Result<Create, FileError>
-        ensures answer { honest → IfOk result (Creates (means self.old).tree path.now (means self.new).tree) }
+        ensures answer { honest →
+            IfOk result (Creates (means self.old).tree path.now (means self.new).tree) }
         ensures failed { honest → OnErr result ((means self.new).tree ≡ (means self.old).tree) }
-        ensures leaves { honest → Leaves (means self.old) (means self.new) (Creating (means self.old).tree path.now) }
+        ensures leaves { honest → Leaves (means self.old) (means self.new)
+            (Creating (means self.old).tree path.now) }
         ensures count { faults self.new ≡ count_after result (faults self.old) }
         ensures memory { IsErrOf result FileError.Memory → ⊥ };
 
     /// Makes the folders that lead to a path, and one there, where they do not stand; false where a file is in the
     /// way. A fault leaves a beginning of them, the outermost first.
     fn make_folders(&mut self, path: &[u8]) -> Result<bool, FileError>
-        ensures answer { honest → IfOk result (MakesFolders (means self.old).tree path.now (means self.new).tree) }
-        ensures leaves { honest → Leaves (means self.old) (means self.new) (MakingFolders (means self.old).tree path.now) }
-        ensures adds { honest → OnOk result (Adds (means self.old) (means self.new) (MakingFolders (means self.old).tree path.now)) }
+        ensures answer { honest →
+            IfOk result (MakesFolders (means self.old).tree path.now (means self.new).tree) }
+        ensures leaves { honest → Leaves (means self.old) (means self.new)
+            (MakingFolders (means self.old).tree path.now) }
+        ensures adds { honest →
+            OnOk result (Adds (means self.old) (means self.new) (MakingFolders (means self.old).tree
+            path.now)) }
         ensures count { faults self.new ≡ count_after result (faults self.old) }
         ensures memory { IsErrOf result FileError.Memory → ⊥ };
 
     /// Adds bytes to the end of a file; false where no file stands. A fault leaves any beginning of them there.
     fn append(&mut self, path: &[u8], bytes: &[u8]) -> Result<bool, FileError>
-        ensures answer { honest → IfOk result (Appends (means self.old).tree path.now bytes.now (means self.new).tree) }
-        ensures leaves { honest → Leaves (means self.old) (means self.new) (Appending (means self.old).tree path.now bytes.now) }
-        ensures adds { honest → OnOk result (Adds (means self.old) (means self.new) (Appending (means self.old).tree path.now bytes.now)) }
+        ensures answer { honest →
+            IfOk result (Appends (means self.old).tree path.now bytes.now (means self.new).tree) }
+        ensures leaves { honest → Leaves (means self.old) (means self.new)
+            (Appending (means self.old).tree path.now bytes.now) }
+        ensures adds { honest →
+            OnOk result (Adds (means self.old) (means self.new)
+            (Appending (means self.old).tree path.now bytes.now)) }
         ensures count { faults self.new ≡ count_after result (faults self.old) }
         ensures memory { IsErrOf result FileError.Memory → ⊥ };
 
     /// Moves a file, also onto a file. A fault leaves the tree before or the tree after.
     fn rename(&mut self, from: &[u8], to: &[u8]) -> Result<Rename, FileError>
-        ensures answer { honest → IfOk result (Renames (means self.old).tree from.now to.now (means self.new).tree) }
-        ensures leaves { honest → Leaves (means self.old) (means self.new) (Renaming (means self.old).tree from.now to.now) }
+        ensures answer { honest →
+            IfOk result (Renames (means self.old).tree from.now to.now (means self.new).tree) }
+        ensures leaves { honest → Leaves (means self.old) (means self.new)
+            (Renaming (means self.old).tree from.now to.now) }
         ensures count { faults self.new ≡ count_after result (faults self.old) }
         ensures memory { IsErrOf result FileError.Memory → ⊥ };
 
     /// Removes a file; false where none stands. A fault leaves the tree before or the tree after.
     fn remove_file(&mut self, path: &[u8]) -> Result<bool, FileError>
-        ensures answer { honest → IfOk result (RemovesFile (means self.old).tree path.now (means self.new).tree) }
-        ensures leaves { honest → Leaves (means self.old) (means self.new) (RemovingFile (means self.old).tree path.now) }
+        ensures answer { honest →
+            IfOk result (RemovesFile (means self.old).tree path.now (means self.new).tree) }
+        ensures leaves { honest → Leaves (means self.old) (means self.new)
+            (RemovingFile (means self.old).tree path.now) }
         ensures count { faults self.new ≡ count_after result (faults self.old) }
         ensures memory { IsErrOf result FileError.Memory → ⊥ };
 
     /// Removes an empty folder; false where none stands. A fault leaves the tree before or the tree after.
     fn remove_folder(&mut self, path: &[u8]) -> Result<bool, FileError>
-        ensures answer { honest → IfOk result (RemovesFolder (means self.old).tree path.now (means self.new).tree) }
-        ensures leaves { honest → Leaves (means self.old) (means self.new) (RemovingFolder (means self.old).tree path.now) }
+        ensures answer { honest →
+            IfOk result (RemovesFolder (means self.old).tree path.now (means self.new).tree) }
+        ensures leaves { honest → Leaves (means self.old) (means self.new)
+            (RemovingFolder (means self.old).tree path.now) }
         ensures count { faults self.new ≡ count_after result (faults self.old) }
         ensures memory { IsErrOf result FileError.Memory → ⊥ };
 
     /// The tree is in every set of a moment that has come.
-    ghost tree_is_left: { (files : Self) (t : ℕ) → honest → t ≤ (means files).moment → (means files).left_since t (means files).tree };
+    ghost tree_is_left: { (files : Self) (t : ℕ) → honest → t ≤ (means files).moment →
+        (means files).left_since t (means files).tree };
 
     /// Since this moment there is no other.
-    ghost only_now: { (files : Self) (T : Tree) → honest → (means files).left_since (means files).moment T → T ≡ (means files).tree };
+    ghost only_now: { (files : Self) (T : Tree) → honest →
+        (means files).left_since (means files).moment T → T ≡ (means files).tree };
 
     /// Every proper front of what stands is a folder.
     ghost shaped: { (files : Self) → honest → IsShaped (means files).tree };

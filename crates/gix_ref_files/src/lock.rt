@@ -72,8 +72,10 @@ fn folder_end(path: &[u8]) -> usize
 
 /// Makes the folders that lead to a path; false where a file stands in it.
 fn ready<F: Files>(files: &mut F, path: &[u8]) -> Result<bool, FileError>
-    ensures answer { F.honest → IfOk result (Readies (F.means files.old).tree path.now (F.means files.new).tree) }
-    ensures leaves { F.honest → Leaves (F.means files.old) (F.means files.new) (Readying (F.means files.old).tree path.now) }
+    ensures answer { F.honest →
+        IfOk result (Readies (F.means files.old).tree path.now (F.means files.new).tree) }
+    ensures leaves { F.honest → Leaves (F.means files.old) (F.means files.new)
+        (Readying (F.means files.old).tree path.now) }
     ensures count { F.faults files.new ≡ count_after result (F.faults files.old) }
     ensures memory { IsErrOf result FileError.Memory → ⊥ }
 {
@@ -99,9 +101,12 @@ fn names(alloc: Global, path: &[u8]) -> Result<(Vec<u8>, Vec<u8>), AllocError>
 /// already, and who sees to the lock's removal. An error leaves no lock.
 pub fn make_lock<F: Files>(files: &mut F, path: &[u8], lock: &[u8]) -> Result<Create, FileError>
     requires { lock.now ≡ lock_of path.now }
-    ensures answer { F.honest → IfOk result (MakesLock (F.means files.old).tree path.now (F.means files.new).tree) }
-    ensures failed { F.honest → OnErr result (Readying (F.means files.old).tree path.now (F.means files.new).tree) }
-    ensures leaves { F.honest → Leaves (F.means files.old) (F.means files.new) (Acquiring (F.means files.old).tree path.now) }
+    ensures answer { F.honest →
+        IfOk result (MakesLock (F.means files.old).tree path.now (F.means files.new).tree) }
+    ensures failed { F.honest →
+        OnErr result (Readying (F.means files.old).tree path.now (F.means files.new).tree) }
+    ensures leaves { F.honest → Leaves (F.means files.old) (F.means files.new)
+        (Acquiring (F.means files.old).tree path.now) }
     ensures count { F.faults files.new ≡ count_after result (F.faults files.old) }
     ensures memory { IsErrOf result FileError.Memory → ⊥ }
 {
@@ -119,12 +124,15 @@ impl Lock {
         files: &mut F,
         path: &[u8],
     ) -> Result<Acquire, FileError>
-        ensures answer { F.honest → IfOk result (Acquires (F.means files.old).tree path.now (F.means files.new).tree) }
+        ensures answer { F.honest →
+            IfOk result (Acquires (F.means files.old).tree path.now (F.means files.new).tree) }
 
         // An error leaves no lock, and no more than a beginning of the folders that lead to it.
-        ensures failed { F.honest → OnErr result (Readying (F.means files.old).tree path.now (F.means files.new).tree) }
+        ensures failed { F.honest →
+            OnErr result (Readying (F.means files.old).tree path.now (F.means files.new).tree) }
 
-        ensures leaves { F.honest → Leaves (F.means files.old) (F.means files.new) (Acquiring (F.means files.old).tree path.now) }
+        ensures leaves { F.honest → Leaves (F.means files.old) (F.means files.new)
+            (Acquiring (F.means files.old).tree path.now) }
         ensures count { F.faults files.new ≡ count_after result (F.faults files.old) }
         ensures memory { IsErrOf result FileError.Memory → files.new ≡ files.old }
     {
@@ -141,9 +149,14 @@ impl Lock {
     /// Adds bytes to the file of the lock; false where it does not stand. A fault leaves any beginning of them there,
     /// and the lock held.
     pub fn write<F: Files>(&self, files: &mut F, bytes: &[u8]) -> Result<bool, FileError>
-        ensures answer { F.honest → IfOk result (Appends (F.means files.old).tree (lock_of self.now) bytes.now (F.means files.new).tree) }
-        ensures leaves { F.honest → Leaves (F.means files.old) (F.means files.new) (Appending (F.means files.old).tree (lock_of self.now) bytes.now) }
-        ensures adds { F.honest → OnOk result (Adds (F.means files.old) (F.means files.new) (Appending (F.means files.old).tree (lock_of self.now) bytes.now)) }
+        ensures answer { F.honest →
+            IfOk result (Appends (F.means files.old).tree (lock_of self.now) bytes.now
+            (F.means files.new).tree) }
+        ensures leaves { F.honest → Leaves (F.means files.old) (F.means files.new)
+            (Appending (F.means files.old).tree (lock_of self.now) bytes.now) }
+        ensures adds { F.honest →
+            OnOk result (Adds (F.means files.old) (F.means files.new)
+            (Appending (F.means files.old).tree (lock_of self.now) bytes.now)) }
         ensures count { F.faults files.new ≡ count_after result (F.faults files.old) }
         ensures memory { IsErrOf result FileError.Memory → ⊥ }
     {
@@ -153,8 +166,10 @@ impl Lock {
     /// Renames the file of the lock to the place. A fault gives the lock back; its file stands where it was, or at
     /// the place.
     pub fn commit<F: Files>(self, files: &mut F) -> Result<Commit, Unspent>
-        ensures answer { F.honest → IfOk result (Commits (F.means files.old).tree self (F.means files.new).tree) }
-        ensures leaves { F.honest → Leaves (F.means files.old) (F.means files.new) (Renaming (F.means files.old).tree (lock_of self) self) }
+        ensures answer { F.honest →
+            IfOk result (Commits (F.means files.old).tree self (F.means files.new).tree) }
+        ensures leaves { F.honest → Leaves (F.means files.old) (F.means files.new)
+            (Renaming (F.means files.old).tree (lock_of self) self) }
         ensures back { IfErr result (λ unspent. unspent.lock ≡ self) }
         ensures count { F.faults files.new ≡ count_unspent result (F.faults files.old) }
         ensures memory { IfErr result (λ unspent. unspent.error ≡ FileError.Memory → ⊥) }
@@ -172,8 +187,11 @@ impl Lock {
     /// Removes the file of the lock; false where it does not stand. A fault gives the lock back; its file stands, or
     /// it is gone.
     pub fn remove<F: Files>(self, files: &mut F) -> Result<bool, Unspent>
-        ensures answer { F.honest → IfOk result (RemovesFile (F.means files.old).tree (lock_of self) (F.means files.new).tree) }
-        ensures leaves { F.honest → Leaves (F.means files.old) (F.means files.new) (RemovingFile (F.means files.old).tree (lock_of self)) }
+        ensures answer { F.honest →
+            IfOk result (RemovesFile (F.means files.old).tree (lock_of self)
+            (F.means files.new).tree) }
+        ensures leaves { F.honest → Leaves (F.means files.old) (F.means files.new)
+            (RemovingFile (F.means files.old).tree (lock_of self)) }
         ensures back { IfErr result (λ unspent. unspent.lock ≡ self) }
         ensures count { F.faults files.new ≡ count_unspent result (F.faults files.old) }
         ensures memory { IfErr result (λ unspent. unspent.error ≡ FileError.Memory → ⊥) }

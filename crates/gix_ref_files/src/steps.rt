@@ -65,10 +65,15 @@ impl From<FileError> for Cause {
 
 /// Does one step.
 fn run_step<F: Files>(files: &mut F, action: &Action) -> Result<(), Cause>
-    ensures done { F.honest → OnOk result (Does (step_of action.now) (F.means files.old).tree (F.means files.new).tree) }
-    ensures ended { F.honest → IfErr result (λ cause. EndsBy (step_of action.now) cause (F.means files.old).tree (F.means files.new).tree) }
-    ensures leaves { F.honest → Leaves (F.means files.old) (F.means files.new) (Begins (step_of action.now) (F.means files.old).tree) }
-    ensures count { MatchResult result (λ _. F.faults files.new ≡ F.faults files.old) (λ cause. F.faults files.new ≡ count_ended cause (F.faults files.old)) }
+    ensures done { F.honest →
+        OnOk result (Does (step_of action.now) (F.means files.old).tree (F.means files.new).tree) }
+    ensures ended { F.honest →
+        IfErr result (λ cause. EndsBy (step_of action.now) cause (F.means files.old).tree
+        (F.means files.new).tree) }
+    ensures leaves { F.honest → Leaves (F.means files.old) (F.means files.new)
+        (Begins (step_of action.now) (F.means files.old).tree) }
+    ensures count { MatchResult result (λ _. F.faults files.new ≡ F.faults files.old)
+        (λ cause. F.faults files.new ≡ count_ended cause (F.faults files.old)) }
     ensures asked { IsErrOf result Cause.Asked → action.now ≡ Action.End }
     ensures memory { IsErrOf result (File FileError.Memory) → ⊥ }
 {
@@ -93,13 +98,19 @@ fn run_step<F: Files>(files: &mut F, action: &Action) -> Result<(), Cause>
 /// Does the steps of a plan in order, up to the first fault, unexpected answer or `End`. Takes no memory of its own.
 /// Costs one call of files for each step.
 pub fn run_steps<F: Files, E>(files: &mut F, plan: &[Planned<E>]) -> Result<(), Ended>
-    ensures done { F.honest → OnOk result (IsAfter (steps_of plan.now) (F.means files.old).tree (F.means files.new).tree) }
-    ensures ended { F.honest → IfErr result (λ end. EndsAt (steps_of plan.now) end.at end.cause (F.means files.old).tree (F.means files.new).tree) }
+    ensures done { F.honest →
+        OnOk result (IsAfter (steps_of plan.now) (F.means files.old).tree
+        (F.means files.new).tree) }
+    ensures ended { F.honest →
+        IfErr result (λ end. EndsAt (steps_of plan.now) end.at end.cause (F.means files.old).tree
+        (F.means files.new).tree) }
 
     // A stop at any moment leaves the tree after some of the steps, with perhaps a beginning of the next.
-    ensures leaves { F.honest → Leaves (F.means files.old) (F.means files.new) (IsLeftBy (steps_of plan.now) (F.means files.old).tree) }
+    ensures leaves { F.honest → Leaves (F.means files.old) (F.means files.new)
+        (IsLeftBy (steps_of plan.now) (F.means files.old).tree) }
 
-    ensures count { MatchResult result (λ _. F.faults files.new ≡ F.faults files.old) (λ end. F.faults files.new ≡ count_ended end.cause (F.faults files.old)) }
+    ensures count { MatchResult result (λ _. F.faults files.new ≡ F.faults files.old)
+        (λ end. F.faults files.new ≡ count_ended end.cause (F.faults files.old)) }
     ensures place { IfErr result (λ end. end.at < length plan.now) }
     ensures memory { IfErr result (λ end. end.cause ≡ File FileError.Memory → ⊥) }
 {

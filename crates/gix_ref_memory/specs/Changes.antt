@@ -1,5 +1,6 @@
 -- What files in memory mean: the tree after all changes, and every tree on the way there.
-use Rattle.std.specs.Prelude.{◌≡◌, ◌⊎◌, ℕ, zero, suc, ◌+◌, List, [], ◌∷◌, length, take, Bool, true, false, ◌||◌, Option, Some, None, if◌then◌else◌, bytes_eq, refl}
+use Rattle.std.specs.Prelude.{◌≡◌, ◌⊎◌, ℕ, zero, suc, ◌+◌, List, [], ◌∷◌, length, take, Bool, true, false, ◌||◌, Option, Some, None, Vec, if◌then◌else◌, bytes_eq, refl}
+use Rattle.std.specs.declared.alloc.Global.{Global}
 use Rattle.std.proofs.Common.{inr}
 use Rattle.gix_ref_files.specs.Tree.{Tree, Path, Content, put, no_tree, is_folder, is_blocked, fronts, with_folders}
 use Rattle.gix_ref_files.specs.Tree.Content.{File, Folder}
@@ -48,6 +49,10 @@ changed change T q = stands_after change q (T q)
 abbrev pub after : List Change → Tree → Tree
 after [] T = T
 after (change ∷ changes) T = after changes (changed change T)
+
+-- the tree that these changes make
+abbrev pub tree_of : Vec Change Global → Tree
+tree_of changes = after changes.items no_tree
 
 -- a stop in a change, before it is whole
 abbrev pub Begun : Change → Tree → Tree → Type 0

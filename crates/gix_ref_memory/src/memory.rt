@@ -66,7 +66,8 @@ impl Memory {
     /// to it; false, and nothing changed, where a folder stands at the path or a file in it. It is no call of files,
     /// so it is not counted, and no plan has it fail. `Memory` where a growth was refused; then nothing has changed.
     pub fn put(&mut self, path: &[u8], bytes: &[u8]) -> Result<bool, FileError>
-        ensures answer { IfOk result (Puts (tree_of self.old) path.now bytes.now (tree_of self.new)) }
+        ensures answer { IfOk result (Puts (tree_of self.old) path.now bytes.now
+            (tree_of self.new)) }
         ensures memory { OnErr result (result ≡ Err FileError.Memory) }
         ensures failed { OnErr result (past_of self.new ≡ past_of self.old) }
         ensures calls { calls_of self.new ≡ calls_of self.old }
@@ -155,7 +156,8 @@ impl Files for Memory {
         ensures leaves { Leaves (meaning self.old) (meaning self.new) (Only (tree_of self.old)) }
         ensures count { faults_of self.new ≡ count_after result (faults_of self.old) }
         ensures memory { IsErrOf result FileError.Memory → ⊥ }
-        ensures turn { KeepsTurn NeverFails NeverFails (next_turn self.old) result (tree_of self.old) (tree_of self.new) (AsBefore (tree_of self.old)) }
+        ensures turn { KeepsTurn NeverFails NeverFails (next_turn self.old) result
+            (tree_of self.old) (tree_of self.new) (AsBefore (tree_of self.old)) }
         ensures counts { Counts self.old self.new }
     {
         if self.turns.next() != Turn::Go {
@@ -171,11 +173,13 @@ impl Files for Memory {
 
     fn read(&mut self, _alloc: Global, path: &[u8], buf: &mut Vec<u8>) -> Result<Node, FileError>
         ensures answer { IfOk result (λ node. node ≡ node_at (tree_of self.old) path.now) }
-        ensures bytes { IfOk result (λ node. node ≡ Node.File → buf.new.items ≡ bytes_of (tree_of self.old path.now)) }
+        ensures bytes { IfOk result (λ node. node ≡ Node.File →
+            buf.new.items ≡ bytes_of (tree_of self.old path.now)) }
         ensures emptied { emptied result buf.new.items }
         ensures leaves { Leaves (meaning self.old) (meaning self.new) (Only (tree_of self.old)) }
         ensures count { faults_of self.new ≡ count_after result (faults_of self.old) }
-        ensures turn { KeepsTurn LacksMemory NeverFails (next_turn self.old) result (tree_of self.old) (tree_of self.new) (AsBefore (tree_of self.old)) }
+        ensures turn { KeepsTurn LacksMemory NeverFails (next_turn self.old) result
+            (tree_of self.old) (tree_of self.new) (AsBefore (tree_of self.old)) }
         ensures counts { Counts self.old self.new }
     {
         buf.clear();
@@ -194,15 +198,20 @@ impl Files for Memory {
     }
 
     fn open(&mut self, alloc: Global, path: &[u8]) -> Result<Option<MemoryReader>, FileError>
-        ensures answer { IfOk result (λ reader. Opens (Unit {0}) bytes_in (tree_of self.old) path.now reader) }
+        ensures answer { IfOk result (λ reader. Opens (Unit {0}) bytes_in (tree_of self.old)
+            path.now reader) }
         ensures leaves { Leaves (meaning self.old) (meaning self.new) (Only (tree_of self.old)) }
         ensures count { faults_of self.new ≡ count_after result (faults_of self.old) }
-        ensures turn { KeepsTurn LacksMemory NeverFails (next_turn self.old) result (tree_of self.old) (tree_of self.new) (AsBefore (tree_of self.old)) }
+        ensures turn { KeepsTurn LacksMemory NeverFails (next_turn self.old) result
+            (tree_of self.old) (tree_of self.new) (AsBefore (tree_of self.old)) }
         ensures counts { Counts self.old self.new }
         // The reader counts its calls on from the call that opened it, by the same plan.
-        ensures reader_calls { IfOk result (λ reader. IfSome reader (λ reader. reader_calls reader ≡ calls_of self.new)) }
-        ensures reader_plan { IfOk result (λ reader. IfSome reader (λ reader. reader_plan reader ≡ plan_of self.new)) }
-        ensures reader_faults { IfOk result (λ reader. IfSome reader (λ reader. reader_faults reader ≡ 0)) }
+        ensures reader_calls { IfOk result
+            (λ reader. IfSome reader (λ reader. reader_calls reader ≡ calls_of self.new)) }
+        ensures reader_plan { IfOk result
+            (λ reader. IfSome reader (λ reader. reader_plan reader ≡ plan_of self.new)) }
+        ensures reader_faults { IfOk result
+            (λ reader. IfSome reader (λ reader. reader_faults reader ≡ 0)) }
     {
         if self.turns.next() != Turn::Go {
             return Err(self.turns.fault(ErrorKind::Other));
@@ -224,7 +233,8 @@ impl Files for Memory {
         ensures answer { IfOk result (Lists (tree_of self.old) path.now) }
         ensures leaves { Leaves (meaning self.old) (meaning self.new) (Only (tree_of self.old)) }
         ensures count { faults_of self.new ≡ count_after result (faults_of self.old) }
-        ensures turn { KeepsTurn LacksMemory NeverFails (next_turn self.old) result (tree_of self.old) (tree_of self.new) (AsBefore (tree_of self.old)) }
+        ensures turn { KeepsTurn LacksMemory NeverFails (next_turn self.old) result
+            (tree_of self.old) (tree_of self.new) (AsBefore (tree_of self.old)) }
         ensures counts { Counts self.old self.new }
     {
         if self.turns.next() != Turn::Go {
@@ -242,10 +252,13 @@ impl Files for Memory {
     fn create_new(&mut self, path: &[u8]) -> Result<Create, FileError>
         ensures answer { IfOk result (Creates (tree_of self.old) path.now (tree_of self.new)) }
         ensures failed { OnErr result (tree_of self.new ≡ tree_of self.old) }
-        ensures leaves { Leaves (meaning self.old) (meaning self.new) (Creating (tree_of self.old) path.now) }
+        ensures leaves { Leaves (meaning self.old) (meaning self.new)
+            (Creating (tree_of self.old) path.now) }
         ensures count { faults_of self.new ≡ count_after result (faults_of self.old) }
         ensures memory { IsErrOf result FileError.Memory → ⊥ }
-        ensures turn { KeepsTurn (CannotCreate (tree_of self.old) path.now) NeverFails (next_turn self.old) result (tree_of self.old) (tree_of self.new) (AsBefore (tree_of self.old)) }
+        ensures turn { KeepsTurn (CannotCreate (tree_of self.old) path.now) NeverFails
+            (next_turn self.old) result (tree_of self.old) (tree_of self.new)
+            (AsBefore (tree_of self.old)) }
         ensures counts { Counts self.old self.new }
     {
         if self.turns.next() != Turn::Go {
@@ -260,11 +273,16 @@ impl Files for Memory {
 
     fn make_folders(&mut self, path: &[u8]) -> Result<bool, FileError>
         ensures answer { IfOk result (MakesFolders (tree_of self.old) path.now (tree_of self.new)) }
-        ensures leaves { Leaves (meaning self.old) (meaning self.new) (MakingFolders (tree_of self.old) path.now) }
-        ensures adds { OnOk result (Adds (meaning self.old) (meaning self.new) (MakingFolders (tree_of self.old) path.now)) }
+        ensures leaves { Leaves (meaning self.old) (meaning self.new)
+            (MakingFolders (tree_of self.old) path.now) }
+        ensures adds { OnOk result (Adds (meaning self.old) (meaning self.new)
+            (MakingFolders (tree_of self.old) path.now)) }
         ensures count { faults_of self.new ≡ count_after result (faults_of self.old) }
         ensures memory { IsErrOf result FileError.Memory → ⊥ }
-        ensures turn { KeepsTurn CannotGrow CannotGrow (next_turn self.old) result (tree_of self.old) (tree_of self.new) (λ n T. IsDone (tree_of self.old) (is_in_the_way (tree_of self.old) path.now ≡ false) (with_folders (tree_of self.old) (take n (folders_to path.now))) T) }
+        ensures turn { KeepsTurn CannotGrow CannotGrow (next_turn self.old) result
+            (tree_of self.old) (tree_of self.new)
+            (λ n T. IsDone (tree_of self.old) (is_in_the_way (tree_of self.old) path.now ≡ false)
+            (with_folders (tree_of self.old) (take n (folders_to path.now))) T) }
         ensures counts { Counts self.old self.new }
     {
         match self.turns.next() {
@@ -281,12 +299,17 @@ impl Files for Memory {
     }
 
     fn append(&mut self, path: &[u8], bytes: &[u8]) -> Result<bool, FileError>
-        ensures answer { IfOk result (Appends (tree_of self.old) path.now bytes.now (tree_of self.new)) }
-        ensures leaves { Leaves (meaning self.old) (meaning self.new) (Appending (tree_of self.old) path.now bytes.now) }
-        ensures adds { OnOk result (Adds (meaning self.old) (meaning self.new) (Appending (tree_of self.old) path.now bytes.now)) }
+        ensures answer { IfOk result (Appends (tree_of self.old) path.now bytes.now
+            (tree_of self.new)) }
+        ensures leaves { Leaves (meaning self.old) (meaning self.new)
+            (Appending (tree_of self.old) path.now bytes.now) }
+        ensures adds { OnOk result (Adds (meaning self.old) (meaning self.new)
+            (Appending (tree_of self.old) path.now bytes.now)) }
         ensures count { faults_of self.new ≡ count_after result (faults_of self.old) }
         ensures memory { IsErrOf result FileError.Memory → ⊥ }
-        ensures turn { KeepsTurn CannotGrow CannotGrow (next_turn self.old) result (tree_of self.old) (tree_of self.new) (λ n T. T ≡ appended (tree_of self.old) path.now (take n bytes.now)) }
+        ensures turn { KeepsTurn CannotGrow CannotGrow (next_turn self.old) result
+            (tree_of self.old) (tree_of self.new) (λ n T. T ≡ appended (tree_of self.old) path.now
+            (take n bytes.now)) }
         ensures counts { Counts self.old self.new }
     {
         match self.turns.next() {
@@ -303,11 +326,16 @@ impl Files for Memory {
     }
 
     fn rename(&mut self, from: &[u8], to: &[u8]) -> Result<Rename, FileError>
-        ensures answer { IfOk result (Renames (tree_of self.old) from.now to.now (tree_of self.new)) }
-        ensures leaves { Leaves (meaning self.old) (meaning self.new) (Renaming (tree_of self.old) from.now to.now) }
+        ensures answer { IfOk result (Renames (tree_of self.old) from.now to.now
+            (tree_of self.new)) }
+        ensures leaves { Leaves (meaning self.old) (meaning self.new)
+            (Renaming (tree_of self.old) from.now to.now) }
         ensures count { faults_of self.new ≡ count_after result (faults_of self.old) }
         ensures memory { IsErrOf result FileError.Memory → ⊥ }
-        ensures turn { KeepsTurn (CannotRename (tree_of self.old) from.now to.now) CannotGrow (next_turn self.old) result (tree_of self.old) (tree_of self.new) (InOneStep (tree_of self.old) (IsMovable (tree_of self.old) from.now to.now) (moved (tree_of self.old) from.now to.now)) }
+        ensures turn { KeepsTurn (CannotRename (tree_of self.old) from.now to.now) CannotGrow
+            (next_turn self.old) result (tree_of self.old) (tree_of self.new)
+            (InOneStep (tree_of self.old) (IsMovable (tree_of self.old) from.now to.now)
+            (moved (tree_of self.old) from.now to.now)) }
         ensures counts { Counts self.old self.new }
     {
         match self.turns.next() {
@@ -326,10 +354,14 @@ impl Files for Memory {
 
     fn remove_file(&mut self, path: &[u8]) -> Result<bool, FileError>
         ensures answer { IfOk result (RemovesFile (tree_of self.old) path.now (tree_of self.new)) }
-        ensures leaves { Leaves (meaning self.old) (meaning self.new) (RemovingFile (tree_of self.old) path.now) }
+        ensures leaves { Leaves (meaning self.old) (meaning self.new)
+            (RemovingFile (tree_of self.old) path.now) }
         ensures count { faults_of self.new ≡ count_after result (faults_of self.old) }
         ensures memory { IsErrOf result FileError.Memory → ⊥ }
-        ensures turn { KeepsTurn CannotGrow CannotGrow (next_turn self.old) result (tree_of self.old) (tree_of self.new) (InOneStep (tree_of self.old) (is_file (tree_of self.old path.now) ≡ true) (removed (tree_of self.old) path.now)) }
+        ensures turn { KeepsTurn CannotGrow CannotGrow (next_turn self.old) result
+            (tree_of self.old) (tree_of self.new)
+            (InOneStep (tree_of self.old) (is_file (tree_of self.old path.now) ≡ true)
+            (removed (tree_of self.old) path.now)) }
         ensures counts { Counts self.old self.new }
     {
         match self.turns.next() {
@@ -346,11 +378,16 @@ impl Files for Memory {
     }
 
     fn remove_folder(&mut self, path: &[u8]) -> Result<bool, FileError>
-        ensures answer { IfOk result (RemovesFolder (tree_of self.old) path.now (tree_of self.new)) }
-        ensures leaves { Leaves (meaning self.old) (meaning self.new) (RemovingFolder (tree_of self.old) path.now) }
+        ensures answer { IfOk result (RemovesFolder (tree_of self.old) path.now
+            (tree_of self.new)) }
+        ensures leaves { Leaves (meaning self.old) (meaning self.new)
+            (RemovingFolder (tree_of self.old) path.now) }
         ensures count { faults_of self.new ≡ count_after result (faults_of self.old) }
         ensures memory { IsErrOf result FileError.Memory → ⊥ }
-        ensures turn { KeepsTurn CannotGrow CannotGrow (next_turn self.old) result (tree_of self.old) (tree_of self.new) (InOneStep (tree_of self.old) (IsEmptyFolder (tree_of self.old) path.now) (removed (tree_of self.old) path.now)) }
+        ensures turn { KeepsTurn CannotGrow CannotGrow (next_turn self.old) result
+            (tree_of self.old) (tree_of self.new)
+            (InOneStep (tree_of self.old) (IsEmptyFolder (tree_of self.old) path.now)
+            (removed (tree_of self.old) path.now)) }
         ensures counts { Counts self.old self.new }
     {
         match self.turns.next() {

@@ -111,7 +111,7 @@ module _ {F : Type 0} where
     -- An edit: it is committed, but for locks that stay; or it was not made, and locks may stay; or there was no memory for it.
     abbrev pub EditComesTo : (old new : Store F) → RefEdit → Outcome → Type 0
     EditComesTo old new edit (outcomes.Updated locks) =
-        (honest → AreCommitted (meaning_of old) (edit ∷ []) (tree_of honest means faults old) (paths_of locks.items) (tree_of honest means faults new))
+        (honest → AreCommitted (meaning_of old) (edit ∷ []) (tree_of means old) (paths_of locks.items) (tree_of means new))
         × AreNamed honest means faults old new (edit ∷ []) (paths_of locks.items)
     EditComesTo old new edit (outcomes.Refused (refusals.Update unmade) locks) =
         IsUnmade honest means faults old new (edit ∷ []) unmade (paths_of locks.items)
@@ -143,9 +143,9 @@ module _ {F : Type 0} where
     -- a stop in a command leaves this tree: as before; or of an update what a stop in it leaves
     abbrev pub IsStop : Store F → Kind → Asked → Tree → Type 0
     IsStop old kind (Update name id before) T =
-        (T ≡ tree_of honest means faults old)
-        ⊎ ((edit : RefEdit) × IsAskedFor kind name id before edit × IsStopOf (meaning_of old) (edit ∷ []) (tree_of honest means faults old) T)
-    IsStop old kind (Show name) T = T ≡ tree_of honest means faults old
+        (T ≡ tree_of means old)
+        ⊎ ((edit : RefEdit) × IsAskedFor kind name id before edit × IsStopOf (meaning_of old) (edit ∷ []) (tree_of means old) T)
+    IsStop old kind (Show name) T = T ≡ tree_of means old
 
     -- a line that is not begun
     abbrev pub NotBegun : Line → Outcome → Type 0

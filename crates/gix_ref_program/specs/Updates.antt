@@ -32,20 +32,20 @@ unmade_of (Err failed) = Some (Commit failed.error)
 module _ {F : Type 0} (honest : Type 0) (means : F → Meaning) (faults : F → ℕ) where
   -- Locks that are told to stay: they are locks of the edits, and there is one only where a fault came.
   pub record AreNamed (old new : Store F) (edits : List RefEdit) (left : List Path) : Type 0 where
-    pub ours : (q : Path) → is_in left q ≡ true → is_in (locks_in honest means faults old edits) q ≡ true
+    pub ours : (q : Path) → is_in left q ≡ true → is_in (locks_in old edits) q ≡ true
     pub named : (left ≡ []) ⊎ HasRisen (faults (files_of old)) (faults (files_of new))
 
   -- of the locks of the edits only these stay
   abbrev pub OnlyStay : (old new : Store F) → List RefEdit → (left : List Path) → Type 0
   OnlyStay old new edits left =
-      (q : Path) → is_in (locks_in honest means faults old edits) q ≡ true → is_in left q ≡ false → is_file (tree_of honest means faults new q) ≡ false
+      (q : Path) → is_in (locks_in old edits) q ≡ true → is_in left q ≡ false → is_file (tree_of means new q) ≡ false
 
   -- why a commit failed: a rename failed, only where a fault came; or a folder stands at the place of an edit
   abbrev pub HasFailed : (old new : Store F) → List RefEdit → commits.Error → Type 0
   HasFailed old new edits (LockCommit source name) =
       HasRisen (faults (files_of old)) (faults (files_of new)) × (is_in (names_of edits) (full_bytes name) ≡ true)
   HasFailed old new edits (FolderInPlace path) =
-      (is_in (places_of (meaning_of old) edits) path.items ≡ true) × (honest → is_folder (tree_of honest means faults new path.items) ≡ true)
+      (is_in (places_of (meaning_of old) edits) path.items ≡ true) × (honest → is_folder (tree_of means new path.items) ≡ true)
 
   -- Why an update was not made, and the locks that stay: it was refused by the first cause against it, and all is as before but for
   -- these locks; or its commit failed.

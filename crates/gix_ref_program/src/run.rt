@@ -41,7 +41,9 @@ pub struct Ran<F> {
 
 /// The namespace that a NAME expands to, if there is one.
 fn expanded(alloc: Global, name: Option<&[u8]>) -> Result<Option<Namespace>, Refusal>
-    ensures { MatchResult result (λ n. namespace_text n ≡ namespace_of (option_map (λ text. text.now) name.entry)) (NoNamespace (option_map (λ text. text.now) name.entry)) }
+    ensures { MatchResult result (λ n. namespace_text n ≡ namespace_of
+        (option_map (λ text. text.now) name.entry))
+        (NoNamespace (option_map (λ text. text.now) name.entry)) }
 {
     let Some(name) = name else {
         return Ok(None);
@@ -57,7 +59,8 @@ fn expanded(alloc: Global, name: Option<&[u8]>) -> Result<Option<Namespace>, Ref
 
 /// The store of a folder, which writes no log lines. A refusal hands the files back.
 fn store_at<F>(alloc: Global, files: F, dir: &[u8], kind: Kind) -> Result<Store<F>, (F, Refusal)>
-    ensures { MatchResult result (IsAt files dir.now kind) (λ r. (r.0 ≡ files) × IsNoFolder dir.now r.1) }
+    ensures { MatchResult result (IsAt files dir.now kind) (λ r. (r.0 ≡ files)
+        × IsNoFolder dir.now r.1) }
 {
     let Ok(git_dir) = dir.to_vec(alloc) else {
         return Err((files, Refusal::Memory));
@@ -77,7 +80,8 @@ fn store_at<F>(alloc: Global, files: F, dir: &[u8], kind: Kind) -> Result<Store<
 
 /// The store of a line, in its namespace. A refusal hands the files back.
 fn store_in<F>(alloc: Global, files: F, line: &Line<'_>) -> Result<Store<F>, (F, Refusal)>
-    ensures { MatchResult result (IsOpened files (line_of line.now)) (λ r. (r.0 ≡ files) × IsUnopened (line_of line.now) r.1) }
+    ensures { MatchResult result (IsOpened files (line_of line.now)) (λ r. (r.0 ≡ files)
+        × IsUnopened (line_of line.now) r.1) }
 {
     let mut store = store_at(alloc, files, line.dir, line.object_hash)?;
     match expanded(alloc, line.namespace) {
@@ -158,7 +162,9 @@ fn make_update<F: Files>(
     requires no_deref { edit.deref ≡ false }
     ensures packed_refs { result.0 ≡ packed_refs }
     ensures outcome { EditComesTo F.honest F.means F.faults store.old store.new edit result.1 }
-    ensures leaves { F.honest → Leaves (F.means (files_of store.old)) (F.means (files_of store.new)) (λ T. (T ≡ tree_of F.honest F.means F.faults store.old) ⊎ IsStopOf (meaning_of store.old) (edit ∷ []) (tree_of F.honest F.means F.faults store.old) T) }
+    ensures leaves { F.honest → Leaves (F.means (files_of store.old)) (F.means (files_of store.new))
+        (λ T. (T ≡ tree_of F.means store.old) ⊎ IsStopOf (meaning_of store.old) (edit ∷ [])
+        (tree_of F.means store.old) T) }
 {
     let Ok(edits) = one_edit(alloc, edit) else {
         return (packed_refs, refused(alloc, Refusal::Memory));
@@ -181,7 +187,8 @@ fn make_update<F: Files>(
 /// Shows a reference.
 fn show<F: Files>(alloc: Global, store: &mut Store<F>, name: &[u8]) -> Outcome
     ensures outcome { ShowComesTo F.honest F.means F.faults store.old store.new name.now result }
-    ensures leaves { F.honest → Leaves (F.means (files_of store.old)) (F.means (files_of store.new)) (Only (F.means (files_of store.old)).tree) }
+    ensures leaves { F.honest → Leaves (F.means (files_of store.old)) (F.means (files_of store.new))
+        (Only (F.means (files_of store.old)).tree) }
 {
     let name = match PartialNameRef::try_from(name) {
         Ok(name) => name,
@@ -204,8 +211,10 @@ fn perform<F: Files>(
 ) -> (PackedRefs, Outcome)
     requires quiet { store.old.write_reflog ≡ WriteReflog.Disable }
     ensures packed_refs { result.0 ≡ packed_refs }
-    ensures outcome { ComesTo F.honest F.means F.faults store.old store.new kind (asked_of command.now) result.1 }
-    ensures leaves { F.honest → Leaves (F.means (files_of store.old)) (F.means (files_of store.new)) (IsStop F.honest F.means F.faults store.old kind (asked_of command.now)) }
+    ensures outcome { ComesTo F.honest F.means F.faults store.old store.new kind
+        (asked_of command.now) result.1 }
+    ensures leaves { F.honest → Leaves (F.means (files_of store.old)) (F.means (files_of store.new))
+        (IsStop F.honest F.means F.faults store.old kind (asked_of command.now)) }
 {
     match command {
         Command::Show { name } => (packed_refs, show(alloc, store, name)),
@@ -224,8 +233,10 @@ fn follow<F: Files>(
     line: &Line<'_>,
 ) -> (F, PackedRefs, Outcome)
     ensures packed_refs { result.1 ≡ packed_refs }
-    ensures outcome { LineComesTo F.honest F.means F.faults files result.0 (line_of line.now) result.2 }
-    ensures leaves { F.honest → Leaves (F.means files) (F.means result.0) (IsStopIn F.honest F.means F.faults files (line_of line.now)) }
+    ensures outcome { LineComesTo F.honest F.means F.faults files result.0 (line_of line.now)
+        result.2 }
+    ensures leaves { F.honest → Leaves (F.means files) (F.means result.0)
+        (IsStopIn F.honest F.means F.faults files (line_of line.now)) }
 {
     match store_in(alloc, files, line) {
         Ok(mut store) => {

@@ -47,10 +47,14 @@ pub fn update<F: Files>(
 ) -> Updated
     requires one { IsOneUpdate edits.items }
     requires quiet { store.old.write_reflog ≡ WriteReflog.Disable }
-    ensures done { F.honest → result.unmade ≡ None → AreCommitted (meaning_of store.old) edits.items (tree_of F.honest F.means F.faults store.old) (paths_of result.locks_left.items) (tree_of F.honest F.means F.faults store.new) }
-    ensures unmade { IfSome result.unmade (λ unmade. IsUnmade F.honest F.means F.faults store.old store.new edits.items unmade (paths_of result.locks_left.items)) }
-    ensures leaves { F.honest → Leaves (F.means (files_of store.old)) (F.means (files_of store.new)) (IsStopOf (meaning_of store.old) edits.items (tree_of F.honest F.means F.faults store.old)) }
-    ensures named { AreNamed F.honest F.means F.faults store.old store.new edits.items (paths_of result.locks_left.items) }
+    ensures done { F.honest → result.unmade ≡ None → AreCommitted (meaning_of store.old) edits.items
+        (tree_of F.means store.old) (paths_of result.locks_left.items) (tree_of F.means store.new) }
+    ensures unmade { IfSome result.unmade (λ unmade. IsUnmade F.honest F.means F.faults store.old
+        store.new edits.items unmade (paths_of result.locks_left.items)) }
+    ensures leaves { F.honest → Leaves (F.means (files_of store.old)) (F.means (files_of store.new))
+        (IsStopOf (meaning_of store.old) edits.items (tree_of F.means store.old)) }
+    ensures named { AreNamed F.honest F.means F.faults store.old store.new edits.items
+        (paths_of result.locks_left.items) }
     ensures packed_refs { result.packed_refs ≡ packed_refs }
     ensures same { IsSameStore store.old store.new }
 {

@@ -36,7 +36,8 @@ pub struct Line<'w> {
 
 /// The words behind the first, if that is this one.
 fn strip_word<'w>(words: &'w [String], word: &[u8]) -> Option<&'w [String]>
-    ensures { MatchOption result (first_is (texts words.now) word.now ≡ false) (λ rest. texts words.now ≡ word.now ∷ texts rest.now) }
+    ensures { MatchOption result (first_is (texts words.now) word.now ≡ false)
+        (λ rest. texts words.now ≡ word.now ∷ texts rest.now) }
 {
     match words.split_first() {
         Some((first, rest)) if first.as_bytes() == word => Some(rest),
@@ -46,7 +47,8 @@ fn strip_word<'w>(words: &'w [String], word: &[u8]) -> Option<&'w [String]>
 
 /// `[OLD]`: the first `None` is for other words.
 fn old_of(words: &[String]) -> Option<Option<ObjectId>>
-    ensures { MatchOption result ((old : Option ObjectId) → IsOld (texts words.now) old → ⊥) (IsOld (texts words.now)) }
+    ensures { MatchOption result ((old : Option ObjectId) → IsOld (texts words.now) old → ⊥)
+        (IsOld (texts words.now)) }
 {
     let Some((digits, rest)) = words.split_first() else {
         return Some(None);
@@ -60,7 +62,9 @@ fn old_of(words: &[String]) -> Option<Option<ObjectId>>
 
 /// `NAME ID [OLD]`, where NAME is not the option `--deref`.
 fn update_of(words: &[String]) -> Option<Command<'_>>
-    ensures { MatchOption result ((name : List ℕ) (id : ObjectId) (old : Option ObjectId) → IsUpdate (texts words.now) name id old → ⊥) (λ command. IsCommand (codes "update" ∷ texts words.now) (asked_of command)) }
+    ensures { MatchOption result ((name : List ℕ) (id : ObjectId) (old : Option ObjectId) →
+        IsUpdate (texts words.now) name id old → ⊥)
+        (λ command. IsCommand (codes "update" ∷ texts words.now) (asked_of command)) }
 {
     let (name, rest) = words.split_first()?;
     if name.as_bytes() == b"--deref".as_slice() {
@@ -78,7 +82,8 @@ fn update_of(words: &[String]) -> Option<Command<'_>>
 
 /// `NAME`.
 fn show_of(words: &[String]) -> Option<Command<'_>>
-    ensures { MatchOption result ((name : List ℕ) → texts words.now ≡ name ∷ [] → ⊥) (λ command. IsCommand (codes "show" ∷ texts words.now) (asked_of command)) }
+    ensures { MatchOption result ((name : List ℕ) → texts words.now ≡ name ∷ [] → ⊥)
+        (λ command. IsCommand (codes "show" ∷ texts words.now) (asked_of command)) }
 {
     let (name, rest) = words.split_first()?;
     if !rest.is_empty() {
@@ -91,7 +96,8 @@ fn show_of(words: &[String]) -> Option<Command<'_>>
 
 /// The command of these words.
 fn command_of(words: &[String]) -> Option<Command<'_>>
-    ensures { MatchOption result ((asked : Asked) → IsCommand (texts words.now) asked → ⊥) (λ command. IsCommand (texts words.now) (asked_of command)) }
+    ensures { MatchOption result ((asked : Asked) → IsCommand (texts words.now) asked → ⊥)
+        (λ command. IsCommand (texts words.now) (asked_of command)) }
 {
     if let Some(rest) = strip_word(words, b"update") {
         return update_of(rest);
@@ -101,7 +107,9 @@ fn command_of(words: &[String]) -> Option<Command<'_>>
 
 /// The NAME of `--namespace`, if that comes first, and the command that follows.
 fn options_of(words: &[String]) -> Option<(Option<&[u8]>, Command<'_>)>
-    ensures { MatchOption result ((namespace : Option (List ℕ)) (asked : Asked) → HasOptions (texts words.now) namespace asked → ⊥) (λ options. HasOptions (texts words.now) (option_map (λ name. name.now) options.0) (asked_of options.1)) }
+    ensures { MatchOption result ((namespace : Option (List ℕ)) (asked : Asked) →
+        HasOptions (texts words.now) namespace asked → ⊥) (λ options. HasOptions (texts words.now)
+        (option_map (λ name. name.now) options.0) (asked_of options.1)) }
 {
     let Some(rest) = strip_word(words, b"--namespace") else {
         return Some((None, command_of(words)?));
@@ -124,7 +132,8 @@ fn kind_of(words: &[String]) -> (Kind, &[String])
 /// The line of these words; `None` where they are wrong. An ID and an OLD have 40 or 64 hex digits; the names are not
 /// looked at. Takes no memory, and looks at each word a few times.
 pub fn parse(words: &[String]) -> Option<Line<'_>>
-    ensures { MatchOption result ((line : AskedLine) → IsLine (texts words.now) line → ⊥) (λ line. IsLine (texts words.now) (line_of line)) }
+    ensures { MatchOption result ((line : AskedLine) → IsLine (texts words.now) line → ⊥)
+        (λ line. IsLine (texts words.now) (line_of line)) }
 {
     let (dir, rest) = words.split_first()?;
     let (object_hash, rest) = kind_of(rest);

@@ -36,7 +36,7 @@ with_files store files = record {
 
 module _ {F : Type 0} (honest : Type 0) (means : F → Meaning) (faults : F → ℕ) (old start new : Store F) (given carried : List RefEdit) (paths : List Paths) (one : IsOneUpdate given) (from : PreparesFrom honest means faults old start given carried paths) where
   abbrev before : Tree
-  before = tree_of honest means faults old
+  before = tree_of means old
 
   abbrev first : Meaning
   first = means (files_of start)
@@ -85,11 +85,11 @@ folder_stays locks T U q removes folder = ⊎_elim (λ same. ap is_folder same �
 
 -- why a commit failed
 pub fails : {F : Type 0} (honest : Type 0) (means : F → Meaning) (faults : F → ℕ) (start new : Store F) (edits : List RefEdit) (paths : List Paths) (at : ℕ) (place : Path) (source : Option FileError) (error : Error) →
-    TellsOf edits at place source error → at < length edits → is_in (place_paths paths) place ≡ true → (honest → source ≡ None → is_folder (tree_of honest means faults new place) ≡ true) →
+    TellsOf edits at place source error → at < length edits → is_in (place_paths paths) place ≡ true → (honest → source ≡ None → is_folder (tree_of means new place) ≡ true) →
     IsRaised (faults (files_of start)) (faults (files_of new)) source → FailsFor honest means faults start new edits paths error
 fails honest means faults start new edits paths at place None (FolderInPlace path) tells lt within folder raised = (
   subst (λ (p : Path). is_in (place_paths paths) p ≡ true) (sym tells) within,
-  λ h. subst (λ (p : Path). is_folder (tree_of honest means faults new p) ≡ true) (sym tells) (folder h refl),
+  λ h. subst (λ (p : Path). is_folder (tree_of means new p) ≡ true) (sym tells) (folder h refl),
 )
 fails honest means faults start new edits paths at place (Some fault) (LockCommit source name) tells lt within folder raised = (
   raised,

@@ -66,10 +66,10 @@ module _ {F : Type 0} (honest : Type 0) (means : F → Meaning) (faults : F → 
   -- reference as before or as edited; of the locks only those stay that are named, and one is named only where a fault came.
   pub record LeavesWell (old start new : Store F) (given : List RefEdit) (left : List Path) : Type 0 where
     -- the tree with which it begins, which a stop before its first change leaves
-    pub began : honest → AreLeftWell (meaning_of old) given (tree_of honest means faults old) (tree_of honest means faults start)
-    pub leaves : honest → Leaves (means (files_of start)) (means (files_of new)) (AreLeftWell (meaning_of old) given (tree_of honest means faults old))
-    pub gone : honest → (q : Path) → is_in (locks_in honest means faults old given) q ≡ true → is_in left q ≡ false → is_file (tree_of honest means faults new q) ≡ false
-    pub ours : (q : Path) → is_in left q ≡ true → is_in (locks_in honest means faults old given) q ≡ true
+    pub began : honest → AreLeftWell (meaning_of old) given (tree_of means old) (tree_of means start)
+    pub leaves : honest → Leaves (means (files_of start)) (means (files_of new)) (AreLeftWell (meaning_of old) given (tree_of means old))
+    pub gone : honest → (q : Path) → is_in (locks_in old given) q ≡ true → is_in left q ≡ false → is_file (tree_of means new q) ≡ false
+    pub ours : (q : Path) → is_in left q ≡ true → is_in (locks_in old given) q ≡ true
 
   -- and so for every store and every update from which `prepare` gave these edits and paths
   abbrev pub EndsFrom : (start new : Store F) → List RefEdit → List Paths → List Path → Type 0
@@ -81,11 +81,11 @@ module _ {F : Type 0} (honest : Type 0) (means : F → Meaning) (faults : F → 
   abbrev pub CommitsFrom : (start new : Store F) → List RefEdit → List Paths → List Path → Type 0
   CommitsFrom start new edits paths left =
       (old : Store F) (given : List RefEdit) → IsOneUpdate given → PreparesFrom honest means faults old start given edits paths → honest →
-      AreCommitted (meaning_of old) given (tree_of honest means faults old) left (tree_of honest means faults new)
+      AreCommitted (meaning_of old) given (tree_of means old) left (tree_of means new)
 
   -- Why a commit failed, with these edits and paths: a rename that failed, only where a fault came; or a folder at the place of a reference.
   abbrev pub FailsFor : (start new : Store F) → List RefEdit → List Paths → Error → Type 0
   FailsFor start new edits paths (LockCommit source name) =
       HasRisen (faults (files_of start)) (faults (files_of new)) × (is_in (names_of edits) (full_bytes name) ≡ true)
   FailsFor start new edits paths (FolderInPlace path) =
-      (is_in (place_paths paths) path.items ≡ true) × (honest → is_folder (tree_of honest means faults new path.items) ≡ true)
+      (is_in (place_paths paths) path.items ≡ true) × (honest → is_folder (tree_of means new path.items) ≡ true)

@@ -20,34 +20,36 @@ pub record IsOneUpdate (edits : List RefEdit) : Type 0 where
   pub update : IsSome (new_of edit.change)
   pub no_deref : edit.deref ≡ false
 
-module _ {F : Type 0} (honest : Type 0) (means : F → Meaning) (faults : F → ℕ) where
+module _ {F : Type 0} (means : F → Meaning) where
   -- the tree of a store
   abbrev pub tree_of : Store F → Tree
   tree_of store = (means (files_of store)).tree
 
+module _ {F : Type 0} where
   -- the locks of edits in a store
   abbrev pub locks_in : Store F → List RefEdit → List Path
   locks_in store edits = locks_of (meaning_of store) edits
 
+module _ {F : Type 0} (honest : Type 0) (means : F → Meaning) (faults : F → ℕ) where
   -- A refusal: its error is the first cause that stands; `Io` came with a fault; all is as before but for the locks that are named, and
   -- folders that lead to locks; those that are named are locks of the edits, and one is named only where a fault came.
   pub record RefusesFrom (old new : Store F) (edits : List RefEdit) (error : Error) (left : List Path) : Type 0 where
-    pub cause : honest → Refuses (meaning_of old) (kind_of old) (tree_of old) edits error
+    pub cause : honest → Refuses (meaning_of old) (kind_of old) (tree_of means old) edits error
     pub counted : IsCounted (faults (files_of old)) (faults (files_of new)) error
-    pub as_before : honest → AddsLocks left (locks_in old edits) (tree_of old) (tree_of new)
+    pub as_before : honest → AddsLocks left (locks_in old edits) (tree_of means old) (tree_of means new)
     pub ours : (q : Path) → is_in left q ≡ true → is_in (locks_in old edits) q ≡ true
     pub named : (left ≡ []) ⊎ HasRisen (faults (files_of old)) (faults (files_of new))
-    pub leaves : honest → Leaves (means (files_of old)) (means (files_of new)) (AddsLocks (locks_in old edits) (locks_in old edits) (tree_of old))
+    pub leaves : honest → Leaves (means (files_of old)) (means (files_of new)) (AddsLocks (locks_in old edits) (locks_in old edits) (tree_of means old))
     pub same : IsSameStore old new
 
   -- Locks that are held: no cause stands; this was found of each edit; each lock has its whole text, and nothing else was added but folders
   -- that lead to locks.
   pub record HoldsFrom (old new : Store F) (edits : List RefEdit) (was : List (Option TargetValue)) : Type 0 where
-    pub accepted : honest → IsAccepted (meaning_of old) (kind_of old) (tree_of old) edits
-    pub found : honest → was ≡ founds (meaning_of old) (tree_of old) edits
-    pub texts : honest → HoldTexts (meaning_of old) (tree_of old) (tree_of new) edits
-    pub adds : honest → AddsLocks (locks_in old edits) (locks_in old edits) (tree_of old) (tree_of new)
-    pub leaves : honest → Leaves (means (files_of old)) (means (files_of new)) (AddsLocks (locks_in old edits) (locks_in old edits) (tree_of old))
+    pub accepted : honest → IsAccepted (meaning_of old) (kind_of old) (tree_of means old) edits
+    pub found : honest → was ≡ founds (meaning_of old) (tree_of means old) edits
+    pub texts : honest → HoldTexts (meaning_of old) (tree_of means old) (tree_of means new) edits
+    pub adds : honest → AddsLocks (locks_in old edits) (locks_in old edits) (tree_of means old) (tree_of means new)
+    pub leaves : honest → Leaves (means (files_of old)) (means (files_of new)) (AddsLocks (locks_in old edits) (locks_in old edits) (tree_of means old))
     pub no_fewer : faults (files_of old) ≤ faults (files_of new)
     pub same : IsSameStore old new
 
@@ -61,8 +63,8 @@ module _ {F : Type 0} (honest : Type 0) (means : F → Meaning) (faults : F → 
 
   -- A transaction that is given up: of its locks only those stay that are named, and one is named only where a fault came.
   pub record RollsBackFrom (old new : Store F) (locks left : List Path) : Type 0 where
-    pub gone : honest → (q : Path) → is_in locks q ≡ true → is_in left q ≡ false → is_file (tree_of new q) ≡ false
+    pub gone : honest → (q : Path) → is_in locks q ≡ true → is_in left q ≡ false → is_file (tree_of means new q) ≡ false
     pub ours : (q : Path) → is_in left q ≡ true → is_in locks q ≡ true
     pub named : (left ≡ []) ⊎ HasRisen (faults (files_of old)) (faults (files_of new))
-    pub leaves : honest → Leaves (means (files_of old)) (means (files_of new)) (RemovesLocks locks (tree_of old))
+    pub leaves : honest → Leaves (means (files_of old)) (means (files_of new)) (RemovesLocks locks (tree_of means old))
     pub same : IsSameStore old new

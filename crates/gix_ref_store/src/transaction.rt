@@ -81,7 +81,8 @@ pub enum Change {
 impl Change {
     /// The new target of an update; `None` of a deletion.
     pub fn new_value(&self) -> Option<TargetRef<'_>>
-        ensures { MatchOption result (new_of self.now ≡ None) (λ target. new_of self.now ≡ Some (target_ref_value target)) }
+        ensures { MatchOption result (new_of self.now ≡ None)
+            (λ target. new_of self.now ≡ Some (target_ref_value target)) }
     {
         match self {
             Change::Update { new, .. } => Some(new.to_ref()),
@@ -91,7 +92,8 @@ impl Change {
 
     /// The target that the edit expects to find, if it names one.
     pub fn previous_value(&self) -> Option<TargetRef<'_>>
-        ensures { MatchOption result (previous_of (expected_of self.now) ≡ None) (λ target. previous_of (expected_of self.now) ≡ Some (target_ref_value target)) }
+        ensures { MatchOption result (previous_of (expected_of self.now) ≡ None)
+            (λ target. previous_of (expected_of self.now) ≡ Some (target_ref_value target)) }
     {
         match self.expectation() {
             PreviousValue::MustExistAndMatch(target) | PreviousValue::ExistingMustMatch(target) =>

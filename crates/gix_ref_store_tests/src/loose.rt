@@ -30,24 +30,20 @@ enum Answer {
     Memory,
 }
 
+/// The answer for a target.
+fn target_answer(target: &Target) -> Answer {
+    match target {
+        Target::Object(id) => Answer::Object(id.kind()),
+        Target::Symbolic(name) if name.eq_bytes(b"refs/heads/a") => Answer::Branch,
+        Target::Symbolic(_) => Answer::OtherName,
+    }
+}
+
 /// What a text is decoded to.
 fn decoded(rt: &impl Abort, alloc: Global, text: &[u8], kind: Kind) -> Answer {
     let name = full_name(rt, alloc, "refs/heads/x");
     match Reference::try_from_path(alloc, name, text, kind) {
-        Ok(Reference {
-            name: _name,
-            target: Target::Object(id),
-        }) => Answer::Object(id.kind()),
-        Ok(Reference {
-            name: _name,
-            target: Target::Symbolic(target),
-        }) => {
-            if target.eq_bytes(b"refs/heads/a") {
-                Answer::Branch
-            } else {
-                Answer::OtherName
-            }
-        }
+        Ok(reference) => target_answer(&reference.target),
         Err(Error::Parse { .. }) => Answer::Parse,
         Err(Error::RefnameValidation { source, .. }) => Answer::Rule(source),
         Err(Error::Memory) => Answer::Memory,

@@ -4,7 +4,7 @@ ghost use Rattle.gix_ref_files.specs.Tree.{IsShaped, no_tree, put, appended, is_
 ghost use Rattle.gix_ref_files.specs.Files.{Leaves, Adds};
 ghost use Rattle.gix_ref_files.specs.Calls.{Appends, Appending, Renames, Renaming, IsMovable, RemovesFile, RemovingFile, RemovesFolder, RemovingFolder, Creates, Creating};
 ghost use Rattle.gix_ref_files.specs.Tree.Content.{File};
-ghost use Rattle.gix_ref_memory.specs.Changes.{after, meaning_of, Puts};
+ghost use Rattle.gix_ref_memory.specs.Changes.{after, meaning_of, Puts, tree_of};
 ghost use Rattle.gix_ref_memory.specs.Turns.{HasNoWay};
 
 use super::changes::{
@@ -22,11 +22,14 @@ pub fn append_now(
     path: &[u8],
     bytes: &[u8],
 ) -> Result<bool, AllocError>
-    ensures answer { IfOk result (Appends (after changes.old.items no_tree) path.now bytes.now (after changes.new.items no_tree)) }
+    ensures answer { IfOk result (Appends (tree_of changes.old) path.now bytes.now
+        (tree_of changes.new)) }
     ensures failed { OnErr result (changes.new.items ≡ changes.old.items) }
-    ensures shape { IsShaped (after changes.old.items no_tree) → IsShaped (after changes.new.items no_tree) }
-    ensures leaves { Leaves (meaning_of changes.old.items) (meaning_of changes.new.items) (Appending (after changes.old.items no_tree) path.now bytes.now) }
-    ensures adds { OnOk result (Adds (meaning_of changes.old.items) (meaning_of changes.new.items) (Appending (after changes.old.items no_tree) path.now bytes.now)) }
+    ensures shape { IsShaped (tree_of changes.old) → IsShaped (tree_of changes.new) }
+    ensures leaves { Leaves (meaning_of changes.old.items) (meaning_of changes.new.items)
+        (Appending (tree_of changes.old) path.now bytes.now) }
+    ensures adds { OnOk result (Adds (meaning_of changes.old.items) (meaning_of changes.new.items)
+        (Appending (tree_of changes.old) path.now bytes.now)) }
 {
     match find(changes, path) {
         Some(Stands::FileOf(old)) => {
@@ -49,9 +52,11 @@ pub fn append_some(
     bytes: &[u8],
     most: usize,
 ) -> Result<(), AllocError>
-    ensures done { OnOk result (after changes.new.items no_tree ≡ appended (after changes.old.items no_tree) path.now (take most bytes.now)) }
-    ensures shape { IsShaped (after changes.old.items no_tree) → IsShaped (after changes.new.items no_tree) }
-    ensures leaves { Leaves (meaning_of changes.old.items) (meaning_of changes.new.items) (Appending (after changes.old.items no_tree) path.now bytes.now) }
+    ensures done { OnOk result (after changes.new.items no_tree ≡ appended (tree_of changes.old)
+        path.now (take most bytes.now)) }
+    ensures shape { IsShaped (tree_of changes.old) → IsShaped (tree_of changes.new) }
+    ensures leaves { Leaves (meaning_of changes.old.items) (meaning_of changes.new.items)
+        (Appending (tree_of changes.old) path.now bytes.now) }
 {
     let part = &bytes[..most.min(bytes.len())];
     append_now(alloc, changes, path, part)?;
@@ -65,12 +70,17 @@ pub fn rename_now(
     from: &[u8],
     to: &[u8],
 ) -> Result<Option<Rename>, AllocError>
-    ensures answer { IfOk result (λ answer. IfSome answer (Renames (after changes.old.items no_tree) from.now to.now (after changes.new.items no_tree))) }
-    ensures none { IfOk result (λ answer. IfNone answer (IsMovable (after changes.old.items no_tree) from.now to.now → ⊥)) }
-    ensures none_same { IfOk result (λ answer. IfNone answer (changes.new.items ≡ changes.old.items)) }
+    ensures answer { IfOk result
+        (λ answer. IfSome answer (Renames (tree_of changes.old) from.now to.now
+        (tree_of changes.new))) }
+    ensures none { IfOk result
+        (λ answer. IfNone answer (IsMovable (tree_of changes.old) from.now to.now → ⊥)) }
+    ensures none_same { IfOk result
+        (λ answer. IfNone answer (changes.new.items ≡ changes.old.items)) }
     ensures failed { OnErr result (changes.new.items ≡ changes.old.items) }
-    ensures shape { IsShaped (after changes.old.items no_tree) → IsShaped (after changes.new.items no_tree) }
-    ensures leaves { Leaves (meaning_of changes.old.items) (meaning_of changes.new.items) (Renaming (after changes.old.items no_tree) from.now to.now) }
+    ensures shape { IsShaped (tree_of changes.old) → IsShaped (tree_of changes.new) }
+    ensures leaves { Leaves (meaning_of changes.old.items) (meaning_of changes.new.items)
+        (Renaming (tree_of changes.old) from.now to.now) }
 {
     match find(changes, from) {
         Some(Stands::FileOf(old)) => {
@@ -96,10 +106,12 @@ pub fn remove_file_now(
     changes: &mut Vec<Change>,
     path: &[u8],
 ) -> Result<bool, AllocError>
-    ensures answer { IfOk result (RemovesFile (after changes.old.items no_tree) path.now (after changes.new.items no_tree)) }
+    ensures answer { IfOk result (RemovesFile (tree_of changes.old) path.now
+        (tree_of changes.new)) }
     ensures failed { OnErr result (changes.new.items ≡ changes.old.items) }
-    ensures shape { IsShaped (after changes.old.items no_tree) → IsShaped (after changes.new.items no_tree) }
-    ensures leaves { Leaves (meaning_of changes.old.items) (meaning_of changes.new.items) (RemovingFile (after changes.old.items no_tree) path.now) }
+    ensures shape { IsShaped (tree_of changes.old) → IsShaped (tree_of changes.new) }
+    ensures leaves { Leaves (meaning_of changes.old.items) (meaning_of changes.new.items)
+        (RemovingFile (tree_of changes.old) path.now) }
 {
     if !is_file_at(changes, path) {
         return Ok(false);
@@ -115,12 +127,15 @@ pub fn create_now(
     changes: &mut Vec<Change>,
     path: &[u8],
 ) -> Result<Option<Create>, AllocError>
-    ensures answer { IfOk result (λ answer. IfSome answer (Creates (after changes.old.items no_tree) path.now (after changes.new.items no_tree))) }
+    ensures answer { IfOk result
+        (λ answer. IfSome answer (Creates (tree_of changes.old) path.now (tree_of changes.new))) }
     ensures none { IfOk result (λ answer. IfNone answer (changes.new.items ≡ changes.old.items)) }
-    ensures no_way { IfOk result (λ answer. IfNone answer (HasNoWay (after changes.old.items no_tree) path.now)) }
+    ensures no_way { IfOk result
+        (λ answer. IfNone answer (HasNoWay (tree_of changes.old) path.now)) }
     ensures failed { OnErr result (changes.new.items ≡ changes.old.items) }
-    ensures shape { IsShaped (after changes.old.items no_tree) → IsShaped (after changes.new.items no_tree) }
-    ensures leaves { Leaves (meaning_of changes.old.items) (meaning_of changes.new.items) (Creating (after changes.old.items no_tree) path.now) }
+    ensures shape { IsShaped (tree_of changes.old) → IsShaped (tree_of changes.new) }
+    ensures leaves { Leaves (meaning_of changes.old.items) (meaning_of changes.new.items)
+        (Creating (tree_of changes.old) path.now) }
 {
     if find(changes, path).is_some() {
         return Ok(Some(Create::Standing));
@@ -143,10 +158,12 @@ pub fn remove_folder_now(
     changes: &mut Vec<Change>,
     path: &[u8],
 ) -> Result<bool, AllocError>
-    ensures answer { IfOk result (RemovesFolder (after changes.old.items no_tree) path.now (after changes.new.items no_tree)) }
+    ensures answer { IfOk result (RemovesFolder (tree_of changes.old) path.now
+        (tree_of changes.new)) }
     ensures failed { OnErr result (changes.new.items ≡ changes.old.items) }
-    ensures shape { IsShaped (after changes.old.items no_tree) → IsShaped (after changes.new.items no_tree) }
-    ensures leaves { Leaves (meaning_of changes.old.items) (meaning_of changes.new.items) (RemovingFolder (after changes.old.items no_tree) path.now) }
+    ensures shape { IsShaped (tree_of changes.old) → IsShaped (tree_of changes.new) }
+    ensures leaves { Leaves (meaning_of changes.old.items) (meaning_of changes.new.items)
+        (RemovingFolder (tree_of changes.old) path.now) }
 {
     if !is_folder_at(changes, path) || has_below(changes, path) {
         return Ok(false);
@@ -163,9 +180,12 @@ fn place_file(
     path: &[u8],
     bytes: &[u8],
 ) -> Result<(), AllocError>
-    ensures placed { OnOk result (after changes.new.items no_tree ≡ put (with_folders (after changes.old.items no_tree) (fronts path.now)) path.now (Some (File bytes.now))) }
-    ensures kept { OnErr result (take (length changes.old.items) changes.new.items ≡ changes.old.items) }
-    ensures shape { is_folder (after changes.old.items no_tree path.now) ≡ false → IsShaped (after changes.old.items no_tree) → OnOk result (IsShaped (after changes.new.items no_tree)) }
+    ensures placed { OnOk result (after changes.new.items no_tree ≡ put
+        (with_folders (tree_of changes.old) (fronts path.now)) path.now (Some (File bytes.now))) }
+    ensures kept { OnErr result (take (length changes.old.items) changes.new.items
+        ≡ changes.old.items) }
+    ensures shape { is_folder (after changes.old.items no_tree path.now) ≡ false →
+        IsShaped (tree_of changes.old) → OnOk result (IsShaped (tree_of changes.new)) }
 {
     make_fronts(alloc, changes, path, path.len())?;
     let path = path.to_vec(alloc)?;
@@ -183,9 +203,10 @@ pub fn put_now(
     path: &[u8],
     bytes: &[u8],
 ) -> Result<bool, AllocError>
-    ensures answer { IfOk result (Puts (after changes.old.items no_tree) path.now bytes.now (after changes.new.items no_tree)) }
+    ensures answer { IfOk result (Puts (tree_of changes.old) path.now bytes.now
+        (tree_of changes.new)) }
     ensures failed { OnErr result (changes.new.items ≡ changes.old.items) }
-    ensures shape { IsShaped (after changes.old.items no_tree) → IsShaped (after changes.new.items no_tree) }
+    ensures shape { IsShaped (tree_of changes.old) → IsShaped (tree_of changes.new) }
 {
     if is_folder_at(changes, path) || is_below_file(changes, path) {
         return Ok(false);

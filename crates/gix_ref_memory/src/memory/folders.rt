@@ -5,18 +5,22 @@ ghost use Rattle.gix_ref_files.specs.Tree.Content.{Folder};
 ghost use Rattle.gix_ref_files.specs.Files.{Leaves, Adds};
 ghost use Rattle.gix_ref_files.specs.Calls.{Perhaps, MakesFolders, MakingFolders, is_in_the_way};
 ghost use Rattle.gix_ref_memory.specs.Turns.{IsDone};
-ghost use Rattle.gix_ref_memory.specs.Changes.{after, meaning_of, MakingFronts};
+ghost use Rattle.gix_ref_memory.specs.Changes.{after, meaning_of, MakingFronts, tree_of};
 
 use std::alloc::{AllocError, Global};
 use super::changes::{Change, Stored, is_below_file, is_file_at, is_folder_at};
 
 /// Makes a folder, where it does not stand.
 fn make_folder(alloc: Global, changes: &mut Vec<Change>, path: &[u8]) -> Result<(), AllocError>
-    ensures made { OnOk result (after changes.new.items no_tree ≡ put (after changes.old.items no_tree) path.now (Some Folder)) }
+    ensures made { OnOk result (after changes.new.items no_tree ≡ put (tree_of changes.old) path.now
+        (Some Folder)) }
     ensures failed { OnErr result (changes.new.items ≡ changes.old.items) }
     ensures kept { take (length changes.old.items) changes.new.items ≡ changes.old.items }
-    ensures shape { has_folders (after changes.old.items no_tree) path.now ≡ true → IsShaped (after changes.old.items no_tree) → IsShaped (after changes.new.items no_tree) }
-    ensures leaves { Leaves (meaning_of changes.old.items) (meaning_of changes.new.items) (Perhaps (after changes.old.items no_tree) (Unit {0}) (put (after changes.old.items no_tree) path.now (Some Folder))) }
+    ensures shape { has_folders (tree_of changes.old) path.now ≡ true →
+        IsShaped (tree_of changes.old) → IsShaped (tree_of changes.new) }
+    ensures leaves { Leaves (meaning_of changes.old.items) (meaning_of changes.new.items)
+        (Perhaps (tree_of changes.old) (Unit {0}) (put (tree_of changes.old) path.now
+        (Some Folder))) }
 {
     if is_folder_at(changes, path) {
         return Ok(());
@@ -34,12 +38,17 @@ pub fn make_fronts(
     path: &[u8],
     most: usize,
 ) -> Result<(), AllocError>
-    ensures made { OnOk result (after changes.new.items no_tree ≡ with_folders (after changes.old.items no_tree) (take most (fronts path.now))) }
+    ensures made { OnOk result (after changes.new.items no_tree ≡ with_folders (tree_of changes.old)
+        (take most (fronts path.now))) }
     ensures kept { take (length changes.old.items) changes.new.items ≡ changes.old.items }
-    ensures shape { IsShaped (after changes.old.items no_tree) → IsShaped (after changes.new.items no_tree) }
-    ensures leads { length (fronts path.now) ≤ most → OnOk result (has_folders (after changes.new.items no_tree) path.now ≡ true) }
-    ensures leaves { Leaves (meaning_of changes.old.items) (meaning_of changes.new.items) (MakingFronts (after changes.old.items no_tree) (fronts path.now)) }
-    ensures adds { length (fronts path.now) ≤ most → OnOk result (Adds (meaning_of changes.old.items) (meaning_of changes.new.items) (MakingFronts (after changes.old.items no_tree) (fronts path.now))) }
+    ensures shape { IsShaped (tree_of changes.old) → IsShaped (tree_of changes.new) }
+    ensures leads { length (fronts path.now) ≤ most →
+        OnOk result (has_folders (tree_of changes.new) path.now ≡ true) }
+    ensures leaves { Leaves (meaning_of changes.old.items) (meaning_of changes.new.items)
+        (MakingFronts (tree_of changes.old) (fronts path.now)) }
+    ensures adds { length (fronts path.now) ≤ most →
+        OnOk result (Adds (meaning_of changes.old.items) (meaning_of changes.new.items)
+        (MakingFronts (tree_of changes.old) (fronts path.now))) }
 {
     let mut left = most;
     for i in 1..path.len() {
@@ -76,10 +85,13 @@ pub fn make_folders_now(
     changes: &mut Vec<Change>,
     path: &[u8],
 ) -> Result<bool, AllocError>
-    ensures answer { IfOk result (MakesFolders (after changes.old.items no_tree) path.now (after changes.new.items no_tree)) }
-    ensures shape { IsShaped (after changes.old.items no_tree) → IsShaped (after changes.new.items no_tree) }
-    ensures leaves { Leaves (meaning_of changes.old.items) (meaning_of changes.new.items) (MakingFolders (after changes.old.items no_tree) path.now) }
-    ensures adds { OnOk result (Adds (meaning_of changes.old.items) (meaning_of changes.new.items) (MakingFolders (after changes.old.items no_tree) path.now)) }
+    ensures answer { IfOk result (MakesFolders (tree_of changes.old) path.now
+        (tree_of changes.new)) }
+    ensures shape { IsShaped (tree_of changes.old) → IsShaped (tree_of changes.new) }
+    ensures leaves { Leaves (meaning_of changes.old.items) (meaning_of changes.new.items)
+        (MakingFolders (tree_of changes.old) path.now) }
+    ensures adds { OnOk result (Adds (meaning_of changes.old.items) (meaning_of changes.new.items)
+        (MakingFolders (tree_of changes.old) path.now)) }
 {
     if stands_in_the_way(changes, path) {
         return Ok(false);
@@ -96,9 +108,13 @@ pub fn make_some_folders(
     path: &[u8],
     most: usize,
 ) -> Result<(), AllocError>
-    ensures done { OnOk result (IsDone (after changes.old.items no_tree) (is_in_the_way (after changes.old.items no_tree) path.now ≡ false) (with_folders (after changes.old.items no_tree) (take most (folders_to path.now))) (after changes.new.items no_tree)) }
-    ensures shape { IsShaped (after changes.old.items no_tree) → IsShaped (after changes.new.items no_tree) }
-    ensures leaves { Leaves (meaning_of changes.old.items) (meaning_of changes.new.items) (MakingFolders (after changes.old.items no_tree) path.now) }
+    ensures done { OnOk result
+        (IsDone (tree_of changes.old) (is_in_the_way (tree_of changes.old) path.now ≡ false)
+        (with_folders (tree_of changes.old) (take most (folders_to path.now)))
+        (tree_of changes.new)) }
+    ensures shape { IsShaped (tree_of changes.old) → IsShaped (tree_of changes.new) }
+    ensures leaves { Leaves (meaning_of changes.old.items) (meaning_of changes.new.items)
+        (MakingFolders (tree_of changes.old) path.now) }
 {
     if stands_in_the_way(changes, path) {
         return Ok(());

@@ -12,7 +12,8 @@ use super::changes::{Change, find, place};
 
 /// The rest of a path that lies below a folder.
 fn below<'a>(folder: &[u8], path: &'a [u8]) -> Option<&'a [u8]>
-    ensures { MatchOption result ((rest : List ℕ) → path.now ≡ folder.now ++ 47 ∷ rest → ⊥) (λ rest. path.now ≡ folder.now ++ 47 ∷ rest.now) }
+    ensures { MatchOption result ((rest : List ℕ) → path.now ≡ folder.now ++ 47 ∷ rest → ⊥)
+        (λ rest. path.now ≡ folder.now ++ 47 ∷ rest.now) }
 {
     let end = folder.len();
     if end < path.len() && &path[..end] == folder && path[end] == b'/' {
@@ -24,7 +25,9 @@ fn below<'a>(folder: &[u8], path: &'a [u8]) -> Option<&'a [u8]>
 
 /// The name of a path that lies right in a folder.
 fn child<'a>(folder: &[u8], path: &'a [u8]) -> Option<&'a [u8]>
-    ensures { MatchOption result ((name : List ℕ) → IsName name → path.now ≡ folder.now ++ 47 ∷ name → ⊥) (λ name. IsName name.now × (path.now ≡ folder.now ++ 47 ∷ name.now)) }
+    ensures { MatchOption result ((name : List ℕ) → IsName name →
+        path.now ≡ folder.now ++ 47 ∷ name → ⊥) (λ name. IsName name.now
+        × (path.now ≡ folder.now ++ 47 ∷ name.now)) }
 {
     match below(folder, path) {
         Some(name) if !name.is_empty() && !name.contains(&b'/') => Some(name),
@@ -34,8 +37,10 @@ fn child<'a>(folder: &[u8], path: &'a [u8]) -> Option<&'a [u8]>
 
 /// Something stands below a path.
 pub fn has_below(changes: &[Change], path: &[u8]) -> bool
-    ensures some { result ≡ true → (rest : List ℕ) × IsSome (after changes.now no_tree (path.now ++ 47 ∷ rest)) }
-    ensures none { result ≡ false → (rest : List ℕ) → after changes.now no_tree (path.now ++ 47 ∷ rest) ≡ None }
+    ensures some { result ≡ true → (rest : List ℕ)
+        × IsSome (after changes.now no_tree (path.now ++ 47 ∷ rest)) }
+    ensures none { result ≡ false → (rest : List ℕ) →
+        after changes.now no_tree (path.now ++ 47 ∷ rest) ≡ None }
 {
     for change in changes {
         let at = place(change);
@@ -64,7 +69,8 @@ fn add_entry(
 ) -> Result<(), AllocError>
     requires name { IsName name.now }
     requires path { path.now ≡ folder.now ++ 47 ∷ name.now }
-    ensures { OnOk result (Lists (after changes.now no_tree) folder.now name.now entries.old.items entries.new.items) }
+    ensures { OnOk result (Lists (after changes.now no_tree) folder.now name.now entries.old.items
+        entries.new.items) }
 {
     if is_listed(entries, name) {
         return Ok(());
@@ -80,7 +86,8 @@ fn add_entry(
 
 /// The entries of a folder, in the order in which they were first made.
 pub fn list_now(alloc: Global, changes: &[Change], folder: &[u8]) -> Result<Vec<Entry>, AllocError>
-    ensures { IfOk result (λ entries. IsListing (after changes.now no_tree) folder.now entries.items) }
+    ensures { IfOk result (λ entries. IsListing (after changes.now no_tree) folder.now
+        entries.items) }
 {
     let mut entries = Vec::new(alloc);
     for change in changes {

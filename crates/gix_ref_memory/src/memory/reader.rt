@@ -35,7 +35,8 @@ impl ReadAt for MemoryReader {
     fn read_exact_at(&mut self, place: u64, buf: &mut [u8]) -> Result<(), FileError>
         ensures bytes { OnOk result (IsRead (bytes_in self.old) place buf.new) }
         ensures turn { OnOk result (reader_turn self.old ≡ Go) }
-        ensures goes { reader_turn self.old ≡ Go → place + length buf.old < length (bytes_in self.old) + 1 → is_ok result ≡ true }
+        ensures goes { reader_turn self.old ≡ Go →
+            place + length buf.old < length (bytes_in self.old) + 1 → is_ok result ≡ true }
         ensures same { bytes_in self.new ≡ bytes_in self.old }
         ensures size { length (bytes_in self.new) ≡ length (bytes_in self.old) }
         ensures counts { reader_calls self.new ≡ one_more (reader_calls self.old) }

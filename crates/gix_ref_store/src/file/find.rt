@@ -44,7 +44,8 @@ fn own_name(partial: PartialNameRef<'_>) -> Option<FullNameRef<'_>>
 
 /// The target as it is read in a namespace: a symbolic one loses it.
 pub(crate) fn strip(target: &mut Target, namespace: &Option<Namespace>)
-    ensures { target_value target.new ≡ less_namespace (namespace_text namespace.now) (target_value target.old) }
+    ensures { target_value target.new ≡ less_namespace (namespace_text namespace.now)
+        (target_value target.old) }
 {
     let Some(namespace) = namespace else {
         return;
@@ -66,9 +67,12 @@ impl<F: Files> Store<F> {
         alloc: Global,
         partial: PartialNameRef<'_>,
     ) -> Result<Option<Reference>, Error>
-        ensures found { F.honest → IfOk result (FindsIn F.means self.old (partial_ref_bytes partial.entry)) }
-        ensures failed { IfErr result (FailsIn F.honest F.means F.faults self.old self.new (partial_ref_bytes partial.entry)) }
-        ensures no_fault { OnOk result (F.faults (files_of self.new) ≡ F.faults (files_of self.old)) }
+        ensures found { F.honest →
+            IfOk result (FindsIn F.means self.old (partial_ref_bytes partial.entry)) }
+        ensures failed { IfErr result (FailsIn F.honest F.means F.faults self.old self.new
+            (partial_ref_bytes partial.entry)) }
+        ensures no_fault { OnOk result (F.faults (files_of self.new) ≡ F.faults
+            (files_of self.old)) }
         ensures unchanged { LooksUp F.honest F.means self.old self.new }
     {
         match own_name(partial) {
@@ -83,9 +87,12 @@ impl<F: Files> Store<F> {
         alloc: Global,
         partial: PartialNameRef<'_>,
     ) -> Result<Reference, existing::Error>
-        ensures found { F.honest → IfOk result (λ r. FindsIn F.means self.old (partial_ref_bytes partial.entry) (Some r)) }
-        ensures failed { IfErr result (MissesIn F.honest F.means F.faults self.old self.new (partial_ref_bytes partial.entry)) }
-        ensures no_fault { OnOk result (F.faults (files_of self.new) ≡ F.faults (files_of self.old)) }
+        ensures found { F.honest →
+            IfOk result (λ r. FindsIn F.means self.old (partial_ref_bytes partial.entry) (Some r)) }
+        ensures failed { IfErr result (MissesIn F.honest F.means F.faults self.old self.new
+            (partial_ref_bytes partial.entry)) }
+        ensures no_fault { OnOk result (F.faults (files_of self.new) ≡ F.faults
+            (files_of self.old)) }
         ensures unchanged { LooksUp F.honest F.means self.old self.new }
     {
         match self.try_find(alloc, partial)? {
@@ -98,9 +105,13 @@ impl<F: Files> Store<F> {
 
     /// The loose reference of a name.
     fn find_one(&mut self, alloc: Global, name: FullNameRef<'_>) -> Result<Option<Reference>, Error>
-        ensures found { F.honest → IfOk result (Reads (meaning_of self.old) (view_in F.means self.old) (full_ref_bytes name.entry)) }
-        ensures failed { IfErr result (FailsIn F.honest F.means F.faults self.old self.new (full_ref_bytes name.entry)) }
-        ensures no_fault { OnOk result (F.faults (files_of self.new) ≡ F.faults (files_of self.old)) }
+        ensures found { F.honest →
+            IfOk result (Reads (meaning_of self.old) (view_in F.means self.old)
+            (full_ref_bytes name.entry)) }
+        ensures failed { IfErr result (FailsIn F.honest F.means F.faults self.old self.new
+            (full_ref_bytes name.entry)) }
+        ensures no_fault { OnOk result (F.faults (files_of self.new) ≡ F.faults
+            (files_of self.old)) }
         ensures unchanged { LooksUp F.honest F.means self.old self.new }
     {
         let place = self.place(alloc, name)?;
@@ -116,7 +127,8 @@ impl<F: Files> Store<F> {
 
     /// The place of a name.
     pub(crate) fn place(&self, alloc: Global, name: FullNameRef<'_>) -> Result<Vec<u8>, AllocError>
-        ensures { IfOk result (λ place. place.items ≡ (meaning_of self.now).place (full_ref_bytes name.entry)) }
+        ensures { IfOk result (λ place. place.items ≡ (meaning_of self.now).place
+            (full_ref_bytes name.entry)) }
     {
         layout_in(&self.dirs, &self.namespace).loose(alloc, name)
     }
@@ -128,7 +140,8 @@ impl<F: Files> Store<F> {
         name: FullNameRef<'_>,
         loose: Loose,
     ) -> Result<Option<Reference>, Error>
-        ensures found { IfOk result (ReadsBy (meaning_of self.now) (full_ref_bytes name.entry) loose) }
+        ensures found { IfOk result (ReadsBy (meaning_of self.now) (full_ref_bytes name.entry)
+            loose) }
         ensures failed { IfErr result (RefusesBy (full_ref_bytes name.entry) loose) }
     {
         match loose {

@@ -83,7 +83,8 @@ pub(crate) fn is_clean_path(path: &[u8]) -> bool
 
 /// What follows the folder in the path, where the path lies in it.
 fn rest_below<'a>(path: &'a [u8], folder: &[u8]) -> Option<&'a [u8]>
-    ensures { MatchOption result (LiesIn path.now folder.now → ⊥) (λ rest. path.now ≡ below folder.now rest.now) }
+    ensures { MatchOption result (LiesIn path.now folder.now → ⊥)
+        (λ rest. path.now ≡ below folder.now rest.now) }
 {
     let Some(rest) = strip_front(path, folder) else {
         return None;

@@ -41,7 +41,8 @@ impl Reference {
         object_hash: Kind,
     ) -> Result<Reference, Error>
         ensures name { IfOk result (λ reference. reference.name ≡ name) }
-        ensures held { IfOk result (λ reference. HoldsTarget object_hash contents.now (target_value reference.target)) }
+        ensures held { IfOk result (λ reference. HoldsTarget object_hash contents.now
+            (target_value reference.target)) }
         ensures refused { IfErr result (Refuses object_hash contents.now) }
     {
         let target = decode(alloc, contents, object_hash)?;
@@ -111,7 +112,8 @@ impl Clone for Reference {
 
 /// The path of a symbolic reference, which is not checked yet.
 fn symbolic_path(text: &[u8]) -> Option<&[u8]>
-    ensures { MatchOption result ((path : List ℕ) → HoldsPath text.now path → ⊥) (λ path. HoldsPath text.now path.now) }
+    ensures { MatchOption result ((path : List ℕ) → HoldsPath text.now path → ⊥)
+        (λ path. HoldsPath text.now path.now) }
 {
     let Some(rest) = strip_front(text, b"ref: ") else {
         return None;
@@ -146,7 +148,8 @@ fn object_id(text: &[u8], kind: Kind) -> Option<ObjectId>
 
 /// The target that the bytes of a loose file hold.
 pub(crate) fn decode(alloc: Global, text: &[u8], kind: Kind) -> Result<Target, Error>
-    ensures { MatchResult result (λ target. HoldsTarget kind text.now (target_value target)) (Refuses kind text.now) }
+    ensures { MatchResult result (λ target. HoldsTarget kind text.now (target_value target))
+        (Refuses kind text.now) }
 {
     if let Some(path) = symbolic_path(text) {
         return match FullNameRef::try_from(path) {
@@ -178,7 +181,8 @@ fn object_text(alloc: Global, id: &ObjectId) -> Result<Vec<u8>, AllocError>
 /// The text that a loose file of this target has. It decodes to the target.
 pub(crate) fn text_of(alloc: Global, target: &Target) -> Result<Vec<u8>, AllocError>
     ensures text { IfOk result (λ text. text.items ≡ loose_text (target_value target.now)) }
-    ensures back { OnOk result ((kind : Kind) → IsWritable kind (target_value target.now) → target_in kind (loose_text (target_value target.now)) ≡ Some (target_value target.now)) }
+    ensures back { OnOk result ((kind : Kind) → IsWritable kind (target_value target.now) →
+        target_in kind (loose_text (target_value target.now)) ≡ Some (target_value target.now)) }
 {
     match target {
         Target::Object(id) => object_text(alloc, id),
@@ -193,6 +197,8 @@ pub(crate) fn text_of(alloc: Global, target: &Target) -> Result<Vec<u8>, AllocEr
 
 /// What a loose text holds is what is computed from it, and nothing else; so a text holds one target at most.
 pub fn loose_texts_are_read()
-    ensures held { (kind : Kind) (text : List ℕ) (target : TargetValue) → HoldsTarget kind text target → target_in kind text ≡ Some target }
-    ensures computed { (kind : Kind) (text : List ℕ) (target : TargetValue) → target_in kind text ≡ Some target → HoldsTarget kind text target }
+    ensures held { (kind : Kind) (text : List ℕ) (target : TargetValue) →
+        HoldsTarget kind text target → target_in kind text ≡ Some target }
+    ensures computed { (kind : Kind) (text : List ℕ) (target : TargetValue) →
+        target_in kind text ≡ Some target → HoldsTarget kind text target }
 {}

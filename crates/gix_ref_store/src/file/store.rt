@@ -58,7 +58,8 @@ impl<F> Store<F> {
     /// slashes; `object_hash` is the kind of all ids. `PathNotClean` hands the files back.
     pub fn at(files: F, git_dir: Vec<u8>, object_hash: Kind) -> Result<Store<F>, Error<F>>
         ensures made { IfOk result (IsMade files git_dir None object_hash default_options) }
-        ensures found { MatchResult result (λ _. AreDirs git_dir None) (IsRefused files git_dir None) }
+        ensures found { MatchResult result (λ _. AreDirs git_dir None)
+            (IsRefused files git_dir None) }
     {
         Store::at_opts(files, git_dir, object_hash, Options::default())
     }
@@ -71,7 +72,8 @@ impl<F> Store<F> {
         options: Options,
     ) -> Result<Store<F>, Error<F>>
         ensures made { IfOk result (IsMade files git_dir None object_hash options) }
-        ensures found { MatchResult result (λ _. AreDirs git_dir None) (IsRefused files git_dir None) }
+        ensures found { MatchResult result (λ _. AreDirs git_dir None)
+            (IsRefused files git_dir None) }
     {
         Store::in_dirs(files, git_dir, None, object_hash, options)
     }
@@ -84,8 +86,10 @@ impl<F> Store<F> {
         common_dir: Vec<u8>,
         object_hash: Kind,
     ) -> Result<Store<F>, Error<F>>
-        ensures made { IfOk result (IsMade files git_dir (Some common_dir) object_hash default_options) }
-        ensures found { MatchResult result (λ _. AreDirs git_dir (Some common_dir)) (IsRefused files git_dir (Some common_dir)) }
+        ensures made { IfOk result (IsMade files git_dir (Some common_dir) object_hash
+            default_options) }
+        ensures found { MatchResult result (λ _. AreDirs git_dir (Some common_dir))
+            (IsRefused files git_dir (Some common_dir)) }
     {
         Store::for_linked_worktree_opts(files, git_dir, common_dir, object_hash, Options::default())
     }
@@ -99,7 +103,8 @@ impl<F> Store<F> {
         options: Options,
     ) -> Result<Store<F>, Error<F>>
         ensures made { IfOk result (IsMade files git_dir (Some common_dir) object_hash options) }
-        ensures found { MatchResult result (λ _. AreDirs git_dir (Some common_dir)) (IsRefused files git_dir (Some common_dir)) }
+        ensures found { MatchResult result (λ _. AreDirs git_dir (Some common_dir))
+            (IsRefused files git_dir (Some common_dir)) }
     {
         Store::in_dirs(files, git_dir, Some(common_dir), object_hash, options)
     }
@@ -113,7 +118,8 @@ impl<F> Store<F> {
         options: Options,
     ) -> Result<Store<F>, Error<F>>
         ensures made { IfOk result (IsMade files git_dir common_dir object_hash options) }
-        ensures found { MatchResult result (λ _. AreDirs git_dir common_dir) (IsRefused files git_dir common_dir) }
+        ensures found { MatchResult result (λ _. AreDirs git_dir common_dir)
+            (IsRefused files git_dir common_dir) }
     {
         if !are_clean_paths(&git_dir, &common_dir) {
             return Err(Error::PathNotClean { files });

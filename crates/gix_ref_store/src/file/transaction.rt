@@ -140,9 +140,16 @@ impl<'s, F: Files> Transaction<'s, F> {
     /// the locks that it names, and folders on the way to locks. Reads one file, and makes one.
     pub fn prepare(self, alloc: Global, edits: Vec<RefEdit>) -> Result<Prepared<'s, F>, Refused>
         requires { IsOneUpdate edits.items }
-        ensures* rests { sem 𝓛 (RestsIfErr (the_row F.row) self.entry.store (λ p. p.store.ghost_name) result (λ n. IfErr result (λ r. RefusesFrom F.honest F.means F.faults self.entry.store.now n edits.items r.error (paths_of r.locks_left.items) × (r.packed_refs ≡ self.entry.packed_refs)))) }
-        ensures same_reference { IfOk result (λ p. p.store.ghost_name ≡ self.entry.store.ghost_name) }
-        ensures prepared { IfOk result (λ p. PreparesFrom F.honest F.means F.faults self.entry.store.now p.store.now edits.items (prepared_edits p.plan) (prepared_paths p.plan)) }
+        ensures* rests { sem 𝓛 (RestsIfErr (the_row F.row) self.entry.store
+            (λ p. p.store.ghost_name) result
+            (λ n. IfErr result (λ r. RefusesFrom F.honest F.means F.faults self.entry.store.now n
+            edits.items r.error (paths_of r.locks_left.items)
+            × (r.packed_refs ≡ self.entry.packed_refs)))) }
+        ensures same_reference { IfOk result
+            (λ p. p.store.ghost_name ≡ self.entry.store.ghost_name) }
+        ensures prepared { IfOk result (λ p. PreparesFrom F.honest F.means F.faults
+            self.entry.store.now p.store.now edits.items (prepared_edits p.plan)
+            (prepared_paths p.plan)) }
         ensures packed_refs { IfOk result (λ p. prepared_mode p.plan ≡ self.entry.packed_refs) }
     {
         let Transaction { store, packed_refs } = self;
@@ -210,10 +217,16 @@ impl<F: Files> Prepared<'_, F> {
         requires quiet { self.store.now.write_reflog ≡ WriteReflog.Disable }
         ensures edits { IfOk result (λ done. done.edits.items ≡ prepared_edits self.entry.plan) }
         ensures packed_refs { mode_of result ≡ prepared_mode self.entry.plan }
-        ensures committed { IfOk result (λ done. CommitsFrom F.honest F.means F.faults self.entry.store.now self.exit.0.now (prepared_edits self.entry.plan) (prepared_paths self.entry.plan) (paths_of done.locks_left.items)) }
-        ensures failed { IfErr result (λ f. FailsFor F.honest F.means F.faults self.entry.store.now self.exit.0.now (prepared_edits self.entry.plan) (prepared_paths self.entry.plan) f.error) }
-        ensures ended { EndsFrom F.honest F.means F.faults self.entry.store.now self.exit.0.now (prepared_edits self.entry.plan) (prepared_paths self.entry.plan) (left_of result) }
-        ensures named { (left_of result ≡ []) ⊎ HasRisen (F.faults (files_of self.entry.store.now)) (F.faults (files_of self.exit.0.now)) }
+        ensures committed { IfOk result (λ done. CommitsFrom F.honest F.means F.faults
+            self.entry.store.now self.exit.0.now (prepared_edits self.entry.plan)
+            (prepared_paths self.entry.plan) (paths_of done.locks_left.items)) }
+        ensures failed { IfErr result (λ f. FailsFor F.honest F.means F.faults self.entry.store.now
+            self.exit.0.now (prepared_edits self.entry.plan) (prepared_paths self.entry.plan)
+            f.error) }
+        ensures ended { EndsFrom F.honest F.means F.faults self.entry.store.now self.exit.0.now
+            (prepared_edits self.entry.plan) (prepared_paths self.entry.plan) (left_of result) }
+        ensures named { (left_of result ≡ []) ⊎ HasRisen (F.faults (files_of self.entry.store.now))
+            (F.faults (files_of self.exit.0.now)) }
         ensures same { IsSameStore self.entry.store.now self.exit.0.now }
     {
         let Prepared { store, plan } = self;
@@ -243,7 +256,9 @@ impl<F: Files> Prepared<'_, F> {
     /// Gives the transaction up: removes its locks, and hands the edits back as they were prepared. A lock that could not
     /// be removed is named. Takes no memory.
     pub fn rollback(self) -> RolledBack
-        ensures rolled { RollsBackFrom F.honest F.means F.faults self.entry.store.now self.exit.0.now (lock_paths (prepared_paths self.entry.plan)) (paths_of result.locks_left.items) }
+        ensures rolled { RollsBackFrom F.honest F.means F.faults self.entry.store.now
+            self.exit.0.now (lock_paths (prepared_paths self.entry.plan))
+            (paths_of result.locks_left.items) }
         ensures edits { result.edits.items ≡ prepared_edits self.entry.plan }
         ensures packed_refs { result.packed_refs ≡ prepared_mode self.entry.plan }
     {

@@ -41,8 +41,10 @@ pub(crate) fn loose_at<F: Files>(
     place: &[u8],
     kind: Kind,
 ) -> Result<Loose, FileError>
-    ensures decoded { F.honest → IfOk result (IsDecoded kind (view_of (F.means files.old).tree place.now)) }
-    ensures leaves { F.honest → Leaves (F.means files.old) (F.means files.new) (Only (F.means files.old).tree) }
+    ensures decoded { F.honest →
+        IfOk result (IsDecoded kind (view_of (F.means files.old).tree place.now)) }
+    ensures leaves { F.honest → Leaves (F.means files.old) (F.means files.new)
+        (Only (F.means files.old).tree) }
     ensures count { F.faults files.new ≡ count_after result (F.faults files.old) }
 {
     let mut text = Vec::new(alloc);

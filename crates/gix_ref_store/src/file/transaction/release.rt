@@ -16,7 +16,8 @@ use gix_ref_files::files::Files;
 /// Removes one lock; false where it could not.
 fn remove_lock<F: Files>(files: &mut F, lock: &[u8]) -> bool
     ensures gone { F.honest → IsTrue result → is_file ((F.means files.new).tree lock.now) ≡ false }
-    ensures leaves { F.honest → Leaves (F.means files.old) (F.means files.new) (RemovesLocks (lock.now ∷ []) (F.means files.old).tree) }
+    ensures leaves { F.honest → Leaves (F.means files.old) (F.means files.new)
+        (RemovesLocks (lock.now ∷ []) (F.means files.old).tree) }
     ensures no_fewer { F.faults files.old ≤ F.faults files.new }
     ensures counted { OnFalse result (HasRisen (F.faults files.old) (F.faults files.new)) }
 {
@@ -30,8 +31,10 @@ fn remove_lock<F: Files>(files: &mut F, lock: &[u8]) -> bool
 fn release<F: Files>(files: &mut F, edits: &[RefEdit], done: usize, at: usize, lock: &[u8]) -> bool
     requires { done ≤ length edits.now }
     ensures renamed { stays_at edits.now done at ≡ false → files.new ≡ files.old }
-    ensures gone { F.honest → stays_at edits.now done at ≡ true → IsTrue result → is_file ((F.means files.new).tree lock.now) ≡ false }
-    ensures leaves { F.honest → Leaves (F.means files.old) (F.means files.new) (RemovesLocks (lock.now ∷ []) (F.means files.old).tree) }
+    ensures gone { F.honest → stays_at edits.now done at ≡ true → IsTrue result →
+        is_file ((F.means files.new).tree lock.now) ≡ false }
+    ensures leaves { F.honest → Leaves (F.means files.old) (F.means files.new)
+        (RemovesLocks (lock.now ∷ []) (F.means files.old).tree) }
     ensures no_fewer { F.faults files.old ≤ F.faults files.new }
     ensures counted { OnFalse result (HasRisen (F.faults files.old) (F.faults files.new)) }
 {
@@ -53,10 +56,15 @@ pub(crate) fn release_locks<F: Files>(
     requires done { done ≤ length edits.now }
     requires room { vec_len paths ≤ vec_capacity left }
     requires none { left.items ≡ [] }
-    ensures renamed { ((k : ℕ) → k < vec_len paths → stays_at edits.now done k ≡ false) → files.new ≡ files.old }
-    ensures gone { F.honest → (k : ℕ) → k < vec_len paths → stays_at edits.now done k ≡ true → is_in (paths_of result.items) (lock_at paths.items k) ≡ false → is_file ((F.means files.new).tree (lock_at paths.items k)) ≡ false }
-    ensures ours { (q : Path) → is_in (paths_of result.items) q ≡ true → is_in (lock_paths paths.items) q ≡ true }
-    ensures leaves { F.honest → Leaves (F.means files.old) (F.means files.new) (RemovesLocks (lock_paths paths.items) (F.means files.old).tree) }
+    ensures renamed { ((k : ℕ) → k < vec_len paths → stays_at edits.now done k ≡ false) →
+        files.new ≡ files.old }
+    ensures gone { F.honest → (k : ℕ) → k < vec_len paths → stays_at edits.now done k ≡ true →
+        is_in (paths_of result.items) (lock_at paths.items k) ≡ false →
+        is_file ((F.means files.new).tree (lock_at paths.items k)) ≡ false }
+    ensures ours { (q : Path) → is_in (paths_of result.items) q ≡ true →
+        is_in (lock_paths paths.items) q ≡ true }
+    ensures leaves { F.honest → Leaves (F.means files.old) (F.means files.new)
+        (RemovesLocks (lock_paths paths.items) (F.means files.old).tree) }
     ensures no_fewer { F.faults files.old ≤ F.faults files.new }
     ensures counted { (result.items ≡ []) ⊎ HasRisen (F.faults files.old) (F.faults files.new) }
 {
@@ -76,9 +84,12 @@ pub(crate) fn remove_locks<F: Files>(
 ) -> Vec<Vec<u8>>
     requires room { vec_len locks ≤ vec_capacity left }
     requires none { left.items ≡ [] }
-    ensures gone { F.honest → (q : Path) → is_in (lock_paths locks.items) q ≡ true → is_in (paths_of result.items) q ≡ false → is_file ((F.means files.new).tree q) ≡ false }
-    ensures ours { (q : Path) → is_in (paths_of result.items) q ≡ true → is_in (lock_paths locks.items) q ≡ true }
-    ensures leaves { F.honest → Leaves (F.means files.old) (F.means files.new) (RemovesLocks (lock_paths locks.items) (F.means files.old).tree) }
+    ensures gone { F.honest → (q : Path) → is_in (lock_paths locks.items) q ≡ true →
+        is_in (paths_of result.items) q ≡ false → is_file ((F.means files.new).tree q) ≡ false }
+    ensures ours { (q : Path) → is_in (paths_of result.items) q ≡ true →
+        is_in (lock_paths locks.items) q ≡ true }
+    ensures leaves { F.honest → Leaves (F.means files.old) (F.means files.new)
+        (RemovesLocks (lock_paths locks.items) (F.means files.old).tree) }
     ensures no_fewer { F.faults files.old ≤ F.faults files.new }
     ensures counted { (result.items ≡ []) ⊎ HasRisen (F.faults files.old) (F.faults files.new) }
 {

@@ -7,7 +7,7 @@ use Rattle.gix_ref_store_tests.proofs.transactions.update.Goals as goal
 -- the list holds the one edit that was put into it
 pub returns : goal.returns
 returns g c =
-    let edit : RefEdit = record { change = Update c.new_in.result c.args.expected c.args.new; name = c.args.name; deref = false } in
+    let edit : RefEdit = record { change = Update c.new_in.result c.args.expected c.args.new; name = c.full_name.result; deref = false } in
     let room = c.expect-edits.result.items in
     let empty : room ≡ [] = subst (λ r. IfOk r (λ v. v.items ≡ [])) c.expect-edits.ensures c.with_capacity.ensures.items in
     record {

@@ -50,9 +50,13 @@ fn publish_edit<F: Files>(
     edit: &RefEdit,
     own: &Paths,
 ) -> Result<(), Option<FileError>>
-    ensures done { F.honest → OnOk result (IsAfter (rename_of edit.now own.now) (F.means files.old).tree (F.means files.new).tree) }
-    ensures leaves { F.honest → Leaves (F.means files.old) (F.means files.new) (IsLeftBy (rename_of edit.now own.now) (F.means files.old).tree) }
-    ensures folder { F.honest → IfErr result (λ source. source ≡ None → is_folder ((F.means files.new).tree own.now.place.items) ≡ true) }
+    ensures done { F.honest →
+        OnOk result (IsAfter (rename_of edit.now own.now) (F.means files.old).tree
+        (F.means files.new).tree) }
+    ensures leaves { F.honest → Leaves (F.means files.old) (F.means files.new)
+        (IsLeftBy (rename_of edit.now own.now) (F.means files.old).tree) }
+    ensures folder { F.honest → IfErr result (λ source. source ≡ None →
+        is_folder ((F.means files.new).tree own.now.place.items) ≡ true) }
     ensures no_fewer { F.faults files.old ≤ F.faults files.new }
     ensures counted { IfErr result (IsRaised (F.faults files.old) (F.faults files.new)) }
 {
@@ -74,12 +78,17 @@ pub(crate) fn publish<F: Files>(
     paths: &[Paths],
 ) -> Result<(), Unpublished>
     requires { length paths.now ≡ length edits.now }
-    ensures done { F.honest → OnOk result (IsAfter (renames_of edits.now paths.now) (F.means files.old).tree (F.means files.new).tree) }
-    ensures leaves { F.honest → Leaves (F.means files.old) (F.means files.new) (IsLeftBy (renames_of edits.now paths.now) (F.means files.old).tree) }
+    ensures done { F.honest →
+        OnOk result (IsAfter (renames_of edits.now paths.now) (F.means files.old).tree
+        (F.means files.new).tree) }
+    ensures leaves { F.honest → Leaves (F.means files.old) (F.means files.new)
+        (IsLeftBy (renames_of edits.now paths.now) (F.means files.old).tree) }
     ensures place { IfErr result (λ end. end.at < length edits.now) }
-    ensures folder { F.honest → IfErr result (λ end. end.source ≡ None → is_folder ((F.means files.new).tree (place_at paths.now end.at)) ≡ true) }
+    ensures folder { F.honest → IfErr result (λ end. end.source ≡ None →
+        is_folder ((F.means files.new).tree (place_at paths.now end.at)) ≡ true) }
     ensures no_fewer { F.faults files.old ≤ F.faults files.new }
-    ensures counted { IfErr result (λ end. IsRaised (F.faults files.old) (F.faults files.new) end.source) }
+    ensures counted { IfErr result (λ end. IsRaised (F.faults files.old) (F.faults files.new)
+        end.source) }
 {
     for (at, edit) in edits.iter().enumerate() {
         if let Err(source) = publish_edit(files, edit, &paths[at]) {

@@ -31,12 +31,16 @@ impl<F: Files> Store<F> {
     /// Looks at all edits, and takes their locks with their texts.
     pub(crate) fn begin(&mut self, alloc: Global, edits: &[RefEdit]) -> Result<Taken, Untaken>
         requires { IsOneUpdate edits.now }
-        ensures refused { IfErr result (λ u. RefusesFrom F.honest F.means F.faults self.old self.new edits.now u.error (paths_of u.locks_left.items)) }
-        ensures held { IfOk result (λ t. HoldsFrom F.honest F.means F.faults self.old self.new edits.now (map value_of t.found.items)) }
+        ensures refused { IfErr result (λ u. RefusesFrom F.honest F.means F.faults self.old self.new
+            edits.now u.error (paths_of u.locks_left.items)) }
+        ensures held { IfOk result (λ t. HoldsFrom F.honest F.means F.faults self.old self.new
+            edits.now (map value_of t.found.items)) }
         ensures len { IfOk result (λ t. vec_len t.found ≡ length edits.now) }
         ensures paths { IfOk result (λ t. vec_len t.paths ≡ length edits.now) }
-        ensures places { IfOk result (λ t. place_paths t.paths.items ≡ places_of (meaning_of self.old) edits.now) }
-        ensures locks { IfOk result (λ t. lock_paths t.paths.items ≡ locks_of (meaning_of self.old) edits.now) }
+        ensures places { IfOk result (λ t. place_paths t.paths.items ≡ places_of
+            (meaning_of self.old) edits.now) }
+        ensures locks { IfOk result (λ t. lock_paths t.paths.items ≡ locks_of (meaning_of self.old)
+            edits.now) }
         ensures room { IfOk result (λ t. vec_len t.paths ≤ vec_capacity t.left) }
         ensures none { IfOk result (λ t. t.left.items ≡ []) }
     {

@@ -69,7 +69,8 @@ fn check_edit(edit: &RefEdit, kind: Kind) -> Result<(), Error>
 
 /// Each edit by itself, in order, up to the first that is not sound.
 pub(crate) fn check_edits(edits: &[RefEdit], kind: Kind) -> Result<(), Error>
-    ensures sound { MatchResult result (λ _. AllSound kind [] edits.now) (IsFirstUnsound kind [] edits.now) }
+    ensures sound { MatchResult result (λ _. AllSound kind [] edits.now)
+        (IsFirstUnsound kind [] edits.now) }
     ensures inside { IfErr result IsInside }
 {
     for edit in edits {

@@ -14,7 +14,8 @@ use std::alloc::Global;
 
 /// Whether two targets are the same.
 fn is_same(a: &Target, b: &Target) -> bool
-    ensures { MatchBool result (target_value a.now ≡ target_value b.now) (target_value a.now ≢ target_value b.now) }
+    ensures { MatchBool result (target_value a.now ≡ target_value b.now)
+        (target_value a.now ≢ target_value b.now) }
 {
     a.eq_ref(b.to_ref())
 }
@@ -61,7 +62,8 @@ fn standing(edit: &RefEdit, new: &Target, actual: &Target, kind: Kind) -> Result
 fn check_new(edit: &RefEdit, actual: &Target, kind: Kind) -> Result<(), Error>
     requires absent { expected_of edit.now.change ≡ must_not_exist }
     requires update { IsSome (new_of edit.now.change) }
-    ensures { MatchResult result (λ _. new_of edit.now.change ≡ Some (target_value actual.now)) (IsMismatch kind edit.now (Some (target_value actual.now))) }
+    ensures { MatchResult result (λ _. new_of edit.now.change ≡ Some (target_value actual.now))
+        (IsMismatch kind edit.now (Some (target_value actual.now))) }
 {
     match &edit.change {
         Change::Update { new, .. } => {
@@ -78,7 +80,9 @@ fn check_new(edit: &RefEdit, actual: &Target, kind: Kind) -> Result<(), Error>
 /// A target was found.
 fn check_standing(edit: &RefEdit, actual: &Target, kind: Kind) -> Result<(), Error>
     requires { IsSome (new_of edit.now.change) }
-    ensures { MatchResult result (λ _. Expects (expected_of edit.now.change) (new_of edit.now.change) (Some (target_value actual.now))) (IsMismatch kind edit.now (Some (target_value actual.now))) }
+    ensures { MatchResult result (λ _. Expects (expected_of edit.now.change)
+        (new_of edit.now.change) (Some (target_value actual.now)))
+        (IsMismatch kind edit.now (Some (target_value actual.now))) }
 {
     match edit.change.expectation() {
         PreviousValue::Any | PreviousValue::MustExist => Ok(()),
@@ -96,7 +100,8 @@ fn check_standing(edit: &RefEdit, actual: &Target, kind: Kind) -> Result<(), Err
 /// Nothing was found.
 fn check_absent(edit: &RefEdit, kind: Kind) -> Result<(), Error>
     requires { IsSome (new_of edit.now.change) }
-    ensures { MatchResult result (λ _. Expects (expected_of edit.now.change) (new_of edit.now.change) None) (IsMismatch kind edit.now None) }
+    ensures { MatchResult result (λ _. Expects (expected_of edit.now.change)
+        (new_of edit.now.change) None) (IsMismatch kind edit.now None) }
 {
     match edit.change.expectation() {
         PreviousValue::Any | PreviousValue::ExistingMustMatch(_) | PreviousValue::MustNotExist =>
@@ -113,7 +118,9 @@ pub(crate) fn check_expected(
     kind: Kind,
 ) -> Result<(), Error>
     requires { IsSome (new_of edit.now.change) }
-    ensures { MatchResult result (λ _. Expects (expected_of edit.now.change) (new_of edit.now.change) (value_of found.now)) (IsMismatch kind edit.now (value_of found.now)) }
+    ensures { MatchResult result (λ _. Expects (expected_of edit.now.change)
+        (new_of edit.now.change) (value_of found.now))
+        (IsMismatch kind edit.now (value_of found.now)) }
 {
     match found {
         Some(actual) => check_standing(edit, actual, kind),

@@ -40,8 +40,10 @@ pub(crate) fn reserve(
     edits: &[RefEdit],
 ) -> Result<(Vec<Paths>, Vec<Vec<u8>>), AllocError>
     ensures len { IfOk result (λ r. vec_len r.0 ≡ length edits.now) }
-    ensures places { IfOk result (λ r. place_paths r.0.items ≡ places_of (setting_of setting.now) edits.now) }
-    ensures locks { IfOk result (λ r. lock_paths r.0.items ≡ locks_of (setting_of setting.now) edits.now) }
+    ensures places { IfOk result (λ r. place_paths r.0.items ≡ places_of (setting_of setting.now)
+        edits.now) }
+    ensures locks { IfOk result (λ r. lock_paths r.0.items ≡ locks_of (setting_of setting.now)
+        edits.now) }
     ensures room { IfOk result (λ r. vec_len r.0 ≤ vec_capacity r.1) }
     ensures none { IfOk result (λ r. r.1.items ≡ []) }
 {
@@ -66,19 +68,38 @@ pub(crate) fn hold<F: Files>(
     requires room { vec_len paths ≤ vec_capacity left }
     requires none { left.items ≡ [] }
     ensures len { IfOk result (λ t. vec_len t.found ≡ length edits.now) }
-    ensures found { F.honest → IfOk result (λ t. map value_of t.found.items ≡ founds (setting_of setting.now) (F.means files.old).tree edits.now) }
+    ensures found { F.honest →
+        IfOk result (λ t. map value_of t.found.items ≡ founds (setting_of setting.now)
+        (F.means files.old).tree edits.now) }
     ensures paths { IfOk result (λ t. t.paths ≡ paths) }
     ensures left { IfOk result (λ t. t.left ≡ left) }
-    ensures passed { F.honest → OnOk result (NoCause (setting_of setting.now) setting.now.kind (F.means files.old).tree [] edits.now) }
-    ensures texts { F.honest → OnOk result (HoldTexts (setting_of setting.now) (F.means files.old).tree (F.means files.new).tree edits.now) }
-    ensures adds { F.honest → OnOk result (AddsLocks (locks_of (setting_of setting.now) edits.now) (locks_of (setting_of setting.now) edits.now) (F.means files.old).tree (F.means files.new).tree) }
-    ensures refused { F.honest → IfErr result (λ u. IsFirstCause (setting_of setting.now) setting.now.kind (F.means files.old).tree [] edits.now u.error) }
-    ensures as_before { F.honest → IfErr result (λ u. AddsLocks (paths_of u.locks_left.items) (locks_of (setting_of setting.now) edits.now) (F.means files.old).tree (F.means files.new).tree) }
-    ensures ours { IfErr result (λ u. (q : Path) → is_in (paths_of u.locks_left.items) q ≡ true → is_in (locks_of (setting_of setting.now) edits.now) q ≡ true) }
-    ensures named { IfErr result (λ u. (u.locks_left.items ≡ []) ⊎ HasRisen (F.faults files.old) (F.faults files.new)) }
-    ensures leaves { F.honest → Leaves (F.means files.old) (F.means files.new) (AddsLocks (locks_of (setting_of setting.now) edits.now) (locks_of (setting_of setting.now) edits.now) (F.means files.old).tree) }
+    ensures passed { F.honest →
+        OnOk result (NoCause (setting_of setting.now) setting.now.kind (F.means files.old).tree []
+        edits.now) }
+    ensures texts { F.honest →
+        OnOk result (HoldTexts (setting_of setting.now) (F.means files.old).tree
+        (F.means files.new).tree edits.now) }
+    ensures adds { F.honest →
+        OnOk result (AddsLocks (locks_of (setting_of setting.now) edits.now)
+        (locks_of (setting_of setting.now) edits.now) (F.means files.old).tree
+        (F.means files.new).tree) }
+    ensures refused { F.honest →
+        IfErr result (λ u. IsFirstCause (setting_of setting.now) setting.now.kind
+        (F.means files.old).tree [] edits.now u.error) }
+    ensures as_before { F.honest →
+        IfErr result (λ u. AddsLocks (paths_of u.locks_left.items)
+        (locks_of (setting_of setting.now) edits.now) (F.means files.old).tree
+        (F.means files.new).tree) }
+    ensures ours { IfErr result (λ u. (q : Path) → is_in (paths_of u.locks_left.items) q ≡ true →
+        is_in (locks_of (setting_of setting.now) edits.now) q ≡ true) }
+    ensures named { IfErr result (λ u. (u.locks_left.items ≡ []) ⊎ HasRisen (F.faults files.old)
+        (F.faults files.new)) }
+    ensures leaves { F.honest → Leaves (F.means files.old) (F.means files.new)
+        (AddsLocks (locks_of (setting_of setting.now) edits.now)
+        (locks_of (setting_of setting.now) edits.now) (F.means files.old).tree) }
     ensures no_fewer { F.faults files.old ≤ F.faults files.new }
-    ensures counted { IfErr result (λ u. IsCounted (F.faults files.old) (F.faults files.new) u.error) }
+    ensures counted { IfErr result (λ u. IsCounted (F.faults files.old) (F.faults files.new)
+        u.error) }
 {
     let mut taken = 0;
     match take_locks(alloc, files, setting, edits, &paths, &mut taken) {

@@ -29,8 +29,10 @@ use std::alloc::{AllocError, Global};
 
 /// The place of an edit's reference, and its lock.
 fn paths_of_edit(alloc: Global, setting: &Setting<'_>, edit: &RefEdit) -> Result<Paths, AllocError>
-    ensures place { IfOk result (λ paths. paths.place.items ≡ (setting_of setting.now).place (name_of edit.now)) }
-    ensures lock { IfOk result (λ paths. paths.lock.items ≡ lock_of ((setting_of setting.now).place (name_of edit.now))) }
+    ensures place { IfOk result (λ paths. paths.place.items ≡ (setting_of setting.now).place
+        (name_of edit.now)) }
+    ensures lock { IfOk result (λ paths. paths.lock.items ≡ lock_of
+        ((setting_of setting.now).place (name_of edit.now))) }
 {
     let layout = layout_in(setting.dirs, setting.namespace);
     let place = layout.loose(alloc, edit.name.as_ref())?;
@@ -46,8 +48,10 @@ pub(crate) fn paths_of_edits(
     edits: &[RefEdit],
 ) -> Result<Vec<Paths>, AllocError>
     ensures len { IfOk result (λ paths. vec_len paths ≡ length edits.now) }
-    ensures places { IfOk result (λ paths. place_paths paths.items ≡ places_of (setting_of setting.now) edits.now) }
-    ensures locks { IfOk result (λ paths. lock_paths paths.items ≡ locks_of (setting_of setting.now) edits.now) }
+    ensures places { IfOk result (λ paths. place_paths paths.items ≡ places_of
+        (setting_of setting.now) edits.now) }
+    ensures locks { IfOk result (λ paths. lock_paths paths.items ≡ locks_of (setting_of setting.now)
+        edits.now) }
 {
     let mut paths = Vec::with_capacity(alloc, edits.len())?;
     for edit in edits {
@@ -58,7 +62,8 @@ pub(crate) fn paths_of_edits(
 
 /// The refusal of an edit whose lock stands already.
 fn standing(edit: &RefEdit) -> Error
-    ensures told { (T : Tree) (lock : Path) → IsSome (T lock) → IsRefusedLock T (name_of edit.now) lock result }
+    ensures told { (T : Tree) (lock : Path) → IsSome (T lock) →
+        IsRefusedLock T (name_of edit.now) lock result }
     ensures inside { IsInside result }
 {
     match edit.name.clone() {
@@ -69,7 +74,8 @@ fn standing(edit: &RefEdit) -> Error
 
 /// The refusal of an edit with a file in the path of its lock.
 fn blocked(edit: &RefEdit) -> Error
-    ensures told { (T : Tree) (lock : Path) → is_blocked T lock ≡ true → IsRefusedLock T (name_of edit.now) lock result }
+    ensures told { (T : Tree) (lock : Path) → is_blocked T lock ≡ true →
+        IsRefusedLock T (name_of edit.now) lock result }
     ensures inside { IsInside result }
 {
     match edit.name.clone() {
@@ -86,10 +92,15 @@ pub(crate) fn acquire<F: Files>(
     lock: &[u8],
 ) -> Result<(), Error>
     requires { lock.now ≡ lock_of place.now }
-    ensures taken { F.honest → OnOk result (IsNewLock (F.means files.old).tree lock.now (F.means files.new).tree) }
-    ensures refused { F.honest → IfErr result (IsRefusedLock (F.means files.old).tree (name_of edit.now) lock.now) }
-    ensures kept { F.honest → OnErr result (AddsLocks [] (lock.now ∷ []) (F.means files.old).tree (F.means files.new).tree) }
-    ensures leaves { F.honest → Leaves (F.means files.old) (F.means files.new) (AddsLocks (lock.now ∷ []) (lock.now ∷ []) (F.means files.old).tree) }
+    ensures taken { F.honest →
+        OnOk result (IsNewLock (F.means files.old).tree lock.now (F.means files.new).tree) }
+    ensures refused { F.honest →
+        IfErr result (IsRefusedLock (F.means files.old).tree (name_of edit.now) lock.now) }
+    ensures kept { F.honest →
+        OnErr result (AddsLocks [] (lock.now ∷ []) (F.means files.old).tree
+        (F.means files.new).tree) }
+    ensures leaves { F.honest → Leaves (F.means files.old) (F.means files.new)
+        (AddsLocks (lock.now ∷ []) (lock.now ∷ []) (F.means files.old).tree) }
     ensures no_fewer { F.faults files.old ≤ F.faults files.new }
     ensures counted { IfErr result (IsCounted (F.faults files.old) (F.faults files.new)) }
 {
@@ -121,9 +132,12 @@ fn found_at<F: Files>(
     setting: &Setting<'_>,
     place: &[u8],
 ) -> Result<Option<Target>, Error>
-    ensures found { F.honest → IfOk result (λ was. (name : List ℕ) → place.now ≡ (setting_of setting.now).place name → value_of was ≡ found (setting_of setting.now) (view_of (F.means files.old).tree) name) }
+    ensures found { F.honest → IfOk result (λ was. (name : List ℕ) →
+        place.now ≡ (setting_of setting.now).place name →
+        value_of was ≡ found (setting_of setting.now) (view_of (F.means files.old).tree) name) }
     ensures outside { IfErr result IsOutside }
-    ensures leaves { F.honest → Leaves (F.means files.old) (F.means files.new) (Only (F.means files.old).tree) }
+    ensures leaves { F.honest → Leaves (F.means files.old) (F.means files.new)
+        (Only (F.means files.old).tree) }
     ensures no_fewer { F.faults files.old ≤ F.faults files.new }
     ensures counted { IfErr result (IsCounted (F.faults files.old) (F.faults files.new)) }
 {
@@ -160,9 +174,13 @@ pub(crate) fn text_for(
 
 /// Puts the text into the lock.
 fn fill<F: Files>(files: &mut F, lock: &[u8], text: &[u8]) -> Result<(), Error>
-    ensures filled { F.honest → (F.means files.old).tree lock.now ≡ Some (File []) → OnOk result ((F.means files.new).tree ≡ put (F.means files.old).tree lock.now (Some (File text.now))) }
+    ensures filled { F.honest → (F.means files.old).tree lock.now ≡ Some (File []) →
+        OnOk result ((F.means files.new).tree ≡ put (F.means files.old).tree lock.now
+        (Some (File text.now))) }
     ensures outside { IfErr result IsOutside }
-    ensures leaves { F.honest → (F.means files.old).tree lock.now ≡ Some (File []) → Leaves (F.means files.old) (F.means files.new) (FillsLock (F.means files.old).tree lock.now) }
+    ensures leaves { F.honest → (F.means files.old).tree lock.now ≡ Some (File []) →
+        Leaves (F.means files.old) (F.means files.new) (FillsLock (F.means files.old).tree
+        lock.now) }
     ensures no_fewer { F.faults files.old ≤ F.faults files.new }
     ensures counted { IfErr result (IsCounted (F.faults files.old) (F.faults files.new)) }
 {
@@ -180,11 +198,25 @@ pub(crate) fn settle<F: Files>(
 ) -> Result<Option<Target>, Error>
     requires update { IsSome (new_of edit.now.change) }
     requires place { paths.now.place.items ≡ (setting_of setting.now).place (name_of edit.now) }
-    ensures found { F.honest → IfOk result (λ was. value_of was ≡ found (setting_of setting.now) (view_of (F.means files.old).tree) (name_of edit.now)) }
-    ensures expected { F.honest → OnOk result (Expects (expected_of edit.now.change) (new_of edit.now.change) (found (setting_of setting.now) (view_of (F.means files.old).tree) (name_of edit.now))) }
-    ensures filled { F.honest → (F.means files.old).tree paths.now.lock.items ≡ Some (File []) → OnOk result ((F.means files.new).tree ≡ put (F.means files.old).tree paths.now.lock.items (Some (File (lock_text edit.now.change (found (setting_of setting.now) (view_of (F.means files.old).tree) (name_of edit.now)))))) }
-    ensures refused { F.honest → IfErr result (λ error. IsOutside error ⊎ IsMismatch setting.now.kind edit.now (found (setting_of setting.now) (view_of (F.means files.old).tree) (name_of edit.now)) error) }
-    ensures leaves { F.honest → (F.means files.old).tree paths.now.lock.items ≡ Some (File []) → Leaves (F.means files.old) (F.means files.new) (FillsLock (F.means files.old).tree paths.now.lock.items) }
+    ensures found { F.honest →
+        IfOk result (λ was. value_of was ≡ found (setting_of setting.now)
+        (view_of (F.means files.old).tree) (name_of edit.now)) }
+    ensures expected { F.honest →
+        OnOk result (Expects (expected_of edit.now.change) (new_of edit.now.change)
+        (found (setting_of setting.now) (view_of (F.means files.old).tree) (name_of edit.now))) }
+    ensures filled { F.honest → (F.means files.old).tree paths.now.lock.items ≡ Some (File []) →
+        OnOk result ((F.means files.new).tree ≡ put (F.means files.old).tree paths.now.lock.items
+        (Some
+        (File
+        (lock_text edit.now.change
+        (found (setting_of setting.now) (view_of (F.means files.old).tree) (name_of edit.now)))))) }
+    ensures refused { F.honest →
+        IfErr result (λ error. IsOutside error ⊎ IsMismatch setting.now.kind edit.now
+        (found (setting_of setting.now) (view_of (F.means files.old).tree) (name_of edit.now))
+        error) }
+    ensures leaves { F.honest → (F.means files.old).tree paths.now.lock.items ≡ Some (File []) →
+        Leaves (F.means files.old) (F.means files.new) (FillsLock (F.means files.old).tree
+        paths.now.lock.items) }
     ensures no_fewer { F.faults files.old ≤ F.faults files.new }
     ensures counted { IfErr result (IsCounted (F.faults files.old) (F.faults files.new)) }
 {

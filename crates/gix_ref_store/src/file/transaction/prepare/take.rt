@@ -31,14 +31,29 @@ pub(crate) fn take_locks<F: Files>(
     requires none { taken.old ≡ 0 }
     ensures within { taken.new ≤ length edits.now }
     ensures len { IfOk result (λ was. vec_len was ≡ length edits.now) }
-    ensures found { F.honest → IfOk result (λ was. map value_of was.items ≡ founds (setting_of setting.now) (F.means files.old).tree edits.now) }
-    ensures passed { F.honest → OnOk result (NoCause (setting_of setting.now) setting.now.kind (F.means files.old).tree [] edits.now) }
-    ensures texts { F.honest → OnOk result (HoldTexts (setting_of setting.now) (F.means files.old).tree (F.means files.new).tree edits.now) }
+    ensures found { F.honest →
+        IfOk result (λ was. map value_of was.items ≡ founds (setting_of setting.now)
+        (F.means files.old).tree edits.now) }
+    ensures passed { F.honest →
+        OnOk result (NoCause (setting_of setting.now) setting.now.kind (F.means files.old).tree []
+        edits.now) }
+    ensures texts { F.honest →
+        OnOk result (HoldTexts (setting_of setting.now) (F.means files.old).tree
+        (F.means files.new).tree edits.now) }
     ensures every { OnOk result (taken.new ≡ length edits.now) }
-    ensures refused { F.honest → IfErr result (IsFirstCause (setting_of setting.now) setting.now.kind (F.means files.old).tree [] edits.now) }
-    ensures adds { F.honest → AddsLocks (locks_of (setting_of setting.now) (take taken.new edits.now)) (locks_of (setting_of setting.now) edits.now) (F.means files.old).tree (F.means files.new).tree }
-    ensures free { F.honest → (q : Path) → is_in (locks_of (setting_of setting.now) (take taken.new edits.now)) q ≡ true → (F.means files.old).tree q ≡ None }
-    ensures leaves { F.honest → Leaves (F.means files.old) (F.means files.new) (AddsLocks (locks_of (setting_of setting.now) edits.now) (locks_of (setting_of setting.now) edits.now) (F.means files.old).tree) }
+    ensures refused { F.honest →
+        IfErr result (IsFirstCause (setting_of setting.now) setting.now.kind
+        (F.means files.old).tree [] edits.now) }
+    ensures adds { F.honest →
+        AddsLocks (locks_of (setting_of setting.now) (take taken.new edits.now))
+        (locks_of (setting_of setting.now) edits.now) (F.means files.old).tree
+        (F.means files.new).tree }
+    ensures free { F.honest → (q : Path) →
+        is_in (locks_of (setting_of setting.now) (take taken.new edits.now)) q ≡ true →
+        (F.means files.old).tree q ≡ None }
+    ensures leaves { F.honest → Leaves (F.means files.old) (F.means files.new)
+        (AddsLocks (locks_of (setting_of setting.now) edits.now)
+        (locks_of (setting_of setting.now) edits.now) (F.means files.old).tree) }
     ensures no_fewer { F.faults files.old ≤ F.faults files.new }
     ensures counted { IfErr result (IsCounted (F.faults files.old) (F.faults files.new)) }
 {

@@ -1,0 +1,56 @@
+//! Sets the branch `main` of the repository in `git`, which must not exist or be there already, and shows it.
+#![tactic(auto)]
+ghost use Rattle.std.specs.Prelude.{IfOk};
+ghost use Rattle.gix_ref_store.specs.Prepared.{IsOneUpdate};
+
+use anyhow::{Context, Result, bail};
+use gix_ref::file::Store;
+use gix_ref::file::transaction::PackedRefs;
+use gix_ref::files::Disk;
+use gix_ref::hash::{Kind, ObjectId};
+use gix_ref::name::{FullName, FullNameRef};
+use gix_ref::store::{Options, WriteReflog};
+use gix_ref::target::Target;
+use gix_ref::transaction::{Change, LogChange, PreviousValue, RefEdit};
+use std::alloc::Global;
+
+/// The list of one update: this name gets this id, if there is no other value before.
+fn update(alloc: Global, name: FullName, id: ObjectId) -> Result<Vec<RefEdit>>
+    ensures { IfOk result (λ edits. IsOneUpdate edits.items) }
+{
+    let change = Change::Update {
+        log: LogChange::new_in(alloc),
+        expected: PreviousValue::MustNotExist,
+        new: Target::Object(id),
+    };
+    let edit = RefEdit { change, name, deref: false };
+    Ok(vec![in alloc; edit]?)
+}
+
+fn main(rt: HostRuntime) -> Result<()> {
+    let alloc = rt.alloc();
+    let name = FullNameRef::try_from("refs/heads/main").context("a name")?;
+    let id = ObjectId::from_hex(b"1111111111111111111111111111111111111111").context("an id")?;
+
+    // Log lines are not written yet, so the store must write none.
+    let options = Options { write_reflog: WriteReflog::Disable, ..Options::default() };
+    let files = Disk::new(rt.clone()?);
+    let Ok(mut store) = Store::at_opts(files, b"git".to_vec(alloc)?, Kind::Sha1, options) else {
+        bail!("`git` is not a clean path")
+    };
+
+    let edits = update(alloc, name.to_owned(alloc)?, id)?;
+    match store.transaction(PackedRefs::default()).prepare(alloc, edits) {
+        Ok(prepared) => match prepared.commit(alloc, None) {
+            Ok(done) => println!(rt; "{} edit", done.edits.len())?,
+            Err(failed) => bail!("it failed: {}, {} locks left", failed.error, failed.locks_left.len()),
+        },
+        Err(refused) => bail!("it was refused: {}, {} locks left", refused.error, refused.locks_left.len()),
+    }
+
+    match store.find(alloc, name.as_partial_name()) {
+        Ok(found) => println!(rt; "{} {}", found.target, found.name)?,
+        Err(error) => bail!("it was not found: {error}"),
+    }
+    Ok(())
+}
