@@ -8,6 +8,7 @@
 #![tactic(auto)]
 
 pub mod files;
+pub mod theorems;
 
 pub use gix_ref_base::{layout, name, namespace, target};
 pub use gix_ref_files::{lock, steps};
@@ -15,4 +16,3 @@ pub use gix_ref_hash::hash;
 pub use gix_ref_log::{actor, log};
 pub use gix_ref_packed::{packed, raw};
 pub use gix_ref_store::{file, store, transaction};
-pub use gix_ref_theory::theorems;

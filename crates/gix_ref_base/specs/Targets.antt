@@ -3,6 +3,7 @@ use Rattle.std.specs.Prelude.{◌≡◌, ℕ, List, ◌++◌, codes, Option, Som
 use Rattle.hex.specs.Hex.{encode_lower}
 use Rattle.gix_ref_hash.specs.Ids.{id_bytes, id_kind, null_id}
 use Rattle.gix_ref_base.specs.Names.{full_bytes, full_ref_bytes, shown}
+use Rattle.gix_ref_base.specs.Namespaces.{stripped}
 use Rattle.gix_ref_hash.specs.declared.hash.ObjectId.{ObjectId}
 use Rattle.gix_ref_base.specs.declared.target.Target.{Target}
 use Rattle.gix_ref_base.specs.declared.target.Target.TheVariants as targets
@@ -27,6 +28,11 @@ target_ref_value (lent.Symbolic name) = symbolic_name (full_ref_bytes name)
 abbrev pub target_kind : TargetValue → Kind
 target_kind (object_id id) = kinds.Object
 target_kind (symbolic_name name) = kinds.Symbolic
+
+-- the target inside of a namespace: a symbolic one loses the namespace
+abbrev pub stripped_target : List ℕ → TargetValue → TargetValue
+stripped_target namespace (object_id id) = object_id id
+stripped_target namespace (symbolic_name name) = symbolic_name (stripped namespace name)
 
 -- the id, of an object
 abbrev pub target_id : TargetValue → Option ObjectId

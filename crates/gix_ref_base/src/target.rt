@@ -1,10 +1,12 @@
 //! What a reference points to: an object, or another reference.
 ghost use Rattle.std.specs.Prelude.{◌≡◌, ◌↔◌, IsTrue, IfOk, IfSome, IfNone, IfErr, Some, None, MatchResult, MatchOption, IsSome};
 ghost use Rattle.gix_ref_base.specs.Names.{full_ref_bytes, full_bytes};
-ghost use Rattle.gix_ref_base.specs.Targets.{TargetValue, target_value, target_ref_value, target_kind, target_id, target_name, IsNullTarget, target_text};
+ghost use Rattle.gix_ref_base.specs.Namespaces.{namespace_bytes};
+ghost use Rattle.gix_ref_base.specs.Targets.{TargetValue, target_value, target_ref_value, target_kind, target_id, target_name, stripped_target, IsNullTarget, target_text};
 ghost use Rattle.gix_ref_base.specs.Targets.TargetValue.{object_id, symbolic_name};
 
 use crate::name::{FullName, FullNameRef};
+use crate::namespace::Namespace;
 use gix_ref_hash::hash::ObjectId;
 use std::alloc::{AllocError, Global};
 use std::fmt;
@@ -54,6 +56,18 @@ impl Target {
         match self {
             Target::Object(id) => id.is_null(),
             Target::Symbolic(_) => false,
+        }
+    }
+
+    /// Takes the namespace off a symbolic target. The name stays where it does not begin with the namespace, and where
+    /// the rest is not a valid partial name (`git help gitnamespaces`).
+    pub fn strip_namespace(&mut self, namespace: &Namespace)
+        ensures { target_value self.new
+            ≡ stripped_target (namespace_bytes namespace.now) (target_value self.old) }
+    {
+        match self {
+            Target::Symbolic(name) => name.strip_namespace(namespace),
+            Target::Object(_) => {}
         }
     }
 

@@ -13,12 +13,12 @@ use Rattle.gix_ref_files.specs.declared.files.Rename.{Rename}
 use Rattle.gix_ref_files.specs.declared.files.Rename.TheVariants.{Moved, FolderStands}
 
 -- the tree is this one
-abbrev pub Only : Tree → Tree → Type 0
-Only before T = T ≡ before
+abbrev pub Unchanged : Tree → Tree → Type 0
+Unchanged before T = T ≡ before
 
 -- the tree is the one before, or, only where this is allowed, the one after
-abbrev pub Perhaps : Tree → Type 0 → Tree → Tree → Type 0
-Perhaps before Allowed after T = (T ≡ before) ⊎ (Allowed × (T ≡ after))
+abbrev pub BeforeOrAfter : Tree → Type 0 → Tree → Tree → Type 0
+BeforeOrAfter before Allowed after T = (T ≡ before) ⊎ (Allowed × (T ≡ after))
 
 -- the buffer of a read at each answer but `File`, and after an error
 abbrev pub emptied : Result Node FileError → List ℕ → Type 0
@@ -42,7 +42,7 @@ Creates before p T Blocked = (is_blocked before p ≡ true) × (T ≡ before)
 
 -- what a stop in `create_new` could leave
 abbrev pub Creating : Tree → Path → Tree → Type 0
-Creating before p = Perhaps before (IsFree before p) (created before p)
+Creating before p = BeforeOrAfter before (IsFree before p) (created before p)
 
 -- a file stands at p or in its path
 abbrev pub is_in_the_way : Tree → Path → Bool
@@ -77,7 +77,7 @@ Renames before from to T FolderStands = (is_file (before from) ≡ true) × (is_
 
 -- what a stop in `rename` could leave
 abbrev pub Renaming : Tree → Path → Path → Tree → Type 0
-Renaming before from to = Perhaps before (IsMovable before from to) (moved before from to)
+Renaming before from to = BeforeOrAfter before (IsMovable before from to) (moved before from to)
 
 -- the answers of `remove_file`
 abbrev pub RemovesFile : Tree → Path → Tree → Bool → Type 0
@@ -86,7 +86,7 @@ RemovesFile before p T false = (is_file (before p) ≡ false) × (T ≡ before)
 
 -- what a stop in `remove_file` could leave
 abbrev pub RemovingFile : Tree → Path → Tree → Type 0
-RemovingFile before p = Perhaps before (is_file (before p) ≡ true) (removed before p)
+RemovingFile before p = BeforeOrAfter before (is_file (before p) ≡ true) (removed before p)
 
 -- the answers of `remove_folder`
 abbrev pub RemovesFolder : Tree → Path → Tree → Bool → Type 0
@@ -95,26 +95,26 @@ RemovesFolder before p T false = (IsEmptyFolder before p → ⊥) × (T ≡ befo
 
 -- what a stop in `remove_folder` could leave
 abbrev pub RemovingFolder : Tree → Path → Tree → Type 0
-RemovingFolder before p = Perhaps before (IsEmptyFolder before p) (removed before p)
+RemovingFolder before p = BeforeOrAfter before (IsEmptyFolder before p) (removed before p)
 
 -- a name has a byte, and no slash
 abbrev pub IsName : List ℕ → Type 0
 IsName name = (name ≢ []) × (Contains name 47 → ⊥)
 
 -- the name of an entry
-abbrev pub name_of : Entry → List ℕ
-name_of entry = entry.name.items
+abbrev pub entry_name : Entry → List ℕ
+entry_name entry = entry.name.items
 
 -- an entry tells of what stands at its name: of a file or of a folder
-abbrev pub TellsOf : Tree → Path → Entry → Type 0
-TellsOf T p entry = let content = T (p ++ 47 ∷ name_of entry) in (IsSome content × (entry.is_folder ≡ is_folder content))
+abbrev pub IsEntryOf : Tree → Path → Entry → Type 0
+IsEntryOf T p entry = let content = T (p ++ 47 ∷ entry_name entry) in (IsSome content × (entry.is_folder ≡ is_folder content))
 
 -- The entries of the folder p: each name below it where something stands, once, and no other.
 pub record IsListing (T : Tree) (p : Path) (entries : List Entry) : Type 0 where
-  pub names : All (λ entry. IsName (name_of entry)) entries
-  pub tells : All (TellsOf T p) entries
-  pub each : (name : List ℕ) → IsName name → IsSome (T (p ++ 47 ∷ name)) → Any (λ entry. name_of entry ≡ name) entries
-  pub once : AllPairs (λ entry later. name_of entry ≢ name_of later) entries
+  pub names : All (λ entry. IsName (entry_name entry)) entries
+  pub tells : All (IsEntryOf T p) entries
+  pub each : (name : List ℕ) → IsName name → IsSome (T (p ++ 47 ∷ name)) → Any (λ entry. entry_name entry ≡ name) entries
+  pub once : AllPairs (λ entry later. entry_name entry ≢ entry_name later) entries
 
 -- the answers of `list`
 abbrev pub Lists : Tree → Path → Option (Vec Entry Global) → Type 0

@@ -110,7 +110,7 @@ pub trait Files {
     ghost use Rattle.std.specs.Prelude.{◌≤◌};
     ghost use Rattle.gix_ref_files.specs.Tree.{Tree, IsShaped, node_at, bytes_of};
     ghost use Rattle.gix_ref_files.specs.Files.{Meaning, Leaves, Adds, count_after};
-    ghost use Rattle.gix_ref_files.specs.Calls.{Only, emptied, Opens, Creates, Creating, MakesFolders, MakingFolders, Appends, Appending, Renames, Renaming, RemovesFile, RemovingFile, RemovesFolder, RemovingFolder, Lists};
+    ghost use Rattle.gix_ref_files.specs.Calls.{Unchanged, emptied, Opens, Creates, Creating, MakesFolders, MakingFolders, Appends, Appending, Renames, Renaming, RemovesFile, RemovingFile, RemovesFolder, RemovingFolder, Lists};
 
     /// A file of these, open for reading.
     type Reader: ReadAt + Drop;
@@ -129,7 +129,7 @@ pub trait Files {
         ensures answer { honest →
             IfOk result (λ node. node ≡ node_at (means self.old).tree path.now) }
         ensures leaves { honest → Leaves (means self.old) (means self.new)
-            (Only (means self.old).tree) }
+            (Unchanged (means self.old).tree) }
         ensures count { faults self.new ≡ count_after result (faults self.old) }
         ensures memory { IsErrOf result FileError.Memory → ⊥ };
 
@@ -142,7 +142,7 @@ pub trait Files {
             buf.new.items ≡ bytes_of ((means self.old).tree path.now)) }
         ensures emptied { emptied result buf.new.items }
         ensures leaves { honest → Leaves (means self.old) (means self.new)
-            (Only (means self.old).tree) }
+            (Unchanged (means self.old).tree) }
         ensures count { faults self.new ≡ count_after result (faults self.old) };
 
     /// Opens a file for reading; none where no file stands.
@@ -151,14 +151,14 @@ pub trait Files {
             IfOk result (λ reader. Opens Self.Reader.honest Self.Reader.bytes (means self.old).tree
             path.now reader) }
         ensures leaves { honest → Leaves (means self.old) (means self.new)
-            (Only (means self.old).tree) }
+            (Unchanged (means self.old).tree) }
         ensures count { faults self.new ≡ count_after result (faults self.old) };
 
     /// Lists the files and folders in a folder, each once, in an order that is open; none where no folder stands.
     fn list(&mut self, alloc: Global, path: &[u8]) -> Result<Option<Vec<Entry>>, FileError>
         ensures answer { honest → IfOk result (Lists (means self.old).tree path.now) }
         ensures leaves { honest → Leaves (means self.old) (means self.new)
-            (Only (means self.old).tree) }
+            (Unchanged (means self.old).tree) }
         ensures count { faults self.new ≡ count_after result (faults self.old) };
 
     /// Makes an empty file where nothing stands and folders lead there. A fault leaves all as before.

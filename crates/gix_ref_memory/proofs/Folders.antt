@@ -6,7 +6,7 @@ use Rattle.std.proofs.lemmas.List.{append-nil}
 use Rattle.gix_ref_files.specs.Tree.{Tree, Path, put, with_folders, fronts, fronts_after}
 use Rattle.gix_ref_files.specs.Tree.Content.{Folder}
 use Rattle.gix_ref_files.specs.Files.{Meaning, Leaves, Adds}
-use Rattle.gix_ref_files.specs.Calls.{Perhaps}
+use Rattle.gix_ref_files.specs.Calls.{BeforeOrAfter}
 use Rattle.gix_ref_memory.specs.Changes.{MakingFronts}
 use Rattle.gix_ref_files.proofs.Moments.{starts, weaken, joins}
 use Rattle.gix_ref_files.proofs.Puts.{put_other}
@@ -30,14 +30,14 @@ none_made now all = record {
 }
 
 -- one more is perhaps made
-pub one_perhaps : {old mid new : Meaning} {all rest : List Path} (f : Path) → Making old mid all (f ∷ rest) → Leaves mid new (Perhaps mid.tree (Unit {0}) (put mid.tree f (Some Folder))) → Leaves old new (MakingFronts old.tree all)
+pub one_perhaps : {old mid new : Meaning} {all rest : List Path} (f : Path) → Making old mid all (f ∷ rest) → Leaves mid new (BeforeOrAfter mid.tree (Unit {0}) (put mid.tree f (Some Folder))) → Leaves old new (MakingFronts old.tree all)
 one_perhaps {old} {mid} {new} {all} {rest} f so_far step =
     joins so_far.leaves (weaken step (λ T. ⊎_elim
     (λ same. subst (MakingFronts old.tree all) (sym same) (so_far.reach 0))
     (λ made. subst (MakingFronts old.tree all) (sym made.1) (so_far.reach 1))))
 
 -- one more is made
-pub one_made : {old mid new : Meaning} {all rest : List Path} (f : Path) → Making old mid all (f ∷ rest) → Leaves mid new (Perhaps mid.tree (Unit {0}) (put mid.tree f (Some Folder))) → new.tree ≡ put mid.tree f (Some Folder) → ((t : ℕ) → mid.left_since t mid.tree) → Making old new all rest
+pub one_made : {old mid new : Meaning} {all rest : List Path} (f : Path) → Making old mid all (f ∷ rest) → Leaves mid new (BeforeOrAfter mid.tree (Unit {0}) (put mid.tree f (Some Folder))) → new.tree ≡ put mid.tree f (Some Folder) → ((t : ℕ) → mid.left_since t mid.tree) → Making old new all rest
 one_made {old} {mid} {new} {all} {rest} f so_far step made mid_left = record {
   whole = ap (λ (T : Tree). with_folders T rest) made ∙ so_far.whole;
   leaves = one_perhaps f so_far step;

@@ -7,8 +7,8 @@ use Rattle.std.proofs.Math.Seq.{take-length}
 use Rattle.gix_ref_files.specs.Tree.{Tree, Path, IsShaped, no_tree, put, is_folder, has_folders, with_folders, fronts, fronts_after}
 use Rattle.gix_ref_files.specs.Tree.Content.{Folder}
 use Rattle.gix_ref_files.specs.Files.{Leaves, Adds}
-use Rattle.gix_ref_files.specs.Calls.{Perhaps}
-use Rattle.gix_ref_memory.specs.Changes.{after, meaning_of, now_is_left, MakingFronts}
+use Rattle.gix_ref_files.specs.Calls.{BeforeOrAfter}
+use Rattle.gix_ref_memory.specs.Changes.{after, meaning_after, now_is_left, MakingFronts}
 use Rattle.gix_ref_memory.specs.declared.memory.changes.Change.{Change}
 use Rattle.gix_ref_files.proofs.Puts.{put_at, all_kept}
 use Rattle.gix_ref_memory.proofs.Folders.{Making, none_made, one_made, all_made, all_snoc}
@@ -20,7 +20,7 @@ from p i = fronts_after (take i p) (drop i p)
 
 -- so far the fronts are folders, and as many are left to make
 pub record Walk (first now : List Change) (p : Path) (most left i : ℕ) : Type 0 where
-  pub making : Making (meaning_of first) (meaning_of now) (fronts p) (from p i)
+  pub making : Making (meaning_after first) (meaning_after now) (fronts p) (from p i)
   pub rest : with_folders (after now no_tree) (take left (from p i)) ≡ with_folders (after first no_tree) (take most (fronts p))
   pub count : most + length (from p i) ≡ left + length (fronts p)
   pub folders : has_folders (after now no_tree) (take i p) ≡ true
@@ -40,7 +40,7 @@ pub walk_begins : (now : List Change) (p : Path) (most : ℕ) → Walk now now p
 walk_begins now p most =
     let all = first_front p in
     record {
-      making = subst (Making (meaning_of now) (meaning_of now) (fronts p)) all (none_made (meaning_of now) (fronts p));
+      making = subst (Making (meaning_after now) (meaning_after now) (fronts p)) all (none_made (meaning_after now) (fronts p));
       rest = ap (λ (l : List Path). with_folders (after now no_tree) (take most l)) (sym all);
       count = ap (λ (l : List Path). most + length l) (sym all);
       folders = first_folders (after now no_tree) p;
@@ -60,7 +60,7 @@ pub walk_on : (first now : List Change) (p : Path) (most left i : ℕ) → 1 ≤
 walk_on first now p most left i some lt is walk =
     let all = from_next p i false lt is in
     record {
-      making = subst (Making (meaning_of first) (meaning_of now) (fronts p)) all walk.making;
+      making = subst (Making (meaning_after first) (meaning_after now) (fronts p)) all walk.making;
       rest = ap (λ (l : List Path). with_folders (after now no_tree) (take left l)) (sym all) ∙ walk.rest;
       count = ap (λ (l : List Path). most + length l) (sym all) ∙ walk.count;
       folders = ap (λ (l : List Path). list_all (λ f. is_folder (after now no_tree f)) l) (fronts_next p i false some lt is) ∙ walk.folders;
@@ -76,8 +76,8 @@ folder_kept T p f folder = by_path (bytes_eq p f)
     by_path false = folder
 
 -- the folder at the next slash, to be made
-pub walk_at : (first now : List Change) (p : Path) (most left i : ℕ) → i < length p → (get_or p i 0 == 47) ≡ true → Walk first now p most left i → Making (meaning_of first) (meaning_of now) (fronts p) (take i p ∷ from p (i + 1))
-walk_at first now p most left i lt is walk = subst (Making (meaning_of first) (meaning_of now) (fronts p)) (from_next p i true lt is) walk.making
+pub walk_at : (first now : List Change) (p : Path) (most left i : ℕ) → i < length p → (get_or p i 0 == 47) ≡ true → Walk first now p most left i → Making (meaning_after first) (meaning_after now) (fronts p) (take i p ∷ from p (i + 1))
+walk_at first now p most left i lt is walk = subst (Making (meaning_after first) (meaning_after now) (fronts p)) (from_next p i true lt is) walk.making
 
 -- the front of a front
 front_of_front : (n m : ℕ) (xs : List Change) → n ≤ m → take n (take m xs) ≡ take n xs
@@ -97,7 +97,7 @@ pub walk_made : (first mid now : List Change) (p : Path) (most left i : ℕ) →
     → after now no_tree ≡ put (after mid no_tree) (take i p) (Some Folder)
     → (IsShaped (after mid no_tree) → IsShaped (after now no_tree))
     → take (length mid) now ≡ mid
-    → Leaves (meaning_of mid) (meaning_of now) (Perhaps (after mid no_tree) (Unit {0}) (put (after mid no_tree) (take i p) (Some Folder)))
+    → Leaves (meaning_after mid) (meaning_after now) (BeforeOrAfter (after mid no_tree) (Unit {0}) (put (after mid no_tree) (take i p) (Some Folder)))
     → Walk first now p most left (i + 1)
 walk_made first mid now p most left i some lt is walk made shape kept leaves =
     let all = from_next p i true lt is in
@@ -124,7 +124,7 @@ walk_made first mid now p most left i some lt is walk made shape kept leaves =
     suc_is n = omega arith
 
 -- past the last byte all folders are made
-pub adds_all : (first now : List Change) (p : Path) (most left i : ℕ) → length p ≤ i → Walk first now p most left i → Adds (meaning_of first) (meaning_of now) (MakingFronts (after first no_tree) (fronts p))
+pub adds_all : (first now : List Change) (p : Path) (most left i : ℕ) → length p ≤ i → Walk first now p most left i → Adds (meaning_after first) (meaning_after now) (MakingFronts (after first no_tree) (fronts p))
 adds_all first now p most left i le walk =
     let none : from p i ≡ [] = ap (fronts_after (take i p)) (drop_all i p le) in
-    all_made (subst (Making (meaning_of first) (meaning_of now) (fronts p)) none walk.making) (λ t. now_is_left now t no_tree)
+    all_made (subst (Making (meaning_after first) (meaning_after now) (fronts p)) none walk.making) (λ t. now_is_left now t no_tree)

@@ -6,10 +6,10 @@ use Rattle.std.specs.declared.alloc.Global.{Global}
 use Rattle.gix_ref_files.specs.Tree.{Tree, Path, Content, put, appended, more, moved, is_file, no_tree}
 use Rattle.gix_ref_files.specs.Tree.Content.{File, Folder}
 use Rattle.gix_ref_files.specs.Files.{Leaves, Adds}
-use Rattle.gix_ref_files.specs.Calls.{Appending, Appends, Perhaps}
+use Rattle.gix_ref_files.specs.Calls.{Appending, Appends, BeforeOrAfter}
 use Rattle.gix_ref_files.proofs.Moments.{starts, weaken}
 use Rattle.gix_ref_files.proofs.Puts.{appended_none, put_same}
-use Rattle.gix_ref_memory.specs.Changes.{stands, changed, after, Begun, Left, meaning_of, now_is_left, content_of, found_content}
+use Rattle.gix_ref_memory.specs.Changes.{stands, changed, after, Begun, Left, meaning_after, now_is_left, content_of, found_content}
 use Rattle.gix_ref_memory.specs.declared.memory.changes.Stored.{Stored}
 use Rattle.gix_ref_memory.specs.declared.memory.changes.Stands.{Stands}
 use Rattle.gix_ref_memory.specs.declared.memory.changes.Change.{Change}
@@ -48,7 +48,7 @@ new (first ∷ changes) change zero T left le (inr later) = ⊎_elim (λ old. in
 new (first ∷ changes) change (suc t) T left le later = new changes change t (changed first T) left (omega arith) later
 
 -- a change more
-pub pushed : (changes : List Change) (change : Change) (P : Tree → Type 0) → ((left : Tree) → Begun change (after changes no_tree) left → P left) → P (changed change (after changes no_tree)) → Leaves (meaning_of changes) (meaning_of (changes ++ change ∷ [])) P
+pub pushed : (changes : List Change) (change : Change) (P : Tree → Type 0) → ((left : Tree) → Begun change (after changes no_tree) left → P left) → P (changed change (after changes no_tree)) → Leaves (meaning_after changes) (meaning_after (changes ++ change ∷ [])) P
 pushed changes change P begun whole = record {
   tree = subst P (sym (after_push changes change no_tree)) whole;
   later = omega (arith, length-append changes (change ∷ []));
@@ -56,12 +56,12 @@ pushed changes change P begun whole = record {
   keeps = λ t left le old. kept changes change t no_tree left le old;
 }
 
-pub pushed_to : (old now : List Change) (change : Change) (P : Tree → Type 0) → now ≡ old ++ change ∷ [] → ((left : Tree) → Begun change (after old no_tree) left → P left) → P (changed change (after old no_tree)) → Leaves (meaning_of old) (meaning_of now) P
-pushed_to old now change P is begun whole = subst (λ (l : List Change). Leaves (meaning_of old) (meaning_of l) P) (sym is) (pushed old change P begun whole)
+pub pushed_to : (old now : List Change) (change : Change) (P : Tree → Type 0) → now ≡ old ++ change ∷ [] → ((left : Tree) → Begun change (after old no_tree) left → P left) → P (changed change (after old no_tree)) → Leaves (meaning_after old) (meaning_after now) P
+pushed_to old now change P is begun whole = subst (λ (l : List Change). Leaves (meaning_after old) (meaning_after l) P) (sym is) (pushed old change P begun whole)
 
 -- no change
-pub same_changes : (old now : List Change) (P : Tree → Type 0) → now ≡ old → P (after old no_tree) → Leaves (meaning_of old) (meaning_of now) P
-same_changes old now P is here = subst (λ (l : List Change). Leaves (meaning_of old) (meaning_of l) P) (sym is) (starts (meaning_of old) P here)
+pub same_changes : (old now : List Change) (P : Tree → Type 0) → now ≡ old → P (after old no_tree) → Leaves (meaning_after old) (meaning_after now) P
+same_changes old now P is here = subst (λ (l : List Change). Leaves (meaning_after old) (meaning_after l) P) (sym is) (starts (meaning_after old) P here)
 
 -- what a stop in an append leaves
 begun_append : (T : Tree) (path : Vec ℕ Global) (whole : Vec ℕ Global) (had : ℕ) (p old bytes : List ℕ) → path.items ≡ p → whole.items ≡ old ++ bytes → had ≡ length old → Some (File old) ≡ T p → (left : Tree) → Begun (Append path whole had) T left → Appending T p bytes left
@@ -83,7 +83,7 @@ whole_append T path whole had p old bytes at is stood =
     ∙ ap (λ (node : Option Content). put T p (more node bytes)) stood
 
 -- an append more
-pub append_more : (old_changes now : List Change) (path whole : Vec ℕ Global) (had : ℕ) (p old bytes : List ℕ) → path.items ≡ p → whole.items ≡ old ++ bytes → had ≡ length old → Some (File old) ≡ after old_changes no_tree p → now ≡ old_changes ++ Append path whole had ∷ [] → Leaves (meaning_of old_changes) (meaning_of now) (Appending (after old_changes no_tree) p bytes) × Appends (after old_changes no_tree) p bytes (after now no_tree) true
+pub append_more : (old_changes now : List Change) (path whole : Vec ℕ Global) (had : ℕ) (p old bytes : List ℕ) → path.items ≡ p → whole.items ≡ old ++ bytes → had ≡ length old → Some (File old) ≡ after old_changes no_tree p → now ≡ old_changes ++ Append path whole had ∷ [] → Leaves (meaning_after old_changes) (meaning_after now) (Appending (after old_changes no_tree) p bytes) × Appends (after old_changes no_tree) p bytes (after now no_tree) true
 append_more old_changes now path whole had p old bytes at is size stood grown =
     let T = after old_changes no_tree in
     let entire = whole_append T path whole had p old bytes at is stood in
@@ -100,16 +100,16 @@ pub no_more : (T : Tree) (p : Path) (bytes : List ℕ) → Appending T p bytes T
 no_more T p bytes = (0, sym (appended_none T p))
 
 -- one path changed
-pub put_more : (old now : List Change) (Allowed : Type 0) (path : Vec ℕ Global) (stored : Option Stored) (p : Path) (content : Option Content) → Allowed → path.items ≡ p → content_of stored ≡ content → now ≡ old ++ Put path stored ∷ [] → Leaves (meaning_of old) (meaning_of now) (Perhaps (after old no_tree) Allowed (put (after old no_tree) p content)) × (after now no_tree ≡ put (after old no_tree) p content)
+pub put_more : (old now : List Change) (Allowed : Type 0) (path : Vec ℕ Global) (stored : Option Stored) (p : Path) (content : Option Content) → Allowed → path.items ≡ p → content_of stored ≡ content → now ≡ old ++ Put path stored ∷ [] → Leaves (meaning_after old) (meaning_after now) (BeforeOrAfter (after old no_tree) Allowed (put (after old no_tree) p content)) × (after now no_tree ≡ put (after old no_tree) p content)
 put_more old now Allowed path stored p content allowed at is grown =
     let T = after old no_tree in
     let whole : changed (Put path stored) T ≡ put T p content = ap (λ (q : Path). put T q (content_of stored)) at ∙ ap (λ (n : Option Content). put T p n) is in (
-      pushed_to old now (Put path stored) (Perhaps T Allowed (put T p content)) grown (λ left none. inl none) (inr (allowed, whole)),
+      pushed_to old now (Put path stored) (BeforeOrAfter T Allowed (put T p content)) grown (λ left none. inl none) (inr (allowed, whole)),
       ap (λ (l : List Change). after l no_tree) grown ∙ after_push old (Put path stored) no_tree ∙ whole,
     )
 
 -- one file moved
-pub move_more : (old now : List Change) (Allowed : Type 0) (from to bytes : Vec ℕ Global) (p q : Path) (stood : List ℕ) → Allowed → from.items ≡ p → to.items ≡ q → bytes.items ≡ stood → Some (File stood) ≡ after old no_tree p → now ≡ old ++ Move from to bytes ∷ [] → Leaves (meaning_of old) (meaning_of now) (Perhaps (after old no_tree) Allowed (moved (after old no_tree) p q)) × (after now no_tree ≡ moved (after old no_tree) p q)
+pub move_more : (old now : List Change) (Allowed : Type 0) (from to bytes : Vec ℕ Global) (p q : Path) (stood : List ℕ) → Allowed → from.items ≡ p → to.items ≡ q → bytes.items ≡ stood → Some (File stood) ≡ after old no_tree p → now ≡ old ++ Move from to bytes ∷ [] → Leaves (meaning_after old) (meaning_after now) (BeforeOrAfter (after old no_tree) Allowed (moved (after old no_tree) p q)) × (after now no_tree ≡ moved (after old no_tree) p q)
 move_more old now Allowed from to bytes p q stood allowed at_from at_to is there grown =
     let T = after old no_tree in
     let whole : changed (Move from to bytes) T ≡ moved T p q =
@@ -117,7 +117,7 @@ move_more old now Allowed from to bytes p q stood allowed at_from at_to is there
     ∙ ap (λ (x : Path). put (put T p None) x (Some (File bytes.items))) at_to
     ∙ ap (λ (x : List ℕ). put (put T p None) q (Some (File x))) is
     ∙ ap (λ (x : Option Content). put (put T p None) q x) there in (
-      pushed_to old now (Move from to bytes) (Perhaps T Allowed (moved T p q)) grown (λ left none. inl none) (inr (allowed, whole)),
+      pushed_to old now (Move from to bytes) (BeforeOrAfter T Allowed (moved T p q)) grown (λ left none. inl none) (inr (allowed, whole)),
       ap (λ (l : List Change). after l no_tree) grown ∙ after_push old (Move from to bytes) no_tree ∙ whole,
     )
 
@@ -133,7 +133,7 @@ newest_left (first ∷ changes) change zero T left le begun = inr (newest_left c
 newest_left (first ∷ changes) change (suc t) T left le begun = newest_left changes change t (changed first T) left (omega arith) begun
 
 -- an append adds every beginning of its bytes
-pub append_adds : (old_changes now : List Change) (path whole : Vec ℕ Global) (had : ℕ) (p old bytes : List ℕ) → path.items ≡ p → whole.items ≡ old ++ bytes → had ≡ length old → Some (File old) ≡ after old_changes no_tree p → now ≡ old_changes ++ Append path whole had ∷ [] → Adds (meaning_of old_changes) (meaning_of now) (Appending (after old_changes no_tree) p bytes)
+pub append_adds : (old_changes now : List Change) (path whole : Vec ℕ Global) (had : ℕ) (p old bytes : List ℕ) → path.items ≡ p → whole.items ≡ old ++ bytes → had ≡ length old → Some (File old) ≡ after old_changes no_tree p → now ≡ old_changes ++ Append path whole had ∷ [] → Adds (meaning_after old_changes) (meaning_after now) (Appending (after old_changes no_tree) p bytes)
 append_adds old_changes now path whole had p old bytes at is size stood grown t left le some =
     let T = after old_changes no_tree in
     let n = some.0 in
@@ -146,7 +146,7 @@ append_adds old_changes now path whole had p old bytes at is size stood grown t 
     subst (λ (l : List Change). Left l t no_tree left) (sym grown) (newest_left old_changes (Append path whole had) t no_tree left le (inr (n, some.1 ∙ sym same)))
 
 -- what an append that isn't made adds
-pub nothing_adds : (changes now : List Change) (p : Path) (bytes : List ℕ) → is_file (after changes no_tree p) ≡ false → now ≡ changes → Adds (meaning_of changes) (meaning_of now) (Appending (after changes no_tree) p bytes)
+pub nothing_adds : (changes now : List Change) (p : Path) (bytes : List ℕ) → is_file (after changes no_tree p) ≡ false → now ≡ changes → Adds (meaning_after changes) (meaning_after now) (Appending (after changes no_tree) p bytes)
 nothing_adds changes now p bytes none is t left le some =
     subst (λ (l : List Change). Left l t no_tree left) (sym is)
     (subst (λ (l : Tree). Left changes t no_tree l) (sym (some.1 ∙ put_same (after changes no_tree) p (more (after changes no_tree p) (take some.0 bytes)) (no_file_more (after changes no_tree p) none))) (now_is_left changes t no_tree))
@@ -164,6 +164,6 @@ shorter (suc n) (suc m) [] = (0, refl)
 shorter (suc n) (suc m) (x ∷ xs) = let rest = shorter n m xs in (suc rest.0, ap (λ (l : List ℕ). x ∷ l) rest.1)
 
 -- what an append of some of the bytes leaves
-pub append_part : (old new : List Change) (T : Tree) (p : Path) (bytes : List ℕ) (m : ℕ) → Leaves (meaning_of old) (meaning_of new) (Appending T p (take m bytes)) → Leaves (meaning_of old) (meaning_of new) (Appending T p bytes)
+pub append_part : (old new : List Change) (T : Tree) (p : Path) (bytes : List ℕ) (m : ℕ) → Leaves (meaning_after old) (meaning_after new) (Appending T p (take m bytes)) → Leaves (meaning_after old) (meaning_after new) (Appending T p bytes)
 append_part old new T p bytes m run =
     weaken run (λ S some. let k = shorter some.0 m bytes in (k.0, some.1 ∙ ap (λ (l : List ℕ). appended T p l) k.1))

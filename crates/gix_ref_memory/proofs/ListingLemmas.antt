@@ -10,9 +10,9 @@ use Rattle.std.proofs.lemmas.List.Elements.{All-push}
 use Rattle.std.proofs.lemmas.List.Quantifiers.{Any-push, all_pairs_push}
 use Rattle.std.proofs.lemmas.List.Folds.{Any-from_list_any}
 use Rattle.gix_ref_files.specs.Tree.{Tree, Path, is_folder}
-use Rattle.gix_ref_files.specs.Calls.{IsName, IsListing, TellsOf, name_of}
+use Rattle.gix_ref_files.specs.Calls.{IsName, IsListing, IsEntryOf, entry_name}
 use Rattle.gix_ref_memory.specs.Changes.{IsPlaced, place_of, found_content}
-use Rattle.gix_ref_memory.specs.Listing.{IsListed, ListsSome, Lists}
+use Rattle.gix_ref_memory.specs.Listing.{IsListed, ListsSome, AddsEntries}
 use Rattle.gix_ref_files.specs.declared.files.Entry.{Entry}
 use Rattle.gix_ref_memory.specs.declared.memory.changes.Change.{Change}
 use Rattle.gix_ref_memory.specs.declared.memory.changes.Stands.{Stands}
@@ -70,21 +70,21 @@ nothing_in [] none = refl
 nothing_in (b ∷ name) none = absurd (let e : length (b ∷ name) ≡ 0 = eqb-true (length (b ∷ name)) 0 none in omega arith)
 
 -- a name that a search finds is listed
-pub listed : (entries : List Entry) (name : List ℕ) → list_any (λ entry. bytes_eq (name_of entry) name) entries ≡ true → IsListed entries name
+pub listed : (entries : List Entry) (name : List ℕ) → list_any (λ entry. bytes_eq (entry_name entry) name) entries ≡ true → IsListed entries name
 listed entries name found =
-    let some = Any-from_list_any (λ (entry : Entry). bytes_eq (name_of entry) name) entries found in
-    (some.0, some.1, some.2, some.3, (bytes_eq-Decides (name_of some.1) name).0 some.4)
+    let some = Any-from_list_any (λ (entry : Entry). bytes_eq (entry_name entry) name) entries found in
+    (some.0, some.1, some.2, some.3, (bytes_eq-Decides (entry_name some.1) name).0 some.4)
 
 -- one that it does not find is no entry's
-unlisted : (entries : List Entry) (name : List ℕ) → list_any (λ entry. bytes_eq (name_of entry) name) entries ≡ false → (k : ℕ) (d : Entry) → k < length entries → name_of (get_or entries k d) ≢ name
+unlisted : (entries : List Entry) (name : List ℕ) → list_any (λ entry. bytes_eq (entry_name entry) name) entries ≡ false → (k : ℕ) (d : Entry) → k < length entries → entry_name (get_or entries k d) ≢ name
 unlisted [] name none k d lt = absurd (omega arith)
 unlisted (entry ∷ entries) name none zero d lt = λ is.
-    clash (bytes_eq (name_of entry) name) (list_any (λ e. bytes_eq (name_of e) name) entries) ((bytes_eq-Decides (name_of entry) name).1 is) none
+    clash (bytes_eq (entry_name entry) name) (list_any (λ e. bytes_eq (entry_name e) name) entries) ((bytes_eq-Decides (entry_name entry) name).1 is) none
   where
     clash : (a b : Bool) → a ≡ true → (a || b) ≡ false → ⊥
     clash true b holds neither = cc
     clash false b holds neither = cc
-unlisted (entry ∷ entries) name none (suc k) d lt = unlisted entries name (rest (bytes_eq (name_of entry) name) (list_any (λ e. bytes_eq (name_of e) name) entries) none) k d (omega arith)
+unlisted (entry ∷ entries) name none (suc k) d lt = unlisted entries name (rest (bytes_eq (entry_name entry) name) (list_any (λ e. bytes_eq (entry_name e) name) entries) none) k d (omega arith)
   where
     rest : (a b : Bool) → (a || b) ≡ false → b ≡ false
     rest true b neither = cc
@@ -95,19 +95,19 @@ still_listed entries entry name some =
     (some.0, some.1, omega (arith, some.2, length-append entries (entry ∷ [])), get_or_append_left entries (entry ∷ []) some.1 some.0 some.2 ∙ some.3, some.4)
 
 -- no entry more
-pub lists_same : (T : Tree) (p : Path) (name : List ℕ) (entries : List Entry) → (IsSome (T (p ++ 47 ∷ name)) → IsListed entries name) → Lists T p name entries entries
+pub lists_same : (T : Tree) (p : Path) (name : List ℕ) (entries : List Entry) → (IsSome (T (p ++ 47 ∷ name)) → IsListed entries name) → AddsEntries T p name entries entries
 lists_same T p name entries here = record { good = λ good. good; here = here; others = λ other there. there }
 
 -- one entry more
-pub lists_more : (T : Tree) (p : Path) (name : List ℕ) (old new : List Entry) (entry : Entry) → new ≡ old ++ entry ∷ [] → name_of entry ≡ name → IsName name → IsSome (T (p ++ 47 ∷ name)) → entry.is_folder ≡ is_folder (T (p ++ 47 ∷ name)) → list_any (λ e. bytes_eq (name_of e) name) old ≡ false → Lists T p name old new
+pub lists_more : (T : Tree) (p : Path) (name : List ℕ) (old new : List Entry) (entry : Entry) → new ≡ old ++ entry ∷ [] → entry_name entry ≡ name → IsName name → IsSome (T (p ++ 47 ∷ name)) → entry.is_folder ≡ is_folder (T (p ++ 47 ∷ name)) → list_any (λ e. bytes_eq (entry_name e) name) old ≡ false → AddsEntries T p name old new
 lists_more T p name old new entry grown named good there folder none =
-    subst (λ (l : List Entry). Lists T p name old l) (sym grown) (record {
+    subst (λ (l : List Entry). AddsEntries T p name old l) (sym grown) (record {
       good = λ so_far. record {
-        names = All-push (λ e. IsName (name_of e)) old entry so_far.names (subst IsName (sym named) good);
-        tells = All-push (TellsOf T p) old entry so_far.tells (subst (λ (n : List ℕ). IsSome (T (p ++ 47 ∷ n)) × (entry.is_folder ≡ is_folder (T (p ++ 47 ∷ n)))) (sym named) (there, folder));
-        once = all_pairs_push (λ e later. name_of e ≢ name_of later) old entry so_far.once (λ k d lt is. unlisted old name none k d lt (is ∙ named));
+        names = All-push (λ e. IsName (entry_name e)) old entry so_far.names (subst IsName (sym named) good);
+        tells = All-push (IsEntryOf T p) old entry so_far.tells (subst (λ (n : List ℕ). IsSome (T (p ++ 47 ∷ n)) × (entry.is_folder ≡ is_folder (T (p ++ 47 ∷ n)))) (sym named) (there, folder));
+        once = all_pairs_push (λ e later. entry_name e ≢ entry_name later) old entry so_far.once (λ k d lt is. unlisted old name none k d lt (is ∙ named));
       };
-      here = λ some. Any-push (λ e. name_of e ≡ name) old entry named;
+      here = λ some. Any-push (λ e. entry_name e ≡ name) old entry named;
       others = λ other listed_before. still_listed old entry other listed_before;
     })
 
@@ -123,7 +123,7 @@ abbrev pub Remains : List Change → ℕ → Tree → Path → List Entry → Ty
 Remains changes i T p entries = (name : List ℕ) → IsName name → IsSome (T (p ++ 47 ∷ name)) → IsListed entries name ⊎ IsPlaced (drop i changes) (p ++ 47 ∷ name)
 
 -- past a change that puts something into the folder
-pub remains_named : (changes : List Change) (i : ℕ) (T : Tree) (p : Path) (old new : List Entry) (change : Change) (name : List ℕ) → i < length changes → change ≡ get_or changes i change → place_of change ≡ p ++ 47 ∷ name → Lists T p name old new → Remains changes i T p old → Remains changes (i + 1) T p new
+pub remains_named : (changes : List Change) (i : ℕ) (T : Tree) (p : Path) (old new : List Entry) (change : Change) (name : List ℕ) → i < length changes → change ≡ get_or changes i change → place_of change ≡ p ++ 47 ∷ name → AddsEntries T p name old new → Remains changes i T p old → Remains changes (i + 1) T p new
 remains_named changes i T p old new change name lt is at lists so_far other good there =
     ⊎_elim (λ before. inl (lists.others other before))
     (λ later. ⊎_elim

@@ -51,8 +51,8 @@ after [] T = T
 after (change ∷ changes) T = after changes (changed change T)
 
 -- the tree that these changes make
-abbrev pub tree_of : Vec Change Global → Tree
-tree_of changes = after changes.items no_tree
+abbrev pub tree_after : Vec Change Global → Tree
+tree_after changes = after changes.items no_tree
 
 -- a stop in a change, before it is whole
 abbrev pub Begun : Change → Tree → Tree → Type 0
@@ -67,8 +67,8 @@ Left (change ∷ changes) zero T left = Begun change T left ⊎ Left changes zer
 Left (change ∷ changes) (suc t) T left = Left changes t (changed change T) left
 
 -- What these changes mean: the clock is their number.
-abbrev pub meaning_of : List Change → Meaning
-meaning_of changes = record {
+abbrev pub meaning_after : List Change → Meaning
+meaning_after changes = record {
   tree = after changes no_tree;
   moment = length changes;
   left_since = λ t left. Left changes t no_tree left;

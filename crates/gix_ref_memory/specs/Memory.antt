@@ -2,7 +2,7 @@
 use Rattle.std.specs.Prelude.{◌≡◌, ℕ, List}
 use Rattle.gix_ref_files.specs.Tree.{Tree, no_tree}
 use Rattle.gix_ref_files.specs.Files.{Meaning, one_more}
-use Rattle.gix_ref_memory.specs.Changes.{after, meaning_of}
+use Rattle.gix_ref_memory.specs.Changes.{after, meaning_after}
 use Rattle.gix_ref_memory.specs.Turns.{turn_of}
 use Rattle.gix_ref_memory.specs.declared.memory.Memory.{Memory}
 use Rattle.gix_ref_memory.specs.declared.memory.changes.Change.{Change}
@@ -11,7 +11,7 @@ use Rattle.gix_ref_memory.specs.declared.memory.turns.Turn.{Turn}
 
 -- the tree, the clock, and what a stop could have left
 abbrev pub meaning : Memory → Meaning
-meaning memory = meaning_of memory.changes.items
+meaning memory = meaning_after memory.changes.items
 
 -- the changes so far, of which the tree, the clock and the sets are functions
 abbrev pub past_of : Memory → List Change

@@ -130,7 +130,7 @@ impl Files for Memory {
     ghost use Rattle.std.specs.Prelude.{ℕ, take, false, true, IfOk, OnOk, OnErr, IfSome, IsErrOf};
     ghost use Rattle.gix_ref_files.specs.Tree.{no_tree, node_at, bytes_of, is_file, appended, moved, removed, is_folder, folders_to, with_folders, IsEmptyFolder};
     ghost use Rattle.gix_ref_files.specs.Files.{Leaves, Adds, count_after};
-    ghost use Rattle.gix_ref_files.specs.Calls.{Only, emptied, Opens, Creates, Creating, MakesFolders, MakingFolders, is_in_the_way, Appends, Appending, Renames, Renaming, IsMovable, RemovesFile, RemovingFile, RemovesFolder, RemovingFolder, Lists};
+    ghost use Rattle.gix_ref_files.specs.Calls.{Unchanged, emptied, Opens, Creates, Creating, MakesFolders, MakingFolders, is_in_the_way, Appends, Appending, Renames, Renaming, IsMovable, RemovesFile, RemovingFile, RemovesFolder, RemovingFolder, Lists};
     ghost use Rattle.gix_ref_memory.specs.Changes.{now_is_left, only_now};
     ghost use Rattle.gix_ref_memory.specs.Turns.{KeepsTurn, NeverFails, LacksMemory, CannotGrow, CannotCreate, CannotRename, AsBefore, InOneStep, IsDone};
     ghost use Rattle.gix_ref_memory.specs.Memory.{meaning, tree_of, faults_of, next_turn, Counts};
@@ -153,7 +153,7 @@ impl Files for Memory {
 
     fn kind(&mut self, path: &[u8]) -> Result<Node, FileError>
         ensures answer { IfOk result (λ node. node ≡ node_at (tree_of self.old) path.now) }
-        ensures leaves { Leaves (meaning self.old) (meaning self.new) (Only (tree_of self.old)) }
+        ensures leaves { Leaves (meaning self.old) (meaning self.new) (Unchanged (tree_of self.old)) }
         ensures count { faults_of self.new ≡ count_after result (faults_of self.old) }
         ensures memory { IsErrOf result FileError.Memory → ⊥ }
         ensures turn { KeepsTurn NeverFails NeverFails (next_turn self.old) result
@@ -176,7 +176,7 @@ impl Files for Memory {
         ensures bytes { IfOk result (λ node. node ≡ Node.File →
             buf.new.items ≡ bytes_of (tree_of self.old path.now)) }
         ensures emptied { emptied result buf.new.items }
-        ensures leaves { Leaves (meaning self.old) (meaning self.new) (Only (tree_of self.old)) }
+        ensures leaves { Leaves (meaning self.old) (meaning self.new) (Unchanged (tree_of self.old)) }
         ensures count { faults_of self.new ≡ count_after result (faults_of self.old) }
         ensures turn { KeepsTurn LacksMemory NeverFails (next_turn self.old) result
             (tree_of self.old) (tree_of self.new) (AsBefore (tree_of self.old)) }
@@ -200,7 +200,7 @@ impl Files for Memory {
     fn open(&mut self, alloc: Global, path: &[u8]) -> Result<Option<MemoryReader>, FileError>
         ensures answer { IfOk result (λ reader. Opens (Unit {0}) bytes_in (tree_of self.old)
             path.now reader) }
-        ensures leaves { Leaves (meaning self.old) (meaning self.new) (Only (tree_of self.old)) }
+        ensures leaves { Leaves (meaning self.old) (meaning self.new) (Unchanged (tree_of self.old)) }
         ensures count { faults_of self.new ≡ count_after result (faults_of self.old) }
         ensures turn { KeepsTurn LacksMemory NeverFails (next_turn self.old) result
             (tree_of self.old) (tree_of self.new) (AsBefore (tree_of self.old)) }
@@ -231,7 +231,7 @@ impl Files for Memory {
 
     fn list(&mut self, alloc: Global, path: &[u8]) -> Result<Option<Vec<Entry>>, FileError>
         ensures answer { IfOk result (Lists (tree_of self.old) path.now) }
-        ensures leaves { Leaves (meaning self.old) (meaning self.new) (Only (tree_of self.old)) }
+        ensures leaves { Leaves (meaning self.old) (meaning self.new) (Unchanged (tree_of self.old)) }
         ensures count { faults_of self.new ≡ count_after result (faults_of self.old) }
         ensures turn { KeepsTurn LacksMemory NeverFails (next_turn self.old) result
             (tree_of self.old) (tree_of self.new) (AsBefore (tree_of self.old)) }

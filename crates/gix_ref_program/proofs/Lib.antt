@@ -1,4 +1,4 @@
-pub mod Updating
-pub mod WordLemmas
 pub mod LockLines
 pub mod RunLemmas
+pub mod Updating
+pub mod WordLemmas

@@ -11,7 +11,7 @@ use Rattle.gix_ref_store.specs.declared.file.store.Store.{Store}
 use Rattle.gix_ref_store.specs.declared.transaction.RefEdit.{RefEdit}
 use Rattle.gix_ref_program.specs.Updates.{IsStopOf}
 use Rattle.gix_ref_program.specs.Words.{Update, Line}
-use Rattle.gix_ref_program.specs.Runs.{IsAskedFor, IsOpened, EditComesTo, UpdateComesTo, ComesTo, LineComesTo, IsStop, IsStopIn}
+use Rattle.gix_ref_program.specs.Runs.{IsAskedFor, IsOpened, EditOutcome, UpdateOutcome, CommandOutcome, LineOutcome, IsStop, IsStopIn}
 use Rattle.gix_ref_program.specs.declared.outcome.Outcome.{Outcome}
 use Rattle.gix_ref_program.specs.declared.outcome.Outcome.TheVariants as outcomes
 use Rattle.gix_ref_program.specs.declared.refusal.Refusal.TheVariants as refusals
@@ -21,9 +21,9 @@ one edits edit are update no_deref = record { edit = edit; one = are; update = u
 
 module _ {F : Type 0} (honest : Type 0) (means : F → Meaning) (faults : F → ℕ) where
   pub update_comes : (old new : Store F) (kind : Kind) (name : List ℕ) (id : ObjectId) (before : Option ObjectId) (edit : RefEdit) (outcome : Outcome) → IsAskedFor kind name id before edit →
-      EditComesTo honest means faults old new edit outcome → UpdateComesTo honest means faults old new kind name id before outcome
+      EditOutcome honest means faults old new edit outcome → UpdateOutcome honest means faults old new kind name id before outcome
   update_comes old new kind name id before edit (outcomes.Updated locks) asked comes = (edit, asked, comes)
-  update_comes old new kind name id before edit (outcomes.Refused (refusals.Update unmade) locks) asked comes = (edit, asked, comes)
+  update_comes old new kind name id before edit (outcomes.Refused (refusals.Update error) locks) asked comes = (edit, asked, comes)
   update_comes old new kind name id before edit (outcomes.Refused refusals.Memory locks) asked comes = comes
   update_comes old new kind name id before edit (outcomes.Refused refusals.PathNotClean locks) asked comes = absurd comes
   update_comes old new kind name id before edit (outcomes.Refused (refusals.Name error) locks) asked comes = absurd comes
@@ -38,7 +38,7 @@ module _ {F : Type 0} (honest : Type 0) (means : F → Meaning) (faults : F → 
   update_stops old new kind name id before edit asked leaves = weaken leaves (λ T stop. ⊎_elim (λ same. inl same) (λ s. inr (edit, asked, s)) stop)
 
   pub line_comes : (files after : F) (line : Line) (old new : Store F) (outcome : Outcome) → IsOpened files line old → files_of new ≡ after →
-      ComesTo honest means faults old new line.kind line.asked outcome → LineComesTo honest means faults files after line outcome
+      CommandOutcome honest means faults old new line.kind line.asked outcome → LineOutcome honest means faults files after line outcome
   line_comes files after line old new outcome opened same comes = inl (old, new, opened, same, comes)
 
   pub line_stops : (files after : F) (line : Line) (old new : Store F) → IsOpened files line old → files_of new ≡ after →

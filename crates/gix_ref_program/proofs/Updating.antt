@@ -5,8 +5,8 @@ use Rattle.gix_ref_base.specs.Targets.{TargetValue}
 use Rattle.gix_ref_files.specs.Tree.{Path}
 use Rattle.gix_ref_files.specs.Files.{Meaning, Leaves, HasRisen}
 use Rattle.gix_ref_files.proofs.Moments.{weaken, joins}
-use Rattle.gix_ref_store.specs.AddedLocks.{is_in, paths_of}
-use Rattle.gix_ref_store.specs.Committing.{AreCommitted, CommitsFrom, EndsFrom, FailsFor, left_of, names_of}
+use Rattle.gix_ref_store.specs.OwnLocks.{is_in, paths_of}
+use Rattle.gix_ref_store.specs.CommitResult.{AreCommitted, CommitsFrom, EveryStopFrom, FailsFor, left_of, names_of}
 use Rattle.gix_ref_store.specs.Prepared.{IsOneUpdate, PreparesFrom, RefusesFrom, tree_of}
 use Rattle.gix_ref_store.specs.Store.{files_of, meaning_of}
 use Rattle.gix_ref_store.specs.Transactions.{AreCarried}
@@ -18,9 +18,9 @@ use Rattle.gix_ref_store.specs.declared.file.transaction.setting.Paths.{Paths}
 use Rattle.gix_ref_store.specs.declared.file.transaction.prepare.error.Error.{Error as Cause}
 use Rattle.gix_ref_store.specs.declared.file.transaction.commit.error.Error.{Error}
 use Rattle.gix_ref_store.specs.declared.file.transaction.commit.error.Error.TheVariants.{LockCommit, FolderInPlace}
-use Rattle.gix_ref_program.specs.Updates.{IsStopOf, IsUnmade, AreNamed, HasFailed, unmade_of}
-use Rattle.gix_ref_program.specs.declared.update.Unmade.{Unmade}
-use Rattle.gix_ref_program.specs.declared.update.Unmade.TheVariants.{Commit}
+use Rattle.gix_ref_program.specs.Updates.{IsStopOf, IsUpdateError, AreNamed, HasFailed, error_of}
+use Rattle.gix_ref_program.specs.declared.update.UpdateError.{UpdateError}
+use Rattle.gix_ref_program.specs.declared.update.UpdateError.TheVariants.{Commit}
 
 -- what holds of one value holds of the same
 pub at_same : {A : Type 0} (P : A → Type 0) {x y : A} → x ≡ y → P y → P x
@@ -54,12 +54,12 @@ module _ {F : Type 0} (honest : Type 0) (means : F → Meaning) (faults : F → 
 
 -- one that was committed, or whose commit failed
 module _ {F : Type 0} (honest : Type 0) (means : F → Meaning) (faults : F → ℕ) (old mid new : Store F) (edits carried : List RefEdit) (paths : List Paths) (one : IsOneUpdate edits) (from : PreparesFrom honest means faults old mid edits carried paths) where
-  pub done : (answer : Result Done Failed) (unmade : Option Unmade) (left : List Path) → unmade ≡ unmade_of answer → left ≡ left_of answer →
-      IfOk answer (λ d. CommitsFrom honest means faults mid new carried paths (paths_of d.locks_left.items)) → honest → unmade ≡ None →
+  pub done : (answer : Result Done Failed) (error : Option UpdateError) (left : List Path) → error ≡ error_of answer → left ≡ left_of answer →
+      IfOk answer (λ d. CommitsFrom honest means faults mid new carried paths (paths_of d.locks_left.items)) → honest → error ≡ None →
       AreCommitted (meaning_of old) edits (tree_of means old) left (tree_of means new)
-  done (Ok d) unmade left told same commits h none =
+  done (Ok d) error left told same commits h none =
       subst (λ l. AreCommitted (meaning_of old) edits (tree_of means old) l (tree_of means new)) (sym same) (commits old edits one from h)
-  done (Err f) unmade left told same commits h none = cc
+  done (Err f) error left told same commits h none = cc
     where
       no : Some (Commit f.error) ≡ None
       no = sym told ∙ none
@@ -71,19 +71,19 @@ module _ {F : Type 0} (honest : Type 0) (means : F → Meaning) (faults : F → 
   )
   failed (FolderInPlace path) fails = (subst (λ places. is_in places path.items ≡ true) from.places fails.0, fails.1)
 
-  pub told : (answer : Result Done Failed) (unmade : Option Unmade) (left : List Path) → unmade ≡ unmade_of answer → left ≡ left_of answer →
-      IfErr answer (λ f. FailsFor honest means faults mid new carried paths f.error) → EndsFrom honest means faults mid new carried paths (left_of answer) →
-      IfSome unmade (λ u. IsUnmade honest means faults old new edits u left)
-  told (Ok d) unmade left is same fails ends = subst (λ r. IfSome r (λ u. IsUnmade honest means faults old new edits u left)) (sym is) tt
-  told (Err f) unmade left is same fails ends =
-      subst (λ r. IfSome r (λ u. IsUnmade honest means faults old new edits u left)) (sym is)
-      (subst (λ l. IsUnmade honest means faults old new edits (Commit f.error) l) (sym same) (failed f.error fails, (ends old edits one from).gone))
+  pub told : (answer : Result Done Failed) (error : Option UpdateError) (left : List Path) → error ≡ error_of answer → left ≡ left_of answer →
+      IfErr answer (λ f. FailsFor honest means faults mid new carried paths f.error) → EveryStopFrom honest means faults mid new carried paths (left_of answer) →
+      IfSome error (λ u. IsUpdateError honest means faults old new edits u left)
+  told (Ok d) error left is same fails ends = subst (λ r. IfSome r (λ u. IsUpdateError honest means faults old new edits u left)) (sym is) tt
+  told (Err f) error left is same fails ends =
+      subst (λ r. IfSome r (λ u. IsUpdateError honest means faults old new edits u left)) (sym is)
+      (subst (λ l. IsUpdateError honest means faults old new edits (Commit f.error) l) (sym same) (failed f.error fails, (ends old edits one from).gone))
 
-  pub stops : (left : List Path) → EndsFrom honest means faults mid new carried paths left → honest →
+  pub stops : (left : List Path) → EveryStopFrom honest means faults mid new carried paths left → honest →
       Leaves (means (files_of old)) (means (files_of new)) (IsStopOf (meaning_of old) edits (tree_of means old))
   stops left ends h = joins (weaken (from.held.leaves h) (λ T adds. inl adds)) (weaken ((ends old edits one from).leaves h) (λ T well. inr well))
 
-  pub named : (left all : List Path) → left ≡ all → (all ≡ []) ⊎ HasRisen (faults (files_of mid)) (faults (files_of new)) → EndsFrom honest means faults mid new carried paths all →
+  pub named : (left all : List Path) → left ≡ all → (all ≡ []) ⊎ HasRisen (faults (files_of mid)) (faults (files_of new)) → EveryStopFrom honest means faults mid new carried paths all →
       AreNamed honest means faults old new edits left
   named left all same counted ends = subst (AreNamed honest means faults old new edits) (sym same) (record {
     ours = (ends old edits one from).ours;

@@ -1,4 +1,4 @@
-pub mod Updates
 pub mod Outcomes
-pub mod Words
 pub mod Runs
+pub mod Updates
+pub mod Words

@@ -15,7 +15,7 @@ use Rattle.gix_ref_store.specs.declared.file.transaction.commit.error.Error as c
 use Rattle.gix_ref_store.specs.declared.file.transaction.commit.error.Error.TheVariants as commit
 use Rattle.gix_ref_store.specs.declared.file.find.error.Error as finds
 use Rattle.gix_ref_store.specs.declared.file.find.error.Error.TheVariants as find
-use Rattle.gix_ref_program.specs.declared.update.Unmade.TheVariants as unmade
+use Rattle.gix_ref_program.specs.declared.update.UpdateError.TheVariants as error
 use Rattle.gix_ref_program.specs.declared.refusal.Refusal.{Refusal}
 use Rattle.gix_ref_program.specs.declared.refusal.Refusal.TheVariants as refusals
 use Rattle.gix_ref_program.specs.declared.outcome.Outcome.{Outcome}
@@ -64,8 +64,8 @@ find_word find.Memory = codes "Memory"
 abbrev pub word_of : Refusal → List ℕ
 word_of refusals.PathNotClean = codes "PathNotClean"
 word_of (refusals.Name error) = name_word error
-word_of (refusals.Update (unmade.Prepare error)) = prepare_word error
-word_of (refusals.Update (unmade.Commit error)) = commit_word error
+word_of (refusals.Update (error.Prepare error)) = prepare_word error
+word_of (refusals.Update (error.Commit error)) = commit_word error
 word_of (refusals.Find error) = find_word error
 word_of refusals.NotFound = codes "NotFound"
 word_of refusals.Memory = codes "Memory"

@@ -9,9 +9,9 @@ use Rattle.gix_ref_hash.specs.declared.hash.Kind.{Kind}
 use Rattle.gix_ref_hash.specs.declared.hash.ObjectId.{ObjectId}
 use Rattle.gix_ref_files.specs.Tree.{Tree}
 use Rattle.gix_ref_files.specs.Files.{Meaning, Leaves}
-use Rattle.gix_ref_store.specs.AddedLocks.{paths_of}
+use Rattle.gix_ref_store.specs.OwnLocks.{paths_of}
 use Rattle.gix_ref_store.specs.CleanPaths.{is_clean}
-use Rattle.gix_ref_store.specs.Committing.{AreCommitted}
+use Rattle.gix_ref_store.specs.CommitResult.{AreCommitted}
 use Rattle.gix_ref_store.specs.Lookup.{FindsIn, FailsIn}
 use Rattle.gix_ref_store.specs.Prepared.{tree_of}
 use Rattle.gix_ref_store.specs.Store.{files_of, folders, kind_of, meaning_of}
@@ -23,7 +23,7 @@ use Rattle.gix_ref_store.specs.declared.transaction.PreviousValue.TheVariants.{A
 use Rattle.gix_ref_store.specs.declared.transaction.RefEdit.{RefEdit}
 use Rattle.gix_ref_store.specs.declared.transaction.RefLog.TheVariants.{AndReference}
 use Rattle.gix_ref_program.specs.Outcomes.{printed, status_of}
-use Rattle.gix_ref_program.specs.Updates.{IsUnmade, AreNamed, IsStopOf}
+use Rattle.gix_ref_program.specs.Updates.{IsUpdateError, AreNamed, IsStopOf}
 use Rattle.gix_ref_program.specs.Words.{Asked, Update, Show, Line, IsLine}
 use Rattle.gix_ref_program.specs.declared.outcome.Outcome.{Outcome}
 use Rattle.gix_ref_program.specs.declared.outcome.Outcome.TheVariants as outcomes
@@ -109,36 +109,36 @@ module _ {F : Type 0} where
 
   module _ (honest : Type 0) (means : F → Meaning) (faults : F → ℕ) where
     -- An edit: it is committed, but for locks that stay; or it was not made, and locks may stay; or there was no memory for it.
-    abbrev pub EditComesTo : (old new : Store F) → RefEdit → Outcome → Type 0
-    EditComesTo old new edit (outcomes.Updated locks) =
+    abbrev pub EditOutcome : (old new : Store F) → RefEdit → Outcome → Type 0
+    EditOutcome old new edit (outcomes.Updated locks) =
         (honest → AreCommitted (meaning_of old) (edit ∷ []) (tree_of means old) (paths_of locks.items) (tree_of means new))
         × AreNamed honest means faults old new (edit ∷ []) (paths_of locks.items)
-    EditComesTo old new edit (outcomes.Refused (refusals.Update unmade) locks) =
-        IsUnmade honest means faults old new (edit ∷ []) unmade (paths_of locks.items)
+    EditOutcome old new edit (outcomes.Refused (refusals.Update error) locks) =
+        IsUpdateError honest means faults old new (edit ∷ []) error (paths_of locks.items)
         × AreNamed honest means faults old new (edit ∷ []) (paths_of locks.items)
-    EditComesTo old new edit (outcomes.Refused refusals.Memory locks) = (new ≡ old) × (locks.items ≡ [])
-    EditComesTo old new edit outcome = ⊥
+    EditOutcome old new edit (outcomes.Refused refusals.Memory locks) = (new ≡ old) × (locks.items ≡ [])
+    EditOutcome old new edit outcome = ⊥
 
     -- An update: what its edit comes to; or its name is no full name; or there was no memory.
-    abbrev pub UpdateComesTo : (old new : Store F) → Kind → (name : List ℕ) → ObjectId → Option ObjectId → Outcome → Type 0
-    UpdateComesTo old new kind name id before (outcomes.Refused (refusals.Name error) locks) =
+    abbrev pub UpdateOutcome : (old new : Store F) → Kind → (name : List ℕ) → ObjectId → Option ObjectId → Outcome → Type 0
+    UpdateOutcome old new kind name id before (outcomes.Refused (refusals.Name error) locks) =
         (full_error name ≡ Some error) × (new ≡ old) × (locks.items ≡ [])
-    UpdateComesTo old new kind name id before (outcomes.Refused refusals.Memory locks) = (new ≡ old) × (locks.items ≡ [])
-    UpdateComesTo old new kind name id before outcome = (edit : RefEdit) × IsAskedFor kind name id before edit × EditComesTo old new edit outcome
+    UpdateOutcome old new kind name id before (outcomes.Refused refusals.Memory locks) = (new ≡ old) × (locks.items ≡ [])
+    UpdateOutcome old new kind name id before outcome = (edit : RefEdit) × IsAskedFor kind name id before edit × EditOutcome old new edit outcome
 
     -- A lookup: what it finds is shown; or there is nothing; or it fails; or its name breaks a rule.
-    abbrev pub ShowComesTo : (old new : Store F) → (name : List ℕ) → Outcome → Type 0
-    ShowComesTo old new name (outcomes.Shown reference) = honest → FindsIn means old name (Some reference)
-    ShowComesTo old new name (outcomes.Refused refusals.NotFound locks) =
+    abbrev pub ShowOutcome : (old new : Store F) → (name : List ℕ) → Outcome → Type 0
+    ShowOutcome old new name (outcomes.Shown reference) = honest → FindsIn means old name (Some reference)
+    ShowOutcome old new name (outcomes.Refused refusals.NotFound locks) =
         (honest → FindsIn means old name None) × (locks.items ≡ [])
-    ShowComesTo old new name (outcomes.Refused (refusals.Find error) locks) =
+    ShowOutcome old new name (outcomes.Refused (refusals.Find error) locks) =
         FailsIn honest means faults old new name error × (locks.items ≡ [])
-    ShowComesTo old new name (outcomes.Refused (refusals.Name error) locks) = (partial_error name ≡ Some error) × (new ≡ old) × (locks.items ≡ [])
-    ShowComesTo old new name outcome = ⊥
+    ShowOutcome old new name (outcomes.Refused (refusals.Name error) locks) = (partial_error name ≡ Some error) × (new ≡ old) × (locks.items ≡ [])
+    ShowOutcome old new name outcome = ⊥
 
-    abbrev pub ComesTo : (old new : Store F) → Kind → Asked → Outcome → Type 0
-    ComesTo old new kind (Update name id before) outcome = UpdateComesTo old new kind name id before outcome
-    ComesTo old new kind (Show name) outcome = ShowComesTo old new name outcome
+    abbrev pub CommandOutcome : (old new : Store F) → Kind → Asked → Outcome → Type 0
+    CommandOutcome old new kind (Update name id before) outcome = UpdateOutcome old new kind name id before outcome
+    CommandOutcome old new kind (Show name) outcome = ShowOutcome old new name outcome
 
     -- a stop in a command leaves this tree: as before; or of an update what a stop in it leaves
     abbrev pub IsStop : Store F → Kind → Asked → Tree → Type 0
@@ -153,9 +153,9 @@ module _ {F : Type 0} where
     NotBegun line outcome = ⊥
 
     -- what a line comes to: it is begun in its store, or it is not, and the files are as before
-    abbrev pub LineComesTo : (files after : F) → Line → Outcome → Type 0
-    LineComesTo files after line outcome =
-        ((old : Store F) × (new : Store F) × IsOpened files line old × (files_of new ≡ after) × ComesTo old new line.kind line.asked outcome)
+    abbrev pub LineOutcome : (files after : F) → Line → Outcome → Type 0
+    LineOutcome files after line outcome =
+        ((old : Store F) × (new : Store F) × IsOpened files line old × (files_of new ≡ after) × CommandOutcome old new line.kind line.asked outcome)
         ⊎ ((after ≡ files) × NotBegun line outcome)
 
     -- a stop in a line leaves this tree: as before, or what a stop in its command leaves
@@ -167,13 +167,13 @@ module _ {F : Type 0} where
     pub record RunsWrong {E : Type 0} (files after : F) (words : List (List ℕ)) (out now : Option (List ℕ)) (status : Result ℕ E) : Type 0 where
       pub no_line : (line : Line) → IsLine words line → ⊥
       pub same : after ≡ files
-      pub told : IfOk status (λ s. (s ≡ 2) × Appends out now (codes "wrong words\n"))
+      pub printed : IfOk status (λ s. (s ≡ 2) × Appends out now (codes "wrong words\n"))
 
-    -- A run of a line: what it comes to is printed, and told by the status; and each stop leaves what a stop in the line leaves.
+    -- A run of a line: what it comes to is printed, and printed by the status; and each stop leaves what a stop in the line leaves.
     pub record RunsLine {E : Type 0} (files after : F) (words : List (List ℕ)) (out now : Option (List ℕ)) (status : Result ℕ E) : Type 0 where
       pub line : Line
       pub outcome : Outcome
       pub is_line : IsLine words line
-      pub comes_to : LineComesTo files after line outcome
-      pub told : IfOk status (λ s. (s ≡ status_of outcome) × Appends out now (printed outcome))
+      pub comes_to : LineOutcome files after line outcome
+      pub printed : IfOk status (λ s. (s ≡ status_of outcome) × Appends out now (printed outcome))
       pub leaves : honest → Leaves (means files) (means after) (IsStopIn files line)

@@ -3,34 +3,34 @@ use Rattle.std.specs.Prelude.{◌≡◌, ◌⊎◌, ℕ, List, [], true, false, 
 use Rattle.gix_ref_base.specs.Names.{full_bytes}
 use Rattle.gix_ref_files.specs.Tree.{Tree, Path, is_file, is_folder}
 use Rattle.gix_ref_files.specs.Files.{Meaning, HasRisen}
-use Rattle.gix_ref_store.specs.AddedLocks.{is_in, AddsLocks}
+use Rattle.gix_ref_store.specs.OwnLocks.{is_in, AddsLocks}
 use Rattle.gix_ref_store.specs.Causes.{locks_of}
-use Rattle.gix_ref_store.specs.Committing.{AreLeftWell, names_of}
+use Rattle.gix_ref_store.specs.CommitResult.{IsOldOrNew, names_of}
 use Rattle.gix_ref_store.specs.Prepared.{RefusesFrom, tree_of, locks_in}
 use Rattle.gix_ref_theory.specs.Readings as readings
 use Rattle.gix_ref_store.specs.Store.{files_of, meaning_of}
-use Rattle.gix_ref_store.specs.Taken.{places_of}
+use Rattle.gix_ref_store.specs.PrepareSteps.{places_of}
 use Rattle.gix_ref_store.specs.declared.file.store.Store.{Store}
 use Rattle.gix_ref_store.specs.declared.transaction.RefEdit.{RefEdit}
 use Rattle.gix_ref_store.specs.declared.file.transaction.Done.{Done}
 use Rattle.gix_ref_store.specs.declared.file.transaction.Failed.{Failed}
 use Rattle.gix_ref_store.specs.declared.file.transaction.commit.error.Error as commits
 use Rattle.gix_ref_store.specs.declared.file.transaction.commit.error.Error.TheVariants.{LockCommit, FolderInPlace}
-use Rattle.gix_ref_program.specs.declared.update.Unmade.{Unmade}
-use Rattle.gix_ref_program.specs.declared.update.Unmade.TheVariants.{Prepare, Commit}
+use Rattle.gix_ref_program.specs.declared.update.UpdateError.{UpdateError}
+use Rattle.gix_ref_program.specs.declared.update.UpdateError.TheVariants.{Prepare, Commit}
 
 -- A stop in an update: before its commit nothing is added but its locks and folders on the way to them; in it each reference reads as
 -- before or as edited.
 abbrev pub IsStopOf : readings.Store → List RefEdit → (before T : Tree) → Type 0
-IsStopOf s edits before T = AddsLocks (locks_of s edits) (locks_of s edits) before T ⊎ AreLeftWell s edits before T
+IsStopOf s edits before T = AddsLocks (locks_of s edits) (locks_of s edits) before T ⊎ IsOldOrNew s edits before T
 
 -- why a commit did not do it, if it did not
-abbrev pub unmade_of : Result Done Failed → Option Unmade
-unmade_of (Ok done) = None
-unmade_of (Err failed) = Some (Commit failed.error)
+abbrev pub error_of : Result Done Failed → Option UpdateError
+error_of (Ok done) = None
+error_of (Err failed) = Some (Commit failed.error)
 
 module _ {F : Type 0} (honest : Type 0) (means : F → Meaning) (faults : F → ℕ) where
-  -- Locks that are told to stay: they are locks of the edits, and there is one only where a fault came.
+  -- Locks that are reported as left: they are locks of the edits, and there is one only where a fault came.
   pub record AreNamed (old new : Store F) (edits : List RefEdit) (left : List Path) : Type 0 where
     pub ours : (q : Path) → is_in left q ≡ true → is_in (locks_in old edits) q ≡ true
     pub named : (left ≡ []) ⊎ HasRisen (faults (files_of old)) (faults (files_of new))
@@ -49,6 +49,6 @@ module _ {F : Type 0} (honest : Type 0) (means : F → Meaning) (faults : F → 
 
   -- Why an update was not made, and the locks that stay: it was refused by the first cause against it, and all is as before but for
   -- these locks; or its commit failed.
-  abbrev pub IsUnmade : (old new : Store F) → List RefEdit → Unmade → (left : List Path) → Type 0
-  IsUnmade old new edits (Prepare error) left = RefusesFrom honest means faults old new edits error left
-  IsUnmade old new edits (Commit error) left = HasFailed old new edits error × (honest → OnlyStay old new edits left)
+  abbrev pub IsUpdateError : (old new : Store F) → List RefEdit → UpdateError → (left : List Path) → Type 0
+  IsUpdateError old new edits (Prepare error) left = RefusesFrom honest means faults old new edits error left
+  IsUpdateError old new edits (Commit error) left = HasFailed old new edits error × (honest → OnlyStay old new edits left)

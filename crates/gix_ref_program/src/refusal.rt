@@ -1,8 +1,8 @@
-//! Why a line is refused, and the name under which that is told: the variant of the error.
+//! Why a command is refused, and the name that is printed of it: the variant of the error.
 ghost use Rattle.std.specs.Prelude.{◌≡◌};
 ghost use Rattle.gix_ref_program.specs.Outcomes.{name_word, prepare_word, commit_word, find_word, word_of};
 
-use crate::update::Unmade;
+use crate::update::UpdateError;
 use gix_ref_store::file::find;
 use gix_ref_store::file::transaction::{commit, prepare};
 use gix_ref_base::name;
@@ -15,7 +15,7 @@ pub enum Refusal {
     /// A NAME breaks a rule of names.
     Name(name::Error),
     /// The update was not made.
-    Update(Unmade),
+    Update(UpdateError),
     /// The lookup failed.
     Find(find::Error),
     /// There is no such reference.
@@ -94,8 +94,8 @@ impl Refusal {
         match self {
             Refusal::PathNotClean => "PathNotClean",
             Refusal::Name(error) => name_variant(error),
-            Refusal::Update(Unmade::Prepare(error)) => prepare_variant(error),
-            Refusal::Update(Unmade::Commit(error)) => commit_variant(error),
+            Refusal::Update(UpdateError::Prepare(error)) => prepare_variant(error),
+            Refusal::Update(UpdateError::Commit(error)) => commit_variant(error),
             Refusal::Find(error) => find_variant(error),
             Refusal::NotFound => "NotFound",
             Refusal::Memory => "Memory",

@@ -5,15 +5,15 @@ ghost use Rattle.gix_ref_store.specs.StoreLayout.{namespace_text};
 ghost use Rattle.gix_ref_store.specs.Store.{files_of, meaning_of};
 ghost use Rattle.gix_ref_store.specs.Prepared.{tree_of};
 ghost use Rattle.gix_ref_store.specs.Transactions.{new_of};
-ghost use Rattle.gix_ref_files.specs.Calls.{Only};
+ghost use Rattle.gix_ref_files.specs.Calls.{Unchanged};
 ghost use Rattle.gix_ref_files.specs.Files.{Leaves};
-ghost use Rattle.gix_ref_program.specs.Runs.{IsExpected, IsEditOf, NoNamespace, NoEdit, IsNoFolder, IsAt, namespace_of, IsOpened, EditComesTo, ShowComesTo, ComesTo, IsStop, IsUnopened, LineComesTo, IsStopIn, RunsWrong, RunsLine};
+ghost use Rattle.gix_ref_program.specs.Runs.{IsExpected, IsEditOf, NoNamespace, NoEdit, IsNoFolder, IsAt, namespace_of, IsOpened, EditOutcome, ShowOutcome, CommandOutcome, IsStop, IsUnopened, LineOutcome, IsStopIn, RunsWrong, RunsLine};
 ghost use Rattle.gix_ref_program.specs.Updates.{IsStopOf};
 ghost use Rattle.gix_ref_program.specs.Words.{texts, line_of, asked_of};
 
 use crate::outcome::{Outcome, print};
 use crate::refusal::Refusal;
-use crate::update::{Updated, update};
+use crate::update::{UpdateReport, update};
 use crate::words::{Command, Line, parse};
 use gix_ref_store::file::transaction::PackedRefs;
 use gix_ref_store::file::{Store, store};
@@ -30,7 +30,7 @@ use std::io;
 
 /// What a run hands back.
 #[derive(Drop)]
-pub struct Ran<F> {
+pub struct RunResult<F> {
     /// The files, as the run left them.
     pub files: F,
     /// As it was given.
@@ -161,7 +161,7 @@ fn make_update<F: Files>(
     requires update { IsSome (new_of edit.change) }
     requires no_deref { edit.deref ≡ false }
     ensures packed_refs { result.0 ≡ packed_refs }
-    ensures outcome { EditComesTo F.honest F.means F.faults store.old store.new edit result.1 }
+    ensures outcome { EditOutcome F.honest F.means F.faults store.old store.new edit result.1 }
     ensures leaves { F.honest → Leaves (F.means (files_of store.old)) (F.means (files_of store.new))
         (λ T. (T ≡ tree_of F.means store.old) ⊎ IsStopOf (meaning_of store.old) (edit ∷ [])
         (tree_of F.means store.old) T) }
@@ -169,15 +169,15 @@ fn make_update<F: Files>(
     let Ok(edits) = one_edit(alloc, edit) else {
         return (packed_refs, refused(alloc, Refusal::Memory));
     };
-    let Updated {
-        unmade,
+    let UpdateReport {
+        error,
         packed_refs,
         locks_left,
     } = update(alloc, store, packed_refs, edits);
-    let outcome = match unmade {
+    let outcome = match error {
         None => Outcome::Updated { locks_left },
-        Some(unmade) => Outcome::Refused {
-            refusal: Refusal::Update(unmade),
+        Some(error) => Outcome::Refused {
+            refusal: Refusal::Update(error),
             locks_left,
         },
     };
@@ -186,9 +186,9 @@ fn make_update<F: Files>(
 
 /// Shows a reference.
 fn show<F: Files>(alloc: Global, store: &mut Store<F>, name: &[u8]) -> Outcome
-    ensures outcome { ShowComesTo F.honest F.means F.faults store.old store.new name.now result }
+    ensures outcome { ShowOutcome F.honest F.means F.faults store.old store.new name.now result }
     ensures leaves { F.honest → Leaves (F.means (files_of store.old)) (F.means (files_of store.new))
-        (Only (F.means (files_of store.old)).tree) }
+        (Unchanged (F.means (files_of store.old)).tree) }
 {
     let name = match PartialNameRef::try_from(name) {
         Ok(name) => name,
@@ -202,7 +202,7 @@ fn show<F: Files>(alloc: Global, store: &mut Store<F>, name: &[u8]) -> Outcome
 }
 
 /// Does what a command asks for.
-fn perform<F: Files>(
+fn execute<F: Files>(
     alloc: Global,
     store: &mut Store<F>,
     packed_refs: PackedRefs,
@@ -211,7 +211,7 @@ fn perform<F: Files>(
 ) -> (PackedRefs, Outcome)
     requires quiet { store.old.write_reflog ≡ WriteReflog.Disable }
     ensures packed_refs { result.0 ≡ packed_refs }
-    ensures outcome { ComesTo F.honest F.means F.faults store.old store.new kind
+    ensures outcome { CommandOutcome F.honest F.means F.faults store.old store.new kind
         (asked_of command.now) result.1 }
     ensures leaves { F.honest → Leaves (F.means (files_of store.old)) (F.means (files_of store.new))
         (IsStop F.honest F.means F.faults store.old kind (asked_of command.now)) }
@@ -226,21 +226,21 @@ fn perform<F: Files>(
 }
 
 /// Does what a line asks for, and hands the files back.
-fn follow<F: Files>(
+fn run_line<F: Files>(
     alloc: Global,
     files: F,
     packed_refs: PackedRefs,
     line: &Line<'_>,
 ) -> (F, PackedRefs, Outcome)
     ensures packed_refs { result.1 ≡ packed_refs }
-    ensures outcome { LineComesTo F.honest F.means F.faults files result.0 (line_of line.now)
+    ensures outcome { LineOutcome F.honest F.means F.faults files result.0 (line_of line.now)
         result.2 }
     ensures leaves { F.honest → Leaves (F.means files) (F.means result.0)
         (IsStopIn F.honest F.means F.faults files (line_of line.now)) }
 {
     match store_in(alloc, files, line) {
         Ok(mut store) => {
-            let (packed_refs, outcome) = perform(
+            let (packed_refs, outcome) = execute(
                 alloc,
                 &mut store,
                 packed_refs,
@@ -266,22 +266,22 @@ pub fn run<F: Files, W: Write>(
     packed_refs: PackedRefs,
     words: &[String],
     out: &mut W,
-) -> Ran<F>
+) -> RunResult<F>
     ensures packed_refs { result.packed_refs ≡ packed_refs }
     ensures ran { RunsWrong F.honest F.means F.faults files result.files (texts words.now) (W.contents out.old) (W.contents out.new) result.status
         ⊎ RunsLine F.honest F.means F.faults files result.files (texts words.now) (W.contents out.old) (W.contents out.new) result.status }
 {
     let Some(line) = parse(words) else {
         let status = print(alloc, Outcome::WrongWords, out);
-        return Ran {
+        return RunResult {
             files,
             packed_refs,
             status,
         };
     };
-    let (files, packed_refs, outcome) = follow(alloc, files, packed_refs, &line);
+    let (files, packed_refs, outcome) = run_line(alloc, files, packed_refs, &line);
     let status = print(alloc, outcome, out);
-    Ran {
+    RunResult {
         files,
         packed_refs,
         status,

@@ -1,11 +1,11 @@
 //! An update from its preparation to its commit.
 ghost use Rattle.std.specs.Prelude.{◌≡◌, None, IfSome};
 ghost use Rattle.gix_ref_files.specs.Files.{Leaves};
-ghost use Rattle.gix_ref_store.specs.AddedLocks.{paths_of};
-ghost use Rattle.gix_ref_store.specs.Committing.{AreCommitted, left_of, mode_of};
+ghost use Rattle.gix_ref_store.specs.OwnLocks.{paths_of};
+ghost use Rattle.gix_ref_store.specs.CommitResult.{AreCommitted, left_of, mode_of};
 ghost use Rattle.gix_ref_store.specs.Prepared.{IsOneUpdate, tree_of};
 ghost use Rattle.gix_ref_store.specs.Store.{files_of, meaning_of, IsSameStore};
-ghost use Rattle.gix_ref_program.specs.Updates.{IsStopOf, IsUnmade, AreNamed, unmade_of};
+ghost use Rattle.gix_ref_program.specs.Updates.{IsStopOf, IsUpdateError, AreNamed, error_of};
 
 use gix_ref_store::file::Store;
 use gix_ref_store::file::transaction::{Done, Failed, PackedRefs, Refused, commit, prepare};
@@ -16,7 +16,7 @@ use std::alloc::Global;
 
 /// Why an update was not made.
 #[derive(Debug, Drop)]
-pub enum Unmade {
+pub enum UpdateError {
     /// It was not prepared.
     Prepare(prepare::Error),
     /// Its commit failed.
@@ -25,9 +25,9 @@ pub enum Unmade {
 
 /// What became of an update.
 #[derive(Debug, Drop)]
-pub struct Updated {
+pub struct UpdateReport {
     /// Why it was not made; none where it was.
-    pub unmade: Option<Unmade>,
+    pub error: Option<UpdateError>,
     /// What the transaction was to do with `packed-refs`.
     pub packed_refs: PackedRefs,
     /// The paths of locks that could not be removed.
@@ -44,13 +44,13 @@ pub fn update<F: Files>(
     store: &mut Store<F>,
     packed_refs: PackedRefs,
     edits: Vec<RefEdit>,
-) -> Updated
+) -> UpdateReport
     requires one { IsOneUpdate edits.items }
     requires quiet { store.old.write_reflog ≡ WriteReflog.Disable }
-    ensures done { F.honest → result.unmade ≡ None → AreCommitted (meaning_of store.old) edits.items
+    ensures done { F.honest → result.error ≡ None → AreCommitted (meaning_of store.old) edits.items
         (tree_of F.means store.old) (paths_of result.locks_left.items) (tree_of F.means store.new) }
-    ensures unmade { IfSome result.unmade (λ unmade. IsUnmade F.honest F.means F.faults store.old
-        store.new edits.items unmade (paths_of result.locks_left.items)) }
+    ensures error { IfSome result.error (λ error. IsUpdateError F.honest F.means F.faults store.old
+        store.new edits.items error (paths_of result.locks_left.items)) }
     ensures leaves { F.honest → Leaves (F.means (files_of store.old)) (F.means (files_of store.new))
         (IsStopOf (meaning_of store.old) edits.items (tree_of F.means store.old)) }
     ensures named { AreNamed F.honest F.means F.faults store.old store.new edits.items
@@ -65,19 +65,19 @@ pub fn update<F: Files>(
                 packed_refs,
                 locks_left,
             } = refused;
-            Updated {
-                unmade: Some(Unmade::Prepare(error)),
+            UpdateReport {
+                error: Some(UpdateError::Prepare(error)),
                 packed_refs,
                 locks_left,
             }
         }
-        Ok(prepared) => told(prepared.commit(alloc, None)),
+        Ok(prepared) => report_of_commit(prepared.commit(alloc, None)),
     }
 }
 
 /// What a commit answers.
-fn told(answer: Result<Done, Failed>) -> Updated
-    ensures unmade { result.unmade ≡ unmade_of answer }
+fn report_of_commit(answer: Result<Done, Failed>) -> UpdateReport
+    ensures error { result.error ≡ error_of answer }
     ensures packed_refs { result.packed_refs ≡ mode_of answer }
     ensures left { paths_of result.locks_left.items ≡ left_of answer }
 {
@@ -88,8 +88,8 @@ fn told(answer: Result<Done, Failed>) -> Updated
                 packed_refs,
                 locks_left,
             } = done;
-            Updated {
-                unmade: None,
+            UpdateReport {
+                error: None,
                 packed_refs,
                 locks_left,
             }
@@ -100,8 +100,8 @@ fn told(answer: Result<Done, Failed>) -> Updated
                 packed_refs,
                 locks_left,
             } = failed;
-            Updated {
-                unmade: Some(Unmade::Commit(error)),
+            UpdateReport {
+                error: Some(UpdateError::Commit(error)),
                 packed_refs,
                 locks_left,
             }

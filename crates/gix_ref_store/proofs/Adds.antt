@@ -5,7 +5,7 @@ use Rattle.std.specs.List.{list_any}
 use Rattle.std.proofs.lemmas.Slice.Eq.{bytes_eq-Decides}
 use Rattle.gix_ref_files.specs.Tree.{Tree, Path, Content, fronts, is_file}
 use Rattle.gix_ref_files.specs.Tree.Content.{File, Folder}
-use Rattle.gix_ref_store.specs.AddedLocks.{is_in, leads_to, IsOurs, AddsLocks, RemovesLocks}
+use Rattle.gix_ref_store.specs.OwnLocks.{is_in, leads_to, IsOurs, AddsLocks, RemovesLocks}
 
 pub false_is_true : {X : Type 0} → false ≡ true → X
 false_is_true e = cc

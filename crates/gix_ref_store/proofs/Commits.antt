@@ -6,12 +6,12 @@ use Rattle.gix_ref_files.specs.Tree.{Tree, Path, is_file, is_folder, Content}
 use Rattle.gix_ref_files.specs.Tree.Content.{File, Folder}
 use Rattle.gix_ref_files.specs.Files.{Meaning, Leaves}
 use Rattle.gix_ref_files.specs.Steps.{IsAfter, IsLeftBy}
-use Rattle.gix_ref_store.specs.AddedLocks.{is_in, RemovesLocks}
-use Rattle.gix_ref_store.specs.Committed.{renames_of, lock_at, stays_at, IsRaised}
-use Rattle.gix_ref_store.specs.Committing.{AreCommitted, LeavesWell, TellsOf, FailsFor, names_of}
+use Rattle.gix_ref_store.specs.OwnLocks.{is_in, RemovesLocks}
+use Rattle.gix_ref_store.specs.CommitRenames.{renames_of, lock_at, stays_at, IsRaised}
+use Rattle.gix_ref_store.specs.CommitResult.{AreCommitted, EveryStopIsOldOrNew, SaysWhy, FailsFor, names_of}
 use Rattle.gix_ref_store.specs.Prepared.{IsOneUpdate, PreparesFrom, tree_of}
 use Rattle.gix_ref_store.specs.Store.{files_of, folders, kind_of, meaning_of}
-use Rattle.gix_ref_store.specs.Taken.{lock_paths, place_paths}
+use Rattle.gix_ref_store.specs.PrepareSteps.{lock_paths, place_paths}
 use Rattle.gix_ref_store.specs.Transactions.{AreCarried}
 use Rattle.gix_ref_store.specs.declared.transaction.RefEdit.{RefEdit}
 use Rattle.gix_ref_store.specs.declared.file.store.Store.{Store}
@@ -63,7 +63,7 @@ module _ {F : Type 0} (honest : Type 0) (means : F → Meaning) (faults : F → 
     locks_gone h k lt stays =
         subst (λ (l : Path). is_in left l ≡ false → is_file (now.tree l) ≡ false) (ap (λ locks. get_or locks k []) same) (released h k (omega (arith, lt, all)) stays)
 
-    pub well : LeavesWell honest means faults old start new given left
+    pub well : EveryStopIsOldOrNew honest means faults old start new given left
     well = record {
       began = λ h. begins (folders old) (kind_of old) (folders_laid old.dirs old.namespace) before first given carried paths one (ready h);
       leaves = λ h. ends (folders old) (kind_of old) (folders_laid old.dirs old.namespace) before first given carried paths one (ready h) mid now (renames h) (releases h);
@@ -85,7 +85,7 @@ folder_stays locks T U q removes folder = ⊎_elim (λ same. ap is_folder same �
 
 -- why a commit failed
 pub fails : {F : Type 0} (honest : Type 0) (means : F → Meaning) (faults : F → ℕ) (start new : Store F) (edits : List RefEdit) (paths : List Paths) (at : ℕ) (place : Path) (source : Option FileError) (error : Error) →
-    TellsOf edits at place source error → at < length edits → is_in (place_paths paths) place ≡ true → (honest → source ≡ None → is_folder (tree_of means new place) ≡ true) →
+    SaysWhy edits at place source error → at < length edits → is_in (place_paths paths) place ≡ true → (honest → source ≡ None → is_folder (tree_of means new place) ≡ true) →
     IsRaised (faults (files_of start)) (faults (files_of new)) source → FailsFor honest means faults start new edits paths error
 fails honest means faults start new edits paths at place None (FolderInPlace path) tells lt within folder raised = (
   subst (λ (p : Path). is_in (place_paths paths) p ≡ true) (sym tells) within,

@@ -8,23 +8,24 @@ use Rattle.gix_ref_hash.specs.declared.hash.Kind.{Kind}
 use Rattle.gix_ref_files.specs.Tree.{Tree, Path}
 use Rattle.gix_ref_files.specs.Steps.Step.{Rename}
 use Rattle.gix_ref_base.specs.Layout.{Layout}
-use Rattle.gix_ref_theory.specs.Views.{View, Write, IsSameButLocks, lock_of, file_bytes}
+use Rattle.gix_ref_theory.specs.Views.{View, Write, IsSameButLocks, file_bytes}
+use Rattle.gix_ref_files.specs.Lock.{lock_of}
 use Rattle.gix_ref_theory.specs.Views.Write.{Put}
 use Rattle.gix_ref_theory.specs.Readings.{Store, Record, reading, reading_of_loose, records_in, as_read}
 use Rattle.gix_ref_theory.specs.Readings.Reading.{Is, Fault, Absent}
-use Rattle.gix_ref_theory.specs.Stores.{store_of, below_folders, loose_text, is_composed}
+use Rattle.gix_ref_theory.specs.ConcreteStore.{store_of, below_folders, loose_text, is_composed}
 use Rattle.gix_ref_base.specs.Locations.{is_safe, paths_at}
 use Rattle.gix_ref_store.specs.StoreLayout.{loose_alone}
 use Rattle.gix_ref_store.specs.LooseText.{target_in}
 use Rattle.gix_ref_theory.specs.Edits.{Edit, Change, Effect, has_already, effect, alters_change, alters_packed}
 use Rattle.gix_ref_theory.specs.Edits.Change.{Update}
 use Rattle.gix_ref_theory.specs.Edits.Mode.{DeletionsOnly}
-use Rattle.gix_ref_theory.specs.Edits.Effect.{Writes, Leaves as LeavesIt}
+use Rattle.gix_ref_theory.specs.Edits.Effect.{Writes, Keeps as LeavesIt}
 use Rattle.gix_ref_theory.specs.Plan.{plan, place_writes, place_removal}
 use Rattle.gix_ref_theory.specs.Between.{IsPrepared}
-use Rattle.gix_ref_theory.specs.Carried.{view_of, CarryOut, IsCommitRun}
+use Rattle.gix_ref_theory.specs.OnRealTrees.{view_of, CarryOut, IsCommitRun}
 use Rattle.gix_ref_store.specs.Causes.{found, found_by, decoded, IsFullTarget, IsOfKind, IsWholeTarget}
-use Rattle.gix_ref_store.specs.Taken.{is_found}
+use Rattle.gix_ref_store.specs.PrepareSteps.{is_found}
 use Rattle.gix_ref_store.specs.Transactions.{new_of, change_of, matched, Expects}
 use Rattle.gix_ref_store.specs.declared.transaction.Change.{Change as GivenChange}
 use Rattle.gix_ref_store.specs.declared.transaction.Change.TheVariants as given

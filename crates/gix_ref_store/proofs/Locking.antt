@@ -11,8 +11,8 @@ use Rattle.gix_ref_files.specs.declared.files.Create.TheVariants.{Made, Standing
 use Rattle.gix_ref_files.proofs.Puts.{put_at, put_other}
 use Rattle.gix_ref_files.proofs.PathFronts.{own_untouched}
 use Rattle.gix_ref_files.proofs.LockLemmas.{lock_fronts}
-use Rattle.gix_ref_store.specs.AddedLocks.{is_in, IsOurs, AddsLocks}
-use Rattle.gix_ref_store.specs.Taken.{IsNewLock}
+use Rattle.gix_ref_store.specs.OwnLocks.{is_in, IsOurs, AddsLocks}
+use Rattle.gix_ref_store.specs.PrepareSteps.{IsNewLock}
 use Rattle.gix_ref_store.proofs.Adds.{clash, is_false, either_way, any_left, any_right, any_cases, in_one, in_here, leads_in, same_path, is_same_path, adds_wider}
 
 -- a path that was given a folder, or is as it was

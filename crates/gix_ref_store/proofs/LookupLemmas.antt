@@ -4,7 +4,7 @@ use Rattle.std.specs.List.{list_any}
 use Rattle.gix_ref_hash.specs.Bytes.{without_front, components}
 use Rattle.gix_ref_base.specs.NameGrammar.{partial_error}
 use Rattle.gix_ref_base.specs.Namespaces.{stripped}
-use Rattle.gix_ref_base.specs.Targets.{TargetValue, target_value}
+use Rattle.gix_ref_base.specs.Targets.{TargetValue, target_value, stripped_target}
 use Rattle.gix_ref_base.specs.Targets.TargetValue.{object_id, symbolic_name}
 use Rattle.gix_ref_hash.specs.declared.hash.Kind.{Kind}
 use Rattle.gix_ref_base.proofs.FrontLemmas.{without-append}
@@ -12,20 +12,20 @@ use Rattle.gix_ref_base.specs.Layout.{Layout}
 use Rattle.gix_ref_theory.specs.Views.{View}
 use Rattle.gix_ref_theory.specs.Readings.{Store, Reading, reading, reading_by, reading_of_loose, records_in, as_read}
 use Rattle.gix_ref_theory.specs.Readings.Reading.{Is, Fault, Absent}
-use Rattle.gix_ref_theory.specs.Stores.{store_of, below_folders}
+use Rattle.gix_ref_theory.specs.ConcreteStore.{store_of, below_folders}
 use Rattle.gix_ref_store.specs.StoreLayout.{loose_alone}
-use Rattle.gix_ref_store.specs.Lookup.{IsDecoded, IsUndecodable, Reads, ReadsBy, FailsBy, RefusesBy, less_namespace}
+use Rattle.gix_ref_store.specs.Lookup.{IsDecoded, IsUndecodable, Reads, ReadsBy, FailsBy, RefusesBy}
 use Rattle.gix_ref_packed.specs.declared.raw.Reference.{Reference}
 use Rattle.gix_ref_store.specs.declared.file.find.error.Error.{Error}
 use Rattle.gix_ref_store.specs.declared.file.find.error.Error.TheVariants.{RefnameValidation, ReadFileContents, ReferenceCreation, Memory}
 use Rattle.gix_ref_store.specs.declared.file.find.loose.Loose.{Loose}
 use Rattle.gix_ref_store.specs.declared.file.find.loose.Loose.TheVariants as loose_files
 use Rattle.gix_ref_store.specs.Causes.{found, found_by, decoded}
-use Rattle.gix_ref_store.specs.Taken.{held_by}
+use Rattle.gix_ref_store.specs.PrepareSteps.{held_by}
 use Rattle.gix_ref_store.proofs.LooseLemmas.{held_is, refused_none}
 
 -- the empty namespace takes nothing off
-pub nothing_less : (target : TargetValue) → target ≡ less_namespace [] target
+pub nothing_less : (target : TargetValue) → target ≡ stripped_target [] target
 unfolding stripped
 nothing_less (object_id id) = refl
 nothing_less (symbolic_name name) = ap symbolic_name (sym (whole name))
@@ -140,7 +140,7 @@ found_loose f kind view name loose told = by_file loose (view (s.place name)) to
     nothing None target none = ap (λ t. found_by s None t []) (sym none)
     nothing (Some key) target none = ap (λ t. found_by s (Some key) t []) (sym none)
 
-    same : (target : TargetValue) → less_namespace f.namespace target ≡ as_read s target
+    same : (target : TargetValue) → stripped_target f.namespace target ≡ as_read s target
     same (object_id id) = refl
     same (symbolic_name n) = refl
 

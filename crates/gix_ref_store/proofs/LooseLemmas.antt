@@ -26,8 +26,8 @@ use Rattle.gix_ref_hash.proofs.IdLemmas.{reads_whole, written_reads}
 use Rattle.gix_ref_base.proofs.PartialNames.{rules_of}
 use Rattle.gix_ref_store.specs.declared.file.loose.error.Error.{Error}
 use Rattle.gix_ref_store.specs.declared.file.loose.error.Error.TheVariants.{Parse, RefnameValidation, Memory}
-use Rattle.gix_ref_store.specs.LooseText.{HoldsPath, HoldsId, HoldsTarget, Refuses, front_of, behind, stops, id_of, object_of, object_in, symbolic_in, target_in}
-use Rattle.gix_ref_theory.specs.Stores.{loose_text}
+use Rattle.gix_ref_store.specs.LooseText.{HoldsPath, HoldsId, HoldsTarget, CannotDecode, front_of, behind, stops, id_of, object_of, object_in, symbolic_in, target_in}
+use Rattle.gix_ref_theory.specs.ConcreteStore.{loose_text}
 
 -- the longest front, and what follows it, are what is computed
 computed_span : (p : ℕ → Bool) (text : List ℕ) → Spans p text (front_of p text) (behind p text)
@@ -273,10 +273,10 @@ at_ok P (Ok x) p = p
 at_ok P (Err e) p = tt
 
 -- a text that is refused, but for want of memory, holds no target
-pub refused_none : (kind : Kind) (text : List ℕ) (error : Error) → Refuses kind text error → (error ≡ Memory → ⊥) → target_in kind text ≡ None
+pub refused_none : (kind : Kind) (text : List ℕ) (error : Error) → CannotDecode kind text error → (error ≡ Memory → ⊥) → target_in kind text ≡ None
 refused_none kind text error refused memory = by (target_in kind text) refl
   where
-    none : (e : Error) → Refuses kind text e → (e ≡ Memory → ⊥) → (target : TargetValue) → HoldsTarget kind text target → ⊥
+    none : (e : Error) → CannotDecode kind text e → (e ≡ Memory → ⊥) → (target : TargetValue) → HoldsTarget kind text target → ⊥
     none (Parse content) r m (object_id id) h = r.2 id h
     none (Parse content) r m (symbolic_name name) h = r.1 name h.0
     none (RefnameValidation source path) r m (object_id id) h = path_no_id kind text path.items id r.0 h

@@ -6,14 +6,14 @@ use Rattle.gix_ref_files.specs.Tree.{Tree, Path, fronts, put, with_folders, no_t
 use Rattle.gix_ref_files.specs.Tree.Content.{Folder}
 use Rattle.gix_ref_files.proofs.Puts.{put_at, put_other}
 use Rattle.gix_ref_files.proofs.PathFronts.{own_untouched}
-use Rattle.gix_ref_store.specs.AddedLocks.{is_in}
-use Rattle.gix_ref_store.specs.Causes.{AreApart}
+use Rattle.gix_ref_store.specs.OwnLocks.{is_in}
+use Rattle.gix_ref_store.specs.Causes.{LocksAreApart}
 use Rattle.gix_ref_base.specs.Layout.{Layout, IsLayout}
 use Rattle.gix_ref_store.specs.Prepared.{IsOneUpdate}
 use Rattle.gix_ref_theory.specs.Readings.{Store}
-use Rattle.gix_ref_theory.specs.Stores.{Options, store_of}
+use Rattle.gix_ref_theory.specs.ConcreteStore.{Options, store_of}
 use Rattle.gix_ref_store.specs.Transactions.{name_of, new_of, AreUpdates}
-use Rattle.gix_ref_theory.specs.Views.{lock_of}
+use Rattle.gix_ref_files.specs.Lock.{lock_of}
 use Rattle.gix_ref_store.specs.declared.transaction.RefEdit.{RefEdit}
 use Rattle.gix_ref_store.proofs.Adds.{clash, is_false, either_way, any_cases, in_one, same_path, is_same_path}
 use Rattle.gix_ref_theory.proofs.PlaceLaws.{laws_hold}
@@ -39,8 +39,8 @@ not_own_way p = is_false (is_in (fronts p) p) (λ within. nothing (sym (own_unto
 pub no_own_lock : (p : Path) → lock_of p ≢ p
 no_own_lock p e = let len = ap length e in omega (arith, len, length-append p (codes ".lock"))
 
-pub apart_one : (f : Layout) (o : Options) → IsLayout f → (edits : List RefEdit) → IsOneUpdate edits → AreApart (store_of f o) edits
-apart_one f o laid edits h = subst (λ (l : List RefEdit). AreApart s l) (sym h.one) (record {
+pub apart_one : (f : Layout) (o : Options) → IsLayout f → (edits : List RefEdit) → IsOneUpdate edits → LocksAreApart (store_of f o) edits
+apart_one f o laid edits h = subst (λ (l : List RefEdit). LocksAreApart s l) (sym h.one) (record {
   ways = λ lock q at there.
       let same_lock : own ≡ lock = in_one own lock at in
       let same_q : own ≡ q = in_one own q there in

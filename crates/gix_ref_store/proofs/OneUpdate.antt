@@ -9,12 +9,12 @@ use Rattle.gix_ref_files.specs.Steps.{Step, IsAfter, IsLeftBy}
 use Rattle.gix_ref_files.specs.Steps.Step.{Rename}
 use Rattle.gix_ref_files.proofs.Moments.{weaken, joins}
 use Rattle.gix_ref_files.proofs.Puts.{put_at, put_other}
-use Rattle.gix_ref_store.specs.AddedLocks.{is_in, AddsLocks, RemovesLocks}
+use Rattle.gix_ref_store.specs.OwnLocks.{is_in, AddsLocks, RemovesLocks}
 use Rattle.gix_ref_theory.specs.Between.{IsEdit}
-use Rattle.gix_ref_theory.specs.Carried.{view_of, file_of, IsCommitRun}
+use Rattle.gix_ref_theory.specs.OnRealTrees.{view_of, file_of, IsCommitRun}
 use Rattle.gix_ref_store.specs.Causes.{found, IsAccepted, IsFullTarget, IsOfKind, IsWholeTarget, locks_of}
-use Rattle.gix_ref_store.specs.Committed.{writes, renames_of, lock_at, stays_at}
-use Rattle.gix_ref_store.specs.Committing.{planned, AreCommitted, AreLeftWell}
+use Rattle.gix_ref_store.specs.CommitRenames.{writes, renames_of, lock_at, stays_at}
+use Rattle.gix_ref_store.specs.CommitResult.{planned, AreCommitted, IsOldOrNew}
 use Rattle.gix_ref_theory.specs.Edits.{Edit}
 use Rattle.gix_ref_theory.specs.Edits.Change.{Update}
 use Rattle.gix_ref_theory.specs.Edits.Mode.{DeletionsOnly}
@@ -23,10 +23,11 @@ use Rattle.gix_ref_base.specs.Layout.{Layout, IsLayout}
 use Rattle.gix_ref_theory.specs.Plan.{plan}
 use Rattle.gix_ref_store.specs.Prepared.{IsOneUpdate}
 use Rattle.gix_ref_theory.specs.Readings.{Store, HasLaws}
-use Rattle.gix_ref_theory.specs.Stores.{store_of, loose_text}
-use Rattle.gix_ref_store.specs.Taken.{HoldTexts, founds, is_found, is_new, text_of_new, lock_paths, place_paths, places_of}
+use Rattle.gix_ref_theory.specs.ConcreteStore.{store_of, loose_text}
+use Rattle.gix_ref_store.specs.PrepareSteps.{HoldTexts, old_targets, is_found, is_new, text_of_new, lock_paths, place_paths, places_of}
 use Rattle.gix_ref_store.specs.Transactions.{name_of, new_of, change_of, expected_of, matched, mode_of, is_of_reference, AreCarried}
-use Rattle.gix_ref_theory.specs.Views.{IsSameButLocks, lock_of}
+use Rattle.gix_ref_theory.specs.Views.{IsSameButLocks}
+use Rattle.gix_ref_files.specs.Lock.{lock_of}
 use Rattle.gix_ref_store.specs.declared.transaction.RefEdit.{RefEdit}
 use Rattle.gix_ref_store.specs.declared.file.transaction.setting.Paths.{Paths}
 use Rattle.gix_ref_store.proofs.Adds.{clash, either_way, in_one, in_here, is_false, same_view}
@@ -45,7 +46,7 @@ pub record IsReady (s : Store) (kind : Kind) (before T : Tree) (given carried : 
   pub accepted : IsAccepted s kind before given
   pub texts : HoldTexts s before T given
   pub adds : AddsLocks (locks_of s given) (locks_of s given) before T
-  pub carry : AreCarried given (founds s before given) carried
+  pub carry : AreCarried given (old_targets s before given) carried
   pub places : place_paths paths ≡ places_of s given
   pub locks : lock_paths paths ≡ locks_of s given
 
@@ -184,7 +185,7 @@ module _ (f : Layout) (kind : Kind) (laid : IsLayout f) (before : Tree) (first :
       ap file_of (apart_from T left q (λ same. clash (in_here place q [] same) no_place) (λ same. clash (in_here lock q [] same) no_lock))
       ∙ same_view file_of refl (lock ∷ []) (lock ∷ []) before start q ready.adds no_lock
 
-  left_then : (T U : Tree) → AreLeftWell s (e ∷ []) before T → RemovesLocks (lock_paths (p ∷ [])) T U → AreLeftWell s (e ∷ []) before U
+  left_then : (T U : Tree) → IsOldOrNew s (e ∷ []) before T → RemovesLocks (lock_paths (p ∷ [])) T U → IsOldOrNew s (e ∷ []) before U
   left_then T U left removes = record {
     well = record {
       between = locks.between s laws DeletionsOnly (place ∷ []) (view_of before) edits run.prepared.apart (view_of T) (view_of U) (but_locks T U removes) left.well.between;
@@ -198,7 +199,7 @@ module _ (f : Layout) (kind : Kind) (laid : IsLayout f) (before : Tree) (first :
   }
 
   -- no rename has begun yet
-  begins_well : AreLeftWell s (e ∷ []) before start
+  begins_well : IsOldOrNew s (e ∷ []) before start
   begins_well = record { well = trees.left_well s laws DeletionsOnly (place ∷ []) edits before start start steps run none_yet; elsewhere = elsewhere start none_yet }
     where
       by : (w : Bool) → IsLeftBy ((if w then Rename lock place ∷ [] else []) ++ []) start start
@@ -208,9 +209,9 @@ module _ (f : Layout) (kind : Kind) (laid : IsLayout f) (before : Tree) (first :
       none_yet : IsLeftBy steps start start
       none_yet = subst (λ l. IsLeftBy l start start) (sym renames_are) (by written)
 
-  ends_well : (mid now : Meaning) → Leaves first mid (IsLeftBy steps start) → Leaves mid now (RemovesLocks (lock_paths (p ∷ [])) mid.tree) → Leaves first now (AreLeftWell s (e ∷ []) before)
+  ends_well : (mid now : Meaning) → Leaves first mid (IsLeftBy steps start) → Leaves mid now (RemovesLocks (lock_paths (p ∷ [])) mid.tree) → Leaves first now (IsOldOrNew s (e ∷ []) before)
   ends_well mid now renames releases =
-      let well : Leaves first mid (AreLeftWell s (e ∷ []) before) =
+      let well : Leaves first mid (IsOldOrNew s (e ∷ []) before) =
       weaken renames (λ T left. record { well = trees.left_well s laws DeletionsOnly (place ∷ []) edits before start T steps run left; elsewhere = elsewhere T left }) in
       joins well (weaken releases (λ T removes. left_then mid.tree T well.tree removes))
 
@@ -259,14 +260,14 @@ module _ (f : Layout) (kind : Kind) (laid : IsLayout f) (before : Tree) (first :
   abbrev store : Store
   store = store_of f (loose_alone kind)
 
-  pub begins : AreLeftWell store given before first.tree
+  pub begins : IsOldOrNew store given before first.tree
   begins = single store kind before first.tree given carried paths one ready
-      (λ g c ps. AreLeftWell store g before first.tree)
+      (λ g c ps. IsOldOrNew store g before first.tree)
       (λ e a p up r. begins_well f kind laid before first e a p up r)
 
-  pub ends : (mid now : Meaning) → Leaves first mid (IsLeftBy (renames_of carried paths) first.tree) → Leaves mid now (RemovesLocks (lock_paths paths) mid.tree) → Leaves first now (AreLeftWell store given before)
+  pub ends : (mid now : Meaning) → Leaves first mid (IsLeftBy (renames_of carried paths) first.tree) → Leaves mid now (RemovesLocks (lock_paths paths) mid.tree) → Leaves first now (IsOldOrNew store given before)
   ends mid now = single store kind before first.tree given carried paths one ready
-      (λ g c ps. Leaves first mid (IsLeftBy (renames_of c ps) first.tree) → Leaves mid now (RemovesLocks (lock_paths ps) mid.tree) → Leaves first now (AreLeftWell store g before))
+      (λ g c ps. Leaves first mid (IsLeftBy (renames_of c ps) first.tree) → Leaves mid now (RemovesLocks (lock_paths ps) mid.tree) → Leaves first now (IsOldOrNew store g before))
       (λ e a p up r. ends_well f kind laid before first e a p up r mid now)
 
   pub gone : (mid now : Tree) (left : List Path) (done : ℕ) → IsAfter (renames_of carried paths) first.tree mid ⊎ (done < length carried) → RemovesLocks (lock_paths paths) mid now →

@@ -6,12 +6,12 @@ use Rattle.std.proofs.lemmas.List.{map-append, take-map}
 use Rattle.gix_ref_files.specs.Tree.{Tree, Path, is_file}
 use Rattle.gix_ref_files.specs.Files.{Meaning, Leaves}
 use Rattle.gix_ref_files.proofs.Moments.{weaken, joins}
-use Rattle.gix_ref_store.specs.AddedLocks.{paths_of, is_in, RemovesLocks, AddsLocks}
-use Rattle.gix_ref_store.specs.Taken.{lock_paths}
+use Rattle.gix_ref_store.specs.OwnLocks.{paths_of, is_in, RemovesLocks, AddsLocks}
+use Rattle.gix_ref_store.specs.PrepareSteps.{lock_paths}
 use Rattle.gix_ref_store.specs.Causes.{locks_of}
 use Rattle.gix_ref_theory.specs.Readings.{Store}
 use Rattle.gix_ref_store.specs.Transactions.{name_of}
-use Rattle.gix_ref_theory.specs.Views.{lock_of}
+use Rattle.gix_ref_files.specs.Lock.{lock_of}
 use Rattle.gix_ref_store.specs.declared.transaction.RefEdit.{RefEdit}
 use Rattle.gix_ref_store.specs.declared.file.transaction.setting.Paths.{Paths}
 use Rattle.gix_ref_store.proofs.Adds.{clash, is_false, either_way, any_left, any_right, any_cases, in_one, in_here, same_path, is_same_path, adds_less, adds_left, adds_wider}

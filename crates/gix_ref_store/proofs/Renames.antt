@@ -7,9 +7,9 @@ use Rattle.std.proofs.lemmas.List.{drop_more, map-append}
 use Rattle.gix_ref_files.specs.Tree.{Tree, Path, is_file}
 use Rattle.gix_ref_files.specs.Steps.{Step, IsAfter, IsLeftBy}
 use Rattle.gix_ref_files.proofs.Between.{none_begun}
-use Rattle.gix_ref_store.specs.AddedLocks.{is_in, RemovesLocks}
-use Rattle.gix_ref_store.specs.Committed.{rename_of, renames_of, lock_at, stays_at, is_written_at}
-use Rattle.gix_ref_store.specs.Taken.{lock_paths}
+use Rattle.gix_ref_store.specs.OwnLocks.{is_in, RemovesLocks}
+use Rattle.gix_ref_store.specs.CommitRenames.{rename_of, renames_of, lock_at, stays_at, is_written_at}
+use Rattle.gix_ref_store.specs.PrepareSteps.{lock_paths}
 use Rattle.gix_ref_store.specs.declared.transaction.RefEdit.{RefEdit}
 use Rattle.gix_ref_store.specs.declared.file.transaction.setting.Paths.{Paths}
 use Rattle.gix_ref_store.proofs.Adds.{clash, false_is_true, is_false, any_right, any_cases, in_here, in_one}

@@ -7,13 +7,13 @@ use Rattle.gix_ref_files.specs.Tree.{Tree, Path, put}
 use Rattle.gix_ref_files.specs.Tree.Content.{File}
 use Rattle.gix_ref_files.specs.Files.{Meaning, Leaves}
 use Rattle.gix_ref_files.proofs.Moments.{weaken, joins}
-use Rattle.gix_ref_store.specs.AddedLocks.{is_in, AddsLocks}
-use Rattle.gix_ref_theory.specs.Carried.{view_of}
-use Rattle.gix_ref_store.specs.Causes.{found, Passes, IsFault, IsOutside, IsMismatch, NoCause, IsFirstCause, AreApart, IsLockable, locks_of}
+use Rattle.gix_ref_store.specs.OwnLocks.{is_in, AddsLocks}
+use Rattle.gix_ref_theory.specs.OnRealTrees.{view_of}
+use Rattle.gix_ref_store.specs.Causes.{found, Passes, IsFault, IsIoOrMemory, IsMismatch, NoCause, IsFirstCause, LocksAreApart, IsLockable, locks_of}
 use Rattle.gix_ref_theory.specs.Readings.{Store}
-use Rattle.gix_ref_store.specs.Taken.{lock_text, value_of, lock_paths, place_paths, places_of, IsRefusedLock, IsNewLock, FillsLock, founds}
+use Rattle.gix_ref_store.specs.PrepareSteps.{lock_text, value_of, lock_paths, place_paths, places_of, IsRefusedLock, IsNewLock, FillsLock, old_targets}
 use Rattle.gix_ref_store.specs.Transactions.{name_of, expected_of, new_of, Expects}
-use Rattle.gix_ref_theory.specs.Views.{lock_of}
+use Rattle.gix_ref_files.specs.Lock.{lock_of}
 use Rattle.gix_ref_store.specs.declared.transaction.RefEdit.{RefEdit}
 use Rattle.gix_ref_store.specs.declared.file.transaction.setting.Paths.{Paths}
 use Rattle.gix_ref_store.specs.declared.file.transaction.prepare.error.Error.{Error}
@@ -34,7 +34,7 @@ place_at s edits paths same i edit path lt lt' is path_is =
     let at_edit : get_or (places_of s edits) i [] ≡ s.place (name_of (get_or edits i edit)) = get_or-map (λ (e : RefEdit). s.place (name_of e)) edits i edit [] lt in
     ap (λ (p : Paths). p.place.items) path_is ∙ sym at_path ∙ ap (λ l. get_or l i []) same ∙ at_edit ∙ ap (λ (e : RefEdit). s.place (name_of e)) (sym is)
 
-module _ (s : Store) (kind : Kind) (edits : List RefEdit) (apart : AreApart s edits) (first mid : Meaning) (i : ℕ) (edit : RefEdit) (lt : i < length edits) (is : edit ≡ get_or edits i edit) (lock : Path) (at : lock ≡ lock_of (s.place (name_of edit))) (held : Held s kind edits apart first.tree (take i edits) mid.tree) (run : Leaves first mid (AddsLocks (locks_of s edits) (locks_of s edits) first.tree)) where
+module _ (s : Store) (kind : Kind) (edits : List RefEdit) (apart : LocksAreApart s edits) (first mid : Meaning) (i : ℕ) (edit : RefEdit) (lt : i < length edits) (is : edit ≡ get_or edits i edit) (lock : Path) (at : lock ≡ lock_of (s.place (name_of edit))) (held : Held s kind edits apart first.tree (take i edits) mid.tree) (run : Leaves first mid (AddsLocks (locks_of s edits) (locks_of s edits) first.tree)) where
   abbrev all : List Path
   all = locks_of s edits
 
@@ -86,7 +86,7 @@ module _ (s : Store) (kind : Kind) (edits : List RefEdit) (apart : AreApart s ed
     lockable' = lockable s kind edits apart T0 seen known edit within mid.tree held one.tree adds' new'
 
     -- what is found is refused
-    pub found_refused : (cause : Error) → IsOutside cause ⊎ IsMismatch kind edit (found s (view_of one.tree) (name_of edit)) cause → IsFirstCause s kind T0 seen (drop i edits) cause
+    pub found_refused : (cause : Error) → IsIoOrMemory cause ⊎ IsMismatch kind edit (found s (view_of one.tree) (name_of edit)) cause → IsFirstCause s kind T0 seen (drop i edits) cause
     found_refused cause why =
         fault_here (Passes s kind T0) (IsFault s kind T0) edits i edit cause lt is
         (⊎_elim (λ outside. inl outside) (λ mismatch. inr (inr (lockable', subst (λ was. IsMismatch kind edit was cause) same_as_first mismatch))) why)
@@ -116,10 +116,10 @@ module _ (s : Store) (kind : Kind) (edits : List RefEdit) (apart : AreApart s ed
         (held_more s kind edits apart T0 seen known edit within mid.tree held one.tree adds' new' T
         (subst (λ was. T ≡ put one.tree (lock_of (s.place (name_of edit))) (Some (File (lock_text edit.change was)))) same_as_first (subst (λ l. T ≡ put one.tree l (Some (File (lock_text edit.change (found s (view_of one.tree) (name_of edit)))))) at filled)))
 
-    pub found_then : (was : List (Option Target)) (value : Option Target) → map value_of was ≡ founds s T0 seen → value_of value ≡ found s (view_of one.tree) (name_of edit) → map value_of (was ++ value ∷ []) ≡ founds s T0 (take (i + 1) edits)
+    pub found_then : (was : List (Option Target)) (value : Option Target) → map value_of was ≡ old_targets s T0 seen → value_of value ≡ found s (view_of one.tree) (name_of edit) → map value_of (was ++ value ∷ []) ≡ old_targets s T0 (take (i + 1) edits)
     found_then was value before here =
         map-append value_of was (value ∷ [])
         ∙ ap (λ l. l ++ value_of value ∷ []) before
-        ∙ ap (λ t. founds s T0 seen ++ t ∷ []) (here ∙ same_as_first)
+        ∙ ap (λ t. old_targets s T0 seen ++ t ∷ []) (here ∙ same_as_first)
         ∙ sym (map-append (λ (e : RefEdit). found s (view_of T0) (name_of e)) seen (edit ∷ []))
-        ∙ ap (founds s T0) (sym more)
+        ∙ ap (old_targets s T0) (sym more)

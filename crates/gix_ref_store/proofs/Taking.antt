@@ -6,13 +6,13 @@ use Rattle.gix_ref_hash.specs.declared.hash.Kind.{Kind}
 use Rattle.gix_ref_files.specs.Tree.{Tree, Path, Content, fronts, is_file, is_blocked, put}
 use Rattle.gix_ref_files.specs.Tree.Content.{File}
 use Rattle.gix_ref_files.proofs.Puts.{put_at, put_other}
-use Rattle.gix_ref_store.specs.AddedLocks.{is_in, leads_to, IsOurs, AddsLocks}
-use Rattle.gix_ref_theory.specs.Carried.{view_of, file_of}
-use Rattle.gix_ref_store.specs.Causes.{found, found_by, decoded, IsFault, IsLockable, AreApart, locks_of}
+use Rattle.gix_ref_store.specs.OwnLocks.{is_in, leads_to, IsOurs, AddsLocks}
+use Rattle.gix_ref_theory.specs.OnRealTrees.{view_of, file_of}
+use Rattle.gix_ref_store.specs.Causes.{found, found_by, decoded, IsFault, IsLockable, LocksAreApart, locks_of}
 use Rattle.gix_ref_theory.specs.Readings.{Store, records_in}
-use Rattle.gix_ref_store.specs.Taken.{lock_text, IsRefusedLock, IsNewLock, FillsLock, HoldTexts}
+use Rattle.gix_ref_store.specs.PrepareSteps.{lock_text, IsRefusedLock, IsNewLock, FillsLock, HoldTexts}
 use Rattle.gix_ref_store.specs.Transactions.{name_of}
-use Rattle.gix_ref_theory.specs.Views.{lock_of}
+use Rattle.gix_ref_files.specs.Lock.{lock_of}
 use Rattle.gix_ref_store.specs.declared.transaction.RefEdit.{RefEdit}
 use Rattle.gix_ref_store.specs.declared.file.transaction.prepare.error.Error.{Error}
 use Rattle.gix_ref_store.specs.declared.file.transaction.prepare.error.Error.TheVariants.{UnsafeName, TargetNotFull, OtherHashKind, PathCollision, LockAcquire, MustExist, MustNotExist, ReferenceOutOfDate, Io, Memory}
@@ -54,7 +54,7 @@ hold_files s kind before T (edit ∷ edits) q holds within =
     (λ there. hold_files s kind before T edits q holds.1 there)
     (any_cases (λ p. bytes_eq p q) (locks_of s (edit ∷ [])) (locks_of s edits) within)
 
-module _ (s : Store) (kind : Kind) (edits : List RefEdit) (apart : AreApart s edits) (T0 : Tree) where
+module _ (s : Store) (kind : Kind) (edits : List RefEdit) (apart : LocksAreApart s edits) (T0 : Tree) where
   abbrev all : List Path
   all = locks_of s edits
 

@@ -10,11 +10,12 @@ use Rattle.gix_ref_files.specs.Tree.{Tree, Path, is_blocked, fronts}
 use Rattle.gix_ref_files.specs.Files.{HasRisen}
 use Rattle.gix_ref_files.specs.declared.files.FileError.{FileError}
 use Rattle.gix_ref_files.specs.declared.files.FileError.TheVariants.{Device, NotUtf8, Memory as out_of_memory}
-use Rattle.gix_ref_theory.specs.Views.{View, lock_of}
-use Rattle.gix_ref_theory.specs.Carried.{view_of}
+use Rattle.gix_ref_theory.specs.Views.{View}
+use Rattle.gix_ref_files.specs.Lock.{lock_of}
+use Rattle.gix_ref_theory.specs.OnRealTrees.{view_of}
 use Rattle.gix_ref_theory.specs.Readings.{Store, Record, as_read, record_named, records_in}
 use Rattle.gix_ref_base.specs.Locations.{is_safe}
-use Rattle.gix_ref_store.specs.AddedLocks.{is_in}
+use Rattle.gix_ref_store.specs.OwnLocks.{is_in}
 use Rattle.gix_ref_store.specs.First.{AllPass, FirstFault}
 use Rattle.gix_ref_store.specs.Transactions.{name_of, new_of, expected_of, previous_of, Expects}
 use Rattle.gix_ref_store.specs.declared.transaction.PreviousValue.{PreviousValue}
@@ -35,15 +36,15 @@ IsCounted before now (Io error) = HasRisen before now × (error ≡ out_of_memor
 IsCounted before now other = Unit {0}
 
 -- a fault of files or of memory, which can come anywhere
-abbrev pub IsOutside : Error → Type 0
-IsOutside (Io error) = Unit {0}
-IsOutside Memory = Unit {0}
-IsOutside other = ⊥
+abbrev pub IsIoOrMemory : Error → Type 0
+IsIoOrMemory (Io error) = Unit {0}
+IsIoOrMemory Memory = Unit {0}
+IsIoOrMemory other = ⊥
 
 -- not a fault of files
-abbrev pub IsInside : Error → Type 0
-IsInside (Io error) = ⊥
-IsInside other = Unit {0}
+abbrev pub IsNotIo : Error → Type 0
+IsNotIo (Io error) = ⊥
+IsNotIo other = Unit {0}
 
 -- Each edit by itself: its name is safe, the name of a symbolic target is a full name, and its ids are of the store's kind.
 
@@ -66,24 +67,24 @@ IsWholeTarget other = Unit {0}
 abbrev pub HasKind : Kind → RefEdit → Type 0
 HasKind kind edit = IsOfKind kind (new_of edit.change) × IsOfKind kind (previous_of (expected_of edit.change))
 
-pub record IsSound (kind : Kind) (edit : RefEdit) : Type 0 where
+pub record IsValidEdit (kind : Kind) (edit : RefEdit) : Type 0 where
   pub safe : is_safe (name_of edit) ≡ true
   pub target : IsFullTarget (new_of edit.change)
   pub kinds : HasKind kind edit
   pub whole : IsWholeTarget (new_of edit.change)
 
 -- the first of these that does not hold
-abbrev pub IsUnsound : Kind → RefEdit → Error → Type 0
-IsUnsound kind edit UnsafeName = is_safe (name_of edit) ≡ false
-IsUnsound kind edit TargetNotFull = (is_safe (name_of edit) ≡ true) × (IsFullTarget (new_of edit.change) → ⊥)
-IsUnsound kind edit OtherHashKind = (is_safe (name_of edit) ≡ true) × IsFullTarget (new_of edit.change) × (HasKind kind edit → ⊥)
-IsUnsound kind edit other = ⊥
+abbrev pub IsInvalidEdit : Kind → RefEdit → Error → Type 0
+IsInvalidEdit kind edit UnsafeName = is_safe (name_of edit) ≡ false
+IsInvalidEdit kind edit TargetNotFull = (is_safe (name_of edit) ≡ true) × (IsFullTarget (new_of edit.change) → ⊥)
+IsInvalidEdit kind edit OtherHashKind = (is_safe (name_of edit) ≡ true) × IsFullTarget (new_of edit.change) × (HasKind kind edit → ⊥)
+IsInvalidEdit kind edit other = ⊥
 
-abbrev pub AllSound : Kind → List RefEdit → List RefEdit → Type 0
-AllSound kind seen edits = AllPass {E = Error} (λ _ edit. IsSound kind edit) (λ _ edit error. IsUnsound kind edit error) seen edits
+abbrev pub AllValid : Kind → List RefEdit → List RefEdit → Type 0
+AllValid kind seen edits = AllPass {E = Error} (λ _ edit. IsValidEdit kind edit) (λ _ edit error. IsInvalidEdit kind edit error) seen edits
 
-abbrev pub IsFirstUnsound : Kind → List RefEdit → List RefEdit → Error → Type 0
-IsFirstUnsound kind seen edits error = FirstFault (λ _ edit. IsSound kind edit) (λ _ edit error. IsUnsound kind edit error) seen edits error
+abbrev pub IsFirstInvalid : Kind → List RefEdit → List RefEdit → Error → Type 0
+IsFirstInvalid kind seen edits error = FirstFault (λ _ edit. IsValidEdit kind edit) (λ _ edit error. IsInvalidEdit kind edit error) seen edits error
 
 -- What is found of a reference: its reading, with a file that holds no target counted as none.
 
@@ -150,10 +151,10 @@ module _ (s : Store) (kind : Kind) (T : Tree) where
   -- an edit is at fault: at its lock, and then at its expectation; files and memory can fail anywhere
   abbrev pub IsFault : List RefEdit → RefEdit → Error → Type 0
   IsFault earlier edit error =
-      IsOutside error ⊎ (IsUnlockable earlier edit error ⊎ (IsLockable earlier edit × IsMismatch kind edit (found s (view_of T) (name_of edit)) error))
+      IsIoOrMemory error ⊎ (IsUnlockable earlier edit error ⊎ (IsLockable earlier edit × IsMismatch kind edit (found s (view_of T) (name_of edit)) error))
 
 -- No lock lies at a place, at `packed-refs` or on the way to a lock.
-pub record AreApart (s : Store) (edits : List RefEdit) : Type 0 where
+pub record LocksAreApart (s : Store) (edits : List RefEdit) : Type 0 where
   pub ways : (lock q : Path) → is_in (locks_of s edits) lock ≡ true → is_in (locks_of s edits) q ≡ true → is_in (fronts lock) q ≡ false
   pub places : All (λ (edit : RefEdit). is_in (locks_of s edits) (s.place (name_of edit)) ≡ false) edits
   pub packed : is_in (locks_of s edits) s.packed_path ≡ false
@@ -169,9 +170,9 @@ IsFirstCause s kind T seen edits error = FirstFault (Passes s kind T) (IsFault s
 -- The first cause: each edit by itself; then, edit by edit, its lock and what it expects.
 abbrev pub Refuses : Store → Kind → Tree → List RefEdit → Error → Type 0
 Refuses s kind T edits error =
-    IsOutside error ⊎ (IsFirstUnsound kind [] edits error ⊎ (AllSound kind [] edits × IsFirstCause s kind T [] edits error))
+    IsIoOrMemory error ⊎ (IsFirstInvalid kind [] edits error ⊎ (AllValid kind [] edits × IsFirstCause s kind T [] edits error))
 
 -- no cause stands
 pub record IsAccepted (s : Store) (kind : Kind) (T : Tree) (edits : List RefEdit) : Type 0 where
-  pub sound : AllSound kind [] edits
+  pub sound : AllValid kind [] edits
   pub no_cause : NoCause s kind T [] edits

@@ -8,16 +8,16 @@ use Rattle.gix_ref_base.specs.Targets.{TargetValue, target_value}
 use Rattle.gix_ref_base.specs.Targets.TargetValue.{object_id, symbolic_name}
 use Rattle.gix_ref_hash.specs.declared.hash.Kind.{Kind}
 use Rattle.gix_ref_files.specs.Files.{Meaning, HasRisen, Leaves}
-use Rattle.gix_ref_files.specs.Calls.{Only}
+use Rattle.gix_ref_files.specs.Calls.{Unchanged}
 use Rattle.gix_ref_files.specs.Tree.{Tree}
 use Rattle.gix_ref_files.specs.declared.files.FileError.TheVariants.{Memory as out_of_memory}
-use Rattle.gix_ref_theory.specs.Carried.{view_of}
+use Rattle.gix_ref_theory.specs.OnRealTrees.{view_of}
 use Rattle.gix_ref_store.specs.Store as stores
 use Rattle.gix_ref_store.specs.declared.file.store.Store.{Store as StoreValue}
 use Rattle.gix_ref_theory.specs.Views.{View}
 use Rattle.gix_ref_theory.specs.Readings.{Store, reading, as_read}
 use Rattle.gix_ref_theory.specs.Readings.Reading.{Is, Fault, Absent}
-use Rattle.gix_ref_store.specs.LooseText.{HoldsTarget, Refuses}
+use Rattle.gix_ref_store.specs.LooseText.{HoldsTarget, CannotDecode}
 use Rattle.gix_ref_packed.specs.declared.raw.Reference.{Reference}
 use Rattle.gix_ref_store.specs.declared.file.find.error.Error.{Error}
 use Rattle.gix_ref_store.specs.declared.file.find.error.Error.TheVariants.{RefnameValidation, ReadFileContents, ReferenceCreation, Memory}
@@ -38,14 +38,9 @@ asks_itself p =
 abbrev pub is_own_name : List ℕ → Bool
 is_own_name p = is_none (full_error p) && asks_itself p
 
--- a target less the namespace
-abbrev pub less_namespace : List ℕ → TargetValue → TargetValue
-less_namespace namespace (object_id id) = object_id id
-less_namespace namespace (symbolic_name name) = symbolic_name (stripped namespace name)
-
 -- the bytes of a file hold no target, for this reason
 abbrev pub IsUndecodable : Kind → Option (List ℕ) → Undecoded → Type 0
-IsUndecodable kind file error = (bytes : List ℕ) × (file ≡ Some bytes) × Refuses kind bytes error × (error ≡ NoMemory → ⊥)
+IsUndecodable kind file error = (bytes : List ℕ) × (file ≡ Some bytes) × CannotDecode kind bytes error × (error ≡ NoMemory → ⊥)
 
 -- what the loose file at a place is decoded to
 abbrev pub IsDecoded : Kind → Option (List ℕ) → Loose → Type 0
@@ -102,7 +97,7 @@ module _ {F : Type 0} (means : F → Meaning) where
 module _ {F : Type 0} (honest : Type 0) (means : F → Meaning) where
   -- What a lookup changes: nothing but the count of faults and the clock.
   pub record LooksUp (old new : StoreValue F) : Type 0 where
-    pub leaves : honest → Leaves (means (stores.files_of old)) (means (stores.files_of new)) (Only (means (stores.files_of old)).tree)
+    pub leaves : honest → Leaves (means (stores.files_of old)) (means (stores.files_of new)) (Unchanged (means (stores.files_of old)).tree)
     pub same : stores.IsSameStore old new
 
 module _ {F : Type 0} (honest : Type 0) (means : F → Meaning) (faults : F → ℕ) where

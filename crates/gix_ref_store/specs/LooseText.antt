@@ -38,10 +38,10 @@ HoldsTarget kind text (object_id id) = HoldsId kind text id
 HoldsTarget kind text (symbolic_name name) = HoldsPath text name × IsFullName name
 
 -- when each error comes
-abbrev pub Refuses : Kind → List ℕ → Error → Type 0
-Refuses kind text (Parse content) = (content.items ≡ text) × ((path : List ℕ) → HoldsPath text path → ⊥) × ((id : ObjectId) → HoldsId kind text id → ⊥)
-Refuses kind text (RefnameValidation source path) = HoldsPath text path.items × (full_error path.items ≡ Some source)
-Refuses kind text Memory = Unit {0}
+abbrev pub CannotDecode : Kind → List ℕ → Error → Type 0
+CannotDecode kind text (Parse content) = (content.items ≡ text) × ((path : List ℕ) → HoldsPath text path → ⊥) × ((id : ObjectId) → HoldsId kind text id → ⊥)
+CannotDecode kind text (RefnameValidation source path) = HoldsPath text path.items × (full_error path.items ≡ Some source)
+CannotDecode kind text Memory = Unit {0}
 
 -- a target that a store of this kind can write and read again: an id of the kind, or a full name
 abbrev pub IsWritable : Kind → TargetValue → Type 0

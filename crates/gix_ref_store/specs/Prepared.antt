@@ -3,10 +3,10 @@ use Rattle.std.specs.Prelude.{◌≡◌, ◌≤◌, ◌⊎◌, ℕ, List, [], �
 use Rattle.gix_ref_base.specs.Targets.{TargetValue}
 use Rattle.gix_ref_files.specs.Tree.{Tree, Path, is_file}
 use Rattle.gix_ref_files.specs.Files.{Meaning, Leaves, HasRisen}
-use Rattle.gix_ref_store.specs.AddedLocks.{is_in, AddsLocks, RemovesLocks}
+use Rattle.gix_ref_store.specs.OwnLocks.{is_in, AddsLocks, RemovesLocks}
 use Rattle.gix_ref_store.specs.Causes.{Refuses, IsAccepted, IsCounted, locks_of}
 use Rattle.gix_ref_store.specs.Store.{files_of, kind_of, meaning_of, IsSameStore}
-use Rattle.gix_ref_store.specs.Taken.{HoldTexts, founds, lock_paths, place_paths, places_of}
+use Rattle.gix_ref_store.specs.PrepareSteps.{HoldTexts, old_targets, lock_paths, place_paths, places_of}
 use Rattle.gix_ref_store.specs.Transactions.{new_of, AreCarried}
 use Rattle.gix_ref_store.specs.declared.transaction.RefEdit.{RefEdit}
 use Rattle.gix_ref_store.specs.declared.file.store.Store.{Store}
@@ -46,7 +46,7 @@ module _ {F : Type 0} (honest : Type 0) (means : F → Meaning) (faults : F → 
   -- that lead to locks.
   pub record HoldsFrom (old new : Store F) (edits : List RefEdit) (was : List (Option TargetValue)) : Type 0 where
     pub accepted : honest → IsAccepted (meaning_of old) (kind_of old) (tree_of means old) edits
-    pub found : honest → was ≡ founds (meaning_of old) (tree_of means old) edits
+    pub found : honest → was ≡ old_targets (meaning_of old) (tree_of means old) edits
     pub texts : honest → HoldTexts (meaning_of old) (tree_of means old) (tree_of means new) edits
     pub adds : honest → AddsLocks (locks_in old edits) (locks_in old edits) (tree_of means old) (tree_of means new)
     pub leaves : honest → Leaves (means (files_of old)) (means (files_of new)) (AddsLocks (locks_in old edits) (locks_in old edits) (tree_of means old))

@@ -7,7 +7,7 @@ use Rattle.gix_ref_base.specs.Layout.{Layout, AreCompatible}
 use Rattle.gix_ref_store.specs.CleanPaths.{are_clean, common_of}
 use Rattle.gix_ref_store.specs.StoreLayout.{folders_of, loose_alone}
 use Rattle.gix_ref_theory.specs.Readings as readings
-use Rattle.gix_ref_theory.specs.Stores.{store_of}
+use Rattle.gix_ref_theory.specs.ConcreteStore.{store_of}
 use Rattle.gix_ref_store.specs.declared.file.store.Store.{Store}
 use Rattle.gix_ref_store.specs.declared.file.store.Error.{Error}
 use Rattle.gix_ref_store.specs.declared.file.store.Error.TheVariants.{PathNotClean, FoldersMeet}
@@ -58,6 +58,6 @@ abbrev pub AreDirs : Vec ℕ Global → Option (Vec ℕ Global) → Type 0
 AreDirs git common = (are_clean git common ≡ true) × AreCompatible git.items (common_of git common)
 
 -- why there is none; the files are handed back
-abbrev pub IsRefused : {F : Type 0} → F → Vec ℕ Global → Option (Vec ℕ Global) → Error F → Type 0
-IsRefused files git common (PathNotClean back) = (back ≡ files) × (are_clean git common ≡ false)
-IsRefused files git common (FoldersMeet back) = (back ≡ files) × (are_clean git common ≡ true) × (AreCompatible git.items (common_of git common) → ⊥)
+abbrev pub HasNoStore : {F : Type 0} → F → Vec ℕ Global → Option (Vec ℕ Global) → Error F → Type 0
+HasNoStore files git common (PathNotClean back) = (back ≡ files) × (are_clean git common ≡ false)
+HasNoStore files git common (FoldersMeet back) = (back ≡ files) × (are_clean git common ≡ true) × (AreCompatible git.items (common_of git common) → ⊥)

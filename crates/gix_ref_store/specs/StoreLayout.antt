@@ -6,7 +6,7 @@ use Rattle.gix_ref_hash.specs.declared.hash.Kind.{Kind}
 use Rattle.gix_ref_store.specs.CleanPaths.{common_of}
 use Rattle.gix_ref_base.specs.Layout.{Layout}
 use Rattle.gix_ref_store.specs.LooseText.{target_in}
-use Rattle.gix_ref_theory.specs.Stores.{Options}
+use Rattle.gix_ref_theory.specs.ConcreteStore.{Options}
 use Rattle.gix_ref_store.specs.declared.file.folders.Dirs.{Dirs}
 
 -- the text in front of names: the namespace, or nothing

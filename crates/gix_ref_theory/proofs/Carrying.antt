@@ -10,7 +10,7 @@ use Rattle.gix_ref_files.specs.Steps.{Step, Does, Begins, IsAfter, IsLeftBy as I
 use Rattle.gix_ref_files.specs.Steps.Step.{Create, Append as AppendStep, Rename, RemoveFile, MakeFolders, RemoveFolder, End}
 use Rattle.gix_ref_theory.proofs.Writes.{same, same_true, same_false}
 use Rattle.std.proofs.lemmas.List.{take-append-drop}
-use Rattle.gix_ref_theory.specs.Carried.{CarryOut, after_step, file_of, view_of}
+use Rattle.gix_ref_theory.specs.OnRealTrees.{CarryOut, after_step, file_of, view_of}
 use Rattle.gix_ref_theory.specs.Views.{IsLeft, IsLeftBy, IsOwnLock, IsSameButLocks, IsSameView, View, Write, after, after_write, changed_at, file_bytes}
 use Rattle.gix_ref_theory.specs.Views.Write.{Append, Put, Remove}
 

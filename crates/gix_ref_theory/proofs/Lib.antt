@@ -10,5 +10,4 @@ pub mod SharedLogs
 pub mod Stops
 pub mod Trees
 pub mod Whole
-pub mod WorkedExample
 pub mod Writes

@@ -6,10 +6,11 @@ use Rattle.gix_ref_theory.proofs.ReadingLemmas.{reading-same}
 use Rattle.gix_ref_theory.proofs.Plans.{is_reference_at, edit_behind, edit_in_front}
 use Rattle.gix_ref_theory.specs.Between.{AreEdits, InOrder, IsBetween, IsCommitted, IsCommittedFile, IsEdit, IsLogBetween, IsMerged, IsNewFile, IsPackedFile, IsPrepared, NoDeletionFirst, committed_log}
 use Rattle.gix_ref_theory.specs.Edits.{Edit, Mode, alters_packed, edited_reading, effect, effect_of_change, file_of_records}
-use Rattle.gix_ref_theory.specs.Edits.Effect.{Leaves}
+use Rattle.gix_ref_theory.specs.Edits.Effect.{Keeps}
 use Rattle.gix_ref_theory.specs.Plan.{file_writes, line_writes, log_removals, loose_removals, packed_writes, place_removal, place_writes, plan, updates}
 use Rattle.gix_ref_theory.specs.Readings.{HasLaws, Record, Store, reading, records_in}
-use Rattle.gix_ref_theory.specs.Views.{IsOwnLock, IsSameButLocks, View, lock_of}
+use Rattle.gix_ref_theory.specs.Views.{IsOwnLock, IsSameButLocks, View}
+use Rattle.gix_ref_files.specs.Lock.{lock_of}
 
 own_is_lock : (locked : List (List ℕ)) (path : List ℕ) → IsOwnLock locked path → (q : List ℕ) × (path ≡ lock_of q)
 own_is_lock [] path h = absurd h
@@ -153,7 +154,7 @@ plan_alike s laws mode locked edits merged apart left view alike =
   where
     effects : (e : Edit) → IsEdit e edits → effect s mode left e ≡ effect s mode view e
     effects e he =
-        ap (λ r. if e.and_reference then effect_of_change s mode (s.key e.name) r e.change else Leaves)
+        ap (λ r. if e.and_reference then effect_of_change s mode (s.key e.name) r e.change else Keeps)
         (reading_alike s laws mode locked view edits apart view left alike e.name (is_reference_at s edits apart e he))
 
     packed : packed_writes s mode left edits merged ≡ packed_writes s mode view edits merged

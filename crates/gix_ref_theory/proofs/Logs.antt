@@ -7,7 +7,7 @@ use Rattle.gix_ref_theory.proofs.Plans.{is_reference_at, makes_packed, makes_pla
 use Rattle.gix_ref_theory.specs.Between.{IsEdit, IsLogBetween, IsPrepared}
 use Rattle.gix_ref_theory.specs.Edits.{Change, Edit, Effect, Mode, due, effect, is_deletion, is_due, line_due, removes_log}
 use Rattle.gix_ref_theory.specs.Edits.Change.{Delete, Update}
-use Rattle.gix_ref_theory.specs.Edits.Effect.{Leaves, Removes, Writes}
+use Rattle.gix_ref_theory.specs.Edits.Effect.{Keeps, Removes, Writes}
 use Rattle.gix_ref_theory.specs.Plan.{line_writes, log_removal, log_removals, loose_removals, packed_writes, place_writes, plan, updates}
 use Rattle.gix_ref_theory.specs.Readings.{HasLaws, Record, Store}
 use Rattle.gix_ref_theory.specs.Views.{View, Write, after, after_write, file_bytes}
@@ -101,7 +101,7 @@ log_steps_append path log (Update t) (Some line) = (tt, tt)
 place_steps_append : (path place : List ℕ) (f : Effect) → place ≢ path → AllAppend path (place_writes place f)
 place_steps_append path place (Writes bytes) n = (n, tt)
 place_steps_append path place Removes n = tt
-place_steps_append path place Leaves n = tt
+place_steps_append path place Keeps n = tt
 
 updates_append : (s : Store) (mode : Mode) (view : View) (path : List ℕ) (edits : List Edit) → ((e : Edit) → IsEdit e edits → s.place e.name ≢ path) →
     AllAppend path (updates s mode view edits)
@@ -126,7 +126,7 @@ line_appended path log (Update t) (Some line) = append-nil (if bytes_eq log path
 place_appended : (path place : List ℕ) (f : Effect) → appended path (place_writes place f) ≡ []
 place_appended path place (Writes bytes) = refl
 place_appended path place Removes = refl
-place_appended path place Leaves = refl
+place_appended path place Keeps = refl
 
 appended_due : (s : Store) (mode : Mode) (view : View) (path : List ℕ) (edits : List Edit) →
     appended path (updates s mode view edits) ≡ due s edits path
@@ -153,7 +153,7 @@ line_touched path log (Update t) (Some line) = or_false (bytes_eq log path)
 place_untouched : (path place : List ℕ) (f : Effect) → place ≢ path → is_touched path (place_writes place f) ≡ false
 place_untouched path place (Writes bytes) n = or_from (bytes_eq place path) false (same_false place path n) refl
 place_untouched path place Removes n = refl
-place_untouched path place Leaves n = refl
+place_untouched path place Keeps n = refl
 
 touched_due : (s : Store) (mode : Mode) (view : View) (path : List ℕ) (edits : List Edit) → ((e : Edit) → IsEdit e edits → s.place e.name ≢ path) →
     is_touched path (updates s mode view edits) ≡ is_due s edits path

@@ -15,8 +15,8 @@ use Rattle.gix_ref_base.specs.Layout.{IsLayout, Layout, LiesIn, below, is_privat
 use Rattle.gix_ref_theory.specs.Readings.{HasLaws}
 use Rattle.gix_ref_base.specs.Locations.{Location, is_safe, paths_at, paths_of, location}
 use Rattle.gix_ref_base.specs.Locations.Location.{ThisWorktree, LinkedWorktree, MainWorktree, Common}
-use Rattle.gix_ref_theory.specs.Stores.{Options, is_composed, store_of}
-use Rattle.gix_ref_theory.specs.Views.{lock_of}
+use Rattle.gix_ref_theory.specs.ConcreteStore.{Options, is_composed, store_of}
+use Rattle.gix_ref_files.specs.Lock.{lock_of}
 
 -- the first byte of a pseudo name
 abbrev pub IsPseudoHead : ℕ → Type 0

@@ -5,7 +5,7 @@ use Rattle.gix_ref_theory.proofs.Writes.{is_touched, same, same_true, same_false
 use Rattle.gix_ref_theory.specs.Between.{AreEdits, IsEdit}
 use Rattle.gix_ref_theory.specs.Edits.{Change, Edit, Effect, Mode, alters_change, alters_packed, edited_reading, effect, file_of_records, is_key, merged_record, new_reading, record_after}
 use Rattle.gix_ref_theory.specs.Edits.Change.{Delete, Update}
-use Rattle.gix_ref_theory.specs.Edits.Effect.{Leaves, Removes, Writes}
+use Rattle.gix_ref_theory.specs.Edits.Effect.{Keeps, Removes, Writes}
 use Rattle.gix_ref_base.specs.Layout.{below}
 use Rattle.gix_ref_theory.specs.Plan.{file_writes, line_writes, log_removal, log_removals, loose_removals, packed_writes, place_removal, place_writes, plan, updates}
 use Rattle.gix_ref_theory.specs.Readings.{Reading, Record, Store, records_in}
@@ -30,17 +30,17 @@ is_reference_at s (f ∷ edits) apart e (inr h) = is_reference_at s edits apart.
 abbrev pub Leads : Effect → Option (List ℕ) → Type 0
 Leads (Writes bytes) file = Some bytes ≡ file
 Leads Removes file = None ≡ file
-Leads Leaves file = Unit {0}
+Leads Keeps file = Unit {0}
 
 abbrev pub DoesNotWrite : Effect → Type 0
 DoesNotWrite (Writes bytes) = ⊥
 DoesNotWrite Removes = Unit {0}
-DoesNotWrite Leaves = Unit {0}
+DoesNotWrite Keeps = Unit {0}
 
 abbrev pub DoesNotRemove : Effect → Type 0
 DoesNotRemove (Writes bytes) = Unit {0}
 DoesNotRemove Removes = ⊥
-DoesNotRemove Leaves = Unit {0}
+DoesNotRemove Keeps = Unit {0}
 
 -- no log of these edits is this path, and each edit whose place it is leaves this file there
 abbrev pub AllLead : Store → Mode → View → List ℕ → Option (List ℕ) → List Edit → Type 0
@@ -55,7 +55,7 @@ makes_log_steps path file log (Update t) (Some line) n = (n, tt)
 makes_place_steps : (path : List ℕ) (file : Option (List ℕ)) (place : List ℕ) (f : Effect) → (place ≡ path → Leads f file) → AllMake path file (place_writes place f)
 makes_place_steps path file place (Writes bytes) h = (h, tt)
 makes_place_steps path file place Removes h = tt
-makes_place_steps path file place Leaves h = tt
+makes_place_steps path file place Keeps h = tt
 
 makes_updates : (s : Store) (mode : Mode) (view : View) (path : List ℕ) (file : Option (List ℕ)) (edits : List Edit) →
     AllLead s mode view path file edits → AllMake path file (updates s mode view edits)
@@ -96,7 +96,7 @@ makes_packed s mode view path file edits merged h =
 makes_place_removal : (path : List ℕ) (file : Option (List ℕ)) (place : List ℕ) (f : Effect) → (place ≡ path → Leads f file) → AllMake path file (place_removal place f)
 makes_place_removal path file place (Writes bytes) h = tt
 makes_place_removal path file place Removes h = (h, tt)
-makes_place_removal path file place Leaves h = tt
+makes_place_removal path file place Keeps h = tt
 
 pub makes_place_removals : (s : Store) (mode : Mode) (view : View) (path : List ℕ) (file : Option (List ℕ)) (edits : List Edit) →
     ((e : Edit) → IsEdit e edits → s.place e.name ≡ path → Leads (effect s mode view e) file) → AllMake path file (loose_removals s mode view edits)
@@ -140,7 +140,7 @@ log_steps_avoid path log (Update t) (Some line) n = one_step log path n
 place_steps_avoid : (path place : List ℕ) (f : Effect) → (place ≡ path → DoesNotWrite f) → is_touched path (place_writes place f) ≡ false
 place_steps_avoid path place (Writes bytes) h = one_step place path h
 place_steps_avoid path place Removes h = refl
-place_steps_avoid path place Leaves h = refl
+place_steps_avoid path place Keeps h = refl
 
 pub updates_avoid : (s : Store) (mode : Mode) (view : View) (path : List ℕ) (edits : List Edit) →
     ((e : Edit) → IsEdit e edits → (s.log e.name ≢ path) × (s.place e.name ≡ path → DoesNotWrite (effect s mode view e))) →
@@ -177,7 +177,7 @@ packed_avoids s mode view path edits merged n = cases (alters_packed s mode (rec
 place_removal_avoids : (path place : List ℕ) (f : Effect) → place ≢ path → is_touched path (place_removal place f) ≡ false
 place_removal_avoids path place (Writes bytes) n = refl
 place_removal_avoids path place Removes n = one_step place path n
-place_removal_avoids path place Leaves n = refl
+place_removal_avoids path place Keeps n = refl
 
 pub place_removals_avoid : (s : Store) (mode : Mode) (view : View) (path : List ℕ) (edits : List Edit) →
     ((e : Edit) → IsEdit e edits → s.place e.name ≢ path) → is_touched path (loose_removals s mode view edits) ≡ false

@@ -9,7 +9,7 @@ use Rattle.gix_ref_base.specs.Targets.TargetValue.{object_id, symbolic_name}
 use Rattle.gix_ref_theory.specs.Edits.{Change, Edit, Effect, Mode, alters_change, effect_of_change, has_already, is_same_id, new_reading, packs, record_after, removes_packed}
 use Rattle.gix_ref_theory.specs.Edits.Change.{Delete, Update}
 use Rattle.gix_ref_theory.specs.Edits.Mode.{DeletionsOnly, Packing, PackingAndRemoving}
-use Rattle.gix_ref_theory.specs.Edits.Effect.{Leaves, Removes, Writes}
+use Rattle.gix_ref_theory.specs.Edits.Effect.{Keeps, Removes, Writes}
 use Rattle.gix_ref_theory.specs.Readings.{Reading, Record, Store, as_read, reading, reading_by, reading_of_loose, reading_of_record, record_named, records_in}
 use Rattle.gix_ref_theory.specs.Readings.Reading.{Absent, Fault, Is}
 use Rattle.gix_ref_theory.specs.Views.{View}
@@ -28,7 +28,7 @@ already_is s (Is (symbolic_name a)) t h = absurd (false≢true h)
 already_is s Fault t h = absurd (false≢true h)
 already_is s Absent t h = absurd (false≢true h)
 
-not_removes : (b : Bool) (x : List ℕ) → cond b Leaves (Writes x) ≡ Removes → ⊥
+not_removes : (b : Bool) (x : List ℕ) → cond b Keeps (Writes x) ≡ Removes → ⊥
 not_removes true x h = cc
 not_removes false x h = cc
 
@@ -41,14 +41,14 @@ pub update_removes : (s : Store) (mode : Mode) (key : Option (List ℕ)) (old : 
 update_removes s mode key old t h =
     elim (cases_Bool (removes_packed mode && packs mode key t)) [
       | inl e ↦ and_parts (removes_packed mode) (packs mode key t) e
-      | inr e ↦ absurd (not_removes (has_already old t) (s.text_of t) (sym (cond-false (removes_packed mode && packs mode key t) Removes (cond (has_already old t) Leaves (Writes (s.text_of t))) e) ∙ h))
+      | inr e ↦ absurd (not_removes (has_already old t) (s.text_of t) (sym (cond-false (removes_packed mode && packs mode key t) Removes (cond (has_already old t) Keeps (Writes (s.text_of t))) e) ∙ h))
     ]
 
 pub update_leaves : (s : Store) (mode : Mode) (key : Option (List ℕ)) (old : Reading) (t : TargetValue) →
-    effect_of_update s mode key old t ≡ Leaves → has_already old t ≡ true
+    effect_of_update s mode key old t ≡ Keeps → has_already old t ≡ true
 update_leaves s mode key old t h = cases (removes_packed mode && packs mode key t) (has_already old t) (s.text_of t) h
   where
-    cases : (a b : Bool) (x : List ℕ) → cond a Removes (cond b Leaves (Writes x)) ≡ Leaves → b ≡ true
+    cases : (a b : Bool) (x : List ℕ) → cond a Removes (cond b Keeps (Writes x)) ≡ Keeps → b ≡ true
     cases true b x h = cc
     cases false true x h = refl
     cases false false x h = cc
@@ -57,7 +57,7 @@ pub update_writes : (s : Store) (mode : Mode) (key : Option (List ℕ)) (old : R
     effect_of_update s mode key old t ≡ Writes text → text ≡ s.text_of t
 update_writes s mode key old t text h = cases (removes_packed mode && packs mode key t) (has_already old t) (s.text_of t) h
   where
-    cases : (a b : Bool) (x : List ℕ) → cond a Removes (cond b Leaves (Writes x)) ≡ Writes text → text ≡ x
+    cases : (a b : Bool) (x : List ℕ) → cond a Removes (cond b Keeps (Writes x)) ≡ Writes text → text ≡ x
     cases true b x h = cc
     cases false true x h = cc
     cases false false x h = cc
@@ -111,7 +111,7 @@ written s mode key was (Update t) text records back h =
 
 -- a reference whose loose file the edit leaves read as edited before
 pub left_alone : (s : Store) (mode : Mode) (key : Option (List ℕ)) (was : Reading) (change : Change) →
-    effect_of_change s mode key was change ≡ Leaves → was ≡ new_reading s change
+    effect_of_change s mode key was change ≡ Keeps → was ≡ new_reading s change
 left_alone s mode key was Delete h = cc
 left_alone s mode key was (Update t) h = already_is s was t (update_leaves s mode key was t h)
 

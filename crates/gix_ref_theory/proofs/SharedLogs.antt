@@ -5,7 +5,7 @@ use Rattle.gix_ref_theory.proofs.PlaceLaws.{Known, IsSpot, IsNamespace, IsOutsid
 use Rattle.gix_ref_base.specs.Layout.{IsLayout, Layout, below}
 use Rattle.gix_ref_base.specs.Locations.{Location, paths_of}
 use Rattle.gix_ref_base.specs.Locations.Location.{ThisWorktree, LinkedWorktree, MainWorktree, Common}
-use Rattle.gix_ref_theory.specs.Stores.{Options, store_of}
+use Rattle.gix_ref_theory.specs.ConcreteStore.{Options, store_of}
 use Rattle.gix_ref_theory.specs.Theorems.{SharesLog}
 
 -- a name whose location is private to this worktree is its short name, and one with a linked location is behind its worktree's

@@ -8,7 +8,7 @@ use Rattle.gix_ref_theory.proofs.Plans.{place_apart, is_reference_at, Leads, Doe
 use Rattle.gix_ref_theory.specs.Between.{AreEdits, InOrder, IsEdit, IsMerged, IsNewFile, IsOther, IsPackedFile, IsPrepared, NoDeletionFirst, ReadsAsBefore, ReadsAsEdited}
 use Rattle.gix_ref_theory.specs.Edits.{Change, Edit, Effect, Mode, alters_change, alters_packed, edited_reading, effect, effect_of_change, file_of_records, is_deletion, merged_record, new_reading, record_after, removes_packed}
 use Rattle.gix_ref_theory.specs.Edits.Change.{Delete, Update}
-use Rattle.gix_ref_theory.specs.Edits.Effect.{Leaves, Removes, Writes}
+use Rattle.gix_ref_theory.specs.Edits.Effect.{Keeps, Removes, Writes}
 use Rattle.gix_ref_theory.specs.Plan.{log_removals, loose_removals, packed_writes, plan, updates}
 use Rattle.gix_ref_theory.specs.Readings.{HasLaws, Reading, Record, Store, reading, reading_by, reading_of_record, record_named, records_in}
 use Rattle.gix_ref_theory.specs.Readings.Reading.{Fault}
@@ -58,7 +58,7 @@ module _ (s : Store) (laws : HasLaws s) (mode : Mode) (view : View) (edits : Lis
       leads : (f : Edit) → (f.and_reference ≡ true) ⊎ (f.and_reference ≡ false) → (f.and_reference ≡ true → ⊥) → Leads (effect s mode view f) (view path)
       leads f (inl a) never = absurd (never a)
       leads f (inr a) never =
-          subst (λ x. Leads x (view path)) (sym (cond-false f.and_reference (effect_of_change s mode (s.key f.name) (reading s view f.name) f.change) Leaves a)) tt
+          subst (λ x. Leads x (view path)) (sym (cond-false f.and_reference (effect_of_change s mode (s.key f.name) (reading s view f.name) f.change) Keeps a)) tt
 
   packed_not_in_updates : is_touched s.packed_path (updates s mode view edits) ≡ false
   packed_not_in_updates =
@@ -118,7 +118,7 @@ module _ (s : Store) (laws : HasLaws s) (mode : Mode) (view : View) (edits : Lis
       at_edit (inr x) = absurd (x.1 e he a refl)
 
   pub effect_is : (e : Edit) → e.and_reference ≡ true → effect s mode view e ≡ effect_of_change s mode (s.key e.name) (reading s view e.name) e.change
-  effect_is e a = cond-true e.and_reference (effect_of_change s mode (s.key e.name) (reading s view e.name) e.change) Leaves a
+  effect_is e a = cond-true e.and_reference (effect_of_change s mode (s.key e.name) (reading s view e.name) e.change) Keeps a
 
   -- The order of the writes.
 
@@ -211,10 +211,10 @@ module _ (s : Store) (laws : HasLaws s) (mode : Mode) (view : View) (edits : Lis
       at_place e he (Some text) (subst (λ x. Leads x (Some text)) (sym w) refl) ∙ cond-false (is_touched (s.place e.name) l.done) (Some text) (view (s.place e.name)) d
   kept_if_untouched e he Removes w d =
       at_place e he None (subst (λ x. Leads x None) (sym w) refl) ∙ cond-false (is_touched (s.place e.name) l.done) None (view (s.place e.name)) d
-  kept_if_untouched e he Leaves w d =
+  kept_if_untouched e he Keeps w d =
       at_place e he (view (s.place e.name)) (subst (λ x. Leads x (view (s.place e.name))) (sym w) tt) ∙ cond-false (is_touched (s.place e.name) l.done) (view (s.place e.name)) (view (s.place e.name)) d
 
-  pub kept_if_left : (e : Edit) → IsEdit e edits → effect s mode view e ≡ Leaves → left (s.place e.name) ≡ view (s.place e.name)
+  pub kept_if_left : (e : Edit) → IsEdit e edits → effect s mode view e ≡ Keeps → left (s.place e.name) ≡ view (s.place e.name)
   kept_if_left e he w =
       at_place e he (view (s.place e.name)) (subst (λ x. Leads x (view (s.place e.name))) (sym w) tt) ∙ cond_same (is_touched (s.place e.name) l.done) (view (s.place e.name))
 
@@ -230,7 +230,7 @@ module _ (s : Store) (laws : HasLaws s) (mode : Mode) (view : View) (edits : Lis
       by_effect f w (inr d) = kept (kept_if_untouched e he f w d)
       by_effect (Writes text) w (inl d) = inr (reads_written e he a text w d)
       by_effect Removes w (inl d) = inr (reads_removed e he a w d)
-      by_effect Leaves w (inl d) = kept (kept_if_left e he w)
+      by_effect Keeps w (inl d) = kept (kept_if_left e he w)
 
   -- a reference at no edited place
   pub reads_elsewhere : (name : List ℕ) → s.is_reference name ≡ true → ((e : Edit) → IsEdit e edits → e.and_reference ≡ true → s.place e.name ≢ s.place name) →
@@ -289,7 +289,7 @@ module _ (s : Store) (laws : HasLaws s) (mode : Mode) (view : View) (edits : Lis
       by_effect : u.and_reference ≡ true → (f : Effect) → effect s mode view u ≡ f → reading s left u.name ≡ new_reading s u.change
       by_effect a (Writes text) w = reads_written u hu a text w (written_so text w)
       by_effect a Removes w = absurd (by_change u.change up (sym (effect_is u a) ∙ w))
-      by_effect a Leaves w = elim (reads_at u hu a) [
+      by_effect a Keeps w = elim (reads_at u hu a) [
         | inl h ↦ h ∙ left_alone s mode (s.key u.name) (reading s view u.name) u.change (sym (effect_is u a) ∙ w)
         | inr h ↦ h
       ]
@@ -371,14 +371,14 @@ module _ (s : Store) (laws : HasLaws s) (mode : Mode) (view : View) (edits : Lis
   -- The files.
 
   new_file : (e : Edit) (was : Reading) (c : Change) (f : Effect) (file : Option (List ℕ)) → effect_of_change s mode (s.key e.name) was c ≡ f → Leads f file →
-      (f ≡ Leaves → ⊥) → IsNewFile s mode e c file
+      (f ≡ Keeps → ⊥) → IsNewFile s mode e c file
   new_file e was Delete (Writes text) file w leads moved = cc
   new_file e was Delete Removes file w leads moved = sym leads
-  new_file e was Delete Leaves file w leads moved = cc
+  new_file e was Delete Keeps file w leads moved = cc
   new_file e was (Update t) (Writes text) file w leads moved = inl (sym leads ∙ ap Some (update_writes s mode (s.key e.name) was t text w))
   new_file e was (Update t) Removes file w leads moved =
       let h = update_removes s mode (s.key e.name) was t w in inr (h.0, h.1, sym leads)
-  new_file e was (Update t) Leaves file w leads moved = absurd (moved refl)
+  new_file e was (Update t) Keeps file w leads moved = absurd (moved refl)
 
   pub places : (e : Edit) → IsEdit e edits → e.and_reference ≡ true →
       (left (s.place e.name) ≡ view (s.place e.name)) ⊎ IsNewFile s mode e e.change (left (s.place e.name))
@@ -387,7 +387,7 @@ module _ (s : Store) (laws : HasLaws s) (mode : Mode) (view : View) (edits : Lis
       by_effect : (f : Effect) → effect s mode view e ≡ f → (is_touched (s.place e.name) l.done ≡ true) ⊎ (is_touched (s.place e.name) l.done ≡ false) →
           (left (s.place e.name) ≡ view (s.place e.name)) ⊎ IsNewFile s mode e e.change (left (s.place e.name))
       by_effect f w (inr d) = inl (kept_if_untouched e he f w d)
-      by_effect Leaves w (inl d) = inl (kept_if_left e he w)
+      by_effect Keeps w (inl d) = inl (kept_if_left e he w)
       by_effect (Writes text) w (inl d) =
           let file = at_place e he (Some text) (subst (λ x. Leads x (Some text)) (sym w) refl) ∙ cond-true (is_touched (s.place e.name) l.done) (Some text) (view (s.place e.name)) d in
           inr (new_file e (reading s view e.name) e.change (Writes text) (left (s.place e.name)) (sym (effect_is e a) ∙ w) (sym file) (λ h. cc))

@@ -3,7 +3,7 @@ use Rattle.std.proofs.Common.{refl, inl, inr}
 use Rattle.gix_ref_files.proofs.Between.{ended_is_left}
 use Rattle.gix_ref_theory.proofs.Headline as headline
 use Rattle.gix_ref_theory.proofs.Carrying.{left_alike, after_alike, begun_folders, begun_removal}
-use Rattle.gix_ref_theory.specs.Carried.{EveryEndIsBetween, EveryTreeIsBetween, EveryWholeRunCommits, FoldersHoldNoFile, view_of}
+use Rattle.gix_ref_theory.specs.OnRealTrees.{EveryEndIsBetween, EveryTreeIsBetween, EveryWholeRunCommits, FoldersHoldNoFile, view_of}
 use Rattle.gix_ref_theory.specs.Plan.{plan}
 use Rattle.gix_ref_theory.specs.Views.{IsLeft}
 

@@ -10,7 +10,7 @@ use Rattle.gix_ref_theory.proofs.Stops as stop
 use Rattle.gix_ref_theory.specs.Between.{IsCommitted, IsCommittedFile, IsEdit, IsMerged, IsPackedFile, IsPrepared, ReadsAsEdited, committed_log}
 use Rattle.gix_ref_theory.specs.Edits.{Change, Edit, Effect, Mode, alters_packed, effect, effect_of_change, file_of_records, has_already, new_reading, packs, removes_log, removes_packed}
 use Rattle.gix_ref_theory.specs.Edits.Change.{Delete, Update}
-use Rattle.gix_ref_theory.specs.Edits.Effect.{Leaves, Removes, Writes}
+use Rattle.gix_ref_theory.specs.Edits.Effect.{Keeps, Removes, Writes}
 use Rattle.gix_ref_theory.specs.Plan.{log_removals, loose_removals, packed_writes, plan, updates}
 use Rattle.gix_ref_theory.specs.Readings.{HasLaws, Reading, Record, Store, reading, records_in}
 use Rattle.gix_ref_theory.specs.Views.{IsSameView, View, after}
@@ -22,24 +22,24 @@ all s mode view edits merged left whole =
 
 -- what an effect leaves at an edited place
 committed_file : (s : Store) (mode : Mode) (e : Edit) (was : Reading) (c : Change) (f : Effect) (old new : Option (List ℕ)) →
-    effect_of_change s mode (s.key e.name) was c ≡ f → Leads f new → (f ≡ Leaves → new ≡ old) → IsCommittedFile s mode e c old new
+    effect_of_change s mode (s.key e.name) was c ≡ f → Leads f new → (f ≡ Keeps → new ≡ old) → IsCommittedFile s mode e c old new
 committed_file s mode e was Delete (Writes text) old new w leads left = cc
 committed_file s mode e was Delete Removes old new w leads left = sym leads
-committed_file s mode e was Delete Leaves old new w leads left = cc
+committed_file s mode e was Delete Keeps old new w leads left = cc
 committed_file s mode e was (Update t) f old new w leads left =
     cases (removes_packed mode && packs mode (s.key e.name) t) (has_already was t) (s.text_of t) f w leads left
   where
-    cases : (b a : Bool) (text : List ℕ) (f : Effect) → (if b then Removes else (if a then Leaves else Writes text)) ≡ f → Leads f new → (f ≡ Leaves → new ≡ old) →
+    cases : (b a : Bool) (text : List ℕ) (f : Effect) → (if b then Removes else (if a then Keeps else Writes text)) ≡ f → Leads f new → (f ≡ Keeps → new ≡ old) →
         MatchBool b (new ≡ None) ((new ≡ old) ⊎ (new ≡ Some text))
     cases true a text (Writes x) w leads left = cc
     cases true a text Removes w leads left = sym leads
-    cases true a text Leaves w leads left = cc
+    cases true a text Keeps w leads left = cc
     cases false true text (Writes x) w leads left = cc
     cases false true text Removes w leads left = cc
-    cases false true text Leaves w leads left = inl (left refl)
+    cases false true text Keeps w leads left = inl (left refl)
     cases false false text (Writes x) w leads left = let e : x ≡ text = cc in inr (sym leads ∙ ap Some e)
     cases false false text Removes w leads left = cc
-    cases false false text Leaves w leads left = cc
+    cases false false text Keeps w leads left = cc
 
 module _ (s : Store) (laws : HasLaws s) (mode : Mode) (view : View) (edits : List Edit) (merged : List Record) (p : IsPrepared s mode view edits merged)
     (left : View) (whole : IsSameView left (after (plan s mode view edits merged) view)) where
@@ -58,7 +58,7 @@ module _ (s : Store) (laws : HasLaws s) (mode : Mode) (view : View) (edits : Lis
   reads_new : (e : Edit) → IsEdit e edits → e.and_reference ≡ true → (f : Effect) → effect s mode view e ≡ f → reading s left e.name ≡ new_reading s e.change
   reads_new e he a (Writes text) w = stop.reads_written s laws mode view edits merged p left (all s mode view edits merged left whole) e he a text w (written e he text w)
   reads_new e he a Removes w = stop.reads_removed s laws mode view edits merged p left (all s mode view edits merged left whole) e he a w (removed e he w)
-  reads_new e he a Leaves w = elim (stop.reads_at s laws mode view edits merged p left (all s mode view edits merged left whole) e he a) [
+  reads_new e he a Keeps w = elim (stop.reads_at s laws mode view edits merged p left (all s mode view edits merged left whole) e he a) [
     | inl h ↦ h ∙ left_alone s mode (s.key e.name) (reading s view e.name) e.change (sym (stop.effect_is s laws mode view edits merged p left (all s mode view edits merged left whole) e a) ∙ w)
     | inr h ↦ h
   ]
@@ -85,8 +85,8 @@ module _ (s : Store) (laws : HasLaws s) (mode : Mode) (view : View) (edits : Lis
           (sym (stop.at_place s laws mode view edits merged p left (all s mode view edits merged left whole) e he None (subst (λ x. Leads x None) (sym w) refl)
           ∙ cond-true (is_touched (s.place e.name) (plan s mode view edits merged)) None (view (s.place e.name)) (removed e he w)))
           (λ h. cc)
-      by_effect Leaves w =
-          committed_file s mode e (reading s view e.name) e.change Leaves (view (s.place e.name)) (left (s.place e.name)) (sym (stop.effect_is s laws mode view edits merged p left (all s mode view edits merged left whole) e a) ∙ w) tt
+      by_effect Keeps w =
+          committed_file s mode e (reading s view e.name) e.change Keeps (view (s.place e.name)) (left (s.place e.name)) (sym (stop.effect_is s laws mode view edits merged p left (all s mode view edits merged left whole) e a) ∙ w) tt
           (λ h. stop.kept_if_left s laws mode view edits merged p left (all s mode view edits merged left whole) e he w)
 
   logs : (e : Edit) → IsEdit e edits → left (s.log e.name) ≡ committed_log s edits (s.log e.name) (view (s.log e.name))

@@ -10,7 +10,7 @@ use Rattle.gix_ref_base.specs.Targets.TargetValue.{object_id, symbolic_name}
 use Rattle.gix_ref_theory.specs.Views.{View, file_bytes}
 use Rattle.gix_ref_theory.specs.Readings.{Store, Record, Reading, reading, as_read, record_named}
 use Rattle.gix_ref_theory.specs.Readings.Reading.{Is, Absent}
-use Rattle.gix_ref_theory.specs.Stores.{written_id}
+use Rattle.gix_ref_theory.specs.ConcreteStore.{written_id}
 
 -- What an edit asks for.
 pub data Change : Type 0 where
@@ -69,7 +69,7 @@ has_already old new = false
 pub data Effect : Type 0 where
   Writes : (bytes : List ℕ) → Effect
   Removes : Effect
-  Leaves : Effect
+  Keeps : Effect
 
 -- A deletion removes its loose file. An update writes its target, unless it is packed without a loose file or the
 -- reference has its object already.
@@ -77,13 +77,13 @@ abbrev pub effect_of_change : Store → Mode → Option (List ℕ) → Reading �
 effect_of_change s mode key old Delete = Removes
 effect_of_change s mode key old (Update target) =
     if removes_packed mode && packs mode key target then Removes
-    else if has_already old target then Leaves
+    else if has_already old target then Keeps
     else Writes (s.text_of target)
 
 -- an edit of a log alone leaves the loose file
 abbrev pub effect : Store → Mode → View → Edit → Effect
 effect s mode view e =
-    if e.and_reference then effect_of_change s mode (s.key e.name) (reading s view e.name) e.change else Leaves
+    if e.and_reference then effect_of_change s mode (s.key e.name) (reading s view e.name) e.change else Keeps
 
 -- the record of an edit's key after the edit, where `old` was there
 abbrev pub record_after : Mode → List ℕ → Edit → Change → Option Record → Option Record

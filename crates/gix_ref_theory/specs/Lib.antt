@@ -1,9 +1,8 @@
 pub mod Between
-pub mod Carried
+pub mod ConcreteStore
 pub mod Edits
-pub mod Example
+pub mod OnRealTrees
 pub mod Plan
 pub mod Readings
-pub mod Stores
 pub mod Theorems
 pub mod Views

@@ -7,7 +7,7 @@ use Rattle.gix_ref_theory.specs.Views.Write.{Append, Put, Remove}
 use Rattle.gix_ref_theory.specs.Readings.{Store, Record, records_in}
 use Rattle.gix_ref_theory.specs.Edits.{Change, Edit, Mode, Effect, effect, alters_packed, file_of_records}
 use Rattle.gix_ref_theory.specs.Edits.Change.{Update, Delete}
-use Rattle.gix_ref_theory.specs.Edits.Effect.{Writes, Removes, Leaves}
+use Rattle.gix_ref_theory.specs.Edits.Effect.{Writes, Removes, Keeps}
 
 -- 1. For each update in order: its log line, then its rename. The line comes first, so that no change of a reference
 -- stands without its line.
@@ -20,7 +20,7 @@ line_writes log (Update target) (Some line) = Append log line ∷ []
 abbrev pub place_writes : Path → Effect → List Write
 place_writes place (Writes bytes) = Put place bytes ∷ []
 place_writes place Removes = []
-place_writes place Leaves = []
+place_writes place Keeps = []
 
 -- both, for each edit
 abbrev pub updates : Store → Mode → View → List Edit → List Write
@@ -51,7 +51,7 @@ packed_writes s mode view edits merged =
 abbrev pub place_removal : Path → Effect → List Write
 place_removal place Removes = Remove place ∷ []
 place_removal place (Writes bytes) = []
-place_removal place Leaves = []
+place_removal place Keeps = []
 
 -- for each edit
 abbrev pub loose_removals : Store → Mode → View → List Edit → List Write

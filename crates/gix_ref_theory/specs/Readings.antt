@@ -4,7 +4,8 @@ use Rattle.gix_ref_hash.specs.declared.hash.ObjectId.{ObjectId}
 use Rattle.gix_ref_base.specs.Targets.{TargetValue}
 use Rattle.gix_ref_base.specs.Targets.TargetValue.{object_id, symbolic_name}
 use Rattle.gix_ref_files.specs.Tree.{Path}
-use Rattle.gix_ref_theory.specs.Views.{View, lock_of}
+use Rattle.gix_ref_theory.specs.Views.{View}
+use Rattle.gix_ref_files.specs.Lock.{lock_of}
 
 -- An id of an object, with its hex digits as they are spelled.
 pub record SpelledId : Type 0 where

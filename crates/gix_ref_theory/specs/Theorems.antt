@@ -7,7 +7,7 @@ use Rattle.gix_ref_theory.specs.Views.{View, after, IsLeft, IsOwnLock, IsSameBut
 use Rattle.gix_ref_theory.specs.Readings.{Store, HasLaws, Record}
 use Rattle.gix_ref_base.specs.Layout.{Layout, below, RefPaths, HasPaths, IsSafe, IsLayout}
 use Rattle.gix_ref_base.specs.Locations.{paths_at, is_safe}
-use Rattle.gix_ref_theory.specs.Stores.{Options, store_of}
+use Rattle.gix_ref_theory.specs.ConcreteStore.{Options, store_of}
 use Rattle.gix_ref_theory.specs.Edits.{Edit, Mode, removes_packed}
 use Rattle.gix_ref_theory.specs.Plan.{plan}
 use Rattle.gix_ref_theory.specs.Between.{IsMerged, IsPrepared, IsBetween, NoDeletionFirst, InOrder, IsCommitted}

@@ -2,6 +2,7 @@
 -- an append, which may stop after any beginning of its bytes, and by a rename and a removal, which are whole.
 use Rattle.std.specs.Prelude.{◌≡◌, ℕ, List, [], ◌∷◌, ◌++◌, Option, Some, None, if◌then◌else◌, bytes_eq, ◌⊎◌, codes}
 use Rattle.gix_ref_files.specs.Tree.{Path}
+use Rattle.gix_ref_files.specs.Lock.{lock_of}
 
 -- the bytes of the file at each path; none where a folder or nothing stands
 abbrev pub View : Type 0
@@ -48,10 +49,6 @@ Begins (Remove path) view left = IsSameView left view
 abbrev pub IsLeftBy : List Write → View → View → Type 0
 IsLeftBy [] view left = IsSameView left view
 IsLeftBy (write ∷ writes) view left = Begins write view left ⊎ IsLeftBy writes (after_write write view) left
-
--- the lock of a path
-abbrev pub lock_of : Path → Path
-lock_of path = path ++ codes ".lock"
 
 -- the lock of one of these paths
 abbrev pub IsOwnLock : List Path → Path → Type 0

@@ -1,7 +1,6 @@
 //! The theorems of the store, as contracts of functions that do nothing.
 ghost use Rattle.gix_ref_theory.specs.Theorems.{EveryStopIsBetween, NoDeletionShowsFirst, UpdatesShowInOrder, WholePlanCommits, PlanSeesNoLocks, MergedRecordsAreOne, PathsAreTheTable, SafeNamesAreTested, PlacesKeepTheLaws, OnePlaceHasOneLog, OneLogHasOnePlace, PlacesLieInTheNamespace};
-ghost use Rattle.gix_ref_theory.specs.Carried.{EveryTreeIsBetween, EveryEndIsBetween, EveryWholeRunCommits, FoldersHoldNoFile};
-ghost use Rattle.gix_ref_theory.specs.Example.{ExampleIsPrepared, PlanIsFiveWrites, FourRows, PackedTextsAreThese, PackedFirstIsWrong, ReverseIsWrong, RemovedFirstIsWrong, RemovingModeShowsDeletionFirst, RemovingModeShowsOutOfOrder, StepsCarryOutThePlan, PlacesInLinked};
+ghost use Rattle.gix_ref_theory.specs.OnRealTrees.{EveryTreeIsBetween, EveryEndIsBetween, EveryWholeRunCommits, FoldersHoldNoFile};
 
 /// What a stop inside a commit leaves: each reference as before or as edited, no deletion before every update, the
 /// updates in their order; and the successor after the whole plan, whose `packed-refs` is determined.
@@ -32,20 +31,4 @@ pub fn places_keep_the_laws()
     ensures one_log { OnePlaceHasOneLog }
     ensures one_place { OneLogHasOnePlace }
     ensures namespaces { PlacesLieInTheNamespace }
-{}
-
-/// Two updates and a deletion: what each stop shows, why other orders are wrong, and what the removing mode does not
-/// promise. And some places of a linked worktree.
-pub fn worked_example()
-    ensures prepared { ExampleIsPrepared }
-    ensures plan { PlanIsFiveWrites }
-    ensures rows { FourRows }
-    ensures lengths { PackedTextsAreThese }
-    ensures packed_first { PackedFirstIsWrong }
-    ensures reverse { ReverseIsWrong }
-    ensures removed_first { RemovedFirstIsWrong }
-    ensures removing_mode { RemovingModeShowsDeletionFirst }
-    ensures removing_order { RemovingModeShowsOutOfOrder }
-    ensures carried { StepsCarryOutThePlan }
-    ensures places { PlacesInLinked }
 {}

@@ -4,7 +4,7 @@ ghost use Rattle.gix_ref_files.specs.Tree.{IsShaped, no_tree, put, appended, is_
 ghost use Rattle.gix_ref_files.specs.Files.{Leaves, Adds};
 ghost use Rattle.gix_ref_files.specs.Calls.{Appends, Appending, Renames, Renaming, IsMovable, RemovesFile, RemovingFile, RemovesFolder, RemovingFolder, Creates, Creating};
 ghost use Rattle.gix_ref_files.specs.Tree.Content.{File};
-ghost use Rattle.gix_ref_memory.specs.Changes.{after, meaning_of, Puts, tree_of};
+ghost use Rattle.gix_ref_memory.specs.Changes.{after, meaning_after, Puts, tree_after};
 ghost use Rattle.gix_ref_memory.specs.Turns.{HasNoWay};
 
 use super::changes::{
@@ -22,14 +22,14 @@ pub fn append_now(
     path: &[u8],
     bytes: &[u8],
 ) -> Result<bool, AllocError>
-    ensures answer { IfOk result (Appends (tree_of changes.old) path.now bytes.now
-        (tree_of changes.new)) }
+    ensures answer { IfOk result (Appends (tree_after changes.old) path.now bytes.now
+        (tree_after changes.new)) }
     ensures failed { OnErr result (changes.new.items ≡ changes.old.items) }
-    ensures shape { IsShaped (tree_of changes.old) → IsShaped (tree_of changes.new) }
-    ensures leaves { Leaves (meaning_of changes.old.items) (meaning_of changes.new.items)
-        (Appending (tree_of changes.old) path.now bytes.now) }
-    ensures adds { OnOk result (Adds (meaning_of changes.old.items) (meaning_of changes.new.items)
-        (Appending (tree_of changes.old) path.now bytes.now)) }
+    ensures shape { IsShaped (tree_after changes.old) → IsShaped (tree_after changes.new) }
+    ensures leaves { Leaves (meaning_after changes.old.items) (meaning_after changes.new.items)
+        (Appending (tree_after changes.old) path.now bytes.now) }
+    ensures adds { OnOk result (Adds (meaning_after changes.old.items) (meaning_after changes.new.items)
+        (Appending (tree_after changes.old) path.now bytes.now)) }
 {
     match find(changes, path) {
         Some(Stands::FileOf(old)) => {
@@ -52,11 +52,11 @@ pub fn append_some(
     bytes: &[u8],
     most: usize,
 ) -> Result<(), AllocError>
-    ensures done { OnOk result (after changes.new.items no_tree ≡ appended (tree_of changes.old)
+    ensures done { OnOk result (after changes.new.items no_tree ≡ appended (tree_after changes.old)
         path.now (take most bytes.now)) }
-    ensures shape { IsShaped (tree_of changes.old) → IsShaped (tree_of changes.new) }
-    ensures leaves { Leaves (meaning_of changes.old.items) (meaning_of changes.new.items)
-        (Appending (tree_of changes.old) path.now bytes.now) }
+    ensures shape { IsShaped (tree_after changes.old) → IsShaped (tree_after changes.new) }
+    ensures leaves { Leaves (meaning_after changes.old.items) (meaning_after changes.new.items)
+        (Appending (tree_after changes.old) path.now bytes.now) }
 {
     let part = &bytes[..most.min(bytes.len())];
     append_now(alloc, changes, path, part)?;
@@ -71,16 +71,16 @@ pub fn rename_now(
     to: &[u8],
 ) -> Result<Option<Rename>, AllocError>
     ensures answer { IfOk result
-        (λ answer. IfSome answer (Renames (tree_of changes.old) from.now to.now
-        (tree_of changes.new))) }
+        (λ answer. IfSome answer (Renames (tree_after changes.old) from.now to.now
+        (tree_after changes.new))) }
     ensures none { IfOk result
-        (λ answer. IfNone answer (IsMovable (tree_of changes.old) from.now to.now → ⊥)) }
+        (λ answer. IfNone answer (IsMovable (tree_after changes.old) from.now to.now → ⊥)) }
     ensures none_same { IfOk result
         (λ answer. IfNone answer (changes.new.items ≡ changes.old.items)) }
     ensures failed { OnErr result (changes.new.items ≡ changes.old.items) }
-    ensures shape { IsShaped (tree_of changes.old) → IsShaped (tree_of changes.new) }
-    ensures leaves { Leaves (meaning_of changes.old.items) (meaning_of changes.new.items)
-        (Renaming (tree_of changes.old) from.now to.now) }
+    ensures shape { IsShaped (tree_after changes.old) → IsShaped (tree_after changes.new) }
+    ensures leaves { Leaves (meaning_after changes.old.items) (meaning_after changes.new.items)
+        (Renaming (tree_after changes.old) from.now to.now) }
 {
     match find(changes, from) {
         Some(Stands::FileOf(old)) => {
@@ -106,12 +106,12 @@ pub fn remove_file_now(
     changes: &mut Vec<Change>,
     path: &[u8],
 ) -> Result<bool, AllocError>
-    ensures answer { IfOk result (RemovesFile (tree_of changes.old) path.now
-        (tree_of changes.new)) }
+    ensures answer { IfOk result (RemovesFile (tree_after changes.old) path.now
+        (tree_after changes.new)) }
     ensures failed { OnErr result (changes.new.items ≡ changes.old.items) }
-    ensures shape { IsShaped (tree_of changes.old) → IsShaped (tree_of changes.new) }
-    ensures leaves { Leaves (meaning_of changes.old.items) (meaning_of changes.new.items)
-        (RemovingFile (tree_of changes.old) path.now) }
+    ensures shape { IsShaped (tree_after changes.old) → IsShaped (tree_after changes.new) }
+    ensures leaves { Leaves (meaning_after changes.old.items) (meaning_after changes.new.items)
+        (RemovingFile (tree_after changes.old) path.now) }
 {
     if !is_file_at(changes, path) {
         return Ok(false);
@@ -128,14 +128,14 @@ pub fn create_now(
     path: &[u8],
 ) -> Result<Option<Create>, AllocError>
     ensures answer { IfOk result
-        (λ answer. IfSome answer (Creates (tree_of changes.old) path.now (tree_of changes.new))) }
+        (λ answer. IfSome answer (Creates (tree_after changes.old) path.now (tree_after changes.new))) }
     ensures none { IfOk result (λ answer. IfNone answer (changes.new.items ≡ changes.old.items)) }
     ensures no_way { IfOk result
-        (λ answer. IfNone answer (HasNoWay (tree_of changes.old) path.now)) }
+        (λ answer. IfNone answer (HasNoWay (tree_after changes.old) path.now)) }
     ensures failed { OnErr result (changes.new.items ≡ changes.old.items) }
-    ensures shape { IsShaped (tree_of changes.old) → IsShaped (tree_of changes.new) }
-    ensures leaves { Leaves (meaning_of changes.old.items) (meaning_of changes.new.items)
-        (Creating (tree_of changes.old) path.now) }
+    ensures shape { IsShaped (tree_after changes.old) → IsShaped (tree_after changes.new) }
+    ensures leaves { Leaves (meaning_after changes.old.items) (meaning_after changes.new.items)
+        (Creating (tree_after changes.old) path.now) }
 {
     if find(changes, path).is_some() {
         return Ok(Some(Create::Standing));
@@ -158,12 +158,12 @@ pub fn remove_folder_now(
     changes: &mut Vec<Change>,
     path: &[u8],
 ) -> Result<bool, AllocError>
-    ensures answer { IfOk result (RemovesFolder (tree_of changes.old) path.now
-        (tree_of changes.new)) }
+    ensures answer { IfOk result (RemovesFolder (tree_after changes.old) path.now
+        (tree_after changes.new)) }
     ensures failed { OnErr result (changes.new.items ≡ changes.old.items) }
-    ensures shape { IsShaped (tree_of changes.old) → IsShaped (tree_of changes.new) }
-    ensures leaves { Leaves (meaning_of changes.old.items) (meaning_of changes.new.items)
-        (RemovingFolder (tree_of changes.old) path.now) }
+    ensures shape { IsShaped (tree_after changes.old) → IsShaped (tree_after changes.new) }
+    ensures leaves { Leaves (meaning_after changes.old.items) (meaning_after changes.new.items)
+        (RemovingFolder (tree_after changes.old) path.now) }
 {
     if !is_folder_at(changes, path) || has_below(changes, path) {
         return Ok(false);
@@ -181,11 +181,11 @@ fn place_file(
     bytes: &[u8],
 ) -> Result<(), AllocError>
     ensures placed { OnOk result (after changes.new.items no_tree ≡ put
-        (with_folders (tree_of changes.old) (fronts path.now)) path.now (Some (File bytes.now))) }
+        (with_folders (tree_after changes.old) (fronts path.now)) path.now (Some (File bytes.now))) }
     ensures kept { OnErr result (take (length changes.old.items) changes.new.items
         ≡ changes.old.items) }
     ensures shape { is_folder (after changes.old.items no_tree path.now) ≡ false →
-        IsShaped (tree_of changes.old) → OnOk result (IsShaped (tree_of changes.new)) }
+        IsShaped (tree_after changes.old) → OnOk result (IsShaped (tree_after changes.new)) }
 {
     make_fronts(alloc, changes, path, path.len())?;
     let path = path.to_vec(alloc)?;
@@ -203,10 +203,10 @@ pub fn put_now(
     path: &[u8],
     bytes: &[u8],
 ) -> Result<bool, AllocError>
-    ensures answer { IfOk result (Puts (tree_of changes.old) path.now bytes.now
-        (tree_of changes.new)) }
+    ensures answer { IfOk result (Puts (tree_after changes.old) path.now bytes.now
+        (tree_after changes.new)) }
     ensures failed { OnErr result (changes.new.items ≡ changes.old.items) }
-    ensures shape { IsShaped (tree_of changes.old) → IsShaped (tree_of changes.new) }
+    ensures shape { IsShaped (tree_after changes.old) → IsShaped (tree_after changes.new) }
 {
     if is_folder_at(changes, path) || is_below_file(changes, path) {
         return Ok(false);

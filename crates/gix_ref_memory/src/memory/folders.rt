@@ -3,23 +3,23 @@ ghost use Rattle.std.specs.Prelude.{◌≡◌, ◌≤◌, ℕ, Some, OnOk, OnErr
 ghost use Rattle.gix_ref_files.specs.Tree.{Tree, IsShaped, no_tree, put, has_folders, fronts, folders_to, with_folders};
 ghost use Rattle.gix_ref_files.specs.Tree.Content.{Folder};
 ghost use Rattle.gix_ref_files.specs.Files.{Leaves, Adds};
-ghost use Rattle.gix_ref_files.specs.Calls.{Perhaps, MakesFolders, MakingFolders, is_in_the_way};
+ghost use Rattle.gix_ref_files.specs.Calls.{BeforeOrAfter, MakesFolders, MakingFolders, is_in_the_way};
 ghost use Rattle.gix_ref_memory.specs.Turns.{IsDone};
-ghost use Rattle.gix_ref_memory.specs.Changes.{after, meaning_of, MakingFronts, tree_of};
+ghost use Rattle.gix_ref_memory.specs.Changes.{after, meaning_after, MakingFronts, tree_after};
 
 use std::alloc::{AllocError, Global};
 use super::changes::{Change, Stored, is_below_file, is_file_at, is_folder_at};
 
 /// Makes a folder, where it does not stand.
 fn make_folder(alloc: Global, changes: &mut Vec<Change>, path: &[u8]) -> Result<(), AllocError>
-    ensures made { OnOk result (after changes.new.items no_tree ≡ put (tree_of changes.old) path.now
+    ensures made { OnOk result (after changes.new.items no_tree ≡ put (tree_after changes.old) path.now
         (Some Folder)) }
     ensures failed { OnErr result (changes.new.items ≡ changes.old.items) }
     ensures kept { take (length changes.old.items) changes.new.items ≡ changes.old.items }
-    ensures shape { has_folders (tree_of changes.old) path.now ≡ true →
-        IsShaped (tree_of changes.old) → IsShaped (tree_of changes.new) }
-    ensures leaves { Leaves (meaning_of changes.old.items) (meaning_of changes.new.items)
-        (Perhaps (tree_of changes.old) (Unit {0}) (put (tree_of changes.old) path.now
+    ensures shape { has_folders (tree_after changes.old) path.now ≡ true →
+        IsShaped (tree_after changes.old) → IsShaped (tree_after changes.new) }
+    ensures leaves { Leaves (meaning_after changes.old.items) (meaning_after changes.new.items)
+        (BeforeOrAfter (tree_after changes.old) (Unit {0}) (put (tree_after changes.old) path.now
         (Some Folder))) }
 {
     if is_folder_at(changes, path) {
@@ -38,17 +38,17 @@ pub fn make_fronts(
     path: &[u8],
     most: usize,
 ) -> Result<(), AllocError>
-    ensures made { OnOk result (after changes.new.items no_tree ≡ with_folders (tree_of changes.old)
+    ensures made { OnOk result (after changes.new.items no_tree ≡ with_folders (tree_after changes.old)
         (take most (fronts path.now))) }
     ensures kept { take (length changes.old.items) changes.new.items ≡ changes.old.items }
-    ensures shape { IsShaped (tree_of changes.old) → IsShaped (tree_of changes.new) }
+    ensures shape { IsShaped (tree_after changes.old) → IsShaped (tree_after changes.new) }
     ensures leads { length (fronts path.now) ≤ most →
-        OnOk result (has_folders (tree_of changes.new) path.now ≡ true) }
-    ensures leaves { Leaves (meaning_of changes.old.items) (meaning_of changes.new.items)
-        (MakingFronts (tree_of changes.old) (fronts path.now)) }
+        OnOk result (has_folders (tree_after changes.new) path.now ≡ true) }
+    ensures leaves { Leaves (meaning_after changes.old.items) (meaning_after changes.new.items)
+        (MakingFronts (tree_after changes.old) (fronts path.now)) }
     ensures adds { length (fronts path.now) ≤ most →
-        OnOk result (Adds (meaning_of changes.old.items) (meaning_of changes.new.items)
-        (MakingFronts (tree_of changes.old) (fronts path.now))) }
+        OnOk result (Adds (meaning_after changes.old.items) (meaning_after changes.new.items)
+        (MakingFronts (tree_after changes.old) (fronts path.now))) }
 {
     let mut left = most;
     for i in 1..path.len() {
@@ -85,13 +85,13 @@ pub fn make_folders_now(
     changes: &mut Vec<Change>,
     path: &[u8],
 ) -> Result<bool, AllocError>
-    ensures answer { IfOk result (MakesFolders (tree_of changes.old) path.now
-        (tree_of changes.new)) }
-    ensures shape { IsShaped (tree_of changes.old) → IsShaped (tree_of changes.new) }
-    ensures leaves { Leaves (meaning_of changes.old.items) (meaning_of changes.new.items)
-        (MakingFolders (tree_of changes.old) path.now) }
-    ensures adds { OnOk result (Adds (meaning_of changes.old.items) (meaning_of changes.new.items)
-        (MakingFolders (tree_of changes.old) path.now)) }
+    ensures answer { IfOk result (MakesFolders (tree_after changes.old) path.now
+        (tree_after changes.new)) }
+    ensures shape { IsShaped (tree_after changes.old) → IsShaped (tree_after changes.new) }
+    ensures leaves { Leaves (meaning_after changes.old.items) (meaning_after changes.new.items)
+        (MakingFolders (tree_after changes.old) path.now) }
+    ensures adds { OnOk result (Adds (meaning_after changes.old.items) (meaning_after changes.new.items)
+        (MakingFolders (tree_after changes.old) path.now)) }
 {
     if stands_in_the_way(changes, path) {
         return Ok(false);
@@ -109,12 +109,12 @@ pub fn make_some_folders(
     most: usize,
 ) -> Result<(), AllocError>
     ensures done { OnOk result
-        (IsDone (tree_of changes.old) (is_in_the_way (tree_of changes.old) path.now ≡ false)
-        (with_folders (tree_of changes.old) (take most (folders_to path.now)))
-        (tree_of changes.new)) }
-    ensures shape { IsShaped (tree_of changes.old) → IsShaped (tree_of changes.new) }
-    ensures leaves { Leaves (meaning_of changes.old.items) (meaning_of changes.new.items)
-        (MakingFolders (tree_of changes.old) path.now) }
+        (IsDone (tree_after changes.old) (is_in_the_way (tree_after changes.old) path.now ≡ false)
+        (with_folders (tree_after changes.old) (take most (folders_to path.now)))
+        (tree_after changes.new)) }
+    ensures shape { IsShaped (tree_after changes.old) → IsShaped (tree_after changes.new) }
+    ensures leaves { Leaves (meaning_after changes.old.items) (meaning_after changes.new.items)
+        (MakingFolders (tree_after changes.old) path.now) }
 {
     if stands_in_the_way(changes, path) {
         return Ok(());

@@ -2,9 +2,9 @@
 ghost use Rattle.std.specs.Prelude.{◌≡◌, ◌∷◌, ◌++◌, List, ℕ, None, true, false, bytes_eq, IfOk, OnOk, IsSome, MatchOption};
 ghost use Rattle.std.specs.List.{list_any};
 ghost use Rattle.gix_ref_files.specs.Tree.{no_tree};
-ghost use Rattle.gix_ref_files.specs.Calls.{IsListing, IsName, name_of};
+ghost use Rattle.gix_ref_files.specs.Calls.{IsListing, IsName, entry_name};
 ghost use Rattle.gix_ref_memory.specs.Changes.{after};
-ghost use Rattle.gix_ref_memory.specs.Listing.{Lists};
+ghost use Rattle.gix_ref_memory.specs.Listing.{AddsEntries};
 
 use gix_ref_files::files::Entry;
 use std::alloc::{AllocError, Global};
@@ -53,12 +53,12 @@ pub fn has_below(changes: &[Change], path: &[u8]) -> bool
 
 /// An entry has this name.
 fn is_listed(entries: &[Entry], name: &[u8]) -> bool
-    ensures { result ≡ list_any (λ entry. bytes_eq (name_of entry) name.now) entries.now }
+    ensures { result ≡ list_any (λ entry. bytes_eq (entry_name entry) name.now) entries.now }
 {
     entries.iter().any(|entry| entry.name.as_slice() == name)
 }
 
-/// Lists what stands at a name in a folder, if it is not listed yet.
+/// AddsEntries what stands at a name in a folder, if it is not listed yet.
 fn add_entry(
     alloc: Global,
     changes: &[Change],
@@ -69,7 +69,7 @@ fn add_entry(
 ) -> Result<(), AllocError>
     requires name { IsName name.now }
     requires path { path.now ≡ folder.now ++ 47 ∷ name.now }
-    ensures { OnOk result (Lists (after changes.now no_tree) folder.now name.now entries.old.items
+    ensures { OnOk result (AddsEntries (after changes.now no_tree) folder.now name.now entries.old.items
         entries.new.items) }
 {
     if is_listed(entries, name) {

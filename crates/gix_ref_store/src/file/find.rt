@@ -1,10 +1,10 @@
 //! Finding references (`gitrevisions`). For now a reference is found under its own full name alone, in its loose file.
 ghost use Rattle.std.specs.Prelude.{◌≡◌, IfOk, IfErr, OnOk, MatchOption, Some, None, true, false};
 ghost use Rattle.gix_ref_base.specs.Names.{full_ref_bytes, partial_ref_bytes};
-ghost use Rattle.gix_ref_base.specs.Targets.{target_value};
+ghost use Rattle.gix_ref_base.specs.Targets.{target_value, stripped_target};
 ghost use Rattle.gix_ref_store.specs.StoreLayout.{namespace_text};
 ghost use Rattle.gix_ref_store.specs.Store.{files_of, meaning_of};
-ghost use Rattle.gix_ref_store.specs.Lookup.{asks_itself, is_own_name, less_namespace, view_in, Reads, ReadsBy, FindsIn, FailsIn, RefusesBy, MissesIn, LooksUp};
+ghost use Rattle.gix_ref_store.specs.Lookup.{asks_itself, is_own_name, view_in, Reads, ReadsBy, FindsIn, FailsIn, RefusesBy, MissesIn, LooksUp};
 
 mod error;
 pub mod existing;
@@ -44,14 +44,11 @@ fn own_name(partial: PartialNameRef<'_>) -> Option<FullNameRef<'_>>
 
 /// The target as it is read in a namespace: a symbolic one loses it.
 pub(crate) fn strip(target: &mut Target, namespace: &Option<Namespace>)
-    ensures { target_value target.new ≡ less_namespace (namespace_text namespace.now)
+    ensures { target_value target.new ≡ stripped_target (namespace_text namespace.now)
         (target_value target.old) }
 {
-    let Some(namespace) = namespace else {
-        return;
-    };
-    if let Target::Symbolic(name) = target {
-        name.strip_namespace(namespace);
+    if let Some(namespace) = namespace {
+        target.strip_namespace(namespace);
     }
 }
 

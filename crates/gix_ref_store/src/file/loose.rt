@@ -5,8 +5,8 @@ ghost use Rattle.gix_ref_hash.specs.declared.hash.Kind.{Kind};
 ghost use Rattle.gix_ref_base.specs.Names.{full_bytes};
 ghost use Rattle.gix_ref_base.specs.Targets.{TargetValue, target_value, target_kind};
 ghost use Rattle.gix_ref_base.specs.Targets.TargetValue.{object_id};
-ghost use Rattle.gix_ref_theory.specs.Stores.{loose_text};
-ghost use Rattle.gix_ref_store.specs.LooseText.{HoldsPath, HoldsId, HoldsTarget, Refuses, IsWritable, target_in};
+ghost use Rattle.gix_ref_theory.specs.ConcreteStore.{loose_text};
+ghost use Rattle.gix_ref_store.specs.LooseText.{HoldsPath, HoldsId, HoldsTarget, CannotDecode, IsWritable, target_in};
 
 mod error;
 
@@ -43,7 +43,7 @@ impl Reference {
         ensures name { IfOk result (λ reference. reference.name ≡ name) }
         ensures held { IfOk result (λ reference. HoldsTarget object_hash contents.now
             (target_value reference.target)) }
-        ensures refused { IfErr result (Refuses object_hash contents.now) }
+        ensures refused { IfErr result (CannotDecode object_hash contents.now) }
     {
         let target = decode(alloc, contents, object_hash)?;
         Ok(Reference { name, target })
@@ -149,7 +149,7 @@ fn object_id(text: &[u8], kind: Kind) -> Option<ObjectId>
 /// The target that the bytes of a loose file hold.
 pub(crate) fn decode(alloc: Global, text: &[u8], kind: Kind) -> Result<Target, Error>
     ensures { MatchResult result (λ target. HoldsTarget kind text.now (target_value target))
-        (Refuses kind text.now) }
+        (CannotDecode kind text.now) }
 {
     if let Some(path) = symbolic_path(text) {
         return match FullNameRef::try_from(path) {

@@ -52,14 +52,14 @@ impl<F> Store<F> {
     ghost use Rattle.gix_ref_base.specs.Layout.{packed_refs};
     ghost use Rattle.std.specs.Option.{option_map};
     ghost use Rattle.gix_ref_store.specs.Options.{default_options};
-    ghost use Rattle.gix_ref_store.specs.Store.{files_of, folders, given_common, kind_of, IsMade, AreDirs, IsRefused};
+    ghost use Rattle.gix_ref_store.specs.Store.{files_of, folders, given_common, kind_of, IsMade, AreDirs, HasNoStore};
 
     /// The store in a git folder that is the common folder too, with the default options. The folder is bytes with
     /// slashes; `object_hash` is the kind of all ids. `PathNotClean` hands the files back.
     pub fn at(files: F, git_dir: Vec<u8>, object_hash: Kind) -> Result<Store<F>, Error<F>>
         ensures made { IfOk result (IsMade files git_dir None object_hash default_options) }
         ensures found { MatchResult result (λ _. AreDirs git_dir None)
-            (IsRefused files git_dir None) }
+            (HasNoStore files git_dir None) }
     {
         Store::at_opts(files, git_dir, object_hash, Options::default())
     }
@@ -73,7 +73,7 @@ impl<F> Store<F> {
     ) -> Result<Store<F>, Error<F>>
         ensures made { IfOk result (IsMade files git_dir None object_hash options) }
         ensures found { MatchResult result (λ _. AreDirs git_dir None)
-            (IsRefused files git_dir None) }
+            (HasNoStore files git_dir None) }
     {
         Store::in_dirs(files, git_dir, None, object_hash, options)
     }
@@ -89,7 +89,7 @@ impl<F> Store<F> {
         ensures made { IfOk result (IsMade files git_dir (Some common_dir) object_hash
             default_options) }
         ensures found { MatchResult result (λ _. AreDirs git_dir (Some common_dir))
-            (IsRefused files git_dir (Some common_dir)) }
+            (HasNoStore files git_dir (Some common_dir)) }
     {
         Store::for_linked_worktree_opts(files, git_dir, common_dir, object_hash, Options::default())
     }
@@ -104,7 +104,7 @@ impl<F> Store<F> {
     ) -> Result<Store<F>, Error<F>>
         ensures made { IfOk result (IsMade files git_dir (Some common_dir) object_hash options) }
         ensures found { MatchResult result (λ _. AreDirs git_dir (Some common_dir))
-            (IsRefused files git_dir (Some common_dir)) }
+            (HasNoStore files git_dir (Some common_dir)) }
     {
         Store::in_dirs(files, git_dir, Some(common_dir), object_hash, options)
     }
@@ -119,7 +119,7 @@ impl<F> Store<F> {
     ) -> Result<Store<F>, Error<F>>
         ensures made { IfOk result (IsMade files git_dir common_dir object_hash options) }
         ensures found { MatchResult result (λ _. AreDirs git_dir common_dir)
-            (IsRefused files git_dir common_dir) }
+            (HasNoStore files git_dir common_dir) }
     {
         if !are_clean_paths(&git_dir, &common_dir) {
             return Err(Error::PathNotClean { files });

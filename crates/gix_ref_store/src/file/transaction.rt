@@ -3,7 +3,7 @@ ghost use Rattle.std.specs.Prelude.{◌≡◌, ◌≤◌, ◌⊎◌, [], IfOk, I
 ghost use Rattle.std.specs.Vec.{vec_capacity};
 ghost use Rattle.std.specs.Borrow.{sem, RestsIfErr};
 ghost use Rattle.gix_ref_files.specs.Files.{HasRisen};
-ghost use Rattle.gix_ref_store.specs.AddedLocks.{paths_of};
+ghost use Rattle.gix_ref_store.specs.OwnLocks.{paths_of};
 ghost use Rattle.gix_ref_store.specs.Prepared.{IsOneUpdate, RefusesFrom, PreparesFrom, RollsBackFrom};
 
 pub mod commit;
@@ -131,7 +131,7 @@ impl<F: Files> Store<F> {
 
 impl<'s, F: Files> Transaction<'s, F> {
     ghost use Rattle.gix_ref_store.specs.contracts.file.store.Store.{the_row};
-    ghost use Rattle.gix_ref_store.specs.Transacted.{prepared_edits, prepared_mode, prepared_paths};
+    ghost use Rattle.gix_ref_store.specs.PreparedFields.{prepared_edits, prepared_mode, prepared_paths};
 
     /// Looks at the edits, and takes their locks with their whole texts. For now the list is one update of an object or a
     /// symbolic target that follows no symbolic reference, and no log line is written.
@@ -201,9 +201,9 @@ impl<F: Files> Transaction<'_, F> {
 }
 
 impl<F: Files> Prepared<'_, F> {
-    ghost use Rattle.gix_ref_store.specs.Committing.{left_of, mode_of, EndsFrom, CommitsFrom, FailsFor};
-    ghost use Rattle.gix_ref_store.specs.Taken.{lock_paths};
-    ghost use Rattle.gix_ref_store.specs.Transacted.{prepared_edits, prepared_mode, prepared_paths};
+    ghost use Rattle.gix_ref_store.specs.CommitResult.{left_of, mode_of, EveryStopFrom, CommitsFrom, FailsFor};
+    ghost use Rattle.gix_ref_store.specs.PrepareSteps.{lock_paths};
+    ghost use Rattle.gix_ref_store.specs.PreparedFields.{prepared_edits, prepared_mode, prepared_paths};
     ghost use Rattle.gix_ref_store.specs.Store.{files_of, IsSameStore};
 
     /// Renames the lock of each reference that changes to its place, in the order of the edits, and removes the other locks.
@@ -223,7 +223,7 @@ impl<F: Files> Prepared<'_, F> {
         ensures failed { IfErr result (λ f. FailsFor F.honest F.means F.faults self.entry.store.now
             self.exit.0.now (prepared_edits self.entry.plan) (prepared_paths self.entry.plan)
             f.error) }
-        ensures ended { EndsFrom F.honest F.means F.faults self.entry.store.now self.exit.0.now
+        ensures ended { EveryStopFrom F.honest F.means F.faults self.entry.store.now self.exit.0.now
             (prepared_edits self.entry.plan) (prepared_paths self.entry.plan) (left_of result) }
         ensures named { (left_of result ≡ []) ⊎ HasRisen (F.faults (files_of self.entry.store.now))
             (F.faults (files_of self.exit.0.now)) }

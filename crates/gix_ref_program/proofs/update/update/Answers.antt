@@ -1,10 +1,10 @@
 use Rattle.std.proofs.Common.{rules, ◌≡◌, None, IfSome}
 use Rattle.gix_ref_files.specs.Files.{Leaves}
-use Rattle.gix_ref_store.specs.AddedLocks.{paths_of}
-use Rattle.gix_ref_store.specs.Committing.{AreCommitted, left_of}
+use Rattle.gix_ref_store.specs.OwnLocks.{paths_of}
+use Rattle.gix_ref_store.specs.CommitResult.{AreCommitted, left_of}
 use Rattle.gix_ref_store.specs.Prepared.{PreparesFrom, RefusesFrom, tree_of}
 use Rattle.gix_ref_store.specs.Store.{files_of, meaning_of}
-use Rattle.gix_ref_program.specs.Updates.{IsStopOf, IsUnmade, AreNamed}
+use Rattle.gix_ref_program.specs.Updates.{IsStopOf, IsUpdateError, AreNamed}
 use Rattle.gix_ref_program.proofs.Updating.{at_same, refused_named, refused_stops, done, told, stops, named}
 use Rattle.gix_ref_program.proofs.update.update.Goals as goal
 
@@ -13,21 +13,21 @@ returns-in-Ok-clause-named g c =
     let F = g.F.Files in
     let edits = c.in-Ok.prepared.plan.edits.items in
     let paths = c.in-Ok.prepared.plan.paths.items in
-    let left = paths_of c.told.result.locks_left.items in
+    let left = paths_of c.report_of_commit.result.locks_left.items in
     let from : PreparesFrom F.honest F.means F.faults c.args.store.now c.in-Ok.prepared.store.now c.args.edits.items edits paths = rw c.transaction.ensures.value at c.in-Ok.ensures.prepared in
     let found : AreNamed F.honest F.means F.faults c.args.store.now c.commit.new.self.0 c.args.edits.items left =
-    named F.honest F.means F.faults c.args.store.now c.in-Ok.prepared.store.now c.commit.new.self.0 c.args.edits.items edits paths c.requires.one from left (left_of c.commit.result) c.told.ensures.left c.commit.ensures.named c.commit.ensures.ended in
+    named F.honest F.means F.faults c.args.store.now c.in-Ok.prepared.store.now c.commit.new.self.0 c.args.edits.items edits paths c.requires.one from left (left_of c.commit.result) c.report_of_commit.ensures.left c.commit.ensures.named c.commit.ensures.ended in
     search rules
 
-pub returns-in-Ok-clause-unmade : goal.returns-in-Ok-clause-unmade
-returns-in-Ok-clause-unmade g c =
+pub returns-in-Ok-clause-error : goal.returns-in-Ok-clause-error
+returns-in-Ok-clause-error g c =
     let F = g.F.Files in
     let edits = c.in-Ok.prepared.plan.edits.items in
     let paths = c.in-Ok.prepared.plan.paths.items in
-    let left = paths_of c.told.result.locks_left.items in
+    let left = paths_of c.report_of_commit.result.locks_left.items in
     let from : PreparesFrom F.honest F.means F.faults c.args.store.now c.in-Ok.prepared.store.now c.args.edits.items edits paths = rw c.transaction.ensures.value at c.in-Ok.ensures.prepared in
-    let found : IfSome c.told.result.unmade (λ unmade. IsUnmade F.honest F.means F.faults c.args.store.now c.commit.new.self.0 c.args.edits.items unmade left) =
-    told F.honest F.means F.faults c.args.store.now c.in-Ok.prepared.store.now c.commit.new.self.0 c.args.edits.items edits paths c.requires.one from c.commit.result c.told.result.unmade left c.told.ensures.unmade c.told.ensures.left c.commit.ensures.failed c.commit.ensures.ended in
+    let found : IfSome c.report_of_commit.result.error (λ error. IsUpdateError F.honest F.means F.faults c.args.store.now c.commit.new.self.0 c.args.edits.items error left) =
+    told F.honest F.means F.faults c.args.store.now c.in-Ok.prepared.store.now c.commit.new.self.0 c.args.edits.items edits paths c.requires.one from c.commit.result c.report_of_commit.result.error left c.report_of_commit.ensures.error c.report_of_commit.ensures.left c.commit.ensures.failed c.commit.ensures.ended in
     search rules
 
 pub returns-in-Ok-clause-leaves : goal.returns-in-Ok-clause-leaves
@@ -35,7 +35,7 @@ returns-in-Ok-clause-leaves g c =
     let F = g.F.Files in
     let edits = c.in-Ok.prepared.plan.edits.items in
     let paths = c.in-Ok.prepared.plan.paths.items in
-    let left = paths_of c.told.result.locks_left.items in
+    let left = paths_of c.report_of_commit.result.locks_left.items in
     let from : PreparesFrom F.honest F.means F.faults c.args.store.now c.in-Ok.prepared.store.now c.args.edits.items edits paths = rw c.transaction.ensures.value at c.in-Ok.ensures.prepared in
     let found : F.honest → Leaves (F.means (files_of c.args.store.now)) (F.means (files_of c.commit.new.self.0)) (IsStopOf (meaning_of c.args.store.now) c.args.edits.items (tree_of F.means c.args.store.now)) =
     stops F.honest F.means F.faults c.args.store.now c.in-Ok.prepared.store.now c.commit.new.self.0 c.args.edits.items edits paths c.requires.one from (left_of c.commit.result) c.commit.ensures.ended in
@@ -46,10 +46,10 @@ returns-in-Ok-clause-done g c =
     let F = g.F.Files in
     let edits = c.in-Ok.prepared.plan.edits.items in
     let paths = c.in-Ok.prepared.plan.paths.items in
-    let left = paths_of c.told.result.locks_left.items in
+    let left = paths_of c.report_of_commit.result.locks_left.items in
     let from : PreparesFrom F.honest F.means F.faults c.args.store.now c.in-Ok.prepared.store.now c.args.edits.items edits paths = rw c.transaction.ensures.value at c.in-Ok.ensures.prepared in
-    at_same (λ new. F.honest → c.told.result.unmade ≡ None → AreCommitted (meaning_of c.args.store.now) c.args.edits.items (tree_of F.means c.args.store.now) left (tree_of F.means new)) {x = c.store-in-Ok-1.given.0} {y = c.commit.new.self.0} (search rules)
-    (done F.honest F.means F.faults c.args.store.now c.in-Ok.prepared.store.now c.commit.new.self.0 c.args.edits.items edits paths c.requires.one from c.commit.result c.told.result.unmade left c.told.ensures.unmade c.told.ensures.left c.commit.ensures.committed)
+    at_same (λ new. F.honest → c.report_of_commit.result.error ≡ None → AreCommitted (meaning_of c.args.store.now) c.args.edits.items (tree_of F.means c.args.store.now) left (tree_of F.means new)) {x = c.store-in-Ok-1.given.0} {y = c.commit.new.self.0} (search rules)
+    (done F.honest F.means F.faults c.args.store.now c.in-Ok.prepared.store.now c.commit.new.self.0 c.args.edits.items edits paths c.requires.one from c.commit.result c.report_of_commit.result.error left c.report_of_commit.ensures.error c.report_of_commit.ensures.left c.commit.ensures.committed)
 
 pub returns-in-Err-clause-named : goal.returns-in-Err-clause-named
 returns-in-Err-clause-named g c =

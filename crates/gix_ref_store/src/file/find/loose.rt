@@ -1,8 +1,8 @@
 //! The loose file at a place, decoded.
 ghost use Rattle.std.specs.Prelude.{◌≡◌, IfOk, IfErr, Some};
 ghost use Rattle.gix_ref_files.specs.Files.{Leaves, count_after};
-ghost use Rattle.gix_ref_files.specs.Calls.{Only};
-ghost use Rattle.gix_ref_theory.specs.Carried.{view_of};
+ghost use Rattle.gix_ref_files.specs.Calls.{Unchanged};
+ghost use Rattle.gix_ref_theory.specs.OnRealTrees.{view_of};
 ghost use Rattle.gix_ref_store.specs.Lookup.{IsDecoded};
 
 use crate::file::loose::{Error, decode};
@@ -44,7 +44,7 @@ pub(crate) fn loose_at<F: Files>(
     ensures decoded { F.honest →
         IfOk result (IsDecoded kind (view_of (F.means files.old).tree place.now)) }
     ensures leaves { F.honest → Leaves (F.means files.old) (F.means files.new)
-        (Only (F.means files.old).tree) }
+        (Unchanged (F.means files.old).tree) }
     ensures count { F.faults files.new ≡ count_after result (F.faults files.old) }
 {
     let mut text = Vec::new(alloc);

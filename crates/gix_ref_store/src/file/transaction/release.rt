@@ -4,9 +4,9 @@ ghost use Rattle.std.specs.Vec.{vec_capacity};
 ghost use Rattle.std.specs.Bool.{OnFalse};
 ghost use Rattle.gix_ref_files.specs.Tree.{Path, is_file};
 ghost use Rattle.gix_ref_files.specs.Files.{Leaves, HasRisen};
-ghost use Rattle.gix_ref_store.specs.AddedLocks.{paths_of, RemovesLocks, is_in};
-ghost use Rattle.gix_ref_store.specs.Committed.{lock_at, stays_at};
-ghost use Rattle.gix_ref_store.specs.Taken.{lock_paths};
+ghost use Rattle.gix_ref_store.specs.OwnLocks.{paths_of, RemovesLocks, is_in};
+ghost use Rattle.gix_ref_store.specs.CommitRenames.{lock_at, stays_at};
+ghost use Rattle.gix_ref_store.specs.PrepareSteps.{lock_paths};
 
 use crate::file::transaction::commit::publish::writes;
 use crate::file::transaction::setting::Paths;

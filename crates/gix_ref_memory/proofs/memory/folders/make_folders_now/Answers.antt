@@ -2,7 +2,7 @@ use Rattle.std.proofs.Common.{◌≡◌, ◌≤◌, ◌∷◌, ◌++◌, [], tru
 use Rattle.gix_ref_files.specs.Tree.{Path, no_tree, fronts, with_folders}
 use Rattle.gix_ref_files.specs.Files.{Adds}
 use Rattle.gix_ref_files.specs.Calls.{is_in_the_way}
-use Rattle.gix_ref_memory.specs.Changes.{after, meaning_of, now_is_left, MakingFronts}
+use Rattle.gix_ref_memory.specs.Changes.{after, meaning_after, now_is_left, MakingFronts}
 use Rattle.gix_ref_files.proofs.PathFronts.{fronts_short}
 use Rattle.gix_ref_memory.proofs.MakingLemmas.{all_fronts, making_adds, way_adds}
 use Rattle.gix_ref_memory.proofs.memory.folders.make_folders_now.Goals as goal
@@ -11,7 +11,7 @@ pub returns-then-stands_in_the_way-clause-adds : goal.returns-then-stands_in_the
 returns-then-stands_in_the_way-clause-adds c =
     let old = c.args.changes.now.items in
     let way : is_in_the_way (after old no_tree) c.args.path.now ≡ true = search rules in
-    way_adds (meaning_of old) (meaning_of old) c.args.path.now way (λ t le. now_is_left old t no_tree)
+    way_adds (meaning_after old) (meaning_after old) c.args.path.now way (λ t le. now_is_left old t no_tree)
 
 pub returns-clause-answer : goal.returns-clause-answer
 returns-clause-answer c =
@@ -31,6 +31,6 @@ returns-clause-adds c =
     let enough : length (fronts folders) ≤ length folders = fronts_short folders in
     let given : c.deref-2.result.now ≡ folders = c.deref-2.ensures.value in
     let fits : length (fronts folders) ≤ c.len.result = omega (arith, enough, c.len.ensures) in
-    let adds = subst (λ (l : Path). Adds (meaning_of old) (meaning_of new) (MakingFronts (after old no_tree) (fronts l))) given
+    let adds = subst (λ (l : Path). Adds (meaning_after old) (meaning_after new) (MakingFronts (after old no_tree) (fronts l))) given
     (c.in_ok-make_fronts.ensures.adds (subst (λ (l : Path). length (fronts l) ≤ c.len.result) (sym given) fits)) in
-    making_adds (meaning_of old) (meaning_of new) folders c.args.path.now is (λ t le. c.make_fronts.ensures.leaves.keeps t (after old no_tree) le (now_is_left old t no_tree)) adds
+    making_adds (meaning_after old) (meaning_after new) folders c.args.path.now is (λ t le. c.make_fronts.ensures.leaves.keeps t (after old no_tree) le (now_is_left old t no_tree)) adds

@@ -1,8 +1,8 @@
 //! What a commit tells of renames that ended early.
 ghost use Rattle.std.specs.Prelude.{◌≡◌, ◌<◌, vec_len};
-ghost use Rattle.gix_ref_store.specs.Committed.{place_at};
-ghost use Rattle.gix_ref_store.specs.Committing.{TellsOf};
-ghost use Rattle.gix_ref_store.specs.Taken.{lock_paths};
+ghost use Rattle.gix_ref_store.specs.CommitRenames.{place_at};
+ghost use Rattle.gix_ref_store.specs.CommitResult.{SaysWhy};
+ghost use Rattle.gix_ref_store.specs.PrepareSteps.{lock_paths};
 
 use crate::file::transaction::commit::Error;
 use crate::file::transaction::setting::Paths;
@@ -29,7 +29,7 @@ pub(crate) fn failure(
     source: Option<FileError>,
 ) -> Error
     requires { at < vec_len edits }
-    ensures { TellsOf edits.items at place.items source result }
+    ensures { SaysWhy edits.items at place.items source result }
 {
     match source {
         None => Error::FolderInPlace { path: place },

@@ -4,8 +4,8 @@ ghost use Rattle.gix_ref_files.specs.Files.{Leaves};
 ghost use Rattle.gix_ref_files.specs.Steps.{IsAfter, IsLeftBy};
 ghost use Rattle.gix_ref_files.specs.Tree.{is_folder};
 ghost use Rattle.gix_ref_base.specs.Targets.{target_value};
-ghost use Rattle.gix_ref_store.specs.Committed.{writes as writes_it, rename_of, renames_of, place_at, IsRaised};
-ghost use Rattle.gix_ref_store.specs.Taken.{is_found};
+ghost use Rattle.gix_ref_store.specs.CommitRenames.{writes as writes_it, rename_of, renames_of, place_at, IsRaised};
+ghost use Rattle.gix_ref_store.specs.PrepareSteps.{is_found};
 ghost use Rattle.gix_ref_store.specs.Transactions.{matched};
 
 use crate::file::transaction::setting::Paths;

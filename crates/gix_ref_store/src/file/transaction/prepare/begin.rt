@@ -1,10 +1,10 @@
 //! The checks and locks of a transaction, from a store.
 ghost use Rattle.std.specs.Prelude.{◌≡◌, ◌≤◌, [], IfOk, IfErr, vec_len, length, map};
 ghost use Rattle.std.specs.Vec.{vec_capacity};
-ghost use Rattle.gix_ref_store.specs.AddedLocks.{paths_of};
+ghost use Rattle.gix_ref_store.specs.OwnLocks.{paths_of};
 ghost use Rattle.gix_ref_store.specs.Prepared.{IsOneUpdate, RefusesFrom, HoldsFrom};
 ghost use Rattle.gix_ref_store.specs.Store.{meaning_of};
-ghost use Rattle.gix_ref_store.specs.Taken.{value_of, lock_paths, place_paths, places_of};
+ghost use Rattle.gix_ref_store.specs.PrepareSteps.{value_of, lock_paths, place_paths, places_of};
 ghost use Rattle.gix_ref_store.specs.Causes.{locks_of};
 
 use crate::file::store::Store;

@@ -1,6 +1,6 @@
 //! Edits that carry what was found of them.
 ghost use Rattle.std.specs.Prelude.{◌≡◌, map, vec_len};
-ghost use Rattle.gix_ref_store.specs.Taken.{value_of};
+ghost use Rattle.gix_ref_store.specs.PrepareSteps.{value_of};
 ghost use Rattle.gix_ref_store.specs.Transactions.{IsCarried, AreCarried};
 
 use crate::transaction::{Change, PreviousValue, RefEdit};

@@ -3,7 +3,7 @@ ghost use Rattle.std.specs.Prelude.{◌≡◌, ◌↔◌, [], IsTrue, MatchResul
 ghost use Rattle.std.specs.Option.{option_map};
 ghost use Rattle.gix_ref_hash.specs.Ids.{id_kind, IsWhole};
 ghost use Rattle.gix_ref_base.specs.Targets.{target_ref_value};
-ghost use Rattle.gix_ref_store.specs.Causes.{IsSound, IsUnsound, AllSound, IsFirstUnsound, IsFullTarget, IsOfKind, IsWholeTarget, HasKind, IsInside};
+ghost use Rattle.gix_ref_store.specs.Causes.{IsValidEdit, IsInvalidEdit, AllValid, IsFirstInvalid, IsFullTarget, IsOfKind, IsWholeTarget, HasKind, IsNotIo};
 ghost use Rattle.gix_ref_base.specs.Locations.{is_safe};
 ghost use Rattle.gix_ref_store.specs.Transactions.{name_of, new_of};
 
@@ -52,8 +52,8 @@ fn has_kind(edit: &RefEdit, kind: Kind) -> bool
 }
 
 fn check_edit(edit: &RefEdit, kind: Kind) -> Result<(), Error>
-    ensures sound { MatchResult result (λ _. IsSound kind edit.now) (IsUnsound kind edit.now) }
-    ensures inside { IfErr result IsInside }
+    ensures sound { MatchResult result (λ _. IsValidEdit kind edit.now) (IsInvalidEdit kind edit.now) }
+    ensures inside { IfErr result IsNotIo }
 {
     if location_of(edit.name.as_ref()).is_none() {
         return Err(Error::UnsafeName);
@@ -69,9 +69,9 @@ fn check_edit(edit: &RefEdit, kind: Kind) -> Result<(), Error>
 
 /// Each edit by itself, in order, up to the first that is not sound.
 pub(crate) fn check_edits(edits: &[RefEdit], kind: Kind) -> Result<(), Error>
-    ensures sound { MatchResult result (λ _. AllSound kind [] edits.now)
-        (IsFirstUnsound kind [] edits.now) }
-    ensures inside { IfErr result IsInside }
+    ensures sound { MatchResult result (λ _. AllValid kind [] edits.now)
+        (IsFirstInvalid kind [] edits.now) }
+    ensures inside { IfErr result IsNotIo }
 {
     for edit in edits {
         check_edit(edit, kind)?;

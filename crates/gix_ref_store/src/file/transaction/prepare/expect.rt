@@ -3,7 +3,7 @@ ghost use Rattle.std.specs.Prelude.{◌≡◌, ◌≢◌, Some, None, MatchResul
 ghost use Rattle.gix_ref_base.specs.Targets.{target_value};
 ghost use Rattle.gix_ref_store.specs.Transactions.{Expects, expected_of, new_of, previous_of};
 ghost use Rattle.gix_ref_store.specs.Causes.{required, IsMismatch};
-ghost use Rattle.gix_ref_store.specs.Taken.{value_of};
+ghost use Rattle.gix_ref_store.specs.PrepareSteps.{value_of};
 ghost use Rattle.gix_ref_store.specs.declared.transaction.PreviousValue.TheVariants.{MustNotExist as must_not_exist};
 
 use crate::file::transaction::prepare::Error;

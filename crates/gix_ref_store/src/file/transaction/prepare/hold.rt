@@ -3,9 +3,9 @@ ghost use Rattle.std.specs.Prelude.{◌≡◌, ◌≤◌, ◌⊎◌, [], true, O
 ghost use Rattle.std.specs.Vec.{vec_capacity};
 ghost use Rattle.gix_ref_files.specs.Files.{Leaves, HasRisen};
 ghost use Rattle.gix_ref_files.specs.Tree.{Path};
-ghost use Rattle.gix_ref_store.specs.AddedLocks.{paths_of, is_in, AddsLocks};
-ghost use Rattle.gix_ref_store.specs.Causes.{AllSound, AreApart, IsAccepted, IsCounted, IsInside, IsFirstCause, IsFirstUnsound, NoCause, Refuses, locks_of};
-ghost use Rattle.gix_ref_store.specs.Taken.{setting_of, value_of, lock_paths, place_paths, places_of, HoldTexts, founds};
+ghost use Rattle.gix_ref_store.specs.OwnLocks.{paths_of, is_in, AddsLocks};
+ghost use Rattle.gix_ref_store.specs.Causes.{AllValid, LocksAreApart, IsAccepted, IsCounted, IsNotIo, IsFirstCause, IsFirstInvalid, NoCause, Refuses, locks_of};
+ghost use Rattle.gix_ref_store.specs.PrepareSteps.{setting_of, value_of, lock_paths, place_paths, places_of, HoldTexts, old_targets};
 ghost use Rattle.gix_ref_store.specs.Transactions.{AreUpdates};
 
 use crate::file::transaction::prepare::Error;
@@ -63,13 +63,13 @@ pub(crate) fn hold<F: Files>(
 ) -> Result<Taken, Untaken>
     requires locks { lock_paths paths.items ≡ locks_of (setting_of setting.now) edits.now }
     requires places { place_paths paths.items ≡ places_of (setting_of setting.now) edits.now }
-    requires apart { AreApart (setting_of setting.now) edits.now }
+    requires apart { LocksAreApart (setting_of setting.now) edits.now }
     requires updates { AreUpdates edits.now }
     requires room { vec_len paths ≤ vec_capacity left }
     requires none { left.items ≡ [] }
     ensures len { IfOk result (λ t. vec_len t.found ≡ length edits.now) }
     ensures found { F.honest →
-        IfOk result (λ t. map value_of t.found.items ≡ founds (setting_of setting.now)
+        IfOk result (λ t. map value_of t.found.items ≡ old_targets (setting_of setting.now)
         (F.means files.old).tree edits.now) }
     ensures paths { IfOk result (λ t. t.paths ≡ paths) }
     ensures left { IfOk result (λ t. t.left ≡ left) }

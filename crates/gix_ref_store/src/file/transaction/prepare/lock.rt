@@ -3,15 +3,15 @@ ghost use Rattle.std.specs.Prelude.{◌≡◌, ◌≤◌, ◌⊎◌, ℕ, List, 
 ghost use Rattle.gix_ref_files.specs.Tree.{Tree, Path, is_blocked, put};
 ghost use Rattle.gix_ref_files.specs.Tree.Content.{File};
 ghost use Rattle.gix_ref_files.specs.Files.{Leaves};
-ghost use Rattle.gix_ref_files.specs.Calls.{Only};
+ghost use Rattle.gix_ref_files.specs.Calls.{Unchanged};
 ghost use Rattle.gix_ref_base.specs.Targets.{target_value};
 ghost use Rattle.gix_ref_store.specs.StoreLayout.{namespace_text};
-ghost use Rattle.gix_ref_theory.specs.Views.{lock_of};
-ghost use Rattle.gix_ref_theory.specs.Carried.{view_of};
-ghost use Rattle.gix_ref_store.specs.AddedLocks.{AddsLocks};
-ghost use Rattle.gix_ref_store.specs.Causes.{found, IsCounted, IsInside, IsMismatch, IsOutside, locks_of};
+ghost use Rattle.gix_ref_files.specs.Lock.{lock_of};
+ghost use Rattle.gix_ref_theory.specs.OnRealTrees.{view_of};
+ghost use Rattle.gix_ref_store.specs.OwnLocks.{AddsLocks};
+ghost use Rattle.gix_ref_store.specs.Causes.{found, IsCounted, IsNotIo, IsMismatch, IsIoOrMemory, locks_of};
 ghost use Rattle.gix_ref_store.specs.Transactions.{name_of, expected_of, new_of, Expects};
-ghost use Rattle.gix_ref_store.specs.Taken.{setting_of, value_of, places_of, place_paths, lock_paths, lock_text, is_new, held_by, IsText, IsRefusedLock, IsNewLock, FillsLock};
+ghost use Rattle.gix_ref_store.specs.PrepareSteps.{setting_of, value_of, places_of, place_paths, lock_paths, lock_text, is_new, held_by, IsText, IsRefusedLock, IsNewLock, FillsLock};
 
 use crate::file::find::loose::{Loose, loose_at};
 use crate::file::find::strip;
@@ -64,7 +64,7 @@ pub(crate) fn paths_of_edits(
 fn standing(edit: &RefEdit) -> Error
     ensures told { (T : Tree) (lock : Path) → IsSome (T lock) →
         IsRefusedLock T (name_of edit.now) lock result }
-    ensures inside { IsInside result }
+    ensures inside { IsNotIo result }
 {
     match edit.name.clone() {
         Ok(full_name) => Error::LockAcquire { full_name },
@@ -76,7 +76,7 @@ fn standing(edit: &RefEdit) -> Error
 fn blocked(edit: &RefEdit) -> Error
     ensures told { (T : Tree) (lock : Path) → is_blocked T lock ≡ true →
         IsRefusedLock T (name_of edit.now) lock result }
-    ensures inside { IsInside result }
+    ensures inside { IsNotIo result }
 {
     match edit.name.clone() {
         Ok(full_name) => Error::PathCollision { full_name },
@@ -135,9 +135,9 @@ fn found_at<F: Files>(
     ensures found { F.honest → IfOk result (λ was. (name : List ℕ) →
         place.now ≡ (setting_of setting.now).place name →
         value_of was ≡ found (setting_of setting.now) (view_of (F.means files.old).tree) name) }
-    ensures outside { IfErr result IsOutside }
+    ensures outside { IfErr result IsIoOrMemory }
     ensures leaves { F.honest → Leaves (F.means files.old) (F.means files.new)
-        (Only (F.means files.old).tree) }
+        (Unchanged (F.means files.old).tree) }
     ensures no_fewer { F.faults files.old ≤ F.faults files.new }
     ensures counted { IfErr result (IsCounted (F.faults files.old) (F.faults files.new)) }
 {
@@ -177,7 +177,7 @@ fn fill<F: Files>(files: &mut F, lock: &[u8], text: &[u8]) -> Result<(), Error>
     ensures filled { F.honest → (F.means files.old).tree lock.now ≡ Some (File []) →
         OnOk result ((F.means files.new).tree ≡ put (F.means files.old).tree lock.now
         (Some (File text.now))) }
-    ensures outside { IfErr result IsOutside }
+    ensures outside { IfErr result IsIoOrMemory }
     ensures leaves { F.honest → (F.means files.old).tree lock.now ≡ Some (File []) →
         Leaves (F.means files.old) (F.means files.new) (FillsLock (F.means files.old).tree
         lock.now) }
@@ -211,7 +211,7 @@ pub(crate) fn settle<F: Files>(
         (lock_text edit.now.change
         (found (setting_of setting.now) (view_of (F.means files.old).tree) (name_of edit.now)))))) }
     ensures refused { F.honest →
-        IfErr result (λ error. IsOutside error ⊎ IsMismatch setting.now.kind edit.now
+        IfErr result (λ error. IsIoOrMemory error ⊎ IsMismatch setting.now.kind edit.now
         (found (setting_of setting.now) (view_of (F.means files.old).tree) (name_of edit.now))
         error) }
     ensures leaves { F.honest → (F.means files.old).tree paths.now.lock.items ≡ Some (File []) →

@@ -2,9 +2,9 @@
 ghost use Rattle.std.specs.Prelude.{◌≡◌, ◌≤◌, ◌⊎◌, [], ◌∷◌, OnOk, IfOk, IfErr, None, true, length, take, map, vec_len};
 ghost use Rattle.gix_ref_files.specs.Tree.{Path};
 ghost use Rattle.gix_ref_files.specs.Files.{Leaves};
-ghost use Rattle.gix_ref_store.specs.AddedLocks.{AddsLocks, is_in};
-ghost use Rattle.gix_ref_store.specs.Causes.{AreApart, IsCounted, NoCause, IsFirstCause, locks_of};
-ghost use Rattle.gix_ref_store.specs.Taken.{setting_of, value_of, lock_paths, place_paths, places_of, HoldTexts, founds};
+ghost use Rattle.gix_ref_store.specs.OwnLocks.{AddsLocks, is_in};
+ghost use Rattle.gix_ref_store.specs.Causes.{LocksAreApart, IsCounted, NoCause, IsFirstCause, locks_of};
+ghost use Rattle.gix_ref_store.specs.PrepareSteps.{setting_of, value_of, lock_paths, place_paths, places_of, HoldTexts, old_targets};
 ghost use Rattle.gix_ref_store.specs.Transactions.{AreUpdates};
 
 use crate::file::transaction::prepare::Error;
@@ -26,13 +26,13 @@ pub(crate) fn take_locks<F: Files>(
 ) -> Result<Vec<Option<Target>>, Error>
     requires locks { lock_paths paths.now ≡ locks_of (setting_of setting.now) edits.now }
     requires places { place_paths paths.now ≡ places_of (setting_of setting.now) edits.now }
-    requires apart { AreApart (setting_of setting.now) edits.now }
+    requires apart { LocksAreApart (setting_of setting.now) edits.now }
     requires updates { AreUpdates edits.now }
     requires none { taken.old ≡ 0 }
     ensures within { taken.new ≤ length edits.now }
     ensures len { IfOk result (λ was. vec_len was ≡ length edits.now) }
     ensures found { F.honest →
-        IfOk result (λ was. map value_of was.items ≡ founds (setting_of setting.now)
+        IfOk result (λ was. map value_of was.items ≡ old_targets (setting_of setting.now)
         (F.means files.old).tree edits.now) }
     ensures passed { F.honest →
         OnOk result (NoCause (setting_of setting.now) setting.now.kind (F.means files.old).tree []

@@ -1,7 +1,7 @@
 use Rattle.std.proofs.Common.{◌∙◌, subst}
 use Rattle.gix_ref_base.specs.Names.{full_ref_bytes}
 use Rattle.gix_ref_files.specs.Tree.{Path}
-use Rattle.gix_ref_theory.specs.Carried.{view_of}
+use Rattle.gix_ref_theory.specs.OnRealTrees.{view_of}
 use Rattle.gix_ref_store.specs.Store.{files_of, folders, kind_of}
 use Rattle.gix_ref_store.specs.Lookup.{IsDecoded}
 use Rattle.gix_ref_store.proofs.LookupLemmas.{if_ok, if_err, reads_by, fails_by}

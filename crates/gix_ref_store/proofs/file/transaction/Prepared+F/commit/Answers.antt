@@ -1,9 +1,9 @@
 use Rattle.std.proofs.Common.{◌≡◌, ◌<◌, inl, inr, true, [], length, refl, sym, subst, arith, vec_len}
 use Rattle.std.proofs.lemmas.List.{length-map}
 use Rattle.gix_ref_files.specs.Tree.{Path, is_folder}
-use Rattle.gix_ref_store.specs.AddedLocks.{is_in, paths_of}
-use Rattle.gix_ref_store.specs.Committed.{place_at}
-use Rattle.gix_ref_store.specs.Taken.{place_paths}
+use Rattle.gix_ref_store.specs.OwnLocks.{is_in, paths_of}
+use Rattle.gix_ref_store.specs.CommitRenames.{place_at}
+use Rattle.gix_ref_store.specs.PrepareSteps.{place_paths}
 use Rattle.gix_ref_store.proofs.Adds.{in_at}
 use Rattle.gix_ref_store.proofs.Commits.{with_files, well, committed, folder_stays, fails, raised_on}
 use Rattle.gix_ref_store.proofs.file.transaction.Prepared+F.commit.Goals as goal

@@ -3,10 +3,10 @@ use Rattle.std.specs.declared.alloc.Global.{Global}
 use Rattle.std.specs.Vec.{vec_capacity}
 use Rattle.gix_ref_files.specs.Files.{Leaves, HasRisen}
 use Rattle.gix_ref_files.specs.Tree.{Path, is_file}
-use Rattle.gix_ref_store.specs.AddedLocks.{paths_of, RemovesLocks, is_in}
+use Rattle.gix_ref_store.specs.OwnLocks.{paths_of, RemovesLocks, is_in}
 use Rattle.gix_ref_store.proofs.Adds.{clash}
-use Rattle.gix_ref_store.specs.Committed.{lock_at}
-use Rattle.gix_ref_store.specs.Taken.{lock_paths}
+use Rattle.gix_ref_store.specs.CommitRenames.{lock_at}
+use Rattle.gix_ref_store.specs.PrepareSteps.{lock_paths}
 use Rattle.gix_ref_store.specs.declared.file.transaction.setting.Paths.{Paths}
 use Rattle.gix_ref_store.proofs.Removing.{path_left, path_here, path_cases, leaves_then}
 use Rattle.gix_ref_store.proofs.Renames.{lock_there, lock_within, released}

@@ -2,9 +2,9 @@ use Rattle.std.proofs.Common.{◌≡◌, ◌≤◌, ◌<◌, ◌+◌, ◌⊎◌,
 use Rattle.std.specs.Vec.{vec_capacity}
 use Rattle.gix_ref_files.specs.Files.{Leaves, HasRisen}
 use Rattle.gix_ref_files.specs.Tree.{Path, is_file}
-use Rattle.gix_ref_store.specs.Committed.{lock_at, stays_at}
-use Rattle.gix_ref_store.specs.Taken.{lock_paths}
-use Rattle.gix_ref_store.specs.AddedLocks.{paths_of, RemovesLocks, is_in}
+use Rattle.gix_ref_store.specs.CommitRenames.{lock_at, stays_at}
+use Rattle.gix_ref_store.specs.PrepareSteps.{lock_paths}
+use Rattle.gix_ref_store.specs.OwnLocks.{paths_of, RemovesLocks, is_in}
 use Rattle.gix_ref_store.specs.declared.file.transaction.setting.Paths.{Paths}
 use Rattle.gix_ref_store.proofs.file.transaction.release.release_locks.Given as goal
 

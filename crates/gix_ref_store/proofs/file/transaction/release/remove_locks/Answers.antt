@@ -1,6 +1,6 @@
 use Rattle.std.proofs.Common.{◌≡◌, [], false, subst, sym, arith}
 use Rattle.gix_ref_files.specs.Tree.{Path, is_file}
-use Rattle.gix_ref_store.specs.AddedLocks.{paths_of, is_in}
+use Rattle.gix_ref_store.specs.OwnLocks.{paths_of, is_in}
 use Rattle.gix_ref_store.proofs.Renames.{lock_found, none_renamed}
 use Rattle.gix_ref_store.proofs.file.transaction.release.remove_locks.Goals as goal
 

@@ -4,7 +4,7 @@ use Rattle.gix_ref_files.specs.Steps.{Step, IsAfter, IsLeftBy}
 use Rattle.gix_ref_files.specs.Tree.{Path, is_folder}
 use Rattle.gix_ref_files.proofs.Moments.{starts, weaken, joins}
 use Rattle.gix_ref_files.proofs.Between.{none_begun}
-use Rattle.gix_ref_store.specs.Committed.{rename_of, renames_of, place_at}
+use Rattle.gix_ref_store.specs.CommitRenames.{rename_of, renames_of, place_at}
 use Rattle.gix_ref_store.specs.declared.file.transaction.setting.Paths.{Paths}
 use Rattle.gix_ref_store.proofs.Renames.{after_both, left_in_first, left_behind, split}
 use Rattle.gix_ref_store.proofs.file.transaction.commit.publish.publish.Goals as goal

@@ -2,7 +2,7 @@ use Rattle.std.proofs.Common.{◌≤◌, drop}
 use Rattle.gix_ref_files.specs.Files.{Leaves}
 use Rattle.gix_ref_files.specs.Tree.{Tree}
 use Rattle.gix_ref_files.specs.Steps.{IsAfter, IsLeftBy}
-use Rattle.gix_ref_store.specs.Committed.{renames_of}
+use Rattle.gix_ref_store.specs.CommitRenames.{renames_of}
 use Rattle.gix_ref_store.proofs.file.transaction.commit.publish.publish.Given as goal
 
 -- what the rest of the renames leads to, all of them lead to from where they began

@@ -1,6 +1,6 @@
 use Rattle.std.proofs.Common.{◌≡◌, ◌<◌, ◌≤◌, ℕ, None, get_or, vec_len}
 use Rattle.gix_ref_store.specs.Transactions.{IsCarried}
-use Rattle.gix_ref_store.specs.Taken.{value_of}
+use Rattle.gix_ref_store.specs.PrepareSteps.{value_of}
 use Rattle.gix_ref_store.specs.declared.transaction.RefEdit.{RefEdit}
 use Rattle.gix_ref_store.proofs.file.transaction.prepare.carry.carry_edits.Given as goal
 

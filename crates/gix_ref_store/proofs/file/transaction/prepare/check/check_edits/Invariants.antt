@@ -1,11 +1,11 @@
 use Rattle.std.proofs.Common.{[], take, drop}
-use Rattle.gix_ref_store.specs.Causes.{AllSound, IsFirstUnsound}
+use Rattle.gix_ref_store.specs.Causes.{AllValid, IsFirstInvalid}
 use Rattle.gix_ref_store.specs.declared.file.transaction.prepare.error.Error.{Error}
 use Rattle.gix_ref_store.proofs.file.transaction.prepare.check.check_edits.Given as goal
 
 -- what the rest of the edits tell is what all tell
 abbrev pub invariant-loop-edit : goal.invariant-loop-edit
 invariant-loop-edit l = record {
-  fault : (error : Error) → IsFirstUnsound l.kind (take l.edit-index l.edits) (drop l.edit-index l.edits) error → IsFirstUnsound l.kind [] l.edits error;
-  pass : AllSound l.kind (take l.edit-index l.edits) (drop l.edit-index l.edits) → AllSound l.kind [] l.edits;
+  fault : (error : Error) → IsFirstInvalid l.kind (take l.edit-index l.edits) (drop l.edit-index l.edits) error → IsFirstInvalid l.kind [] l.edits error;
+  pass : AllValid l.kind (take l.edit-index l.edits) (drop l.edit-index l.edits) → AllValid l.kind [] l.edits;
 }

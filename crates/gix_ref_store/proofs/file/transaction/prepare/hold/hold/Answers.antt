@@ -1,8 +1,8 @@
 use Rattle.std.proofs.Common.{◌≡◌, List, true, take, sym, ◌∙◌, ap, subst}
 use Rattle.gix_ref_files.specs.Tree.{Path}
-use Rattle.gix_ref_store.specs.AddedLocks.{paths_of, AddsLocks, is_in}
+use Rattle.gix_ref_store.specs.OwnLocks.{paths_of, AddsLocks, is_in}
 use Rattle.gix_ref_store.specs.Causes.{locks_of}
-use Rattle.gix_ref_store.specs.Taken.{setting_of, lock_paths}
+use Rattle.gix_ref_store.specs.PrepareSteps.{setting_of, lock_paths}
 use Rattle.gix_ref_store.proofs.Removing.{locks_front, cleaned, cleaning}
 use Rattle.gix_ref_store.proofs.Taking.{front_in}
 use Rattle.gix_ref_store.proofs.file.transaction.prepare.hold.hold.Goals as goal

@@ -1,6 +1,6 @@
 use Rattle.std.proofs.Common.{◌∙◌, subst}
 use Rattle.gix_ref_files.specs.Tree.{Path}
-use Rattle.gix_ref_theory.specs.Carried.{view_of}
+use Rattle.gix_ref_theory.specs.OnRealTrees.{view_of}
 use Rattle.gix_ref_store.specs.StoreLayout.{folders_of}
 use Rattle.gix_ref_store.specs.Lookup.{IsDecoded}
 use Rattle.gix_ref_store.proofs.LookupLemmas.{found_loose}

@@ -1,6 +1,6 @@
 use Rattle.std.proofs.Common.{◌≡◌, take, vec_len}
 use Rattle.gix_ref_store.specs.Causes.{locks_of}
-use Rattle.gix_ref_store.specs.Taken.{setting_of, places_of, place_paths, lock_paths}
+use Rattle.gix_ref_store.specs.PrepareSteps.{setting_of, places_of, place_paths, lock_paths}
 use Rattle.gix_ref_store.proofs.file.transaction.prepare.lock.paths_of_edits.Given as goal
 
 -- the paths of the edits that were seen

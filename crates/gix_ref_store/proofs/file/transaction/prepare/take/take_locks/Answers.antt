@@ -3,10 +3,10 @@ use Rattle.std.proofs.lemmas.List.{length-map}
 use Rattle.std.proofs.lemmas.Result.{err_from_is_err_and}
 use Rattle.gix_ref_files.specs.Files.{Leaves}
 use Rattle.gix_ref_files.specs.Tree.{Path}
-use Rattle.gix_ref_store.specs.AddedLocks.{AddsLocks}
-use Rattle.gix_ref_store.specs.Taken.{setting_of, IsNewLock, IsRefusedLock}
+use Rattle.gix_ref_store.specs.OwnLocks.{AddsLocks}
+use Rattle.gix_ref_store.specs.PrepareSteps.{setting_of, IsNewLock, IsRefusedLock}
 use Rattle.gix_ref_store.specs.Transactions.{name_of}
-use Rattle.gix_ref_theory.specs.Views.{lock_of}
+use Rattle.gix_ref_files.specs.Lock.{lock_of}
 use Rattle.gix_ref_store.specs.declared.file.transaction.prepare.error.Error.TheVariants.{Memory}
 use Rattle.gix_ref_store.proofs.Rounds.{lock_at, place_at, lock_refused, lock_still, lock_leaves, found_refused, free_then, adds_then_text, text_leaves, later_fault, all_pass, held_then, found_then}
 use Rattle.gix_ref_store.proofs.Taking.{Held}

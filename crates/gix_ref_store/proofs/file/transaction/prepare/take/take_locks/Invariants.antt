@@ -1,9 +1,9 @@
 use Rattle.std.proofs.Common.{◌≡◌, ◌≤◌, [], true, None, take, drop, map, vec_len}
 use Rattle.gix_ref_files.specs.Files.{Leaves}
 use Rattle.gix_ref_files.specs.Tree.{Path}
-use Rattle.gix_ref_store.specs.AddedLocks.{AddsLocks, is_in}
+use Rattle.gix_ref_store.specs.OwnLocks.{AddsLocks, is_in}
 use Rattle.gix_ref_store.specs.Causes.{NoCause, IsFirstCause, locks_of}
-use Rattle.gix_ref_store.specs.Taken.{setting_of, value_of, HoldTexts, founds}
+use Rattle.gix_ref_store.specs.PrepareSteps.{setting_of, value_of, HoldTexts, old_targets}
 use Rattle.gix_ref_store.specs.declared.file.transaction.prepare.error.Error.{Error}
 use Rattle.gix_ref_store.proofs.file.transaction.prepare.take.take_locks.Given as goal
 
@@ -22,7 +22,7 @@ invariant-loop-i g l =
       no_fewer : g.F.Files.faults l.fn.files ≤ g.F.Files.faults l.files;
       len : vec_len l.found ≡ l.i;
       counted : l.taken ≡ l.i;
-      found : g.F.Files.honest → map value_of l.found.items ≡ founds s first.tree seen;
+      found : g.F.Files.honest → map value_of l.found.items ≡ old_targets s first.tree seen;
       fault : g.F.Files.honest → (error : Error) → IsFirstCause s kind first.tree seen rest error → IsFirstCause s kind first.tree [] l.edits error;
       pass : g.F.Files.honest → NoCause s kind first.tree seen rest → NoCause s kind first.tree [] l.edits;
       adds : g.F.Files.honest → AddsLocks (locks_of s seen) all first.tree now.tree;

@@ -1,5 +1,5 @@
-use Rattle.gix_ref_theory.proofs.WorkedExample as example
-use Rattle.gix_ref_theory.proofs.theorems.worked_example.Goals as goal
+use Rattle.gix_ref_worked_example.proofs.WorkedExample as example
+use Rattle.gix_ref_worked_example.proofs.theorems.worked_example.Goals as goal
 
 pub returns-clause-prepared : goal.returns-clause-prepared
 returns-clause-prepared c = example.prepared

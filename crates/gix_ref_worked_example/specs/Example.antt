@@ -10,12 +10,12 @@ use Rattle.gix_ref_base.specs.Locations.{paths_at}
 use Rattle.gix_ref_files.specs.Tree.{Path}
 use Rattle.gix_ref_files.specs.Steps.{Step}
 use Rattle.gix_ref_files.specs.Steps.Step.{Append as AppendStep, Rename, RemoveFile, RemoveFolder}
-use Rattle.gix_ref_theory.specs.Carried.{CarryOut}
+use Rattle.gix_ref_theory.specs.OnRealTrees.{CarryOut}
 use Rattle.gix_ref_theory.specs.Views.{View, after, changed_at}
 use Rattle.gix_ref_theory.specs.Views.Write.{Put, Remove}
 use Rattle.gix_ref_theory.specs.Readings.{Store, Record, Reading, reading}
 use Rattle.gix_ref_theory.specs.Readings.Reading.{Is, Absent}
-use Rattle.gix_ref_theory.specs.Stores.{store_of, written_id, loose_text, packed_text}
+use Rattle.gix_ref_theory.specs.ConcreteStore.{store_of, written_id, loose_text, packed_text}
 use Rattle.gix_ref_theory.specs.Edits.{Edit, Mode}
 use Rattle.gix_ref_theory.specs.Edits.Change.{Update, Delete}
 use Rattle.gix_ref_theory.specs.Edits.Mode.{DeletionsOnly, PackingAndRemoving}

@@ -10,15 +10,15 @@ use Rattle.gix_ref_theory.proofs.Writes.{same, same_true, same_false}
 use Rattle.gix_ref_base.specs.Targets.{TargetValue}
 use Rattle.gix_ref_base.specs.Targets.TargetValue.{object_id, symbolic_name}
 use Rattle.gix_ref_theory.specs.Between.{AreEdits, InOrder, IsEdit, IsMerged, NoDeletionFirst}
-use Rattle.gix_ref_theory.specs.Carried.{CarryOut}
+use Rattle.gix_ref_theory.specs.OnRealTrees.{CarryOut}
 use Rattle.gix_ref_theory.specs.Edits.{Edit, edited_reading, file_of_records, merged_record}
 use Rattle.gix_ref_theory.specs.Edits.Change.{Delete, Update}
 use Rattle.gix_ref_theory.specs.Edits.Mode.{DeletionsOnly, PackingAndRemoving}
-use Rattle.gix_ref_theory.specs.Example.{ExampleIsPrepared, PackedFirstIsWrong, PackedTextsAreThese, PlacesInLinked, PlanIsFiveWrites, RemovedFirstIsWrong, RemovingModeShowsDeletionFirst, RemovingModeShowsOutOfOrder, ReverseIsWrong, Shows, StepsCarryOutThePlan, a_record, deletion, edits, files, files_after, files_with_locks, kept_records, locked, old_records, ones, packed_records, steps, store, twos, update}
+use Rattle.gix_ref_worked_example.specs.Example.{ExampleIsPrepared, PackedFirstIsWrong, PackedTextsAreThese, PlacesInLinked, PlanIsFiveWrites, RemovedFirstIsWrong, RemovingModeShowsDeletionFirst, RemovingModeShowsOutOfOrder, ReverseIsWrong, Shows, StepsCarryOutThePlan, a_record, deletion, edits, files, files_after, files_with_locks, kept_records, locked, old_records, ones, packed_records, steps, store, twos, update}
 use Rattle.gix_ref_theory.specs.Plan.{plan}
 use Rattle.gix_ref_theory.specs.Readings.{Reading, Record, reading, record_named, records_in}
 use Rattle.gix_ref_theory.specs.Readings.Reading.{Absent, Fault, Is}
-use Rattle.gix_ref_theory.specs.Stores.{below_folders, loose_text, packed_text}
+use Rattle.gix_ref_theory.specs.ConcreteStore.{below_folders, loose_text, packed_text}
 use Rattle.gix_ref_theory.specs.Views.{View, Write, after, changed_at}
 use Rattle.gix_ref_theory.specs.Views.Write.{Put, Remove}
 

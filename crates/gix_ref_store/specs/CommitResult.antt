@@ -3,16 +3,16 @@ use Rattle.std.specs.Prelude.{◌≡◌, ℕ, List, true, false, map, get_or, []
 use Rattle.gix_ref_base.specs.Names.{full_bytes}
 use Rattle.gix_ref_files.specs.Tree.{Tree, Path, is_file, is_folder}
 use Rattle.gix_ref_files.specs.Files.{Meaning, Leaves, HasRisen}
-use Rattle.gix_ref_store.specs.AddedLocks.{is_in, paths_of}
+use Rattle.gix_ref_store.specs.OwnLocks.{is_in, paths_of}
 use Rattle.gix_ref_theory.specs.Between.{IsCommitted}
-use Rattle.gix_ref_theory.specs.Carried.{view_of, IsLeftWell}
+use Rattle.gix_ref_theory.specs.OnRealTrees.{view_of, IsOldOrNewTree}
 use Rattle.gix_ref_store.specs.Causes.{locks_of}
 use Rattle.gix_ref_theory.specs.Edits as plan
 use Rattle.gix_ref_theory.specs.Edits.Mode.{DeletionsOnly}
 use Rattle.gix_ref_store.specs.Prepared.{IsOneUpdate, PreparesFrom, tree_of, locks_in}
 use Rattle.gix_ref_theory.specs.Readings as readings
 use Rattle.gix_ref_store.specs.Store.{files_of, meaning_of}
-use Rattle.gix_ref_store.specs.Taken.{place_paths, places_of}
+use Rattle.gix_ref_store.specs.PrepareSteps.{place_paths, places_of}
 use Rattle.gix_ref_store.specs.Transactions.{name_of, edit_of}
 use Rattle.gix_ref_theory.specs.Views.{IsOwnLock}
 use Rattle.gix_ref_store.specs.declared.transaction.RefEdit.{RefEdit}
@@ -37,8 +37,8 @@ AreCommitted s edits before left T =
 
 -- In T every reference reads as before or as edited, and every file is as before or as edited; one that is at no place and no lock of the
 -- edits is as before, and so is all that lies outside of the store's namespace.
-pub record AreLeftWell (s : readings.Store) (edits : List RefEdit) (before T : Tree) : Type 0 where
-  pub well : IsLeftWell s DeletionsOnly (places_of s edits) (planned edits) before T
+pub record IsOldOrNew (s : readings.Store) (edits : List RefEdit) (before T : Tree) : Type 0 where
+  pub well : IsOldOrNewTree s DeletionsOnly (places_of s edits) (planned edits) before T
   pub elsewhere : (q : Path) → is_in (places_of s edits) q ≡ false → is_in (locks_of s edits) q ≡ false → view_of T q ≡ view_of before q
 
 -- the names of edits
@@ -56,26 +56,26 @@ mode_of (Ok done) = done.packed_refs
 mode_of (Err failed) = failed.packed_refs
 
 -- what an error tells of the renames of these edits, where they ended at one of them, by this fault or by a folder at this place
-abbrev pub TellsOf : List RefEdit → (at : ℕ) → Path → Option FileError → Error → Type 0
-TellsOf edits at place None (FolderInPlace path) = path.items ≡ place
-TellsOf edits at place (Some fault) (LockCommit source name) = (source ≡ fault) × (full_bytes name ≡ get_or (names_of edits) at [])
-TellsOf edits at place fault error = ⊥
+abbrev pub SaysWhy : List RefEdit → (at : ℕ) → Path → Option FileError → Error → Type 0
+SaysWhy edits at place None (FolderInPlace path) = path.items ≡ place
+SaysWhy edits at place (Some fault) (LockCommit source name) = (source ≡ fault) × (full_bytes name ≡ get_or (names_of edits) at [])
+SaysWhy edits at place fault error = ⊥
 
 module _ {F : Type 0} (honest : Type 0) (means : F → Meaning) (faults : F → ℕ) where
   -- A commit, from the store `start` with these edits and paths of a `prepare` that began with the store `old`: every stop leaves each
   -- reference as before or as edited; of the locks only those stay that are named, and one is named only where a fault came.
-  pub record LeavesWell (old start new : Store F) (given : List RefEdit) (left : List Path) : Type 0 where
+  pub record EveryStopIsOldOrNew (old start new : Store F) (given : List RefEdit) (left : List Path) : Type 0 where
     -- the tree with which it begins, which a stop before its first change leaves
-    pub began : honest → AreLeftWell (meaning_of old) given (tree_of means old) (tree_of means start)
-    pub leaves : honest → Leaves (means (files_of start)) (means (files_of new)) (AreLeftWell (meaning_of old) given (tree_of means old))
+    pub began : honest → IsOldOrNew (meaning_of old) given (tree_of means old) (tree_of means start)
+    pub leaves : honest → Leaves (means (files_of start)) (means (files_of new)) (IsOldOrNew (meaning_of old) given (tree_of means old))
     pub gone : honest → (q : Path) → is_in (locks_in old given) q ≡ true → is_in left q ≡ false → is_file (tree_of means new q) ≡ false
     pub ours : (q : Path) → is_in left q ≡ true → is_in (locks_in old given) q ≡ true
 
   -- and so for every store and every update from which `prepare` gave these edits and paths
-  abbrev pub EndsFrom : (start new : Store F) → List RefEdit → List Paths → List Path → Type 0
-  EndsFrom start new edits paths left =
+  abbrev pub EveryStopFrom : (start new : Store F) → List RefEdit → List Paths → List Path → Type 0
+  EveryStopFrom start new edits paths left =
       (old : Store F) (given : List RefEdit) → IsOneUpdate given → PreparesFrom honest means faults old start given edits paths →
-      LeavesWell old start new given left
+      EveryStopIsOldOrNew old start new given left
 
   -- a commit that succeeds: the edits are committed
   abbrev pub CommitsFrom : (start new : Store F) → List RefEdit → List Paths → List Path → Type 0

@@ -2,18 +2,17 @@
 use Rattle.std.specs.Prelude.{◌≡◌, ◌⊎◌, ℕ, List, [], ◌∷◌, Bool, true, false, not, ◌&&◌, Option, Some, None, IsSome, map, if◌then◌else◌, Vec}
 use Rattle.std.specs.declared.alloc.Global.{Global}
 use Rattle.gix_ref_base.specs.Names.{full_bytes}
-use Rattle.gix_ref_base.specs.Targets.{TargetValue, target_value}
+use Rattle.gix_ref_base.specs.Targets.{TargetValue, target_value, stripped_target}
 use Rattle.gix_ref_base.specs.declared.target.Target.{Target}
 use Rattle.gix_ref_files.specs.Tree.{Tree, Path, is_blocked, put}
 use Rattle.gix_ref_files.specs.Tree.Content.{File}
-use Rattle.gix_ref_theory.specs.Views.{lock_of}
-use Rattle.gix_ref_theory.specs.Carried.{view_of}
+use Rattle.gix_ref_files.specs.Lock.{lock_of}
+use Rattle.gix_ref_theory.specs.OnRealTrees.{view_of}
 use Rattle.gix_ref_theory.specs.Edits.{is_same_id}
 use Rattle.gix_ref_theory.specs.Readings.{Store}
-use Rattle.gix_ref_theory.specs.Stores.{store_of, loose_text}
+use Rattle.gix_ref_theory.specs.ConcreteStore.{store_of, loose_text}
 use Rattle.gix_ref_store.specs.StoreLayout.{folders_of, loose_alone}
 use Rattle.gix_ref_store.specs.Causes.{found}
-use Rattle.gix_ref_store.specs.Lookup.{less_namespace}
 use Rattle.gix_ref_store.specs.Transactions.{name_of, new_of, mode_of, is_of_reference}
 use Rattle.gix_ref_base.specs.Targets.TargetValue.{object_id}
 use Rattle.gix_ref_store.specs.declared.transaction.Change.{Change}
@@ -36,7 +35,7 @@ value_of (Some target) = Some (target_value target)
 
 -- the target that a loose file holds, less the namespace
 abbrev pub held_by : List ℕ → Loose → Option TargetValue
-held_by namespace (loose_files.Holds target) = Some (less_namespace namespace (target_value target))
+held_by namespace (loose_files.Holds target) = Some (stripped_target namespace (target_value target))
 held_by namespace other = None
 
 -- the locks of some paths, and their places
@@ -69,8 +68,8 @@ abbrev pub FillsLock : Tree → Path → Tree → Type 0
 FillsLock before lock T = (T ≡ before) ⊎ ((text : List ℕ) × (T ≡ put before lock (Some (File text))))
 
 -- what is found of each edit
-abbrev pub founds : Store → Tree → List RefEdit → List (Option TargetValue)
-founds s T edits = map (λ (edit : RefEdit). found s (view_of T) (name_of edit)) edits
+abbrev pub old_targets : Store → Tree → List RefEdit → List (Option TargetValue)
+old_targets s T edits = map (λ (edit : RefEdit). found s (view_of T) (name_of edit)) edits
 
 -- the target that was found is this object
 abbrev pub is_found : Option TargetValue → TargetValue → Bool

@@ -61,7 +61,7 @@ pub record IsCommitRun (s : Store) (mode : Mode) (locked : List Path) (edits : L
   pub steps_are_planned : CarryOut locked (view_of start) steps (plan s mode (view_of start) edits merged)
 
 -- between, and in the keeping modes no deletion first and the updates in order
-pub record IsLeftWell (s : Store) (mode : Mode) (locked : List Path) (edits : List Edit) (before left : Tree) : Type 0 where
+pub record IsOldOrNewTree (s : Store) (mode : Mode) (locked : List Path) (edits : List Edit) (before left : Tree) : Type 0 where
   pub between : IsBetween s mode locked edits (view_of before) (view_of left)
   pub no_deletion_first : removes_packed mode ≡ false → NoDeletionFirst s edits (view_of before) (view_of left)
   pub in_order : removes_packed mode ≡ false → InOrder s edits (view_of before) (view_of left)
@@ -74,13 +74,13 @@ FoldersHoldNoFile = (before T : Tree) (path : Path) → Begins (MakeFolders path
 abbrev pub EveryTreeIsBetween : Type 0
 EveryTreeIsBetween =
     (s : Store) → HasLaws s → (mode : Mode) (locked : List Path) (edits : List Edit) (before start left : Tree) (steps : List Step) →
-    IsCommitRun s mode locked edits before start steps → IsLeftBySteps steps start left → IsLeftWell s mode locked edits before left
+    IsCommitRun s mode locked edits before start steps → IsLeftBySteps steps start left → IsOldOrNewTree s mode locked edits before left
 
 -- and the tree after a step that ended the run, as by a fault or a folder in place
 abbrev pub EveryEndIsBetween : Type 0
 EveryEndIsBetween =
     (s : Store) → HasLaws s → (mode : Mode) (locked : List Path) (edits : List Edit) (before start left : Tree) (steps : List Step) (at : ℕ) (cause : Cause) →
-    IsCommitRun s mode locked edits before start steps → EndsAt steps at cause start left → IsLeftWell s mode locked edits before left
+    IsCommitRun s mode locked edits before start steps → EndsAt steps at cause start left → IsOldOrNewTree s mode locked edits before left
 
 -- the tree after all steps is committed, where the locks but for those that stay are as they were before
 abbrev pub EveryWholeRunCommits : Type 0

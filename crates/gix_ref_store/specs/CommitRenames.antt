@@ -5,7 +5,7 @@ use Rattle.gix_ref_files.specs.Files.{HasRisen}
 use Rattle.gix_ref_files.specs.declared.files.FileError.{FileError}
 use Rattle.gix_ref_files.specs.Steps.{Step}
 use Rattle.gix_ref_files.specs.Steps.Step.{Rename}
-use Rattle.gix_ref_store.specs.Taken.{is_written, lock_paths, place_paths}
+use Rattle.gix_ref_store.specs.PrepareSteps.{is_written, lock_paths, place_paths}
 use Rattle.gix_ref_store.specs.Transactions.{expected_of, matched}
 use Rattle.gix_ref_store.specs.declared.transaction.Change.{Change}
 use Rattle.gix_ref_store.specs.declared.transaction.RefEdit.{RefEdit}
