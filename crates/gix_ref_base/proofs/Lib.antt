@@ -4,6 +4,7 @@ pub mod Expanding
 pub mod FrontLemmas
 pub mod LocationLemmas
 pub mod OneCategory
+pub mod PackedRecordLemmas
 pub mod PartialNames
 pub mod PlainNames
 pub mod RoundTrip

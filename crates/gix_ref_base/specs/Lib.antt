@@ -4,5 +4,6 @@ pub mod Locations
 pub mod NameGrammar
 pub mod Names
 pub mod Namespaces
+pub mod PackedRecords
 pub mod RefLayout
 pub mod Targets

@@ -11,9 +11,12 @@ use Rattle.gix_ref_base.specs.Layout.{Layout}
 use Rattle.gix_ref_theory.specs.Views.{View, Write, IsSameButLocks, file_bytes}
 use Rattle.gix_ref_files.specs.Lock.{lock_of}
 use Rattle.gix_ref_theory.specs.Views.Write.{Put}
-use Rattle.gix_ref_theory.specs.Readings.{Store, Record, reading, reading_of_loose, records_in, as_read}
+use Rattle.gix_ref_hash.specs.declared.hash.ObjectId.{ObjectId}
+use Rattle.gix_ref_base.specs.PackedRecords.{Record, id_read}
+use Rattle.gix_ref_base.proofs.PackedRecordLemmas.{written_is_read}
+use Rattle.gix_ref_theory.specs.Readings.{Store, reading, reading_of_loose, records_in, as_read}
 use Rattle.gix_ref_theory.specs.Readings.Reading.{Is, Fault, Absent}
-use Rattle.gix_ref_theory.specs.ConcreteStore.{store_of, below_folders, loose_text, is_composed}
+use Rattle.gix_ref_theory.specs.ConcreteStore.{store_of, below_folders, written_id, loose_text, is_composed}
 use Rattle.gix_ref_base.specs.Locations.{is_safe, paths_at}
 use Rattle.gix_ref_store.specs.StoreLayout.{loose_alone}
 use Rattle.gix_ref_store.specs.LooseText.{target_in}
@@ -148,6 +151,10 @@ module _ (f : Layout) (kind : Kind) where
   reads_back (object_id id) full of_kind whole = id_reads_back kind id of_kind whole
   reads_back (symbolic_name name) full of_kind whole = name_reads_back kind name full
 
+  -- the digits of its id are read as it
+  pub id_reads_as_written : (t : TargetValue) → IsWholeTarget (Some t) → (id : ObjectId) → t ≡ object_id id → id_read (written_id id) ≡ Some id
+  id_reads_as_written t whole id is = written_is_read id (subst (λ u. IsWholeTarget (Some u)) is whole)
+
   composes : (key : Option (List ℕ)) → is_composed (loose_alone kind) key ≡ true
   composes None = refl
   composes (Some key) = same_true key key refl
@@ -157,12 +164,13 @@ module _ (f : Layout) (kind : Kind) where
       ap (λ e. (is_none e && is_safe name) && is_composed (loose_alone kind) (paths_at f name).key) partial
       ∙ (ap (λ b. b && is_composed (loose_alone kind) (paths_at f name).key) safe ∙ composes (paths_at f name).key)
 
-  pub prepared : (view : View) (name : List ℕ) (r : Bool) (t : TargetValue) → s.is_reference name ≡ true → target_in kind (loose_text t) ≡ Some t →
+  pub prepared : (view : View) (name : List ℕ) (r : Bool) (t : TargetValue) → s.is_reference name ≡ true → target_in kind (loose_text t) ≡ Some t → ((id : ObjectId) → t ≡ object_id id → id_read (written_id id) ≡ Some id) →
       IsPrepared s DeletionsOnly view (edit_with name r (Update t) ∷ []) []
-  prepared view name r t is back = record {
+  prepared view name r t is back read = record {
     apart = (is, λ x h. absurd h, tt);
     allowed = λ x h. no_device (components (below_folders f (s.place x.name)));
     targets_read_back = λ x target h update. ⊎_elim (λ (here : edit_with name r (Update t) ≡ x). subst (λ u. target_in kind (loose_text u) ≡ Some u) (inner (ap (λ (y : Edit). y.change) here ∙ update)) back) (λ other. absurd other) h;
+    ids_read_back = λ x id h update. ⊎_elim (λ (here : edit_with name r (Update t) ≡ x). read id (inner (ap (λ (y : Edit). y.change) here ∙ update))) (λ other. absurd other) h;
     records_are_merged = λ alters. clash alters (alters_no name r t (records_in s (view s.packed_path)));
     records_read_back = λ alters. clash alters (alters_no name r t (records_in s (view s.packed_path)));
   }
@@ -177,14 +185,14 @@ module _ (f : Layout) (kind : Kind) where
   carries view place t false holds = refl
 
   pub run_is : (before start : Tree) (name : List ℕ) (r : Bool) (t : TargetValue) (written : Bool) → s.is_reference name ≡ true → target_in kind (loose_text t) ≡ Some t →
-      IsSameButLocks (s.place name ∷ []) (view_of before) (view_of start) →
+      ((id : ObjectId) → t ≡ object_id id → id_read (written_id id) ≡ Some id) → IsSameButLocks (s.place name ∷ []) (view_of before) (view_of start) →
       has_already (reading s (view_of start) name) t ≡ is_found (found s (view_of before) name) t →
       (r && not (is_found (found s (view_of before) name) t)) ≡ written →
       (written ≡ true → view_of start (lock_of (s.place name)) ≡ Some (loose_text t)) →
       IsCommitRun s DeletionsOnly (s.place name ∷ []) (edit_with name r (Update t) ∷ []) before start ((if written then Rename (lock_of (s.place name)) (s.place name) ∷ [] else []) ++ [])
-  run_is before start name r t written is back alike already writes holds = record {
+  run_is before start name r t written is back read alike already writes holds = record {
     merged = [];
-    prepared = prepared (view_of start) name r t is back;
+    prepared = prepared (view_of start) name r t is back read;
     locks = alike;
     steps_are_planned = subst (CarryOut (s.place name ∷ []) (view_of start) ((if written then Rename (lock_of (s.place name)) (s.place name) ∷ [] else []) ++ []))
         (sym (plan_is (view_of start) name r t written

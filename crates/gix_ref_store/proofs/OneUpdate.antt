@@ -32,7 +32,7 @@ use Rattle.gix_ref_store.specs.declared.transaction.RefEdit.{RefEdit}
 use Rattle.gix_ref_store.specs.declared.file.transaction.setting.Paths.{Paths}
 use Rattle.gix_ref_store.proofs.Adds.{clash, either_way, in_one, in_here, is_false, same_view}
 use Rattle.gix_ref_theory.proofs.Carrying.{after_alike, no_file}
-use Rattle.gix_ref_store.proofs.Committing.{edit_with, update_is, new_is, matched_is, already_is, is_reference, reads_back, run_is}
+use Rattle.gix_ref_store.proofs.Committing.{edit_with, update_is, new_is, matched_is, already_is, is_reference, reads_back, id_reads_as_written, run_is}
 use Rattle.gix_ref_theory.proofs.Headline as headline
 use Rattle.gix_ref_theory.proofs.Locks as locks
 use Rattle.gix_ref_store.proofs.OneEdit.{no_own_lock}
@@ -151,6 +151,7 @@ module _ (f : Layout) (kind : Kind) (laid : IsLayout f) (before : Tree) (first :
   sound : IsCommitRun s DeletionsOnly (place ∷ []) (edit_with (name_of e) r (Update t) ∷ []) before start ((if written then Rename lock place ∷ [] else []) ++ [])
   sound = run_is f kind before start (name_of e) r t written is_ref
       (reads_back f kind t (subst (λ n. IsFullTarget n) new_t ready.accepted.sound.0.target) (subst (λ n. IsOfKind kind n) new_t ready.accepted.sound.0.kinds.0) (subst (λ n. IsWholeTarget n) new_t ready.accepted.sound.0.whole))
+      (id_reads_as_written f kind t (subst (λ n. IsWholeTarget n) new_t ready.accepted.sound.0.whole))
       alike (already_is f kind (view_of before) (view_of start) (name_of e) t place_same) refl holds
 
   abbrev edits : List Edit

@@ -1,5 +1,6 @@
 -- Why `prepare` refuses edits: each cause as a statement on the tree before the call, and the order in which they are told.
 use Rattle.std.specs.Prelude.{◌≡◌, ◌≢◌, ◌⊎◌, ℕ, List, [], true, false, Option, Some, None, IsSome, map, All}
+use Rattle.std.specs.Option.{option_map}
 use Rattle.gix_ref_hash.specs.Ids.{id_kind, null_id, IsWhole}
 use Rattle.gix_ref_base.specs.NameGrammar.{IsFullName}
 use Rattle.gix_ref_base.specs.Names.{full_bytes}
@@ -13,7 +14,8 @@ use Rattle.gix_ref_files.specs.declared.files.FileError.TheVariants.{Device, Not
 use Rattle.gix_ref_theory.specs.Views.{View}
 use Rattle.gix_ref_files.specs.Lock.{lock_of}
 use Rattle.gix_ref_theory.specs.OnRealTrees.{view_of}
-use Rattle.gix_ref_theory.specs.Readings.{Store, Record, as_read, record_named, records_in}
+use Rattle.gix_ref_base.specs.PackedRecords.{Record, record_named, id_read}
+use Rattle.gix_ref_theory.specs.Readings.{Store, as_read, records_in}
 use Rattle.gix_ref_base.specs.Locations.{is_safe}
 use Rattle.gix_ref_store.specs.OwnLocks.{is_in}
 use Rattle.gix_ref_store.specs.First.{AllPass, FirstFault}
@@ -95,7 +97,7 @@ decoded s (Some bytes) = s.target_of bytes
 
 abbrev pub target_of_record : Option Record → Option TargetValue
 target_of_record None = None
-target_of_record (Some r) = Some (object_id r.target.id)
+target_of_record (Some r) = option_map object_id (id_read r.target)
 
 abbrev pub found_by : Store → Option (List ℕ) → Option TargetValue → List Record → Option TargetValue
 found_by s key (Some target) records = Some (as_read s target)

@@ -8,7 +8,8 @@ use Rattle.gix_ref_theory.specs.Between.{AreEdits, InOrder, IsBetween, IsCommitt
 use Rattle.gix_ref_theory.specs.Edits.{Edit, Mode, alters_packed, edited_reading, effect, effect_of_change, file_of_records}
 use Rattle.gix_ref_theory.specs.Edits.Effect.{Keeps}
 use Rattle.gix_ref_theory.specs.Plan.{file_writes, line_writes, log_removals, loose_removals, packed_writes, place_removal, place_writes, plan, updates}
-use Rattle.gix_ref_theory.specs.Readings.{HasLaws, Record, Store, reading, records_in}
+use Rattle.gix_ref_base.specs.PackedRecords.{Record}
+use Rattle.gix_ref_theory.specs.Readings.{HasLaws, Store, reading, records_in}
 use Rattle.gix_ref_theory.specs.Views.{IsOwnLock, IsSameButLocks, View}
 use Rattle.gix_ref_files.specs.Lock.{lock_of}
 
@@ -170,6 +171,7 @@ prepared_alike s laws mode locked edits merged left view alike p =
       apart = p.apart;
       allowed = p.allowed;
       targets_read_back = p.targets_read_back;
+      ids_read_back = p.ids_read_back;
       records_are_merged = subst (λ file. alters_packed s mode (records_in s file) edits ≡ true → IsMerged s mode edits (records_in s file) merged) packed p.records_are_merged;
       records_read_back = subst (λ file. alters_packed s mode (records_in s file) edits ≡ true → records_in s (file_of_records s merged) ≡ merged) packed p.records_read_back;
     }

@@ -12,7 +12,7 @@ use Rattle.std.proofs.lemmas.Map.Text.{is_eq-slice_cmp}
 use Rattle.std.proofs.lemmas.List.Elements.{All-head, All-tail}
 use Rattle.gix_ref_theory.proofs.Writes.{same, same_true}
 use Rattle.gix_ref_base.specs.Layout.{below}
-use Rattle.gix_ref_theory.specs.Readings.{Record, record_named}
+use Rattle.gix_ref_base.specs.PackedRecords.{Record, record_named}
 use Rattle.gix_ref_theory.specs.Theorems.{MergedRecordsAreOne}
 
 -- the name is below this one
@@ -28,14 +28,14 @@ below_rest r rs up k d lt = up 0 (suc k) d (omega arith) (omega arith)
 rest_ascends : (r : Record) (rs : List Record) → Ascends (r ∷ rs) → Ascends rs
 rest_ascends r rs up i j d lt le = up (suc i) (suc j) d (omega arith) (omega arith)
 
-apart_if_below : (name : List ℕ) (r : Record) → IsBelow name r → bytes_eq name r.name ≡ false
-apart_if_below name r h = sym (is_eq-slice_cmp name r.name) ∙ ap is_eq h
+apart_if_below : (name : List ℕ) (r : Record) → IsBelow name r → bytes_eq r.name name ≡ false
+apart_if_below name r h = sym (is_eq-slice_cmp r.name name) ∙ ap is_eq (nat_list_cmp_total.antisymm r.name name ∙ ap ordering_reverse h)
 
 -- a name below all has no record
 none_below : (name : List ℕ) (rs : List Record) → All (IsBelow name) rs → record_named name rs ≡ None
 none_below name [] h = refl
 none_below name (r ∷ rs) h =
-    cond-false (bytes_eq name r.name) (Some r) (record_named name rs) (apart_if_below name r (All-head (IsBelow name) r rs h))
+    cond-false (bytes_eq r.name name) (Some r) (record_named name rs) (apart_if_below name r (All-head (IsBelow name) r rs h))
     ∙ none_below name rs (All-tail (IsBelow name) r rs h)
 
 first_named : (r : Record) (rs : List Record) → record_named r.name (r ∷ rs) ≡ Some r
@@ -47,7 +47,7 @@ none_is_some r h = cc
 -- a first record that is below another's has no like there
 not_below : (x y : Record) (xs ys : List Record) → Ascends (y ∷ ys) → IsBelow x.name y → record_named x.name (x ∷ xs) ≡ record_named x.name (y ∷ ys) → ⊥
 not_below x y xs ys up below alike =
-    none_is_some x (sym (cond-false (bytes_eq x.name y.name) (Some y) (record_named x.name ys) (apart_if_below x.name y below) ∙ none_below x.name ys later) ∙ (sym alike ∙ first_named x xs))
+    none_is_some x (sym (cond-false (bytes_eq y.name x.name) (Some y) (record_named x.name ys) (apart_if_below x.name y below) ∙ none_below x.name ys later) ∙ (sym alike ∙ first_named x xs))
   where
     later : All (IsBelow x.name) ys
     later k d lt = nat_list_cmp_total.trans x.name y.name _ below (below_rest y ys up k d lt)
@@ -67,17 +67,17 @@ one_list (x ∷ xs) (y ∷ ys) up vp alike = by (slice_cmp nat_cmp x.name y.name
         let name_is : x.name ≡ y.name = same x.name y.name (sym (is_eq-slice_cmp x.name y.name) ∙ ap is_eq is) in
         let some : Some x ≡ Some y = sym (first_named x xs) ∙ (alike x.name ∙ (ap (λ n. record_named n (y ∷ ys)) name_is ∙ first_named y ys)) in
         let first : x ≡ y = cc in
-        ap (λ r. r ∷ xs) first ∙ ap (λ rs. y ∷ rs) (rest (λ name. behind name name_is (cases_Bool (bytes_eq name x.name))))
+        ap (λ r. r ∷ xs) first ∙ ap (λ rs. y ∷ rs) (rest (λ name. behind name name_is (cases_Bool (bytes_eq x.name name))))
       where
-        behind : (name : List ℕ) → x.name ≡ y.name → (bytes_eq name x.name ≡ true) ⊎ (bytes_eq name x.name ≡ false) → record_named name xs ≡ record_named name ys
+        behind : (name : List ℕ) → x.name ≡ y.name → (bytes_eq x.name name ≡ true) ⊎ (bytes_eq x.name name ≡ false) → record_named name xs ≡ record_named name ys
         behind name name_is (inl here) =
-            let is_x : name ≡ x.name = same name x.name here in
+            let is_x : name ≡ x.name = sym (same x.name name here) in
             ap (λ n. record_named n xs) is_x
             ∙ (none_below x.name xs (below_rest x xs up)
             ∙ (sym (none_below y.name ys (below_rest y ys vp)) ∙ ap (λ n. record_named n ys) (sym (is_x ∙ name_is))))
         behind name name_is (inr other) =
-            sym (cond-false (bytes_eq name x.name) (Some x) (record_named name xs) other)
-            ∙ (alike name ∙ cond-false (bytes_eq name y.name) (Some y) (record_named name ys) (ap (bytes_eq name) (sym name_is) ∙ other))
+            sym (cond-false (bytes_eq x.name name) (Some x) (record_named name xs) other)
+            ∙ (alike name ∙ cond-false (bytes_eq y.name name) (Some y) (record_named name ys) (ap (λ n. bytes_eq n name) (sym name_is) ∙ other))
 
 -- two lists of merged records are one
 pub merged_once : MergedRecordsAreOne

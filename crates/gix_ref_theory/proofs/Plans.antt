@@ -8,7 +8,8 @@ use Rattle.gix_ref_theory.specs.Edits.Change.{Delete, Update}
 use Rattle.gix_ref_theory.specs.Edits.Effect.{Keeps, Removes, Writes}
 use Rattle.gix_ref_base.specs.Layout.{below}
 use Rattle.gix_ref_theory.specs.Plan.{file_writes, line_writes, log_removal, log_removals, loose_removals, packed_writes, place_removal, place_writes, plan, updates}
-use Rattle.gix_ref_theory.specs.Readings.{Reading, Record, Store, records_in}
+use Rattle.gix_ref_base.specs.PackedRecords.{Record}
+use Rattle.gix_ref_theory.specs.Readings.{Reading, Store, records_in}
 use Rattle.gix_ref_theory.specs.Views.{View, Write}
 
 pub place_apart : (s : Store) (edits : List Edit) → AreEdits s edits → (e f : Edit) → IsEdit e edits → IsEdit f edits →

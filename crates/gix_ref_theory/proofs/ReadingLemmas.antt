@@ -10,7 +10,9 @@ use Rattle.gix_ref_theory.specs.Edits.{Change, Edit, Effect, Mode, alters_change
 use Rattle.gix_ref_theory.specs.Edits.Change.{Delete, Update}
 use Rattle.gix_ref_theory.specs.Edits.Mode.{DeletionsOnly, Packing, PackingAndRemoving}
 use Rattle.gix_ref_theory.specs.Edits.Effect.{Keeps, Removes, Writes}
-use Rattle.gix_ref_theory.specs.Readings.{Reading, Record, Store, as_read, reading, reading_by, reading_of_loose, reading_of_record, record_named, records_in}
+use Rattle.gix_ref_base.specs.PackedRecords.{Record, record_named, id_read}
+use Rattle.gix_ref_theory.specs.ConcreteStore.{written_id}
+use Rattle.gix_ref_theory.specs.Readings.{Reading, Store, as_read, reading, reading_by, reading_of_id, reading_of_loose, reading_of_record, records_in}
 use Rattle.gix_ref_theory.specs.Readings.Reading.{Absent, Fault, Is}
 use Rattle.gix_ref_theory.specs.Views.{View}
 
@@ -67,18 +69,22 @@ abbrev pub IsRecordAfter : Mode → Option (List ℕ) → Edit → Change → Li
 IsRecordAfter mode key e change old new =
     (k : List ℕ) → key ≡ Some k → record_named k new ≡ record_after mode k e change (record_named k old)
 
+-- the digits of the new id of an update are read as it
+abbrev pub ReadsBack : Change → Type 0
+ReadsBack change = (id : ObjectId) → change ≡ Update (object_id id) → id_read (written_id id) ≡ Some id
+
 -- a reference whose loose file the edit removes reads by the new records as edited
 pub removed : (s : Store) (mode : Mode) (key : Option (List ℕ)) (was : Reading) (e : Edit) (change : Change) (old new : List Record) →
-    IsRecordAfter mode key e change old new → effect_of_change s mode key was change ≡ Removes →
+    IsRecordAfter mode key e change old new → ReadsBack change → effect_of_change s mode key was change ≡ Removes →
     reading_by s key None new ≡ new_reading s change
-removed s mode None was e Delete old new fact h = refl
-removed s mode (Some k) was e Delete old new fact h = ap reading_of_record (fact k refl)
-removed s DeletionsOnly key was e (Update t) old new fact h = absurd (false≢true (update_removes s DeletionsOnly key was t h).0)
-removed s Packing key was e (Update t) old new fact h = absurd (false≢true (update_removes s Packing key was t h).0)
-removed s PackingAndRemoving None was e (Update t) old new fact h =
+removed s mode None was e Delete old new fact back h = refl
+removed s mode (Some k) was e Delete old new fact back h = ap reading_of_record (fact k refl)
+removed s DeletionsOnly key was e (Update t) old new fact back h = absurd (false≢true (update_removes s DeletionsOnly key was t h).0)
+removed s Packing key was e (Update t) old new fact back h = absurd (false≢true (update_removes s Packing key was t h).0)
+removed s PackingAndRemoving None was e (Update t) old new fact back h =
     absurd (false≢true (update_removes s PackingAndRemoving None was t h).1)
-removed s PackingAndRemoving (Some k) was e (Update (object_id id)) old new fact h = ap reading_of_record (fact k refl)
-removed s PackingAndRemoving (Some k) was e (Update (symbolic_name n)) old new fact h =
+removed s PackingAndRemoving (Some k) was e (Update (object_id id)) old new fact back h = ap reading_of_record (fact k refl) ∙ ap reading_of_id (back id refl)
+removed s PackingAndRemoving (Some k) was e (Update (symbolic_name n)) old new fact back h =
     absurd (false≢true (update_removes s PackingAndRemoving (Some k) was (symbolic_name n) h).1)
 
 no_record : (o : Option Record) → is_some o ≡ false → reading_of_record o ≡ Absent
@@ -117,17 +123,17 @@ left_alone s mode key was (Update t) h = already_is s was t (update_leaves s mod
 
 -- where the loose file is as before, the new records give the old reading or the edited one
 pub by_new_records : (s : Store) (mode : Mode) (key : Option (List ℕ)) (file : Option (List ℕ)) (e : Edit) (change : Change) (old new : List Record) →
-    IsRecordAfter mode key e change old new →
+    IsRecordAfter mode key e change old new → ReadsBack change →
     (reading_by s key file new ≡ reading_by s key file old) ⊎ (reading_by s key file new ≡ new_reading s change)
-by_new_records s mode key (Some bytes) e change old new fact = inl refl
-by_new_records s mode None None e change old new fact = inl refl
-by_new_records s mode (Some k) None e Delete old new fact = inr (ap reading_of_record (fact k refl))
-by_new_records s DeletionsOnly (Some k) None e (Update (object_id id)) old new fact = inl (ap reading_of_record (fact k refl))
-by_new_records s DeletionsOnly (Some k) None e (Update (symbolic_name n)) old new fact = inl (ap reading_of_record (fact k refl))
-by_new_records s Packing (Some k) None e (Update (object_id id)) old new fact = inr (ap reading_of_record (fact k refl))
-by_new_records s PackingAndRemoving (Some k) None e (Update (object_id id)) old new fact = inr (ap reading_of_record (fact k refl))
-by_new_records s Packing (Some k) None e (Update (symbolic_name n)) old new fact = inl (ap reading_of_record (fact k refl))
-by_new_records s PackingAndRemoving (Some k) None e (Update (symbolic_name n)) old new fact = inl (ap reading_of_record (fact k refl))
+by_new_records s mode key (Some bytes) e change old new fact back = inl refl
+by_new_records s mode None None e change old new fact back = inl refl
+by_new_records s mode (Some k) None e Delete old new fact back = inr (ap reading_of_record (fact k refl))
+by_new_records s DeletionsOnly (Some k) None e (Update (object_id id)) old new fact back = inl (ap reading_of_record (fact k refl))
+by_new_records s DeletionsOnly (Some k) None e (Update (symbolic_name n)) old new fact back = inl (ap reading_of_record (fact k refl))
+by_new_records s Packing (Some k) None e (Update (object_id id)) old new fact back = inr (ap reading_of_record (fact k refl) ∙ ap reading_of_id (back id refl))
+by_new_records s PackingAndRemoving (Some k) None e (Update (object_id id)) old new fact back = inr (ap reading_of_record (fact k refl) ∙ ap reading_of_id (back id refl))
+by_new_records s Packing (Some k) None e (Update (symbolic_name n)) old new fact back = inl (ap reading_of_record (fact k refl))
+by_new_records s PackingAndRemoving (Some k) None e (Update (symbolic_name n)) old new fact back = inl (ap reading_of_record (fact k refl))
 
 -- what a reference reads that is not prohibited
 pub reading-allowed : (s : Store) (view : View) (name : List ℕ) → s.is_prohibited (s.place name) ≡ false →

@@ -10,7 +10,8 @@ use Rattle.gix_ref_theory.specs.Edits.{Change, Edit, Effect, Mode, alters_change
 use Rattle.gix_ref_theory.specs.Edits.Change.{Delete, Update}
 use Rattle.gix_ref_theory.specs.Edits.Effect.{Keeps, Removes, Writes}
 use Rattle.gix_ref_theory.specs.Plan.{log_removals, loose_removals, packed_writes, plan, updates}
-use Rattle.gix_ref_theory.specs.Readings.{HasLaws, Reading, Record, Store, reading, reading_by, reading_of_record, record_named, records_in}
+use Rattle.gix_ref_base.specs.PackedRecords.{Record, record_named}
+use Rattle.gix_ref_theory.specs.Readings.{HasLaws, Reading, Store, reading, reading_by, reading_of_record, records_in}
 use Rattle.gix_ref_theory.specs.Readings.Reading.{Fault}
 use Rattle.gix_ref_theory.specs.Views.{View, Write}
 
@@ -180,7 +181,7 @@ module _ (s : Store) (laws : HasLaws s) (mode : Mode) (view : View) (edits : Lis
           reading s left e.name ≡ new_reading s e.change
       cases (inl k) alters =
           reading_left e he None merged gone (records_left true k)
-          ∙ removed s mode (s.key e.name) (reading s view e.name) e e.change (records_in s (view s.packed_path)) merged (fact k e he a) (sym (effect_is e a) ∙ w)
+          ∙ removed s mode (s.key e.name) (reading s view e.name) e e.change (records_in s (view s.packed_path)) merged (fact k e he a) (λ id c. p.ids_read_back e id he c) (sym (effect_is e a) ∙ w)
       cases (inr k) (inl alters) =
           absurd (false≢true (sym k ∙ removed_after_packed e he w d (alters_at s mode (records_in s (view s.packed_path)) edits e he a alters)))
       cases (inr k) (inr alters) =
@@ -198,7 +199,7 @@ module _ (s : Store) (laws : HasLaws s) (mode : Mode) (view : View) (edits : Lis
           let now = reading_left e he (view (s.place e.name)) merged kept (records_left true k) in
           inl (
             k,
-            elim (by_new_records s mode (s.key e.name) (view (s.place e.name)) e e.change (records_in s (view s.packed_path)) merged (fact k e he a)) [
+            elim (by_new_records s mode (s.key e.name) (view (s.place e.name)) e e.change (records_in s (view s.packed_path)) merged (fact k e he a) (λ id c. p.ids_read_back e id he c)) [
               | inl x ↦ inl (now ∙ (x ∙ sym (reading-allowed s view e.name (p.allowed e he))))
               | inr x ↦ inr (now ∙ x)
             ],

@@ -12,7 +12,8 @@ use Rattle.gix_ref_theory.specs.Edits.{Change, Edit, Effect, Mode, alters_packed
 use Rattle.gix_ref_theory.specs.Edits.Change.{Delete, Update}
 use Rattle.gix_ref_theory.specs.Edits.Effect.{Keeps, Removes, Writes}
 use Rattle.gix_ref_theory.specs.Plan.{log_removals, loose_removals, packed_writes, plan, updates}
-use Rattle.gix_ref_theory.specs.Readings.{HasLaws, Reading, Record, Store, reading, records_in}
+use Rattle.gix_ref_base.specs.PackedRecords.{Record}
+use Rattle.gix_ref_theory.specs.Readings.{HasLaws, Reading, Store, reading, records_in}
 use Rattle.gix_ref_theory.specs.Views.{IsSameView, View, after}
 
 abbrev all : (s : Store) (mode : Mode) (view : View) (edits : List Edit) (merged : List Record) (left : View) → IsSameView left (after (plan s mode view edits merged) view) →

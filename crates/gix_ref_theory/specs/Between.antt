@@ -6,7 +6,11 @@ use Rattle.std.specs.declared.cmp.Ordering.TheVariants.{Less}
 use Rattle.gix_ref_base.specs.Targets.{TargetValue}
 use Rattle.gix_ref_files.specs.Tree.{Path}
 use Rattle.gix_ref_theory.specs.Views.{View, file_bytes, IsOwnLock}
-use Rattle.gix_ref_theory.specs.Readings.{Store, Record, reading, record_named, records_in}
+use Rattle.gix_ref_hash.specs.declared.hash.ObjectId.{ObjectId}
+use Rattle.gix_ref_base.specs.Targets.TargetValue.{object_id}
+use Rattle.gix_ref_base.specs.PackedRecords.{Record, record_named, id_read}
+use Rattle.gix_ref_theory.specs.ConcreteStore.{written_id}
+use Rattle.gix_ref_theory.specs.Readings.{Store, reading, records_in}
 use Rattle.gix_ref_theory.specs.Edits.{Edit, Change, Mode, removes_packed, packs, merged_record, alters_packed, file_of_records, is_deletion, due, is_due, removes_log, edited_reading}
 use Rattle.gix_ref_theory.specs.Edits.Change.{Update, Delete}
 
@@ -34,6 +38,8 @@ pub record IsPrepared (s : Store) (mode : Mode) (view : View) (edits : List Edit
   pub allowed : (e : Edit) → IsEdit e edits → s.is_prohibited (s.place e.name) ≡ false
   -- a loose text that is written decodes to its target
   pub targets_read_back : (e : Edit) (target : TargetValue) → IsEdit e edits → e.change ≡ Update target → s.target_of (s.text_of target) ≡ Some target
+  -- the digits of a new id are read as it
+  pub ids_read_back : (e : Edit) (id : ObjectId) → IsEdit e edits → e.change ≡ Update (object_id id) → id_read (written_id id) ≡ Some id
   -- where `packed-refs` changes, there are merged records
   pub records_are_merged : alters_packed s mode (records_in s (view s.packed_path)) edits ≡ true → IsMerged s mode edits (records_in s (view s.packed_path)) merged
   -- and they decode to themselves when they are written

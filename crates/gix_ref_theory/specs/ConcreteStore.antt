@@ -1,6 +1,6 @@
 -- The store of real files: the places of the table, the texts that are written, and the options of its reading.
 use Rattle.std.specs.Prelude.{ℕ, List, [], ◌∷◌, ◌++◌, Option, Some, None, Bool, true, ◌&&◌, is_none, codes, nat_eq, bytes_eq, if◌then◌else◌}
-use Rattle.std.specs.List.{list_any, flat_map, starts_with}
+use Rattle.std.specs.List.{list_any, starts_with}
 use Rattle.std.specs.Option.{option_map}
 use Rattle.hex.specs.Hex.{encode_lower}
 use Rattle.gix_ref_hash.specs.declared.hash.ObjectId.{ObjectId}
@@ -8,34 +8,22 @@ use Rattle.gix_ref_hash.specs.Bytes.{components, without_front}
 use Rattle.gix_ref_hash.specs.Ids.{id_bytes}
 use Rattle.gix_ref_base.specs.NameGrammar.{partial_error}
 use Rattle.gix_ref_base.specs.Namespaces.{stripped}
+use Rattle.gix_ref_base.specs.PackedRecords.{Record, written_text}
 use Rattle.gix_ref_base.specs.Targets.{TargetValue}
 use Rattle.gix_ref_base.specs.Targets.TargetValue.{object_id, symbolic_name}
 use Rattle.gix_ref_files.specs.Tree.{Path}
 use Rattle.gix_ref_base.specs.Layout.{Layout, below, packed_refs}
 use Rattle.gix_ref_base.specs.Locations.{is_safe, paths_at}
-use Rattle.gix_ref_theory.specs.Readings.{Store, Record, SpelledId}
+use Rattle.gix_ref_theory.specs.Readings.{Store}
 
--- an id with the digits that it is written with
-abbrev pub written_id : ObjectId → SpelledId
-written_id id = record { id = id; digits = encode_lower (id_bytes id) }
+-- the hex digits with which an id is written
+abbrev pub written_id : ObjectId → List ℕ
+written_id id = encode_lower (id_bytes id)
 
 -- the text of a loose file: the digits of the id, or `ref: ` and the name, and LF
 abbrev pub loose_text : TargetValue → List ℕ
-loose_text (object_id id) = (written_id id).digits ++ 10 ∷ []
+loose_text (object_id id) = written_id id ++ 10 ∷ []
 loose_text (symbolic_name name) = codes "ref: " ++ (name ++ 10 ∷ [])
-
--- `^`, the digits of a peeled id and LF
-abbrev pub peeled_line : Option SpelledId → List ℕ
-peeled_line None = []
-peeled_line (Some peeled) = codes "^" ++ (peeled.digits ++ 10 ∷ [])
-
--- the digits of the id, a space, the name and LF; and the line of the peeled id
-abbrev pub record_lines : Record → List ℕ
-record_lines r = r.target.digits ++ (codes " " ++ (r.name ++ (10 ∷ peeled_line r.peeled)))
-
--- the text of `packed-refs`: the header and the records
-abbrev pub packed_text : List Record → List ℕ
-packed_text records = codes "# pack-refs with: peeled fully-peeled sorted " ++ (10 ∷ flat_map record_lines records)
 
 -- What a store reads and asks for beside its places.
 pub record Options : Type 0 where
@@ -72,5 +60,5 @@ store_of f o = record {
   target_of = o.target_of;
   text_of = loose_text;
   records_of = o.records_of;
-  text_of_records = packed_text;
+  text_of_records = written_text;
 }

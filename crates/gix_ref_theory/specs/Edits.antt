@@ -8,7 +8,8 @@ use Rattle.gix_ref_hash.specs.declared.hash.ObjectId.TheVariants.{Sha1, Sha256}
 use Rattle.gix_ref_base.specs.Targets.{TargetValue}
 use Rattle.gix_ref_base.specs.Targets.TargetValue.{object_id, symbolic_name}
 use Rattle.gix_ref_theory.specs.Views.{View, file_bytes}
-use Rattle.gix_ref_theory.specs.Readings.{Store, Record, Reading, reading, as_read, record_named}
+use Rattle.gix_ref_base.specs.PackedRecords.{Record, record_named}
+use Rattle.gix_ref_theory.specs.Readings.{Store, Reading, reading, as_read}
 use Rattle.gix_ref_theory.specs.Readings.Reading.{Is, Absent}
 use Rattle.gix_ref_theory.specs.ConcreteStore.{written_id}
 
@@ -90,7 +91,7 @@ abbrev pub record_after : Mode → List ℕ → Edit → Change → Option Recor
 record_after mode key e Delete old = None
 record_after mode key e (Update (symbolic_name name)) old = old
 record_after mode key e (Update (object_id id)) old =
-    if packs_updates mode then Some (record { name = key; target = written_id id; peeled = option_map written_id e.peeled }) else old
+    if packs_updates mode then Some (record { name = key; target = written_id id; object = option_map written_id e.peeled }) else old
 
 -- the key is there, and it is this one
 abbrev pub is_key : Option (List ℕ) → List ℕ → Bool

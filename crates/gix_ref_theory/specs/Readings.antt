@@ -1,22 +1,12 @@
 -- What a reference reads: by the file at its place, else by its record in `packed-refs`.
-use Rattle.std.specs.Prelude.{◌≡◌, ◌≢◌, ℕ, List, [], Option, Some, None, Bool, true, find, if◌then◌else◌, bytes_eq}
+use Rattle.std.specs.Prelude.{◌≡◌, ◌≢◌, ℕ, List, [], Option, Some, None, Bool, true, if◌then◌else◌}
 use Rattle.gix_ref_hash.specs.declared.hash.ObjectId.{ObjectId}
+use Rattle.gix_ref_base.specs.PackedRecords.{Record, record_named, id_read}
 use Rattle.gix_ref_base.specs.Targets.{TargetValue}
 use Rattle.gix_ref_base.specs.Targets.TargetValue.{object_id, symbolic_name}
 use Rattle.gix_ref_files.specs.Tree.{Path}
 use Rattle.gix_ref_theory.specs.Views.{View}
 use Rattle.gix_ref_files.specs.Lock.{lock_of}
-
--- An id of an object, with its hex digits as they are spelled.
-pub record SpelledId : Type 0 where
-  pub id : ObjectId
-  pub digits : List ℕ
-
--- A record of `packed-refs`: a name, its id, and the peeled id of a tag.
-pub record Record : Type 0 where
-  pub name : List ℕ
-  pub target : SpelledId
-  pub peeled : Option SpelledId
 
 -- Where a store keeps its names, and what the texts in its files say.
 pub record Store : Type 0 where
@@ -62,14 +52,14 @@ abbrev pub reading_of_loose : Store → Option TargetValue → Reading
 reading_of_loose s None = Fault
 reading_of_loose s (Some target) = Is (as_read s target)
 
--- a record says an object
+-- a record names an object; one whose id cannot be read is a fault
+abbrev pub reading_of_id : Option ObjectId → Reading
+reading_of_id None = Fault
+reading_of_id (Some id) = Is (object_id id)
+
 abbrev pub reading_of_record : Option Record → Reading
 reading_of_record None = Absent
-reading_of_record (Some r) = Is (object_id r.target.id)
-
--- the first record of a name
-abbrev pub record_named : List ℕ → List Record → Option Record
-record_named name records = find (λ (r : Record). bytes_eq name r.name) records
+reading_of_record (Some r) = reading_of_id (id_read r.target)
 
 -- the records of a file that may be missing
 abbrev pub records_in : Store → Option (List ℕ) → List Record

@@ -2,7 +2,7 @@
 use Rattle.std.proofs.Common.{◌≡◌, ◌≢◌, ℕ, List, [], ◌∷◌, Option, Some, None, Bool, true, false, refl, sym, ap, ◌∙◌, subst, inl, inr, bytes_eq, codes, cond, replicate, take, ◌⊎◌, arith}
 use Rattle.std.specs.List.{list_any}
 use Rattle.std.proofs.lemmas.Bool.{false≢true, cases_Bool, cond-false}
-use Rattle.hex.specs.Hex.{encode_with}
+use Rattle.hex.specs.Hex.{encode_with, decode_pairs}
 use Rattle.gix_ref_hash.specs.declared.hash.ObjectId.TheVariants.{Sha1, Sha256}
 use Rattle.gix_ref_hash.specs.Bytes.{without_front, components}
 use Rattle.gix_ref_base.specs.NameGrammar.{partial_error}
@@ -16,42 +16,44 @@ use Rattle.gix_ref_theory.specs.Edits.Change.{Delete, Update}
 use Rattle.gix_ref_theory.specs.Edits.Mode.{DeletionsOnly, PackingAndRemoving}
 use Rattle.gix_ref_worked_example.specs.Example.{ExampleIsPrepared, PackedFirstIsWrong, PackedTextsAreThese, PlacesInLinked, PlanIsFiveWrites, RemovedFirstIsWrong, RemovingModeShowsDeletionFirst, RemovingModeShowsOutOfOrder, ReverseIsWrong, Shows, StepsCarryOutThePlan, a_record, deletion, edits, files, files_after, files_with_locks, kept_records, locked, old_records, ones, packed_records, steps, store, twos, update}
 use Rattle.gix_ref_theory.specs.Plan.{plan}
-use Rattle.gix_ref_theory.specs.Readings.{Reading, Record, reading, record_named, records_in}
+use Rattle.gix_ref_base.specs.PackedRecords.{Record, record_named, written_text, id_read}
+use Rattle.gix_ref_hash.specs.declared.hash.ObjectId.{ObjectId}
+use Rattle.gix_ref_theory.specs.Readings.{Reading, reading, records_in}
 use Rattle.gix_ref_theory.specs.Readings.Reading.{Absent, Fault, Is}
-use Rattle.gix_ref_theory.specs.ConcreteStore.{below_folders, loose_text, packed_text}
+use Rattle.gix_ref_theory.specs.ConcreteStore.{below_folders, written_id, loose_text}
 use Rattle.gix_ref_theory.specs.Views.{View, Write, after, changed_at}
 use Rattle.gix_ref_theory.specs.Views.Write.{Put, Remove}
 
 pub five_writes : PlanIsFiveWrites
-unfolding encode_with without_front
+unfolding encode_with decode_pairs without_front
 five_writes = refl
 
 pub row0 : Shows 0 ones ones (Is (object_id ones))
-unfolding encode_with without_front
+unfolding encode_with decode_pairs without_front
 row0 = refl
 
 pub row1 : Shows 1 twos ones (Is (object_id ones))
-unfolding encode_with without_front
+unfolding encode_with decode_pairs without_front
 row1 = refl
 
 pub row2 : Shows 2 twos twos (Is (object_id ones))
-unfolding encode_with without_front
+unfolding encode_with decode_pairs without_front
 row2 = refl
 
 pub row3 : Shows 3 twos twos (Is (object_id ones))
-unfolding encode_with without_front
+unfolding encode_with decode_pairs without_front
 row3 = refl
 
 pub row4 : Shows 4 twos twos Absent
-unfolding encode_with without_front
+unfolding encode_with decode_pairs without_front
 row4 = refl
 
 pub row5 : Shows 5 twos twos Absent
-unfolding encode_with without_front
+unfolding encode_with decode_pairs without_front
 row5 = refl
 
 pub lengths : PackedTextsAreThese
-unfolding encode_with
+unfolding encode_with decode_pairs
 lengths = (refl, refl)
 
 abbrev a : List ℕ
@@ -81,15 +83,15 @@ edited_t : (old : Reading) → edited_reading store edits t old ≡ Absent
 edited_t old = refl
 
 a_before : reading store files a ≡ Is (object_id ones)
-unfolding encode_with without_front
+unfolding encode_with decode_pairs without_front
 a_before = refl
 
 b_before : reading store files b ≡ Is (object_id ones)
-unfolding encode_with without_front
+unfolding encode_with decode_pairs without_front
 b_before = refl
 
 t_before : reading store files t ≡ Is (object_id ones)
-unfolding encode_with without_front
+unfolding encode_with decode_pairs without_front
 t_before = refl
 
 -- a deletion that shows where a is as before
@@ -106,23 +108,23 @@ shows_late view left was old new h =
     (h (update a ∷ []) (update b) (deletion t ∷ []) refl refl refl (λ kept. differ (reading store view b) (reading store left b) (ap is_ones was) (ap is_ones new) (sym kept)) (update a) (inl refl) refl
     ∙ edited_a (reading store view a))
 
-packed_first_a : reading store (after (Put (codes "/r/packed-refs") (packed_text kept_records) ∷ []) files) a ≡ Is (object_id ones)
-unfolding encode_with without_front
+packed_first_a : reading store (after (Put (codes "/r/packed-refs") (written_text kept_records) ∷ []) files) a ≡ Is (object_id ones)
+unfolding encode_with decode_pairs without_front
 packed_first_a = refl
 
-packed_first_t : reading store (after (Put (codes "/r/packed-refs") (packed_text kept_records) ∷ []) files) t ≡ Absent
-unfolding encode_with without_front
+packed_first_t : reading store (after (Put (codes "/r/packed-refs") (written_text kept_records) ∷ []) files) t ≡ Absent
+unfolding encode_with decode_pairs without_front
 packed_first_t = refl
 
 pub packed_first : PackedFirstIsWrong
-packed_first = shows_first (after (Put (codes "/r/packed-refs") (packed_text kept_records) ∷ []) files) packed_first_a packed_first_t
+packed_first = shows_first (after (Put (codes "/r/packed-refs") (written_text kept_records) ∷ []) files) packed_first_a packed_first_t
 
 reverse_a : reading store (after (Put (codes "/r/refs/heads/b") (loose_text (object_id twos)) ∷ []) files) a ≡ Is (object_id ones)
-unfolding encode_with without_front
+unfolding encode_with decode_pairs without_front
 reverse_a = refl
 
 reverse_b : reading store (after (Put (codes "/r/refs/heads/b") (loose_text (object_id twos)) ∷ []) files) b ≡ Is (object_id twos)
-unfolding encode_with without_front
+unfolding encode_with decode_pairs without_front
 reverse_b = refl
 
 pub reverse : ReverseIsWrong
@@ -132,11 +134,11 @@ abbrev loose : View
 loose = changed_at (codes "/r/refs/tags/t") (Some (loose_text (object_id twos))) files
 
 loose_t : reading store loose t ≡ Is (object_id twos)
-unfolding encode_with without_front
+unfolding encode_with decode_pairs without_front
 loose_t = refl
 
 stale_t : reading store (after (Remove (codes "/r/refs/tags/t") ∷ []) loose) t ≡ Is (object_id ones)
-unfolding encode_with without_front
+unfolding encode_with decode_pairs without_front
 stale_t = refl
 
 pub removed_first : RemovedFirstIsWrong
@@ -146,11 +148,11 @@ removed_first (inr edited) =
     differ (reading store (after (Remove (codes "/r/refs/tags/t") ∷ []) loose) t) Absent (ap is_ones stale_t) refl (edited ∙ edited_t (reading store loose t))
 
 removing_a : reading store (files_after PackingAndRemoving packed_records 2) a ≡ Is (object_id ones)
-unfolding encode_with without_front
+unfolding encode_with decode_pairs without_front
 removing_a = refl
 
 removing_t : reading store (files_after PackingAndRemoving packed_records 2) t ≡ Absent
-unfolding encode_with without_front
+unfolding encode_with decode_pairs without_front
 removing_t = refl
 
 pub removing_mode : RemovingModeShowsDeletionFirst
@@ -163,15 +165,15 @@ abbrev bare_after : View
 bare_after = after (take 2 (plan store PackingAndRemoving bare edits packed_records)) bare
 
 bare_b : reading store bare b ≡ Absent
-unfolding encode_with without_front
+unfolding encode_with decode_pairs without_front
 bare_b = refl
 
 bare_after_a : reading store bare_after a ≡ Is (object_id ones)
-unfolding encode_with without_front
+unfolding encode_with decode_pairs without_front
 bare_after_a = refl
 
 bare_after_b : reading store bare_after b ≡ Is (object_id twos)
-unfolding encode_with without_front
+unfolding encode_with decode_pairs without_front
 bare_after_b = refl
 
 pub removing_order : RemovingModeShowsOutOfOrder
@@ -224,7 +226,7 @@ none_prohibited [] = refl
 none_prohibited (x ∷ parts) = none_prohibited parts
 
 twos_read_back : store.target_of (store.text_of (object_id twos)) ≡ Some (object_id twos)
-unfolding encode_with
+unfolding encode_with decode_pairs
 twos_read_back = refl
 
 read_back : (e : Edit) (target : TargetValue) → IsEdit e edits → e.change ≡ Update target → store.target_of (store.text_of target) ≡ Some target
@@ -243,11 +245,11 @@ read_back e target he is = by he
     by (inr (inr (inr h))) = absurd h
 
 records_before : records_in store (files store.packed_path) ≡ old_records
-unfolding encode_with without_front
+unfolding encode_with decode_pairs without_front
 records_before = refl
 
 records_back : records_in store (file_of_records store kept_records) ≡ kept_records
-unfolding encode_with
+unfolding encode_with decode_pairs
 records_back = refl
 
 keeps_old : (x y : Bool) (old : Option Record) → cond x old (cond y old old) ≡ old
@@ -266,18 +268,37 @@ merged = record {
     at_key key (inl is) =
         subst (λ k. record_named k kept_records ≡ merged_record store DeletionsOnly edits k (record_named k old_records)) (same t key is) refl
     at_key key (inr other) =
-        let not_t : bytes_eq key t ≡ false = same_false key t (λ e. false≢true (sym other ∙ same_true t key (sym e))) in
         let old : record_named key old_records ≡ record_named key kept_records =
-        cond-false (bytes_eq key t) (Some (a_record t ones)) (record_named key kept_records) not_t in
+        cond-false (bytes_eq t key) (Some (a_record t ones)) (record_named key kept_records) other in
         sym (ap (merged_record store DeletionsOnly edits key) old
         ∙ (ap (λ v. cond (bytes_eq a key) (record_named key kept_records) (cond (bytes_eq b key) (record_named key kept_records) (cond v None (record_named key kept_records)))) other
         ∙ keeps_old (bytes_eq a key) (bytes_eq b key) (record_named key kept_records)))
+
+twos_are_read : id_read (written_id twos) ≡ Some twos
+unfolding encode_with decode_pairs
+twos_are_read = refl
+
+ids_back : (e : Edit) (id : ObjectId) → IsEdit e edits → e.change ≡ Update (object_id id) → id_read (written_id id) ≡ Some id
+ids_back e id he is = by he
+  where
+    twos_is : Update (object_id twos) ≡ Update (object_id id) → twos ≡ id
+    twos_is h = cc
+
+    never : Delete ≡ Update (object_id id) → ⊥
+    never h = cc
+
+    by : IsEdit e edits → id_read (written_id id) ≡ Some id
+    by (inl h) = subst (λ x. id_read (written_id x) ≡ Some x) (twos_is (ap (λ (x : Edit). x.change) h ∙ is)) twos_are_read
+    by (inr (inl h)) = subst (λ x. id_read (written_id x) ≡ Some x) (twos_is (ap (λ (x : Edit). x.change) h ∙ is)) twos_are_read
+    by (inr (inr (inl h))) = absurd (never (ap (λ (x : Edit). x.change) h ∙ is))
+    by (inr (inr (inr h))) = absurd h
 
 pub prepared : ExampleIsPrepared
 prepared = record {
   apart = apart;
   allowed = λ e he. none_prohibited (components (below_folders (record { git = codes "/r"; common = codes "/r"; namespace = [] }) (store.place e.name)));
   targets_read_back = read_back;
+  ids_read_back = ids_back;
   records_are_merged = λ h. subst (λ old. IsMerged store DeletionsOnly edits old kept_records) (sym records_before) merged;
   records_read_back = λ h. records_back;
 }
@@ -291,7 +312,7 @@ abbrev last_write : List Write
 last_write = Remove (codes "/r/refs/tags/t") ∷ []
 
 abbrev last_two : List Write
-last_two = Put (codes "/r/packed-refs") (packed_text kept_records) ∷ last_write
+last_two = Put (codes "/r/packed-refs") (written_text kept_records) ∷ last_write
 
 abbrev last_three : List Write
 last_three = Remove (codes "/r/logs/refs/tags/t") ∷ last_two
@@ -303,7 +324,7 @@ abbrev all_five : List Write
 all_five = Put (codes "/r/refs/heads/a") (loose_text (object_id twos)) ∷ last_four
 
 plan_with_locks : plan store DeletionsOnly files_with_locks edits kept_records ≡ all_five
-unfolding encode_with without_front
+unfolding encode_with decode_pairs without_front
 plan_with_locks = refl
 
 five_carried : CarryOut locked files_with_locks steps all_five

@@ -13,9 +13,10 @@ use Rattle.gix_ref_files.specs.Steps.Step.{Append as AppendStep, Rename, RemoveF
 use Rattle.gix_ref_theory.specs.OnRealTrees.{CarryOut}
 use Rattle.gix_ref_theory.specs.Views.{View, after, changed_at}
 use Rattle.gix_ref_theory.specs.Views.Write.{Put, Remove}
-use Rattle.gix_ref_theory.specs.Readings.{Store, Record, Reading, reading}
+use Rattle.gix_ref_base.specs.PackedRecords.{Record, written_text}
+use Rattle.gix_ref_theory.specs.Readings.{Store, Reading, reading}
 use Rattle.gix_ref_theory.specs.Readings.Reading.{Is, Absent}
-use Rattle.gix_ref_theory.specs.ConcreteStore.{store_of, written_id, loose_text, packed_text}
+use Rattle.gix_ref_theory.specs.ConcreteStore.{store_of, written_id, loose_text}
 use Rattle.gix_ref_theory.specs.Edits.{Edit, Mode}
 use Rattle.gix_ref_theory.specs.Edits.Change.{Update, Delete}
 use Rattle.gix_ref_theory.specs.Edits.Mode.{DeletionsOnly, PackingAndRemoving}
@@ -32,7 +33,7 @@ twos = Sha1 (replicate 20 34)
 
 -- a record without a peeled id
 abbrev pub a_record : List ℕ → ObjectId → Record
-a_record name id = record { name = name; target = written_id id; peeled = None }
+a_record name id = record { name = name; target = written_id id; object = None }
 
 -- the records before
 abbrev pub old_records : List Record
@@ -56,9 +57,9 @@ target_in text =
 -- and of the packed ones
 abbrev pub records_of_text : List ℕ → List Record
 records_of_text text =
-    if bytes_eq text (packed_text old_records) then old_records
-    else if bytes_eq text (packed_text kept_records) then kept_records
-    else if bytes_eq text (packed_text packed_records) then packed_records
+    if bytes_eq text (written_text old_records) then old_records
+    else if bytes_eq text (written_text kept_records) then kept_records
+    else if bytes_eq text (written_text packed_records) then packed_records
     else []
 
 -- a store in the folder `/r`, without linked worktrees and namespace, with no name prohibited and none composed
@@ -72,7 +73,7 @@ abbrev pub files : View
 files path =
     if bytes_eq path (codes "/r/refs/heads/a") then Some (loose_text (object_id ones))
     else if bytes_eq path (codes "/r/refs/heads/b") then Some (loose_text (object_id ones))
-    else if bytes_eq path (codes "/r/packed-refs") then Some (packed_text old_records)
+    else if bytes_eq path (codes "/r/packed-refs") then Some (written_text old_records)
     else None
 
 -- an update to twos
@@ -104,7 +105,7 @@ abbrev pub PlanIsFiveWrites : Type 0
 PlanIsFiveWrites =
     plan store DeletionsOnly files edits kept_records
     ≡ Put (codes "/r/refs/heads/a") (loose_text (object_id twos)) ∷ Put (codes "/r/refs/heads/b") (loose_text (object_id twos))
-    ∷ Remove (codes "/r/logs/refs/tags/t") ∷ Put (codes "/r/packed-refs") (packed_text kept_records) ∷ Remove (codes "/r/refs/tags/t") ∷ []
+    ∷ Remove (codes "/r/logs/refs/tags/t") ∷ Put (codes "/r/packed-refs") (written_text kept_records) ∷ Remove (codes "/r/refs/tags/t") ∷ []
 
 -- after so many writes, a and b read these ids and t reads this; u is always as before
 abbrev pub Shows : ℕ → ObjectId → ObjectId → Reading → Type 0
@@ -120,11 +121,11 @@ FourRows =
 
 -- `packed-refs` goes from 152 bytes to 99
 abbrev pub PackedTextsAreThese : Type 0
-PackedTextsAreThese = (length (packed_text old_records) ≡ 152) × (length (packed_text kept_records) ≡ 99)
+PackedTextsAreThese = (length (written_text old_records) ≡ 152) × (length (written_text kept_records) ≡ 99)
 
 -- with `packed-refs` replaced before the updates, the deletion shows first
 abbrev pub PackedFirstIsWrong : Type 0
-PackedFirstIsWrong = NoDeletionFirst store edits files (after (Put (codes "/r/packed-refs") (packed_text kept_records) ∷ []) files) → ⊥
+PackedFirstIsWrong = NoDeletionFirst store edits files (after (Put (codes "/r/packed-refs") (written_text kept_records) ∷ []) files) → ⊥
 
 -- with the updates in reverse, the second shows first
 abbrev pub ReverseIsWrong : Type 0
@@ -165,7 +166,7 @@ steps =
     Rename (codes "/r/refs/heads/a.lock") (codes "/r/refs/heads/a")
     ∷ Rename (codes "/r/refs/heads/b.lock") (codes "/r/refs/heads/b")
     ∷ RemoveFile (codes "/r/logs/refs/tags/t")
-    ∷ AppendStep (codes "/r/packed-refs.lock") (packed_text kept_records)
+    ∷ AppendStep (codes "/r/packed-refs.lock") (written_text kept_records)
     ∷ Rename (codes "/r/packed-refs.lock") (codes "/r/packed-refs")
     ∷ RemoveFile (codes "/r/refs/tags/t")
     ∷ RemoveFile (codes "/r/refs/tags/t.lock")
