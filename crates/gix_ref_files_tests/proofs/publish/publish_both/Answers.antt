@@ -1,7 +1,7 @@
 use Rattle.std.proofs.Common.{refl}
 use Rattle.gix_ref_files.proofs.Moments.{weaken, stops_leave}
-use Rattle.gix_ref_tests.proofs.Order.{in_order, untouched}
-use Rattle.gix_ref_tests.proofs.publish.publish_both.Goals as goal
+use Rattle.gix_ref_files_tests.proofs.Order.{in_order, untouched}
+use Rattle.gix_ref_files_tests.proofs.publish.publish_both.Goals as goal
 
 pub returns-clause-stops : goal.returns-clause-stops
 returns-clause-stops g c h =

@@ -2,7 +2,7 @@
 //! new, and the second new only if the first is.
 ghost use Rattle.std.specs.Prelude.{◌≡◌};
 ghost use Rattle.gix_ref_files.specs.Files.{StopsLeave};
-ghost use Rattle.gix_ref_tests.specs.Publish.{InOrder, AreApart};
+ghost use Rattle.gix_ref_files_tests.specs.Publish.{InOrder, AreApart};
 
 use gix_ref_files::files::Files;
 use gix_ref_files::steps::{Action, Ended, Planned, run_steps};

@@ -2,7 +2,7 @@
 use Rattle.std.proofs.Common.{◌≡◌, ◌≢◌, ◌⊎◌, inl, inr, [], ◌∷◌, refl, sym, ◌∙◌, ap}
 use Rattle.gix_ref_files.specs.Tree.{Tree, Path, moved}
 use Rattle.gix_ref_files.specs.Steps.{Rename, IsLeftBy}
-use Rattle.gix_ref_tests.specs.Publish.{IsOld, IsNew, InOrder, AreApart}
+use Rattle.gix_ref_files_tests.specs.Publish.{IsOld, IsNew, InOrder, AreApart}
 use Rattle.gix_ref_files.proofs.Puts.{moved_to, moved_other}
 
 module _ (first_lock first second_lock second : Path) (apart : AreApart first_lock first second_lock second) (before : Tree) where
