@@ -4,5 +4,6 @@ pub mod Locations
 pub mod NameGrammar
 pub mod Names
 pub mod Namespaces
+pub mod Orders
 pub mod RefLayout
 pub mod Targets

@@ -2,6 +2,7 @@ pub mod BackwardSteps
 pub mod DigitLanes
 pub mod FirstLines
 pub mod LastLines
+pub mod LineEquality
 pub mod LineIds
 pub mod LineLemmas
 pub mod LinesAgain

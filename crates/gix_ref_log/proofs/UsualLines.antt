@@ -13,7 +13,7 @@ use Rattle.gix_ref_log.specs.LogCuts.{log_lines}
 use Rattle.gix_ref_log.specs.LogIds.{IdFront}
 use Rattle.gix_ref_log.specs.LogLines.{IsLine}
 use Rattle.gix_ref_log.proofs.FirstLines.{first_of_lines}
-use Rattle.gix_ref_log.proofs.LineIds.{id_text, no_byte_in_id}
+use Rattle.gix_ref_hash.proofs.IdDigits.{id_text, no_byte_in_id}
 
 by : (A : Type 0) → A → A
 by A a = a

@@ -6,4 +6,5 @@ pub mod LogLines
 pub mod LogStages
 pub mod LogUsual
 pub mod LogWindows
+pub mod Orders
 pub mod Signatures

@@ -11,15 +11,15 @@ ghost use Rattle.gix_ref_log.specs.LogItems.{Gives, LineGives, IsRun, EndsAtErro
 ghost use Rattle.gix_ref_log.specs.declared.log.line.Line.{Line};
 ghost use Rattle.gix_ref_log.specs.declared.log.iter.error.ReverseError.{ReverseError};
 
+use super::decode;
+use super::error::{EmptyBuffer, ReverseError};
+use super::stage::{Stage, lesser, stage_after, without_return};
+use super::usual::usual_text;
 use crate::log::line::decode::decoded_line;
 use crate::log::line::{Line, LineRef};
 use gix_ref_files::files::{FileError, ReadAt};
 use gix_ref_hash::bytes::last_place;
 use std::alloc::Global;
-use super::decode;
-use super::error::{EmptyBuffer, ReverseError};
-use super::stage::{Stage, lesser, stage_after, without_return};
-use super::usual::usual_text;
 
 /// The lines of a log, newest first.
 ///

@@ -5,12 +5,12 @@ ghost use Rattle.std.specs.Prelude.{◌≡◌, ◌∷◌, ◌+◌, ◌<◌, ◌^
 ghost use Rattle.gix_ref_hash.specs.Bytes.{NoByte};
 ghost use Rattle.gix_ref_log.specs.LogCuts.{log_lines};
 
-use crate::log::line::decode::decoded_line;
-use crate::log::line::LineRef;
-use gix_ref_hash::bytes::cut;
 use super::decode::{Error, LineNumber};
 use super::stage::without_return;
 use super::usual::usual_line;
+use crate::log::line::LineRef;
+use crate::log::line::decode::decoded_line;
+use gix_ref_hash::bytes::cut;
 
 /// The lines of a log, oldest first.
 #[derive(Drop)]

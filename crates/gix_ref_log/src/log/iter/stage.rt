@@ -3,8 +3,8 @@ ghost use Rattle.std.specs.Prelude.{◌≡◌, min};
 ghost use Rattle.gix_ref_hash.specs.Bytes.{NoByte};
 ghost use Rattle.gix_ref_log.specs.LogStages.{text_of_line, stage_of};
 
-use crate::log::line::Line;
 use super::error::ReverseError;
+use crate::log::line::Line;
 
 /// Where the iterator is.
 #[derive(Clone, Copy, PartialEq, Eq, Debug)]

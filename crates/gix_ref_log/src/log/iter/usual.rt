@@ -5,11 +5,11 @@ ghost use Rattle.gix_ref_log.specs.LogIds.{IdFront};
 ghost use Rattle.gix_ref_log.specs.LogLines.{IsLine, line_ref_parts};
 ghost use Rattle.gix_ref_log.specs.LogUsual.{BeginsWithLine};
 
+use super::stage::without_return;
 use crate::actor::SignatureRef;
 use crate::log::line::LineRef;
 use gix_ref_hash::bytes::{cut, some_first_break};
 use gix_ref_hash::hash::are_hex;
-use super::stage::without_return;
 
 /// The ids of a SHA-1 at the front, and what follows the space behind them. `None` tells nothing.
 #[inline(always)]

@@ -4,11 +4,11 @@ ghost use Rattle.gix_ref_hash.specs.Bytes.{NoByte};
 ghost use Rattle.gix_ref_log.specs.LogIds.{IdFront, IsIdPlace};
 ghost use Rattle.gix_ref_log.specs.LogLines.{IsLine, NoLine, IsFirstLine, CutsOrAll, line_ref_parts};
 
-use bstr::BStr;
+use super::LineRef;
 use crate::actor::SignatureRef;
+use bstr::BStr;
 use gix_ref_hash::bytes::cut;
 use gix_ref_hash::hash::are_hex;
-use super::LineRef;
 use thiserror::Error;
 
 /// The bytes are no line of a reflog.
