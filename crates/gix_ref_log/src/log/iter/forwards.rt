@@ -15,8 +15,8 @@ use gix_ref_hash::bytes::cut;
 /// The lines of a log, oldest first.
 #[derive(Drop)]
 pub struct Forward<'a> {
-    rest: &'a [u8],
-    count: u64,
+    pub(super) rest: &'a [u8],
+    pub(super) count: u64,
     ghost counts: { count + length rest.now < 2 ^ 64 },
 }
 
@@ -31,20 +31,6 @@ fn first_line(log: &[u8]) -> (&[u8], &[u8])
     match cut(log, b'\n') {
         Some((line, rest)) => (without_return(line, true), rest),
         None => (log, &[]),
-    }
-}
-
-impl<'a> Forward<'a> {
-    ghost use Rattle.gix_ref_log.specs.LogItems.{IsForwardRun};
-    ghost use Rattle.gix_ref_log.specs.LogForward.{ForwardStep};
-
-    pub(crate) fn new(log: &'a [u8]) -> Forward<'a>
-        ensures { EachRunFrom ForwardStep result (λ run. IsForwardRun (run.whole ≡ true) 1 (log_lines log.now) run.items) }
-    {
-        Forward {
-            rest: log,
-            count: 0,
-        }
     }
 }
 

@@ -1,5 +1,5 @@
 //! Small parts of reading a log from its end.
-ghost use Rattle.std.specs.Prelude.{◌≡◌, min};
+ghost use Rattle.std.specs.Prelude.{◌≡◌};
 ghost use Rattle.gix_ref_hash.specs.Bytes.{NoByte};
 ghost use Rattle.gix_ref_log.specs.LogStages.{text_of_line, stage_of};
 
@@ -15,14 +15,6 @@ pub enum Stage {
     Reading,
     /// The end.
     Done,
-}
-
-/// The lesser of two lengths.
-#[inline(always)]
-pub fn lesser(a: u64, b: usize) -> usize
-    ensures { result ≡ min a b }
-{
-    if a < b as u64 { a as usize } else { b }
 }
 
 /// A line less the CR before its LF.
