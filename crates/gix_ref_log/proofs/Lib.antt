@@ -1,5 +1,6 @@
 pub mod BackwardSteps
 pub mod DigitLanes
+pub mod FastLines
 pub mod FirstLines
 pub mod LastLines
 pub mod LineEquality
@@ -12,5 +13,5 @@ pub mod SignatureLemmas
 pub mod SignaturesAgain
 pub mod StampNumbers
 pub mod Stamps
-pub mod UsualLines
+pub mod TextLines
 pub mod WindowLemmas

@@ -12,9 +12,9 @@ ghost use Rattle.gix_ref_log.specs.declared.log.iter.error.ReverseError.{Reverse
 mod backward;
 pub mod decode;
 mod error;
+mod fast;
 mod forwards;
 mod stage;
-mod usual;
 
 pub use backward::Reverse;
 pub use error::{EmptyBuffer, ReverseError};

@@ -13,10 +13,11 @@ ghost use Rattle.gix_ref_log.specs.declared.log.iter.error.ReverseError.{Reverse
 
 use super::decode;
 use super::error::{EmptyBuffer, ReverseError};
-use super::stage::{Stage, stage_after, without_return};
-use super::usual::usual_text;
-use crate::log::line::decode::decoded_line;
+use super::stage::{Stage, stage_after};
+use super::fast::fast_decode;
+use crate::log::line::decode::decode_line;
 use crate::log::line::{Line, LineRef};
+use crate::log::lines::strip_cr;
 use gix_ref_files::files::{FileError, ReadAt};
 use gix_ref_hash::bytes::last_place;
 use std::alloc::Global;
@@ -55,7 +56,7 @@ fn line_of(alloc: Global, text: &[u8], number: u64) -> Result<Line, ReverseError
     requires { NoByte 10 text.now }
     ensures { LineGives number text.now result }
 {
-    match decoded_line(text) {
+    match decode_line(text) {
         Some(line) => owned(alloc, &line),
         None => Err(ReverseError::Decode(decode::Error {
             line: decode::LineNumber::FromEnd(number),
@@ -137,15 +138,15 @@ impl<'a, F: ReadAt> Reverse<'a, F> {
         Ok(self.last_feed())
     }
 
-    /// The line that the window holds from a place on. One that is as most are takes the short way.
+    /// The line that the window holds from a place on. One of the common form takes the fast path.
     #[inline(always)]
     fn line_at(&self, start: usize, ends: bool) -> Result<Line, ReverseError>
         requires within { start ≤ self.now.end }
         requires one_line { NoByte 10 (slice_range self.now.buf.now start self.now.end) }
         ensures { LineGives self.now.number (text_of_line ends (slice_range self.now.buf.now start self.now.end)) result }
     {
-        let text = without_return(&self.buf[start..self.end], ends);
-        match usual_text(text) {
+        let text = strip_cr(&self.buf[start..self.end], ends);
+        match fast_decode(text) {
             Some(line) => owned(self.alloc, &line),
             None => line_of(self.alloc, text, self.number),
         }

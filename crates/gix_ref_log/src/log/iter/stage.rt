@@ -1,7 +1,6 @@
-//! Small parts of reading a log from its end.
+//! Where the reading of a log from its end is.
 ghost use Rattle.std.specs.Prelude.{◌≡◌};
-ghost use Rattle.gix_ref_hash.specs.Bytes.{NoByte};
-ghost use Rattle.gix_ref_log.specs.LogStages.{text_of_line, stage_of};
+ghost use Rattle.gix_ref_log.specs.LogStages.{stage_of};
 
 use super::error::ReverseError;
 use crate::log::line::Line;
@@ -15,19 +14,6 @@ pub enum Stage {
     Reading,
     /// The end.
     Done,
-}
-
-/// A line less the CR before its LF.
-#[inline(always)]
-pub fn without_return(text: &[u8], ends: bool) -> &[u8]
-    ensures text { result.now ≡ text_of_line ends text.now }
-    ensures one_line { NoByte 10 text.now → NoByte 10 result.now }
-{
-    let len = text.len();
-    if !ends || len == 0 || text[len - 1] != b'\r' {
-        return text;
-    }
-    &text[..len - 1]
 }
 
 /// Where the iterator is after a line.

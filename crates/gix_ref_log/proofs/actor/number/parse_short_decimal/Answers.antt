@@ -3,7 +3,7 @@ use Rattle.std.specs.Str.Parse.{AllDigits, digits_value}
 use Rattle.std.proofs.lemmas.List.{length-take-le, take_all}
 use Rattle.gix_ref_hash.specs.Digits.{IsNumber}
 use Rattle.gix_ref_log.proofs.NumberLemmas.{few_digits, one_digit_more}
-use Rattle.gix_ref_log.proofs.actor.number.small_number.Goals as goal
+use Rattle.gix_ref_log.proofs.actor.number.parse_short_decimal.Goals as goal
 
 -- the number so far is of at most 17 digits
 so_far : (text : List ℕ) (i number : ℕ) → i < length text → length text ≤ 18 → AllDigits 10 (take i text) → number ≡ digits_value 10 (take i text) → number < 10 ^ 17

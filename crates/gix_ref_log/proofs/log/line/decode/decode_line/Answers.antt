@@ -2,7 +2,7 @@ use Rattle.std.proofs.Common.{ℕ, List, inr, refl, subst}
 use Rattle.gix_ref_log.specs.Signatures.{IsSignature}
 use Rattle.gix_ref_log.specs.LogIds.{IdFront}
 use Rattle.gix_ref_log.proofs.LineLemmas.{same_ids, same_signature, none_in_rest}
-use Rattle.gix_ref_log.proofs.log.line.decode.decoded_line.Goals as goal
+use Rattle.gix_ref_log.proofs.log.line.decode.decode_line.Goals as goal
 
 pub returns-in_err-new_oid : goal.returns-in_err-new_oid
 returns-in_err-new_oid c = rw c.from_residual-in_err-new_oid.ensures (λ l w.

@@ -1,7 +1,7 @@
 use Rattle.std.proofs.Common.{sym, ◌∙◌, arith}
 use Rattle.std.proofs.lemmas.List.{take_rest, length-take-le}
-use Rattle.gix_ref_log.proofs.UsualLines.{two_ids, both_hold}
-use Rattle.gix_ref_log.proofs.log.iter.usual.sha1_ids.Goals as goal
+use Rattle.gix_ref_log.proofs.FastLines.{two_ids, both_hold}
+use Rattle.gix_ref_log.proofs.log.iter.fast.sha1_ids.Goals as goal
 
 pub slice_bounds-previous-end : goal.slice_bounds-previous-end
 slice_bounds-previous-end c = omega (arith, length-take-le 40 c.args.text.now (omega (arith, c.if-text-lt82.false)))

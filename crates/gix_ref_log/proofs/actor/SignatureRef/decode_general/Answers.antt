@@ -1,7 +1,7 @@
 use Rattle.std.proofs.Common.{◌≡◌, ℕ, List, ◌∷◌, length, sym, ◌∙◌, ap, subst, arith}
 use Rattle.gix_ref_log.specs.Signatures.{IsSeconds, IsZone}
 use Rattle.gix_ref_log.proofs.SignatureLemmas.{no_cut, same_behind, same_after, same_time, same_digits}
-use Rattle.gix_ref_log.proofs.actor.SignatureRef.searched.Goals as goal
+use Rattle.gix_ref_log.proofs.actor.SignatureRef.decode_general.Goals as goal
 
 space_is : (a : ℕ) (x : List ℕ) (b : ℕ) (y : List ℕ) → a ∷ x ≡ b ∷ y → a ≡ b
 space_is a x b y e = cc

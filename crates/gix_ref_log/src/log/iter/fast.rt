@@ -1,17 +1,17 @@
-//! Lines that are as most are: with ids of SHA-1, a time of the usual length, and a tab.
+//! The fast path for lines of the common form: ids of SHA-1, a time of ten digits, and a tab.
 ghost use Rattle.std.specs.Prelude.{◌<◌, ℕ, List, length, IfSome};
 ghost use Rattle.gix_ref_hash.specs.Bytes.{NoByte, Cuts};
 ghost use Rattle.gix_ref_log.specs.LogIds.{IdFront};
 ghost use Rattle.gix_ref_log.specs.LogLines.{IsLine, line_ref_parts};
-ghost use Rattle.gix_ref_log.specs.LogUsual.{BeginsWithLine};
+ghost use Rattle.gix_ref_log.specs.LogFast.{HasFront, BeginsWithLine};
 
-use super::stage::without_return;
 use crate::actor::SignatureRef;
 use crate::log::line::LineRef;
+use crate::log::lines::strip_cr;
 use gix_ref_hash::bytes::{cut, some_first_break};
 use gix_ref_hash::hash::are_hex;
 
-/// The ids of a SHA-1 at the front, and what follows the space behind them. `None` tells nothing.
+/// The ids of a SHA-1 at the front, and what follows the space behind them. `None` says nothing.
 #[inline(always)]
 fn sha1_ids(text: &[u8]) -> Option<(&[u8], &[u8], &[u8])>
     ensures { IfSome result (λ p. (ids : List ℕ) × IdFront text.now p.0.now ids × IdFront ids p.1.now p.2.now) }
@@ -28,7 +28,7 @@ fn sha1_ids(text: &[u8]) -> Option<(&[u8], &[u8], &[u8])>
     Some((previous, new, rest))
 }
 
-/// What stands before the first tab and behind it, where no LF stands before it. `None` tells nothing.
+/// The text before the first tab and the text after it, where no LF comes before the tab. `None` says nothing.
 #[inline(always)]
 fn cut_at_tab(text: &[u8]) -> Option<(&[u8], &[u8])>
     ensures { IfSome result (λ p. Cuts 9 text.now p.0.now p.1.now × NoByte 10 p.0.now) }
@@ -40,15 +40,16 @@ fn cut_at_tab(text: &[u8]) -> Option<(&[u8], &[u8])>
     Some((&text[..place], &text[place + 1..]))
 }
 
-/// The line that a text without LF is, where it is as most are. `None` tells nothing.
+/// The line of a text, where it has the common form: the message is all that follows the tab. Without LF in the text it is
+/// the line of the text. Of another text `None` says nothing.
 #[inline(always)]
-pub(super) fn usual_text<'a>(text: &'a [u8]) -> Option<LineRef<'a>>
-    requires { NoByte 10 text.now }
-    ensures { IfSome result (λ line. IsLine text.now (line_ref_parts line)) }
+pub(super) fn fast_decode<'a>(text: &'a [u8]) -> Option<LineRef<'a>>
+    ensures front { IfSome result (λ line. HasFront text.now (line_ref_parts line)) }
+    ensures line { NoByte 10 text.now → IfSome result (λ line. IsLine text.now (line_ref_parts line)) }
 {
     let (previous_oid, new_oid, rest) = sha1_ids(text)?;
     let (head, message) = cut_at_tab(rest)?;
-    let signature = SignatureRef::stamped(head)?;
+    let signature = SignatureRef::decode_fast(head)?;
     Some(LineRef {
         previous_oid,
         new_oid,
@@ -57,22 +58,20 @@ pub(super) fn usual_text<'a>(text: &'a [u8]) -> Option<LineRef<'a>>
     })
 }
 
-/// The first line, where it is as most are, and what follows it. The ids are read first, and then the signature up to its
-/// tab, so that no byte of them is looked at for LF. `None` tells nothing.
+/// The first line of a log, where it has the common form, and what follows it. The ids are read first, and then the
+/// signature up to its tab, so that no byte of them is searched for LF. Of another log `None` says nothing.
 #[inline(always)]
-pub(super) fn usual_line<'a>(log: &'a [u8]) -> Option<(LineRef<'a>, &'a [u8])>
+pub(super) fn fast_first_line<'a>(log: &'a [u8]) -> Option<(LineRef<'a>, &'a [u8])>
     ensures line { IfSome result (λ p. BeginsWithLine log.now p.0 p.1.now) }
     ensures shorter { IfSome result (λ p. length p.1.now < length log.now) }
 {
-    let (previous_oid, new_oid, text) = sha1_ids(log)?;
-    let (head, tail) = cut_at_tab(text)?;
-    let signature = SignatureRef::stamped(head)?;
-    let (message, rest) = cut(tail, b'\n')?;
-    let line = LineRef {
-        previous_oid,
-        new_oid,
-        signature,
-        message: without_return(message, true),
+    let line = fast_decode(log)?;
+    let (message, rest) = cut(line.message, b'\n')?;
+    let first = LineRef {
+        previous_oid: line.previous_oid,
+        new_oid: line.new_oid,
+        signature: line.signature,
+        message: strip_cr(message, true),
     };
-    Some((line, rest))
+    Some((first, rest))
 }

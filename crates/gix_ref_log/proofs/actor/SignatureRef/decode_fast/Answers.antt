@@ -2,7 +2,7 @@ use Rattle.std.proofs.Common.{◌≡◌, ℕ, ◌-◌, ◌++◌, List, length, d
 use Rattle.std.proofs.lemmas.List.{take-append-drop}
 use Rattle.gix_ref_log.specs.Signatures.{IsSignature}
 use Rattle.gix_ref_log.proofs.Stamps.{stamped_signature}
-use Rattle.gix_ref_log.proofs.actor.SignatureRef.stamped.Goals as goal
+use Rattle.gix_ref_log.proofs.actor.SignatureRef.decode_fast.Goals as goal
 
 pub returns : goal.returns
 returns c =

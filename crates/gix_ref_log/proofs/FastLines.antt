@@ -11,7 +11,9 @@ use Rattle.gix_ref_log.proofs.SignaturesAgain.{none_append, none_cons}
 use Rattle.memchr.specs.Find.{NoneBefore, Passes}
 use Rattle.gix_ref_log.specs.LogCuts.{log_lines}
 use Rattle.gix_ref_log.specs.LogIds.{IdFront}
-use Rattle.gix_ref_log.specs.LogLines.{IsLine}
+use Rattle.gix_ref_log.specs.LogLines.{LogLine, IsLine}
+use Rattle.gix_ref_log.specs.LogFast.{HasFront}
+use Rattle.gix_ref_log.proofs.LineLemmas.{none_in_rest}
 use Rattle.gix_ref_log.proofs.FirstLines.{first_of_lines}
 use Rattle.gix_ref_hash.proofs.IdDigits.{id_text, no_byte_in_id}
 
@@ -115,3 +117,18 @@ module _ (log p ids n text head tail message rest : List ℕ) (previous : IdFron
     message = inl (record { whole = refl; none = tab.none });
     who = signature;
   })
+
+-- a text without LF whose front has the common form is a line
+pub front_is_line : (text : List ℕ) (l : LogLine) → NoByte 10 text → HasFront text l → IsLine text l
+front_is_line text l none h = record {
+  ids = h.ids;
+  rest = h.rest;
+  line = h.rest;
+  next_lines = [];
+  signature = h.head;
+  previous = h.previous;
+  new = h.new;
+  cut = inr (none_in_rest 10 text l.previous h.ids l.new h.rest none h.previous h.new, refl, refl);
+  message = inl h.tab;
+  who = h.who;
+}
