@@ -1,12 +1,12 @@
-//! What a crate above can say of ids, names and targets by their public contracts alone, and tests of worked cases.
+//! What a crate above can say of names by their public contracts alone, and tests of ids, names and targets.
 #![tactic(auto)]
 
-#[cfg(test)]
-mod bytes;
 #[cfg(test)]
 mod categories;
 #[cfg(test)]
 mod ids;
+#[cfg(test)]
+mod layouts;
 #[cfg(test)]
 mod made;
 #[cfg(test)]

@@ -11,5 +11,3 @@ mod made;
 mod reader;
 #[cfg(test)]
 mod signatures;
-#[cfg(test)]
-mod slow;

@@ -1,237 +1,208 @@
-//! Lines of reflogs: which texts are read, what is written, and what cannot be.
-use crate::made::{copy, id};
+//! Lines of reflogs: which texts are read, what is written, and what cannot be (`git reflog`, `git update-ref`).
+use crate::made::{ONES, ZEROS, committer, copy, id, joined};
 use gix_ref_hash::hash::Kind;
 use gix_ref_log::actor::{SignatureRef, Time};
 use gix_ref_log::log::{AppendError, Line, LineRef, WriteError, appended_line};
 use std::alloc::Global;
 use std::process::Abort;
 
-pub const ZEROS: &[u8] = b"0000000000000000000000000000000000000000";
-
-pub const ONES: &[u8] = b"1111111111111111111111111111111111111111";
-
-const TWOS: &[u8] = b"2222222222222222222222222222222222222222";
-
-/// The bytes of some texts, one after the other.
-pub fn joined(rt: &impl Abort, alloc: Global, parts: &[&[u8]]) -> Vec<u8> {
-    let mut text = Vec::new(alloc);
-    for part in parts {
-        text.extend_from_slice(part).expect(rt, "memory");
-    }
-    text
-}
+const WHO: &[u8] = b" Sebastian Thiel <foo@example.com> 1618030561 +0800\tpull: x\nmore\n";
 
 #[test]
-fn a_line_with_and_without_its_end(rt: HostRuntime) {
-    let alloc = rt.alloc();
-    let who = b" Sebastian Thiel <foo@example.com> 1618030561 +0800\tpull: x";
-    for end in [b"".as_slice(), b"\n", b"\nmore\n"] {
-        let text = joined(&rt, alloc, &[ONES, b" ", TWOS, who, end]);
-        let line = LineRef::from_bytes(&text).expect(&rt, "a line");
-        assert!(rt; line.previous_oid == ONES);
-        assert!(rt; line.new_oid == TWOS);
-        assert!(rt; line.signature.name == b"Sebastian Thiel".as_slice());
-        assert!(rt; line.signature.email == b"foo@example.com".as_slice());
-        let time = Time {
+fn the_parts_of_a_line(rt: HostRuntime) {
+    let text = joined(&rt, rt.alloc(), &[ZEROS, b" ", ONES, WHO]);
+    let line = LineRef::from_bytes(&text).expect(&rt, "a line");
+    assert!(rt; line.previous_oid() == Kind::Sha1.null(), "the previous id");
+    assert!(rt; line.new_oid() == id(&rt, ONES), "the new id");
+    let who = SignatureRef {
+        name: b"Sebastian Thiel",
+        email: b"foo@example.com",
+        time: Time {
             seconds: 1618030561,
             offset: 28800,
-        };
-        assert_eq!(rt; line.signature.time, time);
-        assert!(rt; line.message == b"pull: x".as_slice());
-        assert!(rt; line.previous_oid() == id(&rt, ONES));
-        assert!(rt; line.new_oid() == id(&rt, TWOS));
-    }
+        },
+    };
+    assert_eq!(rt; line.signature, who, "the committer");
+    assert!(rt; line.message == b"pull: x".as_slice(), "up to LF");
 }
+
+/// What follows the ids, each with the message, if it makes a line.
+const RESTS: [(&[u8], Option<&[u8]>, &str); 10] = [
+    (
+        b"a <b> 1234567890 -0000message",
+        None,
+        "no tab before the message",
+    ),
+    (
+        b"a <b> 1234567890 -0000",
+        Some(b""),
+        "no tab and no message",
+    ),
+    (
+        b"a <b> 1234567890 -0000\t",
+        Some(b""),
+        "a tab and no message",
+    ),
+    (
+        b"a <b> 1234567890 -0000\ta\tb",
+        Some(b"a\tb"),
+        "a tab in the message",
+    ),
+    (
+        b"a <b> 1234567890 -0000\ta\r\nb",
+        Some(b"a\r"),
+        "CR before LF",
+    ),
+    (b"a <b> 1234567890 -0000\r\n", None, "CR behind the zone"),
+    (b"a\tb <c> 1234567890 -0000\tm", None, "a tab in the name"),
+    (b"a <b\nc> 1234567890 -0000\tm", None, "LF in the email"),
+    (b"\tm", None, "no committer"),
+    (b"", None, "nothing"),
+];
 
 #[test]
 fn what_follows_the_ids(rt: HostRuntime) {
-    let alloc = rt.alloc();
-    let rows: [(&[u8], Option<&[u8]>); 10] = [
-        (b"one <foo@example.com> 1234567890 -0000message", None),
-        (b"name <foo@example.com> 1234567890 -0000", Some(b"")),
-        (b"name <foo@example.com> 1234567890 -0000\t", Some(b"")),
-        (
-            b"name <foo@example.com> 1234567890 -0000\ta\tb",
-            Some(b"a\tb"),
-        ),
-        (
-            b"name <foo@example.com> 1234567890 -0000\ta\r\nb",
-            Some(b"a\r"),
-        ),
-        (b"name <foo@example.com> 1234567890 -0000\r\n", None),
-        (b"na\tme <foo@example.com> 1234567890 -0000\tm", None),
-        (b"name <foo@exa\nmple.com> 1234567890 -0000\tm", None),
-        (b"\tm", None),
-        (b"", None),
-    ];
-    for (rest, want) in rows {
-        let text = joined(&rt, alloc, &[ZEROS, b" ", ZEROS, b" ", rest]);
-        assert!(rt; message_of(&text) == want, "{rest:?}");
+    for (rest, want, what) in RESTS {
+        let text = joined(&rt, rt.alloc(), &[ZEROS, b" ", ONES, b" ", rest]);
+        let message = LineRef::from_bytes(&text).ok().map(|line| line.message);
+        assert!(rt; message == want, "{what}");
     }
 }
 
-/// The message of a line; none where the text is no line.
-fn message_of(text: &[u8]) -> Option<&[u8]> {
-    match LineRef::from_bytes(text) {
-        Ok(line) => Some(line.message),
-        Err(_) => None,
-    }
-}
+const LONG: &[u8] = b"aaaaaaaaaaaaaaaaaaaaaaaaaaaaaaaaaaaaaaaaaaaaaaaaaaaaaaaaaaaaaaaa";
 
-#[test]
-fn the_first_line_of_what_is_no_line(rt: HostRuntime) {
-    let rows: [(&[u8], &[u8]); 4] = [
-        (b"a\nb", b"a"),
-        (b"a\r\n", b"a\r"),
-        (b"\nb", b""),
-        (b"ab", b"ab"),
-    ];
-    for (text, want) in rows {
-        match LineRef::from_bytes(text) {
-            Ok(_) => assert!(rt; false, "no line"),
-            Err(error) => assert!(rt; error.input == want, "{text:?}"),
-        }
-    }
-}
+const UPPER: &[u8] = b"D53C4B0F91F1B29769C9430F2D1C0BCAB1170C75";
+
+/// Two ids, with whether they begin a line.
+const IDS: [(&[u8], &[u8], bool, &str); 6] = [
+    (LONG, LONG, true, "of SHA-256"),
+    (ONES, LONG, true, "of both kinds"),
+    (LONG, UPPER, true, "in upper case"),
+    (
+        b"1111111111111111111111111111111111111",
+        ONES,
+        false,
+        "too few digits",
+    ),
+    (
+        b"g111111111111111111111111111111111111111",
+        ONES,
+        false,
+        "no digit",
+    ),
+    (b"", ONES, false, "no id"),
+];
 
 #[test]
 fn ids_of_lines(rt: HostRuntime) {
-    let alloc = rt.alloc();
-    let long = [b'a'; 64];
-    let upper = b"D53C4B0F91F1B29769C9430F2D1C0BCAB1170C75".as_slice();
-    let rows: [(&[u8], &[u8], bool); 9] = [
-        (&long, &long, true),
-        (ONES, &long, true),
-        (&long, upper, true),
-        (upper, ONES, true),
-        (&ONES[..39], ONES, false),
-        (ONES, &long[..41], false),
-        (&long[..63], ONES, false),
-        (b"g111111111111111111111111111111111111111", ONES, false),
-        (b"", ONES, false),
-    ];
-    for (previous, new, good) in rows {
-        let text = joined(&rt, alloc, &[previous, b" ", new, b" C <c> 1 +0000\tm"]);
-        let read = LineRef::from_bytes(&text);
-        assert_eq!(rt; read.is_ok(), good, "{previous:?} {new:?}");
-        if let Ok(line) = read {
-            assert!(rt; line.previous_oid() == id(&rt, previous));
-            assert!(rt; line.new_oid() == id(&rt, new));
-        }
+    for (previous, new, good, what) in IDS {
+        let who = b" C <c> 1 +0000\tm".as_slice();
+        let text = joined(&rt, rt.alloc(), &[previous, b" ", new, who]);
+        assert_eq!(rt; LineRef::from_bytes(&text).is_ok(), good, "{what}");
     }
 }
 
-/// A line of these parts.
-fn line(rt: &impl Abort, alloc: Global, who: SignatureRef<'_>, message: &[u8]) -> Line {
+#[test]
+fn the_error_lends_the_first_line(rt: HostRuntime) {
+    let first = LineRef::from_bytes(b"a\r\nb")
+        .err()
+        .map(|error| error.input);
+    assert!(rt; first == Some(b"a\r".as_slice()), "without its LF");
+}
+
+/// The line of the worked rows with this committer and message.
+fn line(rt: &impl Abort, alloc: Global, name: &[u8], message: &[u8]) -> Line {
     Line {
         previous_oid: Kind::Sha1.null(),
         new_oid: id(rt, ONES),
-        signature: who.to_owned(alloc).expect(rt, "memory"),
+        signature: committer(name).to_owned(alloc).expect(rt, "memory"),
         message: Vec::from_slice(alloc, message).expect(rt, "memory"),
     }
 }
 
-/// The committer of the worked rows.
-pub fn committer<'a>(name: &'a [u8]) -> SignatureRef<'a> {
-    SignatureRef {
-        name,
-        email: b"c@example.com",
-        time: Time {
-            seconds: 1234,
-            offset: 28800,
-        },
-    }
-}
-
 #[test]
-fn lines_are_written_and_read_again(rt: HostRuntime) {
+fn a_line_is_written_and_read_again(rt: HostRuntime) {
     let alloc = rt.alloc();
-    for message in [b"m".as_slice(), b"", b"a\tb\r"] {
-        let made = line(&rt, alloc, committer(b"C"), message);
-        let mut out = Vec::new(alloc);
-        assert!(rt; made.write_to(&mut out).is_ok());
-        let want = joined(
-            &rt,
-            alloc,
-            &[
-                ZEROS,
-                b" ",
-                ONES,
-                b" C <c@example.com> 1234 +0800\t",
-                message,
-                b"\n",
-            ],
-        );
-        assert!(rt; out == want, "{message:?}");
-        let read = LineRef::from_bytes(&out).expect(&rt, "a line");
-        let owned = read.to_owned(alloc).expect(&rt, "memory");
-        assert!(rt; owned == made);
-        assert!(rt; copy(&rt, &owned) == made);
-    }
+    let made = line(&rt, alloc, b"C", b"");
+    let mut out = Vec::new(alloc);
+    assert!(rt; made.write_to(&mut out).is_ok(), "it is written");
+    let who = b" C <c@example.com> 1234 +0800\t\n".as_slice();
+    let want = joined(&rt, alloc, &[ZEROS, b" ", ONES, who]);
+    assert!(rt; out == want, "a tab also before an empty message");
+    let read = LineRef::from_bytes(&out).expect(&rt, "a line");
+    let owned = read.to_owned(alloc).expect(&rt, "memory");
+    assert!(rt; owned == made, "and read again");
+    assert!(rt; copy(&rt, &owned) == made, "a copy");
 }
 
 #[test]
 fn what_is_not_written(rt: HostRuntime) {
     let alloc = rt.alloc();
     let mut out = Vec::new(alloc);
-    let both = line(&rt, alloc, committer(b"C<"), b"a\nb");
+    let error = line(&rt, alloc, b"C<", b"a\nb").write_to(&mut out);
     assert!(rt;
-        matches!(
-            both.write_to(&mut out),
-            Err(WriteError::MessageWithNewlines)
-        )
+        matches!(error, Err(WriteError::MessageWithNewlines)),
+        "LF first"
     );
-    let name = line(&rt, alloc, committer(b"C<"), b"ab");
+    let error = line(&rt, alloc, b"C<", b"ab").write_to(&mut out);
     assert!(rt;
-        matches!(
-            name.write_to(&mut out),
-            Err(WriteError::SignatureUnwritable)
-        )
+        matches!(error, Err(WriteError::SignatureUnwritable)),
+        "a bracket"
     );
     assert!(rt; out.is_empty(), "before the first byte");
-    let mut room = [0u8; 50];
-    let mut short = room.as_mut_slice();
-    let good = line(&rt, alloc, committer(b"C"), b"ab");
-    assert!(rt; matches!(good.write_to(&mut short), Err(WriteError::Io(_))));
-    assert!(rt; room.starts_with(ZEROS), "what it took before");
 }
 
 #[test]
-fn the_line_of_a_transaction(rt: HostRuntime) {
-    let alloc = rt.alloc();
-    let who = SignatureRef {
-        name: b"  committer\n  ",
-        email: b"  committer@example.com\n  ",
-        time: Time {
-            seconds: 1234,
-            offset: 28800,
-        },
-    };
-    let (old, new) = (Kind::Sha1.null(), id(&rt, ONES));
-    let text = appended_line(alloc, &old, &new, who, b"the message").expect(&rt, "a line");
-    let want = joined(
-        &rt,
-        alloc,
-        &[
-            ZEROS,
-            b" ",
-            ONES,
-            b" committer <committer@example.com> 1234 +0800\tthe message\n",
-        ],
-    );
-    assert!(rt; text == want);
-    assert_eq!(rt; text.len(), 139);
-    let text = appended_line(alloc, &old, &new, committer(b"C"), b"m").expect(&rt, "a line");
-    assert_eq!(rt; text.len(), 113);
-    let text = appended_line(alloc, &old, &new, committer(b"C"), b"").expect(&rt, "a line");
-    let want = joined(
-        &rt,
-        alloc,
-        &[ZEROS, b" ", ONES, b" C <c@example.com> 1234 +0800\n"],
-    );
-    assert!(rt; text == want, "no tab before an empty message");
-    let bad = appended_line(alloc, &old, &new, committer(b"C<"), b"a\nb");
-    assert!(rt; matches!(bad, Err(AppendError::MessageWithNewlines)));
-    let bad = appended_line(alloc, &old, &new, committer(b"C\nD"), b"ab");
-    assert!(rt; matches!(bad, Err(AppendError::SignatureUnwritable)));
+fn a_writer_that_fails(rt: HostRuntime) {
+    let mut room = [0u8; 50];
+    let mut short = room.as_mut_slice();
+    let failed = line(&rt, rt.alloc(), b"C", b"ab").write_to(&mut short);
+    assert!(rt; matches!(failed, Err(WriteError::Io(_))), "no room");
+    assert!(rt; room.starts_with(ZEROS), "what it took before");
+}
+
+/// Names and messages, each with what follows the ids in a transaction's line, or the refusal.
+const APPENDED: [(&[u8], &[u8], Result<&[u8], AppendError>, &str); 4] = [
+    (
+        b" C\n ",
+        b"m",
+        Ok(b" C <c@example.com> 1234 +0800\tm\n"),
+        "a trimmed name",
+    ),
+    (
+        b"C",
+        b"",
+        Ok(b" C <c@example.com> 1234 +0800\n"),
+        "no tab before no message",
+    ),
+    (
+        b"C<",
+        b"a\nb",
+        Err(AppendError::MessageWithNewlines),
+        "LF in the message",
+    ),
+    (
+        b"C\nD",
+        b"m",
+        Err(AppendError::SignatureUnwritable),
+        "LF in the name",
+    ),
+];
+
+#[test]
+fn lines_of_a_transaction(rt: HostRuntime) {
+    let (previous, new) = (Kind::Sha1.null(), id(&rt, ONES));
+    for (name, message, want, what) in APPENDED {
+        let text = appended_line(rt.alloc(), &previous, &new, committer(name), message);
+        let rest = text
+            .as_ref()
+            .map(|text| text.as_slice().strip_prefix(ZEROS));
+        match want {
+            Ok(want) => {
+                let want = joined(&rt, rt.alloc(), &[b" ", ONES, want]);
+                assert!(rt; rest == Ok(Some(want.as_slice())), "{what}");
+            }
+            Err(error) => assert!(rt; rest == Err(&error), "{what}"),
+        }
+    }
 }

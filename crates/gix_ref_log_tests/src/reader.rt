@@ -1,4 +1,4 @@
-//! A reader of bytes in memory whose nth read fails, and which tells how much was read.
+//! A reader of bytes in memory whose nth read fails, and which counts what is read.
 ghost use Rattle.std.specs.Prelude.{length};
 
 use gix_ref_files::files::{FileError, ReadAt};
@@ -8,6 +8,8 @@ use std::io::ErrorKind;
 /// What was read.
 #[derive(Drop)]
 pub struct Tally {
+    /// The read with this number fails; 0 for none.
+    pub fails_at: u64,
     /// How many reads there were, with the one that failed.
     pub reads: Cell<u64>,
     /// How many bytes they asked for.
@@ -15,19 +17,19 @@ pub struct Tally {
 }
 
 impl Tally {
-    pub fn new() -> Tally {
+    pub fn new(fails_at: u64) -> Tally {
         Tally {
+            fails_at,
             reads: Cell::new(0),
             bytes: Cell::new(0),
         }
     }
 }
 
-/// Reads the text; the read with this number fails.
+/// Reads the text.
 #[derive(Drop)]
 pub struct Counted<'a> {
     pub text: &'a [u8],
-    pub fails_at: u64,
     pub tally: &'a Tally,
     pub faults: u64,
 }
@@ -51,7 +53,7 @@ impl<'a> ReadAt for Counted<'a> {
         let bytes = self.tally.bytes.get().saturating_add(buf.len() as u64);
         self.tally.bytes.set(bytes);
         let (from, len) = (place as usize, buf.len());
-        if reads == self.fails_at || from > self.text.len() || self.text.len() - from < len {
+        if reads == self.tally.fails_at || from > self.text.len() || self.text.len() - from < len {
             self.faults = self.faults.saturating_add(1);
             return Err(FileError::Device(ErrorKind::Other));
         }
