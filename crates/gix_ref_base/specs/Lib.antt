@@ -4,6 +4,7 @@ pub mod Locations
 pub mod NameGrammar
 pub mod Names
 pub mod Namespaces
+pub mod Orders
 pub mod PackedRecords
 pub mod RefLayout
 pub mod Targets

@@ -1,5 +1,4 @@
 -- What the values of the code about the layout of a store mean.
-use Rattle.std.specs.Prelude.{ℕ, List}
 use Rattle.gix_ref_base.specs.Layout.{Layout}
 use Rattle.gix_ref_base.specs.Locations.{Location}
 use Rattle.gix_ref_base.specs.Locations.Location.{Common, ThisWorktree, MainWorktree, LinkedWorktree}

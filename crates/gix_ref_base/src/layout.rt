@@ -41,9 +41,8 @@ fn location_in<'a>(category: Category<'a>, name: &'a [u8], short: &'a [u8]) -> L
         Category::Tag | Category::LocalBranch | Category::RemoteBranch | Category::Note => {
             Location::Common(name)
         }
-        Category::PseudoRef | Category::Bisect | Category::Rewritten | Category::WorktreePrivate => {
-            Location::ThisWorktree(name)
-        }
+        Category::PseudoRef | Category::Bisect | Category::Rewritten | Category::WorktreePrivate =>
+            { Location::ThisWorktree(name) }
         Category::MainPseudoRef => Location::MainWorktree(short),
         Category::MainRef => if is_private(short) {
             Location::MainWorktree(short)
@@ -70,7 +69,7 @@ fn location_in<'a>(category: Category<'a>, name: &'a [u8], short: &'a [u8]) -> L
 pub fn location_of(name: FullNameRef<'_>) -> Option<Location<'_>>
     ensures { MatchOption result (is_safe (full_ref_bytes name.entry) ≡ false)
         (λ at. (is_safe (full_ref_bytes name.entry) ≡ true)
-            × ((f : Layout) → paths_at f (full_ref_bytes name.entry) ≡ paths_of f (location_value at))) }
+        × ((f : Layout) → paths_at f (full_ref_bytes name.entry) ≡ paths_of f (location_value at))) }
 {
     if let Some((category, short)) = name.category_and_short_name() {
         return Some(location_in(category, name.to_path(), short));

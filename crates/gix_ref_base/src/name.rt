@@ -1,8 +1,8 @@
 //! Names of references, checked once (`git check-ref-format`) and then carried in a type.
 ghost use Rattle.gix_ref_base.specs.NameGrammar.{IsPartialName};
 
-use bstr::{BStr, ByteSlice};
 use crate::namespace::Namespace;
+use bstr::{BStr, ByteSlice};
 use gix_ref_hash::bytes::{cut_last, strip_front};
 use std::alloc::{AllocError, Global};
 

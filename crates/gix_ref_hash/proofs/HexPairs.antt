@@ -1,12 +1,6 @@
 -- Pairs of hex digits.
-use Rattle.std.proofs.Common.{◌≡◌, ◌≢◌, ℕ, suc, ◌+◌, ◌-◌, ◌*◌, ◌%◌, ◌^◌, ◌<◌, ◌≤◌, true, false, Bool, ◌&&◌, List, [], ◌∷◌, ◌++◌, length, slice_index, get_or, take, refl, sym, ◌∙◌, ap, subst, arith, ℤ, pos, FitsSigned, Ok, Result}
-use Rattle.std.specs.Int.{w64}
+use Rattle.std.proofs.Common.{◌≡◌, ℕ, suc, ◌+◌, ◌*◌, ◌<◌, true, false, Bool, ◌&&◌, List, [], ◌∷◌, length, slice_index, refl, ◌∙◌, ap, subst, arith, Ok, Result}
 use Rattle.std.specs.List.{list_all}
-use Rattle.std.specs.Char.{digit_value}
-use Rattle.std.specs.Str.Parse.{AllDigits, IsNumeral, digits_value, digits_value_after, without_leading_sign, starts_with_minus, signed_digits_value}
-use Rattle.std.proofs.lemmas.Bool.{ne_eqb, cond-false}
-use Rattle.std.proofs.lemmas.List.{take_more}
-use Rattle.std.proofs.lemmas.Str.Parse.{digit_at, without_leading_plus_none, digits_value_short, numerals_by_value, tells_digits}
 use Rattle.hex.specs.Hex.{is_hex_digit, pair_value, decode_pairs, ◌>>=◌}
 use Rattle.hex.specs.declared.error.FromHexError.{FromHexError}
 use Rattle.gix_ref_hash.specs.Digits.{IsPair}

@@ -11,7 +11,7 @@ use std::fmt;
 
 mod digits;
 
-pub use digits::sha1_of_digits;
+use digits::sha1_of_digits;
 
 /// The hash functions whose ids are known.
 #[derive(Clone, Copy, Debug, PartialEq, Eq, PartialOrd, Ord, Hash)]

@@ -1,7 +1,9 @@
 pub mod BackwardSteps
 pub mod DigitLanes
+pub mod FastLines
 pub mod FirstLines
 pub mod LastLines
+pub mod LineEquality
 pub mod LineIds
 pub mod LineLemmas
 pub mod LinesAgain
@@ -11,5 +13,5 @@ pub mod SignatureLemmas
 pub mod SignaturesAgain
 pub mod StampNumbers
 pub mod Stamps
-pub mod UsualLines
+pub mod TextLines
 pub mod WindowLemmas

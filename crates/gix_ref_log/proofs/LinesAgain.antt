@@ -12,7 +12,7 @@ use Rattle.gix_ref_hash.proofs.IdLemmas.{written_reads, reads_whole}
 use Rattle.gix_ref_log.proofs.SignaturesAgain.{none_append, none_cons, none_signature, signature_again}
 use Rattle.gix_ref_log.specs.LogLines.{IsLine, IsReadAs, IsReadable, written_parts, head_text, line_text, appended_text}
 use Rattle.gix_ref_log.specs.declared.log.line.Line.{Line}
-use Rattle.gix_ref_log.proofs.LineIds.{hex_id}
+use Rattle.gix_ref_hash.proofs.IdDigits.{hex_id}
 
 either_kind : (kind : Kind) (text : List ℕ) → IsHexOf kind text → IsHex text
 either_kind kinds.Sha1 text h = inl h

@@ -40,7 +40,7 @@ module _ {F : Type 0} (honest : Type 0) (bytes : F → List ℕ) (faults : F →
   ends_law (Err (Decode d) ∷ xs) s t y = ends_law xs y.0 t y.2
   ends_law (Err BufferTooSmall ∷ xs) s t y = over xs y.0 t y.1.done y.2
   ends_law (Err Memory ∷ xs) s t y = over xs y.0 t y.1.done y.2
-  ends_law (Err (Io d) ∷ xs) s t y = over xs y.0 t y.1.done y.2
+  ends_law (Err (Io d) ∷ xs) s t y = (over xs y.0 t y.1.done.0 y.2, y.1.done.1)
 
   pub each_ends : (s : Reverse F) → EachRunFrom (NextStep honest bytes faults) s (λ p. EndsAtError p.items)
   unfolding YieldsRun

@@ -1,9 +1,10 @@
 pub mod LogCuts
+pub mod LogFast
 pub mod LogForward
 pub mod LogIds
 pub mod LogItems
 pub mod LogLines
 pub mod LogStages
-pub mod LogUsual
 pub mod LogWindows
+pub mod Orders
 pub mod Signatures

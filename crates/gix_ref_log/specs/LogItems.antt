@@ -2,6 +2,7 @@
 use Rattle.std.specs.Prelude.{ℕ, ◌+◌, ◌-◌, ◌≡◌, ◌≢◌, ◌==◌, ◌&&◌, nat_lt, nat_le, List, [], ◌∷◌, length, reverse, slice_index, if◌then◌else◌, Option, Some, None, Result, Ok, Err, ⊤}
 use Rattle.bstr.specs.Text.{lines_of, without_terminator}
 use Rattle.gix_ref_files.specs.Files.{one_more}
+use Rattle.gix_ref_files.specs.declared.files.FileError.TheVariants as faults_of
 use Rattle.gix_ref_log.specs.LogLines.{LogLine, IsLine, NoLine, IsReadAs, line_ref_parts}
 use Rattle.gix_ref_log.specs.declared.log.line.Line.{Line}
 use Rattle.gix_ref_log.specs.declared.log.line.LineRef.{LineRef}
@@ -67,14 +68,14 @@ IsRun Ended items (Err BufferTooSmall ∷ rs) = (items ≡ TooSmall ∷ []) × (
 IsRun Ended items (Err Memory ∷ rs) = ((n : ℕ) × (text : List ℕ) × (more : List Item) × (l : LogLine) × (items ≡ Text n text ∷ more) × IsLine text l) × (rs ≡ [])
 IsRun Ended items (Err (Io e) ∷ rs) = (items ≢ []) × (rs ≡ [])
 
--- after any error but a decode fault there is nothing
+-- after any error but a decode fault there is nothing; `Io` is never `Memory`, which a reader does not return
 abbrev pub EndsAtError : List (Result Line ReverseError) → Type 0
 EndsAtError [] = ⊤
 EndsAtError (Ok l ∷ rs) = EndsAtError rs
 EndsAtError (Err (Decode e) ∷ rs) = EndsAtError rs
 EndsAtError (Err BufferTooSmall ∷ rs) = rs ≡ []
 EndsAtError (Err Memory ∷ rs) = rs ≡ []
-EndsAtError (Err (Io e) ∷ rs) = rs ≡ []
+EndsAtError (Err (Io e) ∷ rs) = (rs ≡ []) × (e ≢ faults_of.Memory)
 
 -- the reader's count of faults after an item: `Io` is one more
 abbrev pub count_of : Option (Result Line ReverseError) → ℕ → ℕ

@@ -1,6 +1,7 @@
 -- Lines in a window, and where the backward reader is.
 use Rattle.std.specs.Prelude.{ℕ, ◌≡◌, ◌≢◌, ◌<◌, Bool, true, false, List, [], ◌∷◌, length, slice_index, Option, Some, None, Result, Ok, Err, ⊤}
 use Rattle.bstr.specs.Text.{no_cr}
+use Rattle.gix_ref_files.specs.declared.files.FileError.TheVariants as faults_of
 use Rattle.gix_ref_log.specs.declared.log.line.Line.{Line}
 use Rattle.gix_ref_log.specs.declared.log.iter.error.ReverseError.{ReverseError}
 use Rattle.gix_ref_log.specs.declared.log.iter.error.ReverseError.TheVariants.{Io, Decode, BufferTooSmall, Memory}
@@ -29,11 +30,11 @@ stage_of (Err (Io e)) = Done
 stage_of (Err BufferTooSmall) = Done
 stage_of (Err Memory) = Done
 
--- after the end, and after any error but a decode fault, it is done
+-- after the end, and after any error but a decode fault, it is done; `Io` is never `Memory`, which a reader does not return
 abbrev pub IsDoneAfter : Option (Result Line ReverseError) → Stage → Type 0
 IsDoneAfter None stage = stage ≡ Done
 IsDoneAfter (Some (Ok l)) stage = ⊤
 IsDoneAfter (Some (Err (Decode e))) stage = ⊤
-IsDoneAfter (Some (Err (Io e))) stage = stage ≡ Done
+IsDoneAfter (Some (Err (Io e))) stage = (stage ≡ Done) × (e ≢ faults_of.Memory)
 IsDoneAfter (Some (Err BufferTooSmall)) stage = stage ≡ Done
 IsDoneAfter (Some (Err Memory)) stage = stage ≡ Done

@@ -1,5 +1,8 @@
 -- What a window on a log is to give.
-use Rattle.std.specs.Prelude.{ℕ, ◌+◌, ◌-◌, ◌≡◌, ◌≢◌, Bool, true, false, slice_index, ◌≤◌, ◌<◌, ◌^◌, List, [], ◌∷◌, ◌++◌, length, take, drop, Option, Result, None}
+use Rattle.std.specs.Prelude.{ℕ, ◌+◌, ◌-◌, ◌≡◌, ◌≢◌, Bool, true, false, slice_index, ◌≤◌, ◌<◌, ◌^◌, List, [], ◌∷◌, ◌++◌, length, take, drop, Option, Result, None, IsErrOf}
+use Rattle.gix_ref_files.specs.Files.{count_after}
+use Rattle.gix_ref_files.specs.declared.files.FileError.{FileError}
+use Rattle.gix_ref_files.specs.declared.files.FileError.TheVariants as faulty
 use Rattle.gix_ref_log.specs.LogStages.{tail_of, IsDoneAfter}
 use Rattle.gix_ref_log.specs.LogItems.{Item, items_from, Gives, count_of}
 use Rattle.gix_ref_log.specs.declared.log.line.Line.{Line}
@@ -58,6 +61,28 @@ module _ {F : Type 0} (bytes : F → List ℕ) where
 
   abbrev pub open_items : Bool → Reverse F → List Item
   open_items ends s = items_from (length s.buf.now) s.number (take (s.pos + s.end) (bytes s.reader) ++ tail_of ends)
+
+  -- the same file through the same buffer
+  pub record SameLog (s t : Reverse F) : Type 0 where
+    pub same_reference : t.buf.ghost_name ≡ s.buf.ghost_name
+    pub same_bytes : bytes t.reader ≡ bytes s.reader
+    pub same_length : length t.buf.now ≡ length s.buf.now
+
+  -- the window moves, and all else stays as it is
+  pub record OnlyWindowMoves (s t : Reverse F) : Type 0 where
+    pub log : SameLog s t
+    pub stage : t.stage ≡ s.stage
+    pub number : t.number ≡ s.number
+
+  -- a window on the log stays one
+  abbrev pub KeepsWindow : Reverse F → Reverse F → Type 0
+  KeepsWindow s t = IsWindow (bytes s.reader) s.buf.now s.pos s.end → IsWindow (bytes s.reader) t.buf.now t.pos t.end
+
+module _ {F : Type 0} (faults : F → ℕ) where
+  -- the reader counts a fault that comes; it is never `Memory`
+  pub record Counts {T : Type 0} (r : Result T FileError) (s t : Reverse F) : Type 0 where
+    pub count : faults t.reader ≡ count_after r (faults s.reader)
+    pub memory : IsErrOf r faulty.Memory → ⊥
 
 module _ {F : Type 0} (honest : Type 0) (bytes : F → List ℕ) (faults : F → ℕ) where
   -- what one call of `next` does

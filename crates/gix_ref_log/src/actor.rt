@@ -12,7 +12,7 @@ use thiserror::Error;
 mod number;
 mod stamp;
 
-use number::small_number;
+use number::parse_short_decimal;
 use stamp::time_of;
 
 /// A moment, and the zone in which it was told.
@@ -62,14 +62,14 @@ pub enum WriteError {
 fn seconds(text: &[u8]) -> Option<i64>
     ensures { MatchOption result ((n : ℤ) → IsSeconds text.now n → ⊥) (IsSeconds text.now) }
 {
-    match small_number(text) {
+    match parse_short_decimal(text) {
         Some(number) => Some(number as i64),
-        None => any_seconds(text),
+        None => parse_seconds_general(text),
     }
 }
 
 /// The same for a text of any length.
-fn any_seconds(text: &[u8]) -> Option<i64>
+fn parse_seconds_general(text: &[u8]) -> Option<i64>
     ensures { MatchOption result ((n : ℤ) → IsSeconds text.now n → ⊥) (IsSeconds text.now) }
 {
     if text.first() == Some(&b'+') {
@@ -190,16 +190,16 @@ impl<'a> SignatureRef<'a> {
     pub fn decode(text: &'a [u8]) -> Option<SignatureRef<'a>>
         ensures { MatchOption result ((who : Who) → IsSignature text.now who → ⊥) (λ s. IsSignature text.now (signature_ref_who s)) }
     {
-        match SignatureRef::stamped(text) {
+        match SignatureRef::decode_fast(text) {
             Some(signature) => Some(signature),
-            None => SignatureRef::searched(text),
+            None => SignatureRef::decode_general(text),
         }
     }
 
     /// The same where a stamp of the usual length ends the signature. Its place is known then, and nothing is searched for
     /// but the `<`. Of a text that ends otherwise `None` tells nothing.
     #[inline(always)]
-    pub fn stamped(text: &'a [u8]) -> Option<SignatureRef<'a>>
+    pub(crate) fn decode_fast(text: &'a [u8]) -> Option<SignatureRef<'a>>
         ensures { IfSome result (λ s. IsSignature text.now (signature_ref_who s)) }
     {
         let (front, end) = text.split_last_chunk::<18>()?;
@@ -214,7 +214,7 @@ impl<'a> SignatureRef<'a> {
 
     /// The signature, whatever the length of its parts.
     #[inline(never)]
-    fn searched(text: &'a [u8]) -> Option<SignatureRef<'a>>
+    fn decode_general(text: &'a [u8]) -> Option<SignatureRef<'a>>
         ensures { MatchOption result ((who : Who) → IsSignature text.now who → ⊥) (λ s. IsSignature text.now (signature_ref_who s)) }
     {
         let (front, behind_name) = cut(text, b'<')?;

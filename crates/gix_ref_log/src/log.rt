@@ -2,5 +2,6 @@
 
 pub mod iter;
 pub mod line;
+mod lines;
 
 pub use line::{AppendError, Line, LineRef, WriteError, appended_line, lines_read_back};

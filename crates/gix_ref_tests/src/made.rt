@@ -1,5 +1,5 @@
 //! Values for tests. A text that is not what the test means it to be ends the test.
-use gix_ref_base::name::{FullName, FullNameRef, PartialName, PartialNameRef};
+use gix_ref_base::name::{FullName, FullNameRef, PartialNameRef};
 use gix_ref_base::namespace::{Namespace, expand};
 use gix_ref_hash::hash::ObjectId;
 use std::alloc::{AllocError, Global};
@@ -20,10 +20,6 @@ pub fn bytes(rt: &impl Abort, alloc: Global, text: &str) -> Vec<u8> {
 
 pub fn full_name(rt: &impl Abort, alloc: Global, text: &str) -> FullName {
     full(rt, text).to_owned(alloc).expect(rt, "memory")
-}
-
-pub fn partial_name(rt: &impl Abort, alloc: Global, text: &str) -> PartialName {
-    partial(rt, text).to_owned(alloc).expect(rt, "memory")
 }
 
 pub fn namespace(rt: &impl Abort, alloc: Global, text: &str) -> Namespace {

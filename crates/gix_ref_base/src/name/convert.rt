@@ -5,9 +5,9 @@ ghost use Rattle.std.specs.Str.Lossy.{utf8_lossy};
 ghost use Rattle.gix_ref_base.specs.NameGrammar.{full_error, partial_error};
 ghost use Rattle.gix_ref_base.specs.Names.{Converts, full_ref_bytes, partial_ref_bytes, full_bytes, partial_bytes, shown};
 
-use bstr::ByteSlice;
 use crate::name::grammar::{broken_full_rule, broken_partial_rule};
 use crate::name::{Error, FullName, FullNameRef, PartialName, PartialNameRef};
+use bstr::ByteSlice;
 use std::alloc::AllocError;
 use std::fmt;
 

@@ -4,7 +4,7 @@ ghost use Rattle.gix_ref_hash.specs.Digits.{IsNumber};
 
 /// The number that one to 18 decimal digits are; none for any other text.
 #[inline(always)]
-pub fn small_number(text: &[u8]) -> Option<u64>
+pub fn parse_short_decimal(text: &[u8]) -> Option<u64>
     ensures { IfSome result (IsNumber text.now) }
 {
     if text.is_empty() || text.len() > 18 {

@@ -4,8 +4,8 @@ ghost use Rattle.std.specs.Prelude.{◌≡◌, ◌+◌, ◌-◌, ◌*◌, ◌<�
 ghost use Rattle.std.specs.Int.{bit_at};
 ghost use Rattle.gix_ref_log.specs.Signatures.{IsDigit, IsStamp};
 
-use std::simd::prelude::*;
 use super::Time;
+use std::simd::prelude::*;
 
 /// The bits of the digits among the last 16 bytes: ten, four behind a space and a sign.
 const DIGITS: u64 = 0b1111_0011_1111_1111;

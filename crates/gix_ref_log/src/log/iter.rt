@@ -12,14 +12,15 @@ ghost use Rattle.gix_ref_log.specs.declared.log.iter.error.ReverseError.{Reverse
 mod backward;
 pub mod decode;
 mod error;
+mod fast;
 mod forwards;
 mod stage;
-mod usual;
 
 pub use backward::Reverse;
 pub use error::{EmptyBuffer, ReverseError};
 pub use forwards::Forward;
 use gix_ref_files::files::ReadAt;
+use stage::Stage;
 use std::alloc::Global;
 
 /// The lines of a log, oldest first. Each is a line, or a decode fault with its number, and it goes on after one. Lines
@@ -28,7 +29,10 @@ pub fn forward(log: &[u8]) -> Forward<'_>
     // Whatever calls of `next` follow, they give the lines of the log, in order.
     ensures { EachRunFrom ForwardStep result (λ run. IsForwardRun (run.whole ≡ true) 1 (log_lines log.now) run.items) }
 {
-    Forward::new(log)
+    Forward {
+        rest: log,
+        count: 0,
+    }
 }
 
 /// The lines of a log, newest first, through the buffer, whose length is the only limit: a line of L bytes (its CR counted,
@@ -55,5 +59,17 @@ pub fn reverse<F: ReadAt + Drop>(
         → F.faults s.reader ≡ faults_after (F.faults log) items) }
     ensures ends { IfOk result (λ r. EachRunFrom (NextStep F.honest F.bytes F.faults) r (λ run. EndsAtError run.items)) }
 {
-    Reverse::new(alloc, log, buf)
+    if buf.is_empty() {
+        return Err(EmptyBuffer);
+    }
+    let pos = log.len();
+    Ok(Reverse {
+        buf,
+        reader: log,
+        stage: Stage::Unread,
+        pos,
+        end: 0,
+        number: 1,
+        alloc,
+    })
 }

@@ -1,8 +1,9 @@
 //! A line of a reflog: who moved a reference from which object to which, when, and why (`git reflog`).
 ghost use Rattle.gix_ref_hash.specs.Ids.{IsIdText};
 
-use bstr::ByteSlice;
 use crate::actor::{Signature, SignatureRef};
+use super::lines::before_newline;
+use bstr::ByteSlice;
 use gix_ref_hash::hash::{ObjectId, id_of_digits};
 use std::alloc::{AllocError, Global};
 use std::io;
@@ -10,7 +11,7 @@ use std::io;
 pub mod decode;
 mod write;
 
-use decode::{decoded, first_line};
+use decode::decode_line;
 pub use write::{AppendError, WriteError, appended_line, lines_read_back};
 
 /// A line of a reflog with bytes of its own.
@@ -51,11 +52,10 @@ impl<'a> LineRef<'a> {
     pub fn from_bytes(text: &'a [u8]) -> Result<LineRef<'a>, decode::Error<'a>>
         ensures { MatchResult result (λ line. IsLine text.now (line_ref_parts line)) (λ error. NoLine text.now × IsFirstLine text.now error.input.now) }
     {
-        match decoded(text) {
+        let input = before_newline(text);
+        match decode_line(input) {
             Some(line) => Ok(line),
-            None => Err(decode::Error {
-                input: first_line(text),
-            }),
+            None => Err(decode::Error { input }),
         }
     }
 

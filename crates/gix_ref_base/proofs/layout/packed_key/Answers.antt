@@ -1,4 +1,4 @@
-use Rattle.std.proofs.Common.{◌≡◌, sym, ◌∙◌, ap}
+use Rattle.std.proofs.Common.{sym, ◌∙◌, ap}
 use Rattle.gix_ref_base.specs.Layout.{RefPaths}
 use Rattle.gix_ref_base.specs.Locations.{no_namespace, paths_of}
 use Rattle.gix_ref_base.specs.RefLayout.{location_value}

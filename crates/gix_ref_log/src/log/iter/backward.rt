@@ -11,15 +11,16 @@ ghost use Rattle.gix_ref_log.specs.LogItems.{Gives, LineGives, IsRun, EndsAtErro
 ghost use Rattle.gix_ref_log.specs.declared.log.line.Line.{Line};
 ghost use Rattle.gix_ref_log.specs.declared.log.iter.error.ReverseError.{ReverseError};
 
-use crate::log::line::decode::decoded_line;
+use super::decode;
+use super::error::{EmptyBuffer, ReverseError};
+use super::stage::{Stage, stage_after};
+use super::fast::fast_decode;
+use crate::log::line::decode::decode_line;
 use crate::log::line::{Line, LineRef};
+use crate::log::lines::strip_cr;
 use gix_ref_files::files::{FileError, ReadAt};
 use gix_ref_hash::bytes::last_place;
 use std::alloc::Global;
-use super::decode;
-use super::error::{EmptyBuffer, ReverseError};
-use super::stage::{Stage, lesser, stage_after, without_return};
-use super::usual::usual_text;
 
 /// The lines of a log, newest first.
 ///
@@ -27,13 +28,13 @@ use super::usual::usual_text;
 /// in it.
 #[derive(Drop)]
 pub struct Reverse<'a, F> {
-    buf: &'a mut [u8],
-    reader: F,
-    stage: Stage,
-    pos: u64,
-    end: usize,
-    number: u64,
-    alloc: Global,
+    pub(super) buf: &'a mut [u8],
+    pub(super) reader: F,
+    pub(super) stage: Stage,
+    pub(super) pos: u64,
+    pub(super) end: usize,
+    pub(super) number: u64,
+    pub(super) alloc: Global,
     ghost in_buffer: { end ≤ length buf.now },
     ghost has_room: { 0 < length buf.now },
 }
@@ -55,7 +56,7 @@ fn line_of(alloc: Global, text: &[u8], number: u64) -> Result<Line, ReverseError
     requires { NoByte 10 text.now }
     ensures { LineGives number text.now result }
 {
-    match decoded_line(text) {
+    match decode_line(text) {
         Some(line) => owned(alloc, &line),
         None => Err(ReverseError::Decode(decode::Error {
             line: decode::LineNumber::FromEnd(number),
@@ -64,64 +65,25 @@ fn line_of(alloc: Global, text: &[u8], number: u64) -> Result<Line, ReverseError
 }
 
 impl<'a, F: ReadAt> Reverse<'a, F> {
-    ghost use Rattle.gix_ref_log.specs.LogWindows.{NextStep, IsWindow, Begins, IsOpen, open_items, items_left, IsTied, most_left};
-
-    /// The lines of the log, newest first, through the buffer.
-    pub(crate) fn new(
-        alloc: Global,
-        reader: F,
-        buf: &'a mut [u8],
-    ) -> Result<Reverse<'a, F>, EmptyBuffer>
-    where
-        F: Drop,
-        ensures empty { IsErr result ↔ (length buf.old ≡ 0) }
-        ensures same_reference { IfOk result (λ r. r.buf.ghost_name ≡ buf.entry.ghost_name) }
-        ensures items { F.honest → IfOk result (λ r. EachRunFrom (NextStep F.honest F.bytes F.faults) r
-            (λ run. IsRun (run.whole ≡ true) (items_from (length buf.old) 1 (F.bytes reader)) run.items)) }
-        ensures faults { IfOk result (λ r. (items : List (Result Line ReverseError)) (s : _) → Yields (NextStep F.honest F.bytes F.faults) r items s
-            → F.faults s.reader ≡ faults_after (F.faults reader) items) }
-        ensures ends { IfOk result (λ r. EachRunFrom (NextStep F.honest F.bytes F.faults) r (λ run. EndsAtError run.items)) }
-    {
-        if buf.is_empty() {
-            return Err(EmptyBuffer);
-        }
-        let pos = reader.len();
-        Ok(Reverse {
-            buf,
-            reader,
-            stage: Stage::Unread,
-            pos,
-            end: 0,
-            number: 1,
-            alloc,
-        })
-    }
+    ghost use Rattle.gix_ref_log.specs.LogWindows.{SameLog, OnlyWindowMoves, KeepsWindow, Counts, Begins, IsOpen, open_items, items_left, IsTied, most_left};
 
     /// Moves what is in the window to its back, and reads what stands before it in the file.
     fn widen(&mut self) -> Result<(), FileError>
-        ensures same_reference { self.new.buf.ghost_name ≡ self.old.buf.ghost_name }
-        ensures bytes { F.bytes self.new.reader ≡ F.bytes self.old.reader }
-        ensures length { length self.new.buf.now ≡ length self.old.buf.now }
-        ensures stage { self.new.stage ≡ self.old.stage }
-        ensures number { self.new.number ≡ self.old.number }
-        ensures no_fault { OnOk result (F.faults self.new.reader ≡ F.faults self.old.reader) }
-        ensures fault { OnErr result (F.faults self.new.reader ≡ one_more (F.faults self.old.reader)) }
-        ensures end { OnOk result (self.new.end ≡ self.old.end + min self.old.pos (length self.old.buf.now - self.old.end)) }
+        ensures only { OnlyWindowMoves F.bytes self.old self.new }
+        ensures counts { Counts F.faults result self.old self.new }
+        ensures end { OnOk result
+            (self.new.end ≡ self.old.end + min self.old.pos (length self.old.buf.now - self.old.end)) }
         ensures pos { OnOk result (self.new.pos + self.new.end ≡ self.old.pos + self.old.end) }
-        ensures window { OnOk result (F.honest → IsWindow (F.bytes self.old.reader) self.old.buf.now self.old.pos self.old.end
-            → IsWindow (F.bytes self.old.reader) self.new.buf.now self.new.pos self.new.end) }
+        ensures window { OnOk result (F.honest → KeepsWindow F.bytes self.old self.new) }
     {
-        let more = lesser(self.pos, self.buf.len() - self.end);
+        let room = (self.buf.len() - self.end) as u64;
+        let more = self.pos.min(room) as usize;
         self.buf.copy_within(..self.end, more);
         let pos = self.pos - more as u64;
-        match self.reader.read_exact_at(pos, &mut self.buf[..more]) {
-            Ok(()) => {
-                self.pos = pos;
-                self.end += more;
-                Ok(())
-            }
-            Err(error) => Err(error),
-        }
+        self.reader.read_exact_at(pos, &mut self.buf[..more])?;
+        self.pos = pos;
+        self.end += more;
+        Ok(())
     }
 
     /// The place of the last line feed in the window.
@@ -142,14 +104,11 @@ impl<'a, F: ReadAt> Reverse<'a, F> {
     /// Reads the last bytes of the file, and says whether they end with a line feed, which it passes.
     fn begin(&mut self) -> Result<bool, FileError>
         requires { 0 < self.old.pos }
-        ensures same_reference { self.new.buf.ghost_name ≡ self.old.buf.ghost_name }
-        ensures bytes { F.bytes self.new.reader ≡ F.bytes self.old.reader }
-        ensures length { length self.new.buf.now ≡ length self.old.buf.now }
-        ensures number { self.new.number ≡ self.old.number }
-        ensures no_fault { OnOk result (F.faults self.new.reader ≡ F.faults self.old.reader) }
-        ensures fault { OnErr result (F.faults self.new.reader ≡ one_more (F.faults self.old.reader)) }
+        ensures only { OnlyWindowMoves F.bytes self.old self.new }
+        ensures counts { Counts F.faults result self.old self.new }
         ensures nearer { OnOk result (self.new.pos + self.new.end ≤ self.old.pos + self.old.end) }
-        ensures begins { F.honest → self.old.end ≡ 0 → self.old.pos ≡ length (F.bytes self.old.reader)
+        ensures begins { F.honest → self.old.end ≡ 0
+            → self.old.pos ≡ length (F.bytes self.old.reader)
             → IfOk result (Begins (F.bytes self.old.reader) self.new.buf.now self.new.pos self.new.end) }
     {
         self.widen()?;
@@ -162,17 +121,13 @@ impl<'a, F: ReadAt> Reverse<'a, F> {
 
     /// The place of the last line feed in the window, which is widened where it has none.
     fn find_start(&mut self) -> Result<Option<usize>, FileError>
-        ensures same_reference { self.new.buf.ghost_name ≡ self.old.buf.ghost_name }
-        ensures bytes { F.bytes self.new.reader ≡ F.bytes self.old.reader }
-        ensures length { length self.new.buf.now ≡ length self.old.buf.now }
-        ensures number { self.new.number ≡ self.old.number }
-        ensures no_fault { OnOk result (F.faults self.new.reader ≡ F.faults self.old.reader) }
-        ensures fault { OnErr result (F.faults self.new.reader ≡ one_more (F.faults self.old.reader)) }
+        ensures only { OnlyWindowMoves F.bytes self.old self.new }
+        ensures counts { Counts F.faults result self.old self.new }
         ensures pos { OnOk result (self.new.pos + self.new.end ≡ self.old.pos + self.old.end) }
-        ensures window { OnOk result (F.honest → IsWindow (F.bytes self.old.reader) self.old.buf.now self.old.pos self.old.end
-            → IsWindow (F.bytes self.old.reader) self.new.buf.now self.new.pos self.new.end) }
+        ensures window { OnOk result (F.honest → KeepsWindow F.bytes self.old self.new) }
         ensures found { IfOk result (IsLastByte (is_byte 10) (take self.new.end self.new.buf.now)) }
-        ensures full { IfOk result (λ start. start ≡ None → (self.new.pos ≡ 0) ⊎ (self.new.end ≡ length self.new.buf.now)) }
+        ensures full { IfOk result (λ start. start ≡ None
+            → (self.new.pos ≡ 0) ⊎ (self.new.end ≡ length self.new.buf.now)) }
     {
         if let Some(start) = self.last_feed() {
             return Ok(Some(start));
@@ -183,15 +138,15 @@ impl<'a, F: ReadAt> Reverse<'a, F> {
         Ok(self.last_feed())
     }
 
-    /// The line that the window holds from a place on. One that is as most are takes the short way.
+    /// The line that the window holds from a place on. One of the common form takes the fast path.
     #[inline(always)]
     fn line_at(&self, start: usize, ends: bool) -> Result<Line, ReverseError>
         requires within { start ≤ self.now.end }
         requires one_line { NoByte 10 (slice_range self.now.buf.now start self.now.end) }
         ensures { LineGives self.now.number (text_of_line ends (slice_range self.now.buf.now start self.now.end)) result }
     {
-        let text = without_return(&self.buf[start..self.end], ends);
-        match usual_text(text) {
+        let text = strip_cr(&self.buf[start..self.end], ends);
+        match fast_decode(text) {
             Some(line) => owned(self.alloc, &line),
             None => line_of(self.alloc, text, self.number),
         }
@@ -200,13 +155,13 @@ impl<'a, F: ReadAt> Reverse<'a, F> {
     /// The next line, which a line feed follows or not.
     #[inline(always)]
     fn next_line(&mut self, ends: bool) -> Result<Line, ReverseError>
-        ensures same_reference { self.new.buf.ghost_name ≡ self.old.buf.ghost_name }
-        ensures bytes { F.bytes self.new.reader ≡ F.bytes self.old.reader }
-        ensures length { length self.new.buf.now ≡ length self.old.buf.now }
+        ensures log { SameLog F.bytes self.old self.new }
         ensures nearer { most_left self.new ≤ self.old.pos + self.old.end }
         ensures counts { F.faults self.new.reader ≡ count_of (Some result) (F.faults self.old.reader) }
         ensures done { IsDoneAfter (Some result) self.new.stage }
-        ensures step { F.honest → IsOpen F.bytes ends self.old → Gives (open_items F.bytes ends self.old) (Some result) (items_left F.bytes self.new) × IsTied F.bytes self.new }
+        ensures step { F.honest → IsOpen F.bytes ends self.old
+            → Gives (open_items F.bytes ends self.old) (Some result) (items_left F.bytes self.new)
+                × IsTied F.bytes self.new }
     {
         match self.find_start() {
             Err(error) => {

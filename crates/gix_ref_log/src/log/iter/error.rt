@@ -1,6 +1,6 @@
 //! The errors of reading a log from its end.
-use gix_ref_files::files::FileError;
 use super::decode;
+use gix_ref_files::files::FileError;
 use thiserror::Error;
 
 /// The buffer has no room for a byte.

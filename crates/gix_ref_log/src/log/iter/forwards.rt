@@ -5,47 +5,18 @@ ghost use Rattle.std.specs.Prelude.{◌≡◌, ◌∷◌, ◌+◌, ◌<◌, ◌^
 ghost use Rattle.gix_ref_hash.specs.Bytes.{NoByte};
 ghost use Rattle.gix_ref_log.specs.LogCuts.{log_lines};
 
-use crate::log::line::decode::decoded_line;
-use crate::log::line::LineRef;
-use gix_ref_hash::bytes::cut;
 use super::decode::{Error, LineNumber};
-use super::stage::without_return;
-use super::usual::usual_line;
+use super::fast::fast_first_line;
+use crate::log::line::LineRef;
+use crate::log::lines::cut_line;
+use crate::log::line::decode::decode_line;
 
 /// The lines of a log, oldest first.
 #[derive(Drop)]
 pub struct Forward<'a> {
-    rest: &'a [u8],
-    count: u64,
+    pub(super) rest: &'a [u8],
+    pub(super) count: u64,
     ghost counts: { count + length rest.now < 2 ^ 64 },
-}
-
-/// The first line, without its LF and the CR before it, and what follows it.
-#[inline(always)]
-fn first_line(log: &[u8]) -> (&[u8], &[u8])
-    requires { 0 < length log.now }
-    ensures lines { log_lines log.now ≡ result.0.now ∷ log_lines result.1.now }
-    ensures one_line { NoByte 10 result.0.now }
-    ensures shorter { length result.1.now < length log.now }
-{
-    match cut(log, b'\n') {
-        Some((line, rest)) => (without_return(line, true), rest),
-        None => (log, &[]),
-    }
-}
-
-impl<'a> Forward<'a> {
-    ghost use Rattle.gix_ref_log.specs.LogItems.{IsForwardRun};
-    ghost use Rattle.gix_ref_log.specs.LogForward.{ForwardStep};
-
-    pub(crate) fn new(log: &'a [u8]) -> Forward<'a>
-        ensures { EachRunFrom ForwardStep result (λ run. IsForwardRun (run.whole ≡ true) 1 (log_lines log.now) run.items) }
-    {
-        Forward {
-            rest: log,
-            count: 0,
-        }
-    }
 }
 
 impl<'a> Iterator for Forward<'a> {
@@ -59,7 +30,7 @@ impl<'a> Iterator for Forward<'a> {
 
     #[inline(always)]
     fn next(&mut self) -> Option<Result<LineRef<'a>, Error>> {
-        if let Some((line, rest)) = usual_line(self.rest) {
+        if let Some((line, rest)) = fast_first_line(self.rest) {
             self.rest = rest;
             self.count += 1;
             return Some(Ok(line));
@@ -67,10 +38,10 @@ impl<'a> Iterator for Forward<'a> {
         if self.rest.is_empty() {
             return None;
         }
-        let (line, rest) = first_line(self.rest);
+        let (line, rest) = cut_line(self.rest);
         self.rest = rest;
         self.count += 1;
-        match decoded_line(line) {
+        match decode_line(line) {
             Some(line) => Some(Ok(line)),
             None => Some(Err(Error {
                 line: LineNumber::FromStart(self.count),

@@ -1,10 +1,9 @@
-//! Small parts of reading a log from its end.
-ghost use Rattle.std.specs.Prelude.{◌≡◌, min};
-ghost use Rattle.gix_ref_hash.specs.Bytes.{NoByte};
-ghost use Rattle.gix_ref_log.specs.LogStages.{text_of_line, stage_of};
+//! Where the reading of a log from its end is.
+ghost use Rattle.std.specs.Prelude.{◌≡◌};
+ghost use Rattle.gix_ref_log.specs.LogStages.{stage_of};
 
-use crate::log::line::Line;
 use super::error::ReverseError;
+use crate::log::line::Line;
 
 /// Where the iterator is.
 #[derive(Clone, Copy, PartialEq, Eq, Debug)]
@@ -15,27 +14,6 @@ pub enum Stage {
     Reading,
     /// The end.
     Done,
-}
-
-/// The lesser of two lengths.
-#[inline(always)]
-pub fn lesser(a: u64, b: usize) -> usize
-    ensures { result ≡ min a b }
-{
-    if a < b as u64 { a as usize } else { b }
-}
-
-/// A line less the CR before its LF.
-#[inline(always)]
-pub fn without_return(text: &[u8], ends: bool) -> &[u8]
-    ensures text { result.now ≡ text_of_line ends text.now }
-    ensures one_line { NoByte 10 text.now → NoByte 10 result.now }
-{
-    let len = text.len();
-    if !ends || len == 0 || text[len - 1] != b'\r' {
-        return text;
-    }
-    &text[..len - 1]
 }
 
 /// Where the iterator is after a line.

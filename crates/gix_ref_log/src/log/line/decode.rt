@@ -2,13 +2,13 @@
 ghost use Rattle.std.specs.Prelude.{◌≡◌, List, ℕ, MatchOption};
 ghost use Rattle.gix_ref_hash.specs.Bytes.{NoByte};
 ghost use Rattle.gix_ref_log.specs.LogIds.{IdFront, IsIdPlace};
-ghost use Rattle.gix_ref_log.specs.LogLines.{IsLine, NoLine, IsFirstLine, CutsOrAll, line_ref_parts};
+ghost use Rattle.gix_ref_log.specs.LogLines.{IsLine, NoLine, line_ref_parts};
 
-use bstr::BStr;
-use crate::actor::SignatureRef;
-use gix_ref_hash::bytes::cut;
-use gix_ref_hash::hash::are_hex;
 use super::LineRef;
+use crate::actor::SignatureRef;
+use crate::log::lines::cut_or_all;
+use bstr::BStr;
+use gix_ref_hash::hash::are_hex;
 use thiserror::Error;
 
 /// The bytes are no line of a reflog.
@@ -17,24 +17,6 @@ use thiserror::Error;
 pub struct Error<'a> {
     /// The first line of the bytes, without its LF.
     pub input: &'a [u8],
-}
-
-/// What stands before the first such byte, or all, and what stands behind it.
-#[inline(always)]
-fn cut_or_all(text: &[u8], byte: u8) -> (&[u8], &[u8])
-    ensures { CutsOrAll byte text.now result.0.now result.1.now }
-{
-    match cut(text, byte) {
-        Some(parts) => parts,
-        None => (text, &[]),
-    }
-}
-
-/// The text before its first LF, or all of it.
-pub(super) fn first_line(text: &[u8]) -> &[u8]
-    ensures { IsFirstLine text.now result.now }
-{
-    cut_or_all(text, b'\n').0
 }
 
 /// How many digits the id in front has, if there is one: the place of the space.
@@ -65,26 +47,9 @@ fn id_front(text: &[u8]) -> Option<(&[u8], &[u8])>
     Some((id, rest))
 }
 
-/// The line at the front of the text.
-pub(super) fn decoded<'a>(text: &'a [u8]) -> Option<LineRef<'a>>
-    ensures { MatchOption result (NoLine text.now) (λ line. IsLine text.now (line_ref_parts line)) }
-{
-    let (previous_oid, ids) = id_front(text)?;
-    let (new_oid, rest) = id_front(ids)?;
-    let (line, _) = cut_or_all(rest, b'\n');
-    let (head, message) = cut_or_all(line, b'\t');
-    let signature = SignatureRef::decode(head)?;
-    Some(LineRef {
-        previous_oid,
-        new_oid,
-        signature,
-        message,
-    })
-}
-
 /// The line that a text without LF is.
 #[inline(always)]
-pub(crate) fn decoded_line<'a>(text: &'a [u8]) -> Option<LineRef<'a>>
+pub(crate) fn decode_line<'a>(text: &'a [u8]) -> Option<LineRef<'a>>
     requires { NoByte 10 text.now }
     ensures { MatchOption result (NoLine text.now) (λ line. IsLine text.now (line_ref_parts line)) }
 {

@@ -7,12 +7,12 @@ ghost use Rattle.gix_ref_log.specs.LogLines.{LogLine, IsLine, IsReadAs, IsReadab
 ghost use Rattle.gix_ref_hash.specs.declared.hash.ObjectId.{ObjectId};
 ghost use Rattle.gix_ref_log.specs.declared.log.line.Line.{Line};
 
-use bstr::ByteSlice;
+use super::Line;
 use crate::actor::{self, SignatureRef};
+use bstr::ByteSlice;
 use gix_ref_hash::hash::ObjectId;
 use std::alloc::Global;
 use std::io;
-use super::Line;
 use thiserror::Error;
 
 /// Why a line was not written.

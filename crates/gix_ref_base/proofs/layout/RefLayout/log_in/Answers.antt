@@ -1,4 +1,4 @@
-use Rattle.std.proofs.Common.{◌∙◌, ◌++◌, ◌∷◌, ap, ℕ, List, Vec, Global, codes}
+use Rattle.std.proofs.Common.{◌∙◌, ap, ℕ, Vec, Global}
 use Rattle.std.proofs.lemmas.Result.{IfOk-weaker}
 use Rattle.gix_ref_base.specs.Layout.{below}
 use Rattle.gix_ref_base.proofs.layout.RefLayout.log_in.Goals as goal

@@ -23,7 +23,7 @@ returns-in-Err-clause-step g c = λ honest o.
     let e = c.in-Err.ensures in
     let within = o.1.within in (
       fault_step (length s.buf.now) s.number (s.pos + s.end) (g.F.ReadAt.bytes s.reader) c.args.ends c.in-Err.error within o.2,
-      (small_log _ _ e.bytes o.0, tt),
+      (small_log _ _ e.only.log.same_bytes o.0, tt),
     )
 
 pub returns-in-Ok-Some-clause-step : goal.returns-in-Ok-Some-clause-step
@@ -34,11 +34,11 @@ returns-in-Ok-Some-clause-step g c = λ honest o.
     let window = e.window honest o.1 in
     let found : IsLastByte (is_byte 10) (take t.end t.buf.now) (Some c.in-Ok-Some.start) = subst (λ (r : Option ℕ). IsLastByte (is_byte 10) (take t.end t.buf.now) r) c.in-Ok-Some.field-0-is e.found in
     let fits = number_fits _ _ s.number t.pos t.end c.in-Ok-Some.start _ c.args.ends window found e.pos o.2 o.0 in
-    let number = e.number in
+    let number = e.only.number in
     let next : c.saturating_add-self.result ≡ t.number + 1 = omega (arith, c.saturating_add-self.ensures) in
     found_after (length s.buf.now) (length t.buf.now) s.number t.number c.saturating_add-self.result s.pos s.end
     (g.F.ReadAt.bytes s.reader) (g.F.ReadAt.bytes t.reader) t.buf.now t.pos t.end c.in-Ok-Some.start c.args.ends c.line_at-line.result c.stage_after-self.result
-    e.bytes e.length e.number refl o.0 next c.stage_after-self.ensures e.pos window o.2 found c.line_at-line.ensures
+    e.only.log.same_bytes e.only.log.same_length e.only.number refl o.0 next c.stage_after-self.ensures e.pos window o.2 found c.line_at-line.ensures
 
 pub returns-then-self-gt0-clause-step : goal.returns-then-self-gt0-clause-step
 returns-then-self-gt0-clause-step g c = λ honest o.
@@ -47,10 +47,10 @@ returns-then-self-gt0-clause-step g c = λ honest o.
     let e = c.in-Ok-None.ensures in
     let none : IsLastByte (is_byte 10) (take t.end t.buf.now) None = subst (λ (r : Option ℕ). IsLastByte (is_byte 10) (take t.end t.buf.now) r) c.in-Ok-None.field-0-is e.found in
     let more = c.if-self-gt0.true in
-    let full : t.end ≡ length s.buf.now = ⊎_elim (λ (zero : t.pos ≡ 0). absurd (omega arith)) (λ (f : t.end ≡ length t.buf.now). f ∙ e.length) (e.full c.in-Ok-None.field-0-is) in (
+    let full : t.end ≡ length s.buf.now = ⊎_elim (λ (zero : t.pos ≡ 0). absurd (omega arith)) (λ (f : t.end ≡ length t.buf.now). f ∙ e.only.log.same_length) (e.full c.in-Ok-None.field-0-is) in (
       small_step (length s.buf.now) s.number (s.pos + s.end) (g.F.ReadAt.bytes s.reader) t.buf.now t.pos t.end c.args.ends
-          e.length (omega (arith, s.has_room)) c.if-self-gt0.true full e.pos (e.window honest o.1) none,
-      (small_log _ _ e.bytes o.0, tt),
+          e.only.log.same_length (omega (arith, s.has_room)) c.if-self-gt0.true full e.pos (e.window honest o.1) none,
+      (small_log _ _ e.only.log.same_bytes o.0, tt),
     )
 
 pub returns-else-self-gt0-clause-step : goal.returns-else-self-gt0-clause-step
@@ -60,8 +60,8 @@ returns-else-self-gt0-clause-step g c = λ honest o.
     let e = c.in-Ok-None.ensures in
     let none : IsLastByte (is_byte 10) (take t.end t.buf.now) None = subst (λ (r : Option ℕ). IsLastByte (is_byte 10) (take t.end t.buf.now) r) c.in-Ok-None.field-0-is e.found in
     let line : LineGives s.number (text_of_line c.args.ends (slice_range t.buf.now 0 t.end)) c.line_at.result =
-    subst (λ (k : ℕ). LineGives k (text_of_line c.args.ends (slice_range t.buf.now 0 t.end)) c.line_at.result) e.number c.line_at.ensures in (
+    subst (λ (k : ℕ). LineGives k (text_of_line c.args.ends (slice_range t.buf.now 0 t.end)) c.line_at.result) e.only.number c.line_at.ensures in (
       lone_step (length s.buf.now) s.number (s.pos + s.end) (g.F.ReadAt.bytes s.reader) t.buf.now t.pos t.end c.args.ends c.line_at.result
-          e.length (omega arith) e.pos (e.window honest o.1) o.2 none line,
-      (small_log _ _ e.bytes o.0, tt),
+          e.only.log.same_length (omega arith) e.pos (e.window honest o.1) o.2 none line,
+      (small_log _ _ e.only.log.same_bytes o.0, tt),
     )

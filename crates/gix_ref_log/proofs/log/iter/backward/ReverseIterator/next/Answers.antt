@@ -1,6 +1,9 @@
-use Rattle.std.proofs.Common.{◌≡◌, ◌≢◌, ℕ, ◌<◌, ◌^◌, List, length, refl, sym, ◌∙◌, ap, subst, arith, Some}
+use Rattle.std.proofs.Common.{◌≡◌, ◌≢◌, ℕ, ◌<◌, ◌^◌, List, length, refl, sym, ◌∙◌, ap, subst, arith, Some, Err}
 use Rattle.gix_ref_log.specs.declared.log.iter.stage.Stage.{Stage}
 use Rattle.gix_ref_log.specs.declared.log.iter.stage.Stage.TheVariants.{Unread, Done}
+use Rattle.gix_ref_files.specs.Files.{count_with, one_more}
+use Rattle.gix_ref_files.specs.declared.files.FileError.{FileError}
+use Rattle.gix_ref_files.specs.declared.files.FileError.TheVariants.{Device, NotUtf8, Memory}
 use Rattle.gix_ref_log.specs.LogItems.{count_of}
 use Rattle.gix_ref_log.proofs.BackwardSteps.{start_none, start_fault, start_line}
 use Rattle.gix_ref_log.proofs.log.iter.backward.ReverseIterator.next.Goals as goal
@@ -13,6 +16,12 @@ some n other = omega arith
 
 not_done : (s : Stage) → s ≡ Unread → s ≡ Done → ⊥
 not_done s is done = let e : Unread ≡ Done = sym is ∙ done in cc
+
+-- a fault that is not `Memory` is counted
+counted : (e : FileError) (n : ℕ) → e ≢ Memory → count_with e n ≡ one_more n
+counted (Device kind) n other = refl
+counted NotUtf8 n other = refl
+counted Memory n other = absurd (other refl)
 
 pub returns-then-self-eq0-clause-steps : goal.returns-then-self-eq0-clause-steps
 returns-then-self-eq0-clause-steps g c =
@@ -33,14 +42,14 @@ returns-in-Ok-clause-steps g c =
     let e = c.in-Ok.ensures in
     let l = c.next_line-in-Ok.ensures in
     record {
-      same_reference = l.same_reference ∙ e.same_reference;
-      same_bytes = l.bytes ∙ e.bytes;
-      counts = l.counts ∙ ap (count_of (Some c.next_line-in-Ok.result)) e.no_fault;
+      same_reference = l.log.same_reference ∙ e.only.log.same_reference;
+      same_bytes = l.log.same_bytes ∙ e.only.log.same_bytes;
+      counts = l.counts ∙ ap (count_of (Some c.next_line-in-Ok.result)) e.counts.count;
       done = l.done;
       stays_done = λ done. absurd (not_done s.stage c.in-Unread.is done);
       gives = λ honest tied. start_line s.stage (length s.buf.now) (length b.buf.now) s.number b.number s.pos s.end b.pos b.end
           (g.F.ReadAt.bytes s.reader) (g.F.ReadAt.bytes b.reader) s.buf.now b.buf.now c.in-Ok.ends c.next_line-in-Ok.result _ _
-          c.in-Unread.is e.bytes e.length e.number tied.0 tied.1 (e.begins honest) (l.step honest);
+          c.in-Unread.is e.only.log.same_bytes e.only.log.same_length e.only.number tied.0 tied.1 (e.begins honest) (l.step honest);
     }
 
 pub returns-in-Err-clause-steps : goal.returns-in-Err-clause-steps
@@ -48,13 +57,13 @@ returns-in-Err-clause-steps g c =
     let s = c.args.self.now in
     let e = c.in-Err.ensures in
     record {
-      same_reference = e.same_reference;
-      same_bytes = e.bytes;
-      counts = e.fault;
-      done = refl;
+      same_reference = e.only.log.same_reference;
+      same_bytes = e.only.log.same_bytes;
+      counts = e.counts.count ∙ counted c.in-Err.error _ (λ is. e.counts.memory (ap Err is));
+      done = (refl, λ is. e.counts.memory (ap Err is));
       stays_done = λ done. absurd (not_done s.stage c.in-Unread.is done);
       gives = λ honest tied. (
         start_fault s.stage (length s.buf.now) s.number s.pos s.end (g.F.ReadAt.bytes s.reader) s.buf.now c.in-Err.error c.in-Unread.is (some s.pos c.if-self-eq0.false) tied.1,
-        (small_log _ _ e.bytes tied.0, tt),
+        (small_log _ _ e.only.log.same_bytes tied.0, tt),
       );
     }

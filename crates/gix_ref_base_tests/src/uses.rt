@@ -1,0 +1,44 @@
+//! Short callers, each with what it can state of its result from the public contracts alone.
+ghost use Rattle.std.specs.Prelude.{◌≡◌, ◌++◌, ◌⊎◌, IfSome, IfOk, IfErr, codes, Some};
+ghost use Rattle.gix_ref_base.specs.Names.{full_ref_bytes, full_bytes};
+ghost use Rattle.gix_ref_base.specs.NameGrammar.{IsFullName, full_error, IsPartialName};
+ghost use Rattle.gix_ref_base.specs.Namespaces.{namespace_bytes};
+
+use gix_ref_base::name::{Category, Error, FullName, FullNameRef};
+use gix_ref_base::namespace::Namespace;
+use std::alloc::{AllocError, Global};
+
+/// A name from a text, by the view: it is the text, and the text is a full name.
+pub fn owned(alloc: Global, text: &str) -> Result<FullName, Error>
+    ensures ok { IfOk result (λ n. full_bytes n ≡ text.now) }
+    ensures valid { IfOk result (λ _. IsFullName text.now) }
+    ensures err { IfErr result (λ e. (e ≡ Error.Memory) ⊎ (full_error text.now ≡ Some e)) }
+{
+    let view = FullNameRef::try_from(text)?;
+    Ok(view.to_owned(alloc)?)
+}
+
+/// The name of a branch without what goes in front.
+pub fn branch_name<'a>(name: FullNameRef<'a>) -> Option<&'a [u8]>
+    ensures some { IfSome result (λ s. full_ref_bytes name.entry ≡ codes "refs/heads/" ++ s.now) }
+{
+    match name.category_and_short_name() {
+        Some((Category::LocalBranch, short)) => Some(short),
+        _ => None,
+    }
+}
+
+/// The path of a reference in a namespace; it is a valid name without another test.
+pub fn namespaced_path(
+    alloc: Global,
+    namespace: &Namespace,
+    name: FullNameRef<'_>,
+) -> Result<Vec<u8>, AllocError>
+    ensures path { IfOk result (λ path.
+        path.items ≡ namespace_bytes namespace.now ++ full_ref_bytes name.entry) }
+    ensures valid { IfOk result (λ path. IsPartialName path.items) }
+{
+    let mut path = Vec::from_slice(alloc, namespace.to_path())?;
+    path.extend_from_slice(name.to_path())?;
+    Ok(path)
+}

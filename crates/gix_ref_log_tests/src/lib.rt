@@ -1,0 +1,13 @@
+//! Tests of reflogs: signatures, lines, and the items of a log from either end.
+#![tactic(auto)]
+
+#[cfg(test)]
+mod items;
+#[cfg(test)]
+mod lines;
+#[cfg(test)]
+mod made;
+#[cfg(test)]
+mod reader;
+#[cfg(test)]
+mod signatures;
