@@ -1,5 +1,6 @@
 //! Sets the branch `main` of the repository in `git`, which must not exist or be there already, and shows it.
 #![tactic(auto)]
+
 ghost use Rattle.std.specs.Prelude.{IfOk};
 ghost use Rattle.gix_ref_store.specs.Prepared.{IsOneUpdate};
 
@@ -23,7 +24,11 @@ fn update(alloc: Global, name: FullName, id: ObjectId) -> Result<Vec<RefEdit>>
         expected: PreviousValue::MustNotExist,
         new: Target::Object(id),
     };
-    let edit = RefEdit { change, name, deref: false };
+    let edit = RefEdit {
+        change,
+        name,
+        deref: false,
+    };
     Ok(vec![in alloc; edit]?)
 }
 
@@ -33,19 +38,33 @@ fn main(rt: HostRuntime) -> Result<()> {
     let id = ObjectId::from_hex(b"1111111111111111111111111111111111111111").context("an id")?;
 
     // Log lines are not written yet, so the store must write none.
-    let options = Options { write_reflog: WriteReflog::Disable, ..Options::default() };
+    let options = Options {
+        write_reflog: WriteReflog::Disable,
+        ..Options::default()
+    };
     let files = Disk::new(rt.clone()?);
     let Ok(mut store) = Store::at_opts(files, b"git".to_vec(alloc)?, Kind::Sha1, options) else {
         bail!("`git` is not a clean path")
     };
 
     let edits = update(alloc, name.to_owned(alloc)?, id)?;
-    match store.transaction(PackedRefs::default()).prepare(alloc, edits) {
+    match store
+        .transaction(PackedRefs::default())
+        .prepare(alloc, edits)
+    {
         Ok(prepared) => match prepared.commit(alloc, None) {
             Ok(done) => println!(rt; "{} edit", done.edits.len())?,
-            Err(failed) => bail!("it failed: {}, {} locks left", failed.error, failed.locks_left.len()),
+            Err(failed) => bail!(
+                "it failed: {}, {} locks left",
+                failed.error,
+                failed.locks_left.len()
+            ),
         },
-        Err(refused) => bail!("it was refused: {}, {} locks left", refused.error, refused.locks_left.len()),
+        Err(refused) => bail!(
+            "it was refused: {}, {} locks left",
+            refused.error,
+            refused.locks_left.len()
+        ),
     }
 
     match store.find(alloc, name.as_partial_name()) {

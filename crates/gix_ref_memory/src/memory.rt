@@ -11,11 +11,11 @@ mod reader;
 mod turns;
 
 use changes::{Change, Stands, find, is_below_file, is_folder_at};
-use gix_ref_files::files::{Create, Entry, FileError, Files, Node, Rename};
 use edits::{
     append_now, append_some, create_now, put_now, remove_file_now, remove_folder_now, rename_now,
 };
 use folders::{make_folders_now, make_some_folders};
+use gix_ref_files::files::{Create, Entry, FileError, Files, Node, Rename};
 use listing::list_now;
 pub use reader::MemoryReader;
 use std::alloc::Global;

@@ -5,11 +5,11 @@ ghost use Rattle.gix_ref_base.specs.Targets.{target_value};
 ghost use Rattle.gix_ref_program.specs.Outcomes.{lock_lines, shown_target, printed, status_of};
 
 use crate::refusal::Refusal;
-use gix_ref_store::raw::Reference;
 use gix_ref_base::target::Target;
+use gix_ref_store::raw::Reference;
 use std::alloc::{AllocError, Global};
-use std::io::Write;
 use std::io;
+use std::io::Write;
 
 /// What a line comes to.
 #[derive(Debug, Drop)]

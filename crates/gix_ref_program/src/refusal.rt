@@ -3,9 +3,9 @@ ghost use Rattle.std.specs.Prelude.{◌≡◌};
 ghost use Rattle.gix_ref_program.specs.Outcomes.{name_word, prepare_word, commit_word, find_word, word_of};
 
 use crate::update::UpdateError;
+use gix_ref_base::name;
 use gix_ref_store::file::find;
 use gix_ref_store::file::transaction::{commit, prepare};
-use gix_ref_base::name;
 
 /// Why a line is refused.
 #[derive(Debug, Drop)]

@@ -15,18 +15,18 @@ use crate::outcome::{Outcome, print};
 use crate::refusal::Refusal;
 use crate::update::{UpdateReport, update};
 use crate::words::{Command, Line, parse};
-use gix_ref_store::file::transaction::PackedRefs;
-use gix_ref_store::file::{Store, store};
-use gix_ref_store::store::{Options, WriteReflog};
-use gix_ref_store::transaction::{Change, LogChange, PreviousValue, RefEdit};
 use gix_ref_base::name::{FullNameRef, PartialNameRef};
 use gix_ref_base::namespace::{Namespace, expand};
 use gix_ref_base::target::Target;
 use gix_ref_files::files::Files;
 use gix_ref_hash::hash::{Kind, ObjectId};
+use gix_ref_store::file::transaction::PackedRefs;
+use gix_ref_store::file::{Store, store};
+use gix_ref_store::store::{Options, WriteReflog};
+use gix_ref_store::transaction::{Change, LogChange, PreviousValue, RefEdit};
 use std::alloc::{AllocError, Global};
-use std::io::Write;
 use std::io;
+use std::io::Write;
 
 /// What a run hands back.
 #[derive(Drop)]

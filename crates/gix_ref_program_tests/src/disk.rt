@@ -32,10 +32,22 @@ fn updates_shows_and_refuses(rt: HostRuntime) -> Result<(), Fail> {
             &["v/git", "show", "refs/heads/a"],
             "1111111111111111111111111111111111111111 refs/heads/a\n",
         ),
-        (&["v/git", "update", "refs/heads/a", I2, I2], "refused: ReferenceOutOfDate\n"),
-        (&["v/git", "update", "refs/heads/a/b", I1], "refused: PathCollision\n"),
-        (&["v/git", "update", "refs/heads", I1], "refused: FolderInPlace\n"),
-        (&["v/git", "update", "logs/HEAD", I1], "refused: UnsafeName\n"),
+        (
+            &["v/git", "update", "refs/heads/a", I2, I2],
+            "refused: ReferenceOutOfDate\n",
+        ),
+        (
+            &["v/git", "update", "refs/heads/a/b", I1],
+            "refused: PathCollision\n",
+        ),
+        (
+            &["v/git", "update", "refs/heads", I1],
+            "refused: FolderInPlace\n",
+        ),
+        (
+            &["v/git", "update", "logs/HEAD", I1],
+            "refused: UnsafeName\n",
+        ),
     ];
     for (words, output) in rows {
         let ran = run_words(&rt, alloc, Disk::new(rt.clone()?), words);
@@ -55,7 +67,12 @@ fn a_device_counts_as_nothing(rt: HostRuntime) -> Result<(), Fail> {
     fs::create_dir_all(&rt, "w/refs/heads")?;
     // `/dev/zero` has no end: a program that reads it does not come back.
     symlink(&rt, "/dev/zero", "w/refs/heads/x")?;
-    let shown = run_words(&rt, alloc, Disk::new(rt.clone()?), &["w", "show", "refs/heads/x"]);
+    let shown = run_words(
+        &rt,
+        alloc,
+        Disk::new(rt.clone()?),
+        &["w", "show", "refs/heads/x"],
+    );
     let mut disk = Disk::new(rt.clone()?);
     let mut text = Vec::new(alloc);
     let read = disk.read(alloc, b"w/refs/heads/x", &mut text);

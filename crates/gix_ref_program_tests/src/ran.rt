@@ -8,17 +8,23 @@ use std::process::Abort;
 
 /// Ids of one digit, in words: forty digits, or sixty-four.
 pub const I0: &str = "0000000000000000000000000000000000000000";
+
 pub const I1: &str = "1111111111111111111111111111111111111111";
+
 pub const I2: &str = "2222222222222222222222222222222222222222";
+
 pub const L0: &str = "0000000000000000000000000000000000000000000000000000000000000000";
+
 pub const L1: &str = "1111111111111111111111111111111111111111111111111111111111111111";
 
 /// Loose texts of two of them.
 pub const ONE: &str = "1111111111111111111111111111111111111111\n";
+
 pub const TWO: &str = "2222222222222222222222222222222222222222\n";
 
 /// The path of a branch, and its lock.
 pub const A: &str = "/r/refs/heads/a";
+
 pub const LOCK: &str = "/r/refs/heads/a.lock";
 
 /// What a run printed, and its status.
@@ -30,12 +36,7 @@ pub struct Printed<F> {
 }
 
 /// Runs the program with these words.
-pub fn run_words<F: Files>(
-    rt: &impl Abort,
-    alloc: Global,
-    files: F,
-    words: &[&str],
-) -> Printed<F> {
+pub fn run_words<F: Files>(rt: &impl Abort, alloc: Global, files: F, words: &[&str]) -> Printed<F> {
     let mut line = Vec::new(alloc);
     for word in words {
         let word = String::from_str(alloc, word).expect(rt, "memory");

@@ -33,7 +33,8 @@ fn is_printed(output: &[u8], status: u8, printed: Printed<'_>) -> bool {
         Printed::Text(text) => status == 0 && output == text.as_bytes(),
         Printed::Refused(variant) => {
             status == 1
-                && output.strip_prefix(b"refused: ".as_slice())
+                && output
+                    .strip_prefix(b"refused: ".as_slice())
                     .and_then(|rest| rest.strip_suffix(b"\n".as_slice()))
                     == Some(variant.as_bytes())
         }
@@ -46,7 +47,10 @@ fn check(rt: &impl Abort, alloc: Global, row: Row<'_>) {
     let memory = with_file(rt, alloc, row.before.0, row.before.1);
     let ran = run_words(rt, alloc, memory, row.words);
     let meaning = row.meaning;
-    assert!(rt; is_printed(&ran.output, ran.status, row.printed), "{meaning}: printed");
+    assert!(rt;
+        is_printed(&ran.output, ran.status, row.printed),
+        "{meaning}: printed"
+    );
     match ran.files.get(row.after.0.as_bytes()) {
         Some(got) => assert!(rt; got == row.after.1.as_bytes(), "{meaning}: the file after"),
         None => assert_eq!(rt; row.after.1, "-", "{meaning}: no file after"),
@@ -119,7 +123,10 @@ fn updates(rt: HostRuntime) {
             before: ("", ""),
             words: &["/r", "--sha256", "update", "refs/heads/a", L1, L0],
             printed: Printed::Nothing,
-            after: (A, "1111111111111111111111111111111111111111111111111111111111111111\n"),
+            after: (
+                A,
+                "1111111111111111111111111111111111111111111111111111111111111111\n",
+            ),
         },
         Row {
             meaning: "an id of SHA-1 there",
@@ -159,7 +166,12 @@ fn updates(rt: HostRuntime) {
         Row {
             meaning: "digits in upper case",
             before: ("", ""),
-            words: &["/r", "update", "refs/heads/a", "AAAAAAAAAAAAAAAAAAAAAAAAAAAAAAAAAAAAAAAA"],
+            words: &[
+                "/r",
+                "update",
+                "refs/heads/a",
+                "AAAAAAAAAAAAAAAAAAAAAAAAAAAAAAAAAAAAAAAA",
+            ],
             printed: Printed::Nothing,
             after: (A, "aaaaaaaaaaaaaaaaaaaaaaaaaaaaaaaaaaaaaaaa\n"),
         },
@@ -230,17 +242,31 @@ fn shows(rt: HostRuntime) {
         },
         Row {
             meaning: "an id of SHA-256",
-            before: (A, "1111111111111111111111111111111111111111111111111111111111111111\n"),
+            before: (
+                A,
+                "1111111111111111111111111111111111111111111111111111111111111111\n",
+            ),
             words: &["/r", "--sha256", "show", "refs/heads/a"],
-            printed: Printed::Text("1111111111111111111111111111111111111111111111111111111111111111 refs/heads/a\n"),
-            after: (A, "1111111111111111111111111111111111111111111111111111111111111111\n"),
+            printed: Printed::Text(
+                "1111111111111111111111111111111111111111111111111111111111111111 refs/heads/a\n",
+            ),
+            after: (
+                A,
+                "1111111111111111111111111111111111111111111111111111111111111111\n",
+            ),
         },
         Row {
             meaning: "in a store of SHA-1",
-            before: (A, "1111111111111111111111111111111111111111111111111111111111111111\n"),
+            before: (
+                A,
+                "1111111111111111111111111111111111111111111111111111111111111111\n",
+            ),
             words: &["/r", "show", "refs/heads/a"],
             printed: Printed::Refused("ReferenceCreation"),
-            after: (A, "1111111111111111111111111111111111111111111111111111111111111111\n"),
+            after: (
+                A,
+                "1111111111111111111111111111111111111111111111111111111111111111\n",
+            ),
         },
     ];
     for row in rows {
@@ -264,20 +290,63 @@ fn wrong_words(rt: HostRuntime) {
         &["/r", "show", "a", "b"],
         &["/r", "update", "refs/heads/a"],
         &["/r", "update", "refs/heads/a", I1, I2, I1],
-        &["/r", "update", "refs/heads/a", "111111111111111111111111111111111111111"],
-        &["/r", "update", "refs/heads/a", "11111111111111111111111111111111111111111"],
-        &["/r", "update", "refs/heads/a", "111111111111111111111111111111111111111111111111111111111111111"],
-        &["/r", "update", "refs/heads/a", "11111111111111111111111111111111111111111111111111111111111111111"],
-        &["/r", "update", "refs/heads/a", "g111111111111111111111111111111111111111"],
-        &["/r", "update", "refs/heads/a", I1, "111111111111111111111111111111111111111"],
+        &[
+            "/r",
+            "update",
+            "refs/heads/a",
+            "111111111111111111111111111111111111111",
+        ],
+        &[
+            "/r",
+            "update",
+            "refs/heads/a",
+            "11111111111111111111111111111111111111111",
+        ],
+        &[
+            "/r",
+            "update",
+            "refs/heads/a",
+            "111111111111111111111111111111111111111111111111111111111111111",
+        ],
+        &[
+            "/r",
+            "update",
+            "refs/heads/a",
+            "11111111111111111111111111111111111111111111111111111111111111111",
+        ],
+        &[
+            "/r",
+            "update",
+            "refs/heads/a",
+            "g111111111111111111111111111111111111111",
+        ],
+        &[
+            "/r",
+            "update",
+            "refs/heads/a",
+            I1,
+            "111111111111111111111111111111111111111",
+        ],
         &["/r", "update", "--deref", "refs/heads/a", I1],
         &["/r", "update", "--deref", I1],
         &["/r", "delete", "refs/heads/a"],
         &["/r", "--namespace"],
         &["/r", "--namespace", "foo"],
         &["/r", "--sha256", "--sha256", "show", "refs/heads/a"],
-        &["/r", "--namespace", "foo", "--sha256", "show", "refs/heads/a"],
-        &[".", "update", "refs//a", "111111111111111111111111111111111111111"],
+        &[
+            "/r",
+            "--namespace",
+            "foo",
+            "--sha256",
+            "show",
+            "refs/heads/a",
+        ],
+        &[
+            ".",
+            "update",
+            "refs//a",
+            "111111111111111111111111111111111111111",
+        ],
     ];
     for words in lines {
         refuses(&rt, rt.alloc(), words, Printed::WrongWords);
@@ -289,9 +358,15 @@ fn folders_and_names(rt: HostRuntime) {
     let rows: [(&[&str], &str); 21] = [
         (&[".", "show", "refs//a"], "PathNotClean"),
         (&["/", "show", "refs/heads/a"], "PathNotClean"),
-        (&["/r/", "--namespace", "a..b", "show", "refs//a"], "PathNotClean"),
+        (
+            &["/r/", "--namespace", "a..b", "show", "refs//a"],
+            "PathNotClean",
+        ),
         (&["", "update", "refs/heads/a", I1], "PathNotClean"),
-        (&["/r", "--namespace", "a..b", "show", "refs//a"], "RepeatedDot"),
+        (
+            &["/r", "--namespace", "a..b", "show", "refs//a"],
+            "RepeatedDot",
+        ),
         (&["/r", "--namespace", "", "show", "refs//a"], "Empty"),
         (&["/r", "show", "refs//a"], "RepeatedSlash"),
         (&["/r", "update", "", I1], "Empty"),

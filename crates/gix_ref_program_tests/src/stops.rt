@@ -21,15 +21,25 @@ fn recovers(rt: &impl Abort, alloc: Global, mut memory: Memory) {
     memory.restart();
     let shown = run_words(rt, alloc, memory, &SHOW);
     let is_absent = shown.output.as_slice() == b"refused: NotFound\n".as_slice();
-    assert!(rt; is_absent || shown.output.as_slice() == NEW, "absent or new");
+    assert!(rt;
+        is_absent || shown.output.as_slice() == NEW,
+        "absent or new"
+    );
     let is_locked = shown.files.get(LOCK.as_bytes()).is_some();
     let again = run_words(rt, alloc, shown.files, &UPDATE);
-    assert_eq!(rt; again.status, u8::from(is_locked), "refused where it is locked");
+    assert_eq!(rt;
+        again.status,
+        u8::from(is_locked),
+        "refused where it is locked"
+    );
     let mut files = again.files;
     let _ = files.remove_file(LOCK.as_bytes());
     let last = run_words(rt, alloc, files, &UPDATE);
     assert_eq!(rt; last.status, 0);
-    assert!(rt; last.files.get(A.as_bytes()) == Some(ONE.as_bytes()), "the reference");
+    assert!(rt;
+        last.files.get(A.as_bytes()) == Some(ONE.as_bytes()),
+        "the reference"
+    );
 }
 
 #[test]

@@ -47,18 +47,38 @@ fn places(rt: HostRuntime) {
         (w, "", "refs/bisect/x", "/r/worktrees/w/refs/bisect/x"),
         (w, "", "refs/rewritten/x", "/r/worktrees/w/refs/rewritten/x"),
         (w, "", "refs/worktree/x", "/r/worktrees/w/refs/worktree/x"),
-        (w, "", "worktrees/w/refs/bisect/x", "/r/worktrees/w/refs/bisect/x"),
+        (
+            w,
+            "",
+            "worktrees/w/refs/bisect/x",
+            "/r/worktrees/w/refs/bisect/x",
+        ),
         (w, "", "main-worktree/refs/bisect/x", "/r/refs/bisect/x"),
         (w, "", "refs/heads/x", "/r/refs/heads/x"),
-        (w, "foo", "refs/heads/x", "/r/refs/namespaces/foo/refs/heads/x"),
-        (w, "foo", "worktrees/w/HEAD", "/r/refs/namespaces/foo/worktrees/w/HEAD"),
+        (
+            w,
+            "foo",
+            "refs/heads/x",
+            "/r/refs/namespaces/foo/refs/heads/x",
+        ),
+        (
+            w,
+            "foo",
+            "worktrees/w/HEAD",
+            "/r/refs/namespaces/foo/worktrees/w/HEAD",
+        ),
         ("", "", "worktrees/a/refs/heads/x", "/r/refs/heads/x"),
         ("", "", "main-worktree/refs/heads/x", "/r/refs/heads/x"),
         ("", "", "refs/tags/v", "/r/refs/tags/v"),
         ("", "", "refs/remotes/o/x", "/r/refs/remotes/o/x"),
         ("", "", "refs/notes/n", "/r/refs/notes/n"),
         ("", "", "refs/x", "/r/refs/x"),
-        ("", "foo/bar", "HEAD", "/r/refs/namespaces/foo/refs/namespaces/bar/HEAD"),
+        (
+            "",
+            "foo/bar",
+            "HEAD",
+            "/r/refs/namespaces/foo/refs/namespaces/bar/HEAD",
+        ),
     ];
     for (worktree, space, name, place) in rows {
         let memory = files(&rt, alloc, place, ID);
@@ -76,13 +96,55 @@ fn answers(rt: HostRuntime) {
     let head = "/r/refs/namespaces/foo/HEAD";
     let rows: [(&str, &str, &[u8], &str, &str, Answer<'_>); 10] = [
         ("an id", a, ID, "", "refs/heads/a", Answer::Object),
-        ("a name", a, b"ref: HEAD\n", "", "refs/heads/a", Answer::Symbolic("HEAD")),
-        ("undecodable", a, b"xyz", "", "refs/heads/a", Answer::ReferenceCreation),
+        (
+            "a name",
+            a,
+            b"ref: HEAD\n",
+            "",
+            "refs/heads/a",
+            Answer::Symbolic("HEAD"),
+        ),
+        (
+            "undecodable",
+            a,
+            b"xyz",
+            "",
+            "refs/heads/a",
+            Answer::ReferenceCreation,
+        ),
         ("nothing there", a, ID, "", "refs/heads/b", Answer::NotFound),
-        ("a folder", "/r/refs/heads/a/b", ID, "", "refs/heads/a", Answer::NotFound),
-        ("a file in the path", a, ID, "", "refs/heads/a/b", Answer::NotFound),
-        ("short names are not looked up yet", a, ID, "", "a", Answer::NotFound),
-        ("outside of the namespace", a, ID, "foo", "refs/heads/a", Answer::NotFound),
+        (
+            "a folder",
+            "/r/refs/heads/a/b",
+            ID,
+            "",
+            "refs/heads/a",
+            Answer::NotFound,
+        ),
+        (
+            "a file in the path",
+            a,
+            ID,
+            "",
+            "refs/heads/a/b",
+            Answer::NotFound,
+        ),
+        (
+            "short names are not looked up yet",
+            a,
+            ID,
+            "",
+            "a",
+            Answer::NotFound,
+        ),
+        (
+            "outside of the namespace",
+            a,
+            ID,
+            "foo",
+            "refs/heads/a",
+            Answer::NotFound,
+        ),
         (
             "a target in the namespace",
             head,
@@ -116,7 +178,11 @@ fn the_value_that_is_found(rt: HostRuntime) {
     match store.try_find(alloc, partial(&rt, "refs/heads/a")) {
         Ok(Some(reference)) => {
             assert!(rt; reference.name.to_path() == b"refs/heads/a".as_slice());
-            assert!(rt; reference.target == object(&rt, Id::One), "{}", digits(Id::One));
+            assert!(rt;
+                reference.target == object(&rt, Id::One),
+                "{}",
+                digits(Id::One)
+            );
             assert!(rt; reference.peeled.is_none());
         }
         _ => panic!(rt; "the reference is there"),

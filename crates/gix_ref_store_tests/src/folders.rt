@@ -48,17 +48,41 @@ fn clean_folders_that_do_not_meet(rt: HostRuntime) {
         ("an empty component", "r//s", None, Answer::PathNotClean),
         ("two leading slashes", "//r", None, Answer::PathNotClean),
         ("a NUL", "r\0s", None, Answer::PathNotClean),
-        ("a linked worktree", "/r/worktrees/a", Some("/r"), Answer::Made),
+        (
+            "a linked worktree",
+            "/r/worktrees/a",
+            Some("/r"),
+            Answer::Made,
+        ),
         ("the same folder", "/r", Some("/r"), Answer::Made),
         ("folders apart", "/q", Some("/r"), Answer::Made),
         ("one begins as the other", "/rest", Some("/r"), Answer::Made),
-        ("two components", "/r/worktrees/a/b", Some("/r"), Answer::FoldersMeet),
+        (
+            "two components",
+            "/r/worktrees/a/b",
+            Some("/r"),
+            Answer::FoldersMeet,
+        ),
         ("no worktree", "/r/x", Some("/r"), Answer::FoldersMeet),
-        ("the other way round", "/r", Some("/r/worktrees/a"), Answer::FoldersMeet),
-        ("a common folder", "/r/worktrees/a", Some("/r/"), Answer::PathNotClean),
+        (
+            "the other way round",
+            "/r",
+            Some("/r/worktrees/a"),
+            Answer::FoldersMeet,
+        ),
+        (
+            "a common folder",
+            "/r/worktrees/a",
+            Some("/r/"),
+            Answer::PathNotClean,
+        ),
     ];
     for (meaning, git_dir, common_dir, want) in rows {
-        assert_eq!(rt; answer_in(&rt, rt.alloc(), git_dir, common_dir), want, "{meaning}");
+        assert_eq!(rt;
+            answer_in(&rt, rt.alloc(), git_dir, common_dir),
+            want,
+            "{meaning}"
+        );
     }
 }
 

@@ -54,13 +54,48 @@ fn decoded(rt: &impl Abort, alloc: Global, text: &[u8], kind: Kind) -> Answer {
 fn texts_and_targets(rt: HostRuntime) {
     let upper = b"AAAAAAAAAAAAAAAAAAAAAAAAAAAAAAAAAAAAAAAA";
     let rows: [(&str, &[u8], Kind, Answer); 19] = [
-        ("as git writes it", b"ref: refs/heads/a\n", Kind::Sha1, Answer::Branch),
-        ("spaces, NUL, junk", b"ref:   refs/heads/a\0junk", Kind::Sha1, Answer::Branch),
-        ("CR and LF", b"ref: refs/heads/a\r\n", Kind::Sha1, Answer::Branch),
-        ("no line end", b"ref: refs/heads/a", Kind::Sha1, Answer::Branch),
-        ("the first line only", b"ref: HEAD\nrefs/heads/a", Kind::Sha1, Answer::OtherName),
-        ("a partial name", b"ref: main", Kind::Sha1, Answer::Rule(name::Error::SomeLowercase)),
-        ("no name", b"ref: \n", Kind::Sha1, Answer::Rule(name::Error::Empty)),
+        (
+            "as git writes it",
+            b"ref: refs/heads/a\n",
+            Kind::Sha1,
+            Answer::Branch,
+        ),
+        (
+            "spaces, NUL, junk",
+            b"ref:   refs/heads/a\0junk",
+            Kind::Sha1,
+            Answer::Branch,
+        ),
+        (
+            "CR and LF",
+            b"ref: refs/heads/a\r\n",
+            Kind::Sha1,
+            Answer::Branch,
+        ),
+        (
+            "no line end",
+            b"ref: refs/heads/a",
+            Kind::Sha1,
+            Answer::Branch,
+        ),
+        (
+            "the first line only",
+            b"ref: HEAD\nrefs/heads/a",
+            Kind::Sha1,
+            Answer::OtherName,
+        ),
+        (
+            "a partial name",
+            b"ref: main",
+            Kind::Sha1,
+            Answer::Rule(name::Error::SomeLowercase),
+        ),
+        (
+            "no name",
+            b"ref: \n",
+            Kind::Sha1,
+            Answer::Rule(name::Error::Empty),
+        ),
         (
             "a blank after the name",
             b"ref: refs/heads/a \n",
@@ -76,10 +111,25 @@ fn texts_and_targets(rt: HostRuntime) {
             Kind::Sha1,
             Answer::Object(Kind::Sha1),
         ),
-        ("41 digits", b"11111111111111111111111111111111111111111", Kind::Sha1, Answer::Parse),
-        ("39 digits", b"111111111111111111111111111111111111111\n", Kind::Sha1, Answer::Parse),
+        (
+            "41 digits",
+            b"11111111111111111111111111111111111111111",
+            Kind::Sha1,
+            Answer::Parse,
+        ),
+        (
+            "39 digits",
+            b"111111111111111111111111111111111111111\n",
+            Kind::Sha1,
+            Answer::Parse,
+        ),
         ("an empty file", b"", Kind::Sha1, Answer::Parse),
-        ("64 digits", TWOS, Kind::Sha256, Answer::Object(Kind::Sha256)),
+        (
+            "64 digits",
+            TWOS,
+            Kind::Sha256,
+            Answer::Object(Kind::Sha256),
+        ),
         ("64 digits for SHA-1", TWOS, Kind::Sha1, Answer::Parse),
         ("40 digits for SHA-256", ONES, Kind::Sha256, Answer::Parse),
         ("63 digits", &TWOS[1..], Kind::Sha256, Answer::Parse),
@@ -103,7 +153,11 @@ fn any_byte_anywhere(rt: HostRuntime) {
             } else {
                 Answer::Parse
             };
-            assert_eq!(rt; decoded(&rt, alloc, &text, Kind::Sha1), want, "{byte} at {place}");
+            assert_eq!(rt;
+                decoded(&rt, alloc, &text, Kind::Sha1),
+                want,
+                "{byte} at {place}"
+            );
         }
     }
 }

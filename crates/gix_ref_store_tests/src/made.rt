@@ -49,7 +49,10 @@ pub fn bytes(rt: &impl Abort, alloc: Global, text: &str) -> Vec<u8> {
 pub fn files(rt: &impl Abort, alloc: Global, path: &str, text: &[u8]) -> Memory {
     let mut memory = Memory::new(alloc);
     if !path.is_empty() {
-        assert!(rt; memory.put(path.as_bytes(), text).expect(rt, "memory"), "{path}");
+        assert!(rt;
+            memory.put(path.as_bytes(), text).expect(rt, "memory"),
+            "{path}"
+        );
     }
     memory
 }

@@ -100,14 +100,13 @@ fn update(
 }
 
 /// Prepares an update and rolls it back. Answers what `prepare` did, with the files.
-fn prepared(
-    alloc: Global,
-    mut store: Store<Memory>,
-    edits: Vec<RefEdit>,
-) -> (Answer, Memory)
+fn prepared(alloc: Global, mut store: Store<Memory>, edits: Vec<RefEdit>) -> (Answer, Memory)
     requires { IsOneUpdate edits.items }
 {
-    let answer = match store.transaction(PackedRefs::default()).prepare(alloc, edits) {
+    let answer = match store
+        .transaction(PackedRefs::default())
+        .prepare(alloc, edits)
+    {
         Err(refused) => answer_of(&refused.error),
         Ok(prepared) => {
             let _ = prepared.rollback();
@@ -128,24 +127,150 @@ fn causes(rt: HostRuntime) {
     let bad: (&str, &[u8]) = (A, b"xyz");
     let a = "refs/heads/a";
     let rows: [Row<'_>; 19] = [
-        ("a new branch", none, a, Id::One, Expect::Any, Answer::Prepared),
-        ("an unsafe name", none, "logs/HEAD", Id::One, Expect::Any, Answer::UnsafeName),
-        ("an id of SHA-256", none, a, Id::Long, Expect::Any, Answer::OtherHashKind),
-        ("expected", none, a, Id::One, Expect::Existing(Id::Long), Answer::OtherHashKind),
-        ("a lock", (LOCK, b""), a, Id::One, Expect::Any, Answer::LockAcquire),
-        ("a file on the way", ("/r/refs", b""), a, Id::One, Expect::Any, Answer::PathCollision),
-        ("undecodable", bad, a, Id::One, Expect::Any, Answer::Prepared),
-        ("undecodable is absent", bad, a, Id::One, Expect::MustExist, Answer::MustExist),
-        ("absent", none, a, Id::One, Expect::MustExist, Answer::MustExist),
-        ("absent, not as told", none, a, Id::One, Expect::Match(Id::Two), Answer::MustExist),
-        ("absent, as told", none, a, Id::One, Expect::MustNotExist, Answer::Prepared),
-        ("absent may be", none, a, Id::One, Expect::Existing(Id::Two), Answer::Prepared),
-        ("there", one, a, Id::Two, Expect::MustExist, Answer::Prepared),
-        ("the new value already", one, a, Id::One, Expect::MustNotExist, Answer::Prepared),
-        ("there, not as told", one, a, Id::Two, Expect::MustNotExist, Answer::MustNotExist),
-        ("the old value", one, a, Id::Two, Expect::Match(Id::One), Answer::Prepared),
-        ("another", one, a, Id::Two, Expect::Match(Id::Two), Answer::ReferenceOutOfDate),
-        ("another one", one, a, Id::Two, Expect::Existing(Id::Two), Answer::ReferenceOutOfDate),
+        (
+            "a new branch",
+            none,
+            a,
+            Id::One,
+            Expect::Any,
+            Answer::Prepared,
+        ),
+        (
+            "an unsafe name",
+            none,
+            "logs/HEAD",
+            Id::One,
+            Expect::Any,
+            Answer::UnsafeName,
+        ),
+        (
+            "an id of SHA-256",
+            none,
+            a,
+            Id::Long,
+            Expect::Any,
+            Answer::OtherHashKind,
+        ),
+        (
+            "expected",
+            none,
+            a,
+            Id::One,
+            Expect::Existing(Id::Long),
+            Answer::OtherHashKind,
+        ),
+        (
+            "a lock",
+            (LOCK, b""),
+            a,
+            Id::One,
+            Expect::Any,
+            Answer::LockAcquire,
+        ),
+        (
+            "a file on the way",
+            ("/r/refs", b""),
+            a,
+            Id::One,
+            Expect::Any,
+            Answer::PathCollision,
+        ),
+        (
+            "undecodable",
+            bad,
+            a,
+            Id::One,
+            Expect::Any,
+            Answer::Prepared,
+        ),
+        (
+            "undecodable is absent",
+            bad,
+            a,
+            Id::One,
+            Expect::MustExist,
+            Answer::MustExist,
+        ),
+        (
+            "absent",
+            none,
+            a,
+            Id::One,
+            Expect::MustExist,
+            Answer::MustExist,
+        ),
+        (
+            "absent, not as told",
+            none,
+            a,
+            Id::One,
+            Expect::Match(Id::Two),
+            Answer::MustExist,
+        ),
+        (
+            "absent, as told",
+            none,
+            a,
+            Id::One,
+            Expect::MustNotExist,
+            Answer::Prepared,
+        ),
+        (
+            "absent may be",
+            none,
+            a,
+            Id::One,
+            Expect::Existing(Id::Two),
+            Answer::Prepared,
+        ),
+        (
+            "there",
+            one,
+            a,
+            Id::Two,
+            Expect::MustExist,
+            Answer::Prepared,
+        ),
+        (
+            "the new value already",
+            one,
+            a,
+            Id::One,
+            Expect::MustNotExist,
+            Answer::Prepared,
+        ),
+        (
+            "there, not as told",
+            one,
+            a,
+            Id::Two,
+            Expect::MustNotExist,
+            Answer::MustNotExist,
+        ),
+        (
+            "the old value",
+            one,
+            a,
+            Id::Two,
+            Expect::Match(Id::One),
+            Answer::Prepared,
+        ),
+        (
+            "another",
+            one,
+            a,
+            Id::Two,
+            Expect::Match(Id::Two),
+            Answer::ReferenceOutOfDate,
+        ),
+        (
+            "another one",
+            one,
+            a,
+            Id::Two,
+            Expect::Existing(Id::Two),
+            Answer::ReferenceOutOfDate,
+        ),
         (
             "a name for an id",
             (A, b"ref: HEAD\n"),
@@ -160,7 +285,11 @@ fn causes(rt: HostRuntime) {
         let edits = update(&rt, alloc, name, expected(&rt, expect), object(&rt, new));
         let (answer, memory) = prepared(alloc, store, edits);
         assert_eq!(rt; answer, want, "{meaning}");
-        assert_eq!(rt; memory.get(LOCK.as_bytes()).is_some(), path == LOCK, "no other lock");
+        assert_eq!(rt;
+            memory.get(LOCK.as_bytes()).is_some(),
+            path == LOCK,
+            "no other lock"
+        );
     }
 }
 
@@ -189,7 +318,10 @@ fn each_call_fails_once(rt: HostRuntime) {
         let edits = update(&rt, alloc, "refs/heads/a", PreviousValue::Any, new);
         let (answer, memory) = prepared(alloc, store, edits);
         assert_eq!(rt; answer, Answer::Io, "call {k}");
-        assert!(rt; memory.get(LOCK.as_bytes()).is_none(), "no lock after call {k}");
+        assert!(rt;
+            memory.get(LOCK.as_bytes()).is_none(),
+            "no lock after call {k}"
+        );
     }
 }
 
@@ -202,7 +334,10 @@ fn a_stop_leaves_the_whole_text_in_the_lock(rt: HostRuntime) {
     let mut store = store(&rt, alloc, memory, "", "");
     let new = object(&rt, Id::Two);
     let edits = update(&rt, alloc, "refs/heads/a", PreviousValue::Any, new);
-    match store.transaction(PackedRefs::DeletionsOnly).prepare(alloc, edits) {
+    match store
+        .transaction(PackedRefs::DeletionsOnly)
+        .prepare(alloc, edits)
+    {
         Ok(prepared) => {
             let _ = prepared.rollback();
             panic!(rt; "the process ends");
@@ -214,9 +349,13 @@ fn a_stop_leaves_the_whole_text_in_the_lock(rt: HostRuntime) {
     }
     let memory = store.into_files();
     assert!(rt;
-        memory.get(LOCK.as_bytes()) == Some(b"2222222222222222222222222222222222222222\n".as_slice())
+        memory.get(LOCK.as_bytes())
+            == Some(b"2222222222222222222222222222222222222222\n".as_slice())
     );
-    assert!(rt; memory.get(A.as_bytes()) == Some(ONE), "and the reference is as before");
+    assert!(rt;
+        memory.get(A.as_bytes()) == Some(ONE),
+        "and the reference is as before"
+    );
 }
 
 /// Commits an update of a name to forty digits `2`: the folder that was in its place, or the edits.
@@ -228,7 +367,10 @@ fn committed(
     requires { IsOneUpdate edits.items }
 {
     store.write_reflog = WriteReflog::Disable;
-    match store.transaction(PackedRefs::default()).prepare(alloc, edits) {
+    match store
+        .transaction(PackedRefs::default())
+        .prepare(alloc, edits)
+    {
         Err(_) => Ok(Vec::new(alloc)),
         Ok(prepared) => match prepared.commit(alloc, None) {
             Ok(done) => Ok(done.edits),
@@ -242,9 +384,21 @@ fn commits_in_their_places(rt: HostRuntime) {
     let alloc = rt.alloc();
     let rows: [(&str, &str, &str, &str, &str); 5] = [
         ("a branch", "", "", "refs/heads/a", A),
-        ("in a namespace", "", "foo", "refs/heads/a", "/r/refs/namespaces/foo/refs/heads/a"),
+        (
+            "in a namespace",
+            "",
+            "foo",
+            "refs/heads/a",
+            "/r/refs/namespaces/foo/refs/heads/a",
+        ),
         ("of another worktree", "", "", "worktrees/w/refs/heads/a", A),
-        ("from a linked worktree", "/r/worktrees/w", "", "HEAD", "/r/worktrees/w/HEAD"),
+        (
+            "from a linked worktree",
+            "/r/worktrees/w",
+            "",
+            "HEAD",
+            "/r/worktrees/w/HEAD",
+        ),
         ("shared from there", "/r/worktrees/w", "", "refs/heads/a", A),
     ];
     for (meaning, worktree, space, name, place) in rows {
@@ -255,7 +409,10 @@ fn commits_in_their_places(rt: HostRuntime) {
             panic!(rt; "{meaning}");
         };
         assert_eq!(rt; edits.len(), 1, "{meaning}");
-        assert!(rt; store.into_files().get(place.as_bytes()) == Some(ONE), "{meaning}");
+        assert!(rt;
+            store.into_files().get(place.as_bytes()) == Some(ONE),
+            "{meaning}"
+        );
     }
 }
 
@@ -269,10 +426,12 @@ fn a_found_reference_is_expected_afterwards(rt: HostRuntime) {
         panic!(rt; "it is committed");
     };
     match edits.first() {
-        Some(RefEdit {
-            change: Change::Update { expected, .. },
-            ..
-        }) => assert!(rt; *expected == PreviousValue::MustExistAndMatch(object(&rt, Id::One))),
+        Some(
+            RefEdit {
+                change: Change::Update { expected, .. },
+                ..
+            },
+        ) => assert!(rt; *expected == PreviousValue::MustExistAndMatch(object(&rt, Id::One))),
         _ => panic!(rt; "one update"),
     }
 }
@@ -287,14 +446,26 @@ fn an_equal_object_writes_no_file(rt: HostRuntime) {
     let done = committed(alloc, &mut store, edits);
     assert!(rt; done.is_ok(), "{}", digits(Id::One));
     let memory = store.into_files();
-    assert!(rt; memory.get(A.as_bytes()) == Some(text.as_slice()), "the file is as it was");
-    assert!(rt; memory.get(LOCK.as_bytes()).is_none(), "and the lock is gone");
+    assert!(rt;
+        memory.get(A.as_bytes()) == Some(text.as_slice()),
+        "the file is as it was"
+    );
+    assert!(rt;
+        memory.get(LOCK.as_bytes()).is_none(),
+        "and the lock is gone"
+    );
 }
 
 #[test]
 fn a_folder_in_place(rt: HostRuntime) {
     let alloc = rt.alloc();
-    let mut store = store(&rt, alloc, files(&rt, alloc, "/r/refs/heads/a/b", ONE), "", "");
+    let mut store = store(
+        &rt,
+        alloc,
+        files(&rt, alloc, "/r/refs/heads/a/b", ONE),
+        "",
+        "",
+    );
     let new = object(&rt, Id::One);
     let edits = update(&rt, alloc, "refs/heads/a", PreviousValue::Any, new);
     match committed(alloc, &mut store, edits) {
@@ -303,7 +474,10 @@ fn a_folder_in_place(rt: HostRuntime) {
         }
         _ => panic!(rt; "a folder is there"),
     }
-    assert!(rt; store.into_files().get(LOCK.as_bytes()).is_none(), "the lock is gone");
+    assert!(rt;
+        store.into_files().get(LOCK.as_bytes()).is_none(),
+        "the lock is gone"
+    );
 }
 
 #[test]

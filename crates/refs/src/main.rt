@@ -3,9 +3,9 @@
 //! words.
 #![tactic(auto)]
 
-use gix_ref_store::file::transaction::PackedRefs;
 use gix_ref_files::disk::Disk;
 use gix_ref_program::run::run;
+use gix_ref_store::file::transaction::PackedRefs;
 use std::process::ExitCode;
 use std::{env, io};
 

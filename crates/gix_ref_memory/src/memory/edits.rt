@@ -10,10 +10,10 @@ ghost use Rattle.gix_ref_memory.specs.Turns.{HasNoWay};
 use super::changes::{
     Change, Stands, Stored, find, is_below_file, is_file_at, is_folder_at, stands_in_folders,
 };
-use gix_ref_files::files::{Create, Rename};
-use std::alloc::{AllocError, Global};
 use super::folders::make_fronts;
 use super::listing::has_below;
+use gix_ref_files::files::{Create, Rename};
+use std::alloc::{AllocError, Global};
 
 /// Adds bytes to a file.
 pub fn append_now(

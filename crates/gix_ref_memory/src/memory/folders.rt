@@ -7,8 +7,8 @@ ghost use Rattle.gix_ref_files.specs.Calls.{BeforeOrAfter, MakesFolders, MakingF
 ghost use Rattle.gix_ref_memory.specs.Turns.{IsDone};
 ghost use Rattle.gix_ref_memory.specs.Changes.{after, meaning_after, MakingFronts, tree_after};
 
-use std::alloc::{AllocError, Global};
 use super::changes::{Change, Stored, is_below_file, is_file_at, is_folder_at};
+use std::alloc::{AllocError, Global};
 
 /// Makes a folder, where it does not stand.
 fn make_folder(alloc: Global, changes: &mut Vec<Change>, path: &[u8]) -> Result<(), AllocError>

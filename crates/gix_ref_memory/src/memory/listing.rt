@@ -6,9 +6,9 @@ ghost use Rattle.gix_ref_files.specs.Calls.{IsListing, IsName, entry_name};
 ghost use Rattle.gix_ref_memory.specs.Changes.{after};
 ghost use Rattle.gix_ref_memory.specs.Listing.{AddsEntries};
 
+use super::changes::{Change, find, place};
 use gix_ref_files::files::Entry;
 use std::alloc::{AllocError, Global};
-use super::changes::{Change, find, place};
 
 /// The rest of a path that lies below a folder.
 fn below<'a>(folder: &[u8], path: &'a [u8]) -> Option<&'a [u8]>

@@ -3,9 +3,9 @@ ghost use Rattle.std.specs.Prelude.{◌≡◌, ◌+◌, ◌<◌, length, OnOk, I
 ghost use Rattle.gix_ref_files.specs.Files.{one_more, count_after};
 ghost use Rattle.gix_ref_files.specs.Calls.{IsRead};
 
+use super::turns::{Turn, Turns};
 use gix_ref_files::files::{FileError, ReadAt};
 use std::io::ErrorKind;
-use super::turns::{Turn, Turns};
 
 /// A file of `Memory` that is open for reading. It goes by the plan that the files had when it was opened, and counts
 /// its calls on from theirs.

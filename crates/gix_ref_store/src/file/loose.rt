@@ -10,8 +10,8 @@ ghost use Rattle.gix_ref_store.specs.LooseText.{HoldsPath, HoldsId, HoldsTarget,
 
 mod error;
 
-pub use error::Error;
 use crate::raw;
+pub use error::Error;
 use gix_ref_base::name::{FullName, FullNameRef};
 use gix_ref_base::target::{self, Target};
 use gix_ref_hash::bytes::{after_spaces, before_line_end, strip_front};

@@ -8,8 +8,8 @@ ghost use Rattle.gix_ref_store.specs.PrepareSteps.{value_of, lock_paths, place_p
 ghost use Rattle.gix_ref_store.specs.Causes.{locks_of};
 
 use crate::file::store::Store;
-use crate::file::transaction::prepare::check::check_edits;
 use crate::file::transaction::prepare::Error;
+use crate::file::transaction::prepare::check::check_edits;
 use crate::file::transaction::prepare::hold::{Taken, Untaken, hold, reserve};
 use crate::file::transaction::setting::Setting;
 use crate::transaction::RefEdit;

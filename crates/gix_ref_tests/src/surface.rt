@@ -1,0 +1,1 @@
+//! Every public path of the library, named once.
