@@ -15,4 +15,5 @@ pub use gix_ref_files::{lock, steps};
 pub use gix_ref_hash::hash;
 pub use gix_ref_log::{actor, log};
 pub use gix_ref_packed::{packed, raw};
-pub use gix_ref_store::{file, store, transaction};
+pub use gix_ref_edits::transaction;
+pub use gix_ref_store::{file, store};

@@ -6,9 +6,9 @@ use Rattle.gix_ref_files.specs.Files.{Meaning, Leaves}
 use Rattle.gix_ref_files.proofs.Moments.{weaken}
 use Rattle.gix_ref_store.specs.Prepared.{IsOneUpdate, tree_of}
 use Rattle.gix_ref_store.specs.Store.{files_of, meaning_of}
-use Rattle.gix_ref_store.specs.Transactions.{new_of}
+use Rattle.gix_ref_edits.specs.RefEdits.{new_of}
 use Rattle.gix_ref_store.specs.declared.file.store.Store.{Store}
-use Rattle.gix_ref_store.specs.declared.transaction.RefEdit.{RefEdit}
+use Rattle.gix_ref_edits.specs.declared.transaction.RefEdit.{RefEdit}
 use Rattle.gix_ref_program.specs.Updates.{IsStopOf}
 use Rattle.gix_ref_program.specs.Words.{Update, Line}
 use Rattle.gix_ref_program.specs.Runs.{IsAskedFor, IsOpened, EditOutcome, UpdateOutcome, CommandOutcome, LineOutcome, IsStop, IsStopIn}

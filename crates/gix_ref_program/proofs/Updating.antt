@@ -9,8 +9,8 @@ use Rattle.gix_ref_store.specs.OwnLocks.{is_in, paths_of}
 use Rattle.gix_ref_store.specs.CommitResult.{AreCommitted, CommitsFrom, EveryStopFrom, FailsFor, left_of, names_of}
 use Rattle.gix_ref_store.specs.Prepared.{IsOneUpdate, PreparesFrom, RefusesFrom, tree_of}
 use Rattle.gix_ref_store.specs.Store.{files_of, meaning_of}
-use Rattle.gix_ref_store.specs.Transactions.{AreCarried}
-use Rattle.gix_ref_store.specs.declared.transaction.RefEdit.{RefEdit}
+use Rattle.gix_ref_store.specs.CarriedEdits.{AreCarried}
+use Rattle.gix_ref_edits.specs.declared.transaction.RefEdit.{RefEdit}
 use Rattle.gix_ref_store.specs.declared.file.store.Store.{Store}
 use Rattle.gix_ref_store.specs.declared.file.transaction.Done.{Done}
 use Rattle.gix_ref_store.specs.declared.file.transaction.Failed.{Failed}

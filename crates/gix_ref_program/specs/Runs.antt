@@ -15,13 +15,13 @@ use Rattle.gix_ref_store.specs.CommitResult.{AreCommitted}
 use Rattle.gix_ref_store.specs.Lookup.{FindsIn, FailsIn}
 use Rattle.gix_ref_store.specs.Prepared.{tree_of}
 use Rattle.gix_ref_store.specs.Store.{files_of, folders, kind_of, meaning_of}
-use Rattle.gix_ref_store.specs.Transactions.{name_of, new_of, mode_of, is_forced, message_of, expected_of, matched}
+use Rattle.gix_ref_edits.specs.RefEdits.{name_of, new_of, mode_of, is_forced, message_of, expected_of, matched}
 use Rattle.gix_ref_store.specs.declared.file.store.Store.{Store}
 use Rattle.gix_ref_store.specs.declared.store.WriteReflog.TheVariants.{Disable}
-use Rattle.gix_ref_store.specs.declared.transaction.PreviousValue.{PreviousValue}
-use Rattle.gix_ref_store.specs.declared.transaction.PreviousValue.TheVariants.{Any, MustNotExist}
-use Rattle.gix_ref_store.specs.declared.transaction.RefEdit.{RefEdit}
-use Rattle.gix_ref_store.specs.declared.transaction.RefLog.TheVariants.{AndReference}
+use Rattle.gix_ref_edits.specs.declared.transaction.PreviousValue.{PreviousValue}
+use Rattle.gix_ref_edits.specs.declared.transaction.PreviousValue.TheVariants.{Any, MustNotExist}
+use Rattle.gix_ref_edits.specs.declared.transaction.RefEdit.{RefEdit}
+use Rattle.gix_ref_edits.specs.declared.transaction.RefLog.TheVariants.{AndReference}
 use Rattle.gix_ref_program.specs.Outcomes.{printed, status_of}
 use Rattle.gix_ref_program.specs.Updates.{IsUpdateError, AreNamed, IsStopOf}
 use Rattle.gix_ref_program.specs.Words.{Asked, Update, Show, Line, IsLine}

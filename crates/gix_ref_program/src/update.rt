@@ -11,7 +11,7 @@ use gix_ref_files::files::Files;
 use gix_ref_store::file::Store;
 use gix_ref_store::file::transaction::{Done, Failed, PackedRefs, Refused, commit, prepare};
 use gix_ref_store::store::WriteReflog;
-use gix_ref_store::transaction::RefEdit;
+use gix_ref_edits::transaction::RefEdit;
 use std::alloc::Global;
 
 /// Why an update was not made.

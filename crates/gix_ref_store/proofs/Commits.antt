@@ -12,8 +12,8 @@ use Rattle.gix_ref_store.specs.CommitResult.{AreCommitted, EveryStopIsOldOrNew, 
 use Rattle.gix_ref_store.specs.Prepared.{IsOneUpdate, PreparesFrom, tree_of}
 use Rattle.gix_ref_store.specs.Store.{files_of, folders, kind_of, meaning_of}
 use Rattle.gix_ref_store.specs.PrepareSteps.{lock_paths, place_paths}
-use Rattle.gix_ref_store.specs.Transactions.{AreCarried}
-use Rattle.gix_ref_store.specs.declared.transaction.RefEdit.{RefEdit}
+use Rattle.gix_ref_store.specs.CarriedEdits.{AreCarried}
+use Rattle.gix_ref_edits.specs.declared.transaction.RefEdit.{RefEdit}
 use Rattle.gix_ref_store.specs.declared.file.store.Store.{Store}
 use Rattle.gix_ref_store.specs.declared.file.transaction.setting.Paths.{Paths}
 use Rattle.gix_ref_store.specs.declared.file.transaction.commit.error.Error.{Error}

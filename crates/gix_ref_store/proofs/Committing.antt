@@ -29,11 +29,12 @@ use Rattle.gix_ref_theory.specs.Between.{IsPrepared}
 use Rattle.gix_ref_theory.specs.OnRealTrees.{view_of, CarryOut, IsCommitRun}
 use Rattle.gix_ref_store.specs.Causes.{found, found_by, decoded, IsFullTarget, IsOfKind, IsWholeTarget}
 use Rattle.gix_ref_store.specs.PrepareSteps.{is_found}
-use Rattle.gix_ref_store.specs.Transactions.{new_of, change_of, matched, Expects}
-use Rattle.gix_ref_store.specs.declared.transaction.Change.{Change as GivenChange}
-use Rattle.gix_ref_store.specs.declared.transaction.Change.TheVariants as given
-use Rattle.gix_ref_store.specs.declared.transaction.PreviousValue.{PreviousValue}
-use Rattle.gix_ref_store.specs.declared.transaction.PreviousValue.TheVariants.{Any, MustExist, MustNotExist, MustExistAndMatch, ExistingMustMatch}
+use Rattle.gix_ref_edits.specs.RefEdits.{new_of, matched, Expects}
+use Rattle.gix_ref_store.specs.CarriedEdits.{change_of}
+use Rattle.gix_ref_edits.specs.declared.transaction.Change.{Change as GivenChange}
+use Rattle.gix_ref_edits.specs.declared.transaction.Change.TheVariants as given
+use Rattle.gix_ref_edits.specs.declared.transaction.PreviousValue.{PreviousValue}
+use Rattle.gix_ref_edits.specs.declared.transaction.PreviousValue.TheVariants.{Any, MustExist, MustNotExist, MustExistAndMatch, ExistingMustMatch}
 use Rattle.gix_ref_store.proofs.Adds.{clash, false_is_true}
 use Rattle.gix_ref_store.proofs.LookupLemmas.{alone, file_reading, no_device}
 use Rattle.gix_ref_store.proofs.LooseLemmas.{id_reads_back, name_reads_back}

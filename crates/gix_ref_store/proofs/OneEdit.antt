@@ -12,9 +12,9 @@ use Rattle.gix_ref_base.specs.Layout.{Layout, IsLayout}
 use Rattle.gix_ref_store.specs.Prepared.{IsOneUpdate}
 use Rattle.gix_ref_theory.specs.Readings.{Store}
 use Rattle.gix_ref_theory.specs.ConcreteStore.{Options, store_of}
-use Rattle.gix_ref_store.specs.Transactions.{name_of, new_of, AreUpdates}
+use Rattle.gix_ref_edits.specs.RefEdits.{name_of, new_of, AreUpdates}
 use Rattle.gix_ref_files.specs.Lock.{lock_of}
-use Rattle.gix_ref_store.specs.declared.transaction.RefEdit.{RefEdit}
+use Rattle.gix_ref_edits.specs.declared.transaction.RefEdit.{RefEdit}
 use Rattle.gix_ref_store.proofs.Adds.{clash, is_false, either_way, any_cases, in_one, same_path, is_same_path}
 use Rattle.gix_ref_theory.proofs.PlaceLaws.{laws_hold}
 

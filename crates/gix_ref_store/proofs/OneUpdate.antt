@@ -25,10 +25,11 @@ use Rattle.gix_ref_store.specs.Prepared.{IsOneUpdate}
 use Rattle.gix_ref_theory.specs.Readings.{Store, HasLaws}
 use Rattle.gix_ref_theory.specs.ConcreteStore.{store_of, loose_text}
 use Rattle.gix_ref_store.specs.PrepareSteps.{HoldTexts, old_targets, is_found, is_new, text_of_new, lock_paths, place_paths, places_of}
-use Rattle.gix_ref_store.specs.Transactions.{name_of, new_of, change_of, expected_of, matched, mode_of, is_of_reference, AreCarried}
+use Rattle.gix_ref_edits.specs.RefEdits.{name_of, new_of, expected_of, matched, mode_of, is_of_reference}
+use Rattle.gix_ref_store.specs.CarriedEdits.{change_of, AreCarried}
 use Rattle.gix_ref_theory.specs.Views.{IsSameButLocks}
 use Rattle.gix_ref_files.specs.Lock.{lock_of}
-use Rattle.gix_ref_store.specs.declared.transaction.RefEdit.{RefEdit}
+use Rattle.gix_ref_edits.specs.declared.transaction.RefEdit.{RefEdit}
 use Rattle.gix_ref_store.specs.declared.file.transaction.setting.Paths.{Paths}
 use Rattle.gix_ref_store.proofs.Adds.{clash, either_way, in_one, in_here, is_false, same_view}
 use Rattle.gix_ref_theory.proofs.Carrying.{after_alike, no_file}

@@ -10,9 +10,9 @@ use Rattle.gix_ref_store.specs.OwnLocks.{paths_of, is_in, RemovesLocks, AddsLock
 use Rattle.gix_ref_store.specs.PrepareSteps.{lock_paths}
 use Rattle.gix_ref_store.specs.Causes.{locks_of}
 use Rattle.gix_ref_theory.specs.Readings.{Store}
-use Rattle.gix_ref_store.specs.Transactions.{name_of}
+use Rattle.gix_ref_edits.specs.RefEdits.{name_of}
 use Rattle.gix_ref_files.specs.Lock.{lock_of}
-use Rattle.gix_ref_store.specs.declared.transaction.RefEdit.{RefEdit}
+use Rattle.gix_ref_edits.specs.declared.transaction.RefEdit.{RefEdit}
 use Rattle.gix_ref_store.specs.declared.file.transaction.setting.Paths.{Paths}
 use Rattle.gix_ref_store.proofs.Adds.{clash, is_false, either_way, any_left, any_right, any_cases, in_one, in_here, same_path, is_same_path, adds_less, adds_left, adds_wider}
 

@@ -10,7 +10,7 @@ use Rattle.gix_ref_files.proofs.Between.{none_begun}
 use Rattle.gix_ref_store.specs.OwnLocks.{is_in, RemovesLocks}
 use Rattle.gix_ref_store.specs.CommitRenames.{rename_of, renames_of, lock_at, stays_at, is_written_at}
 use Rattle.gix_ref_store.specs.PrepareSteps.{lock_paths}
-use Rattle.gix_ref_store.specs.declared.transaction.RefEdit.{RefEdit}
+use Rattle.gix_ref_edits.specs.declared.transaction.RefEdit.{RefEdit}
 use Rattle.gix_ref_store.specs.declared.file.transaction.setting.Paths.{Paths}
 use Rattle.gix_ref_store.proofs.Adds.{clash, false_is_true, is_false, any_right, any_cases, in_here, in_one}
 use Rattle.gix_ref_store.proofs.Removing.{no_file_then}

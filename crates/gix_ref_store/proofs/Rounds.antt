@@ -12,9 +12,9 @@ use Rattle.gix_ref_theory.specs.OnRealTrees.{view_of}
 use Rattle.gix_ref_store.specs.Causes.{found, Passes, IsFault, IsIoOrMemory, IsMismatch, NoCause, IsFirstCause, LocksAreApart, IsLockable, locks_of}
 use Rattle.gix_ref_theory.specs.Readings.{Store}
 use Rattle.gix_ref_store.specs.PrepareSteps.{lock_text, value_of, lock_paths, place_paths, places_of, IsRefusedLock, IsNewLock, FillsLock, old_targets}
-use Rattle.gix_ref_store.specs.Transactions.{name_of, expected_of, new_of, Expects}
+use Rattle.gix_ref_edits.specs.RefEdits.{name_of, expected_of, new_of, Expects}
 use Rattle.gix_ref_files.specs.Lock.{lock_of}
-use Rattle.gix_ref_store.specs.declared.transaction.RefEdit.{RefEdit}
+use Rattle.gix_ref_edits.specs.declared.transaction.RefEdit.{RefEdit}
 use Rattle.gix_ref_store.specs.declared.file.transaction.setting.Paths.{Paths}
 use Rattle.gix_ref_store.specs.declared.file.transaction.prepare.error.Error.{Error}
 use Rattle.gix_ref_store.proofs.Firsts.{fault_here, fault_later, pass_more, seen_of}

@@ -11,9 +11,9 @@ use Rattle.gix_ref_theory.specs.OnRealTrees.{view_of, file_of}
 use Rattle.gix_ref_store.specs.Causes.{found, found_by, decoded, IsFault, IsLockable, LocksAreApart, locks_of}
 use Rattle.gix_ref_theory.specs.Readings.{Store, records_in}
 use Rattle.gix_ref_store.specs.PrepareSteps.{lock_text, IsRefusedLock, IsNewLock, FillsLock, HoldTexts}
-use Rattle.gix_ref_store.specs.Transactions.{name_of}
+use Rattle.gix_ref_edits.specs.RefEdits.{name_of}
 use Rattle.gix_ref_files.specs.Lock.{lock_of}
-use Rattle.gix_ref_store.specs.declared.transaction.RefEdit.{RefEdit}
+use Rattle.gix_ref_edits.specs.declared.transaction.RefEdit.{RefEdit}
 use Rattle.gix_ref_store.specs.declared.file.transaction.prepare.error.Error.{Error}
 use Rattle.gix_ref_store.specs.declared.file.transaction.prepare.error.Error.TheVariants.{UnsafeName, TargetNotFull, OtherHashKind, PathCollision, LockAcquire, MustExist, MustNotExist, ReferenceOutOfDate, Io, Memory}
 use Rattle.gix_ref_store.proofs.Adds.{clash, is_false, either_way, any_left, any_right, any_cases, in_one, in_here, any_same, leads_in, leads_one, no_way, adds_wider, adds_then, same_view, same_lock, same_path, is_same_path}

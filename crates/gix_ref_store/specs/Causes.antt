@@ -19,10 +19,10 @@ use Rattle.gix_ref_theory.specs.Readings.{Store, as_read, records_in}
 use Rattle.gix_ref_base.specs.Locations.{is_safe}
 use Rattle.gix_ref_store.specs.OwnLocks.{is_in}
 use Rattle.gix_ref_store.specs.First.{AllPass, FirstFault}
-use Rattle.gix_ref_store.specs.Transactions.{name_of, new_of, expected_of, previous_of, Expects}
-use Rattle.gix_ref_store.specs.declared.transaction.PreviousValue.{PreviousValue}
-use Rattle.gix_ref_store.specs.declared.transaction.PreviousValue.TheVariants.{MustExist, MustNotExist as must_not_exist, MustExistAndMatch}
-use Rattle.gix_ref_store.specs.declared.transaction.RefEdit.{RefEdit}
+use Rattle.gix_ref_edits.specs.RefEdits.{name_of, new_of, expected_of, previous_of, Expects}
+use Rattle.gix_ref_edits.specs.declared.transaction.PreviousValue.{PreviousValue}
+use Rattle.gix_ref_edits.specs.declared.transaction.PreviousValue.TheVariants.{MustExist, MustNotExist as must_not_exist, MustExistAndMatch}
+use Rattle.gix_ref_edits.specs.declared.transaction.RefEdit.{RefEdit}
 use Rattle.gix_ref_store.specs.declared.file.transaction.prepare.error.Error.{Error}
 use Rattle.gix_ref_store.specs.declared.file.transaction.prepare.error.Error.TheVariants.{UnsafeName, TargetNotFull, OtherHashKind, PathCollision, LockAcquire, MustExist as must_exist, MustNotExist, ReferenceOutOfDate, Io, Memory}
 

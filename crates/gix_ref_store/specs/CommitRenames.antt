@@ -6,9 +6,9 @@ use Rattle.gix_ref_files.specs.declared.files.FileError.{FileError}
 use Rattle.gix_ref_files.specs.Steps.{Step}
 use Rattle.gix_ref_files.specs.Steps.Step.{Rename}
 use Rattle.gix_ref_store.specs.PrepareSteps.{is_written, lock_paths, place_paths}
-use Rattle.gix_ref_store.specs.Transactions.{expected_of, matched}
-use Rattle.gix_ref_store.specs.declared.transaction.Change.{Change}
-use Rattle.gix_ref_store.specs.declared.transaction.RefEdit.{RefEdit}
+use Rattle.gix_ref_edits.specs.RefEdits.{expected_of, matched}
+use Rattle.gix_ref_edits.specs.declared.transaction.Change.{Change}
+use Rattle.gix_ref_edits.specs.declared.transaction.RefEdit.{RefEdit}
 use Rattle.gix_ref_store.specs.declared.file.transaction.setting.Paths.{Paths}
 
 -- a prepared change writes its reference: it carries what was found

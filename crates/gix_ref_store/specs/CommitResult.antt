@@ -13,9 +13,10 @@ use Rattle.gix_ref_store.specs.Prepared.{IsOneUpdate, PreparesFrom, tree_of, loc
 use Rattle.gix_ref_theory.specs.Readings as readings
 use Rattle.gix_ref_store.specs.Store.{files_of, meaning_of}
 use Rattle.gix_ref_store.specs.PrepareSteps.{place_paths, places_of}
-use Rattle.gix_ref_store.specs.Transactions.{name_of, edit_of}
+use Rattle.gix_ref_edits.specs.RefEdits.{name_of}
+use Rattle.gix_ref_store.specs.CarriedEdits.{edit_of}
 use Rattle.gix_ref_theory.specs.Views.{IsOwnLock}
-use Rattle.gix_ref_store.specs.declared.transaction.RefEdit.{RefEdit}
+use Rattle.gix_ref_edits.specs.declared.transaction.RefEdit.{RefEdit}
 use Rattle.gix_ref_store.specs.declared.file.store.Store.{Store}
 use Rattle.gix_ref_store.specs.declared.file.transaction.Done.{Done}
 use Rattle.gix_ref_store.specs.declared.file.transaction.PackedRefs.{PackedRefs}

@@ -1,3 +1,4 @@
+pub mod CarriedEdits
 pub mod Causes
 pub mod CleanPaths
 pub mod CommitRenames
@@ -12,4 +13,3 @@ pub mod Prepared
 pub mod PreparedFields
 pub mod Store
 pub mod StoreLayout
-pub mod Transactions

@@ -7,8 +7,9 @@ use Rattle.gix_ref_store.specs.OwnLocks.{is_in, AddsLocks, RemovesLocks}
 use Rattle.gix_ref_store.specs.Causes.{Refuses, IsAccepted, IsCounted, locks_of}
 use Rattle.gix_ref_store.specs.Store.{files_of, kind_of, meaning_of, IsSameStore}
 use Rattle.gix_ref_store.specs.PrepareSteps.{HoldTexts, old_targets, lock_paths, place_paths, places_of}
-use Rattle.gix_ref_store.specs.Transactions.{new_of, AreCarried}
-use Rattle.gix_ref_store.specs.declared.transaction.RefEdit.{RefEdit}
+use Rattle.gix_ref_edits.specs.RefEdits.{new_of}
+use Rattle.gix_ref_store.specs.CarriedEdits.{AreCarried}
+use Rattle.gix_ref_edits.specs.declared.transaction.RefEdit.{RefEdit}
 use Rattle.gix_ref_store.specs.declared.file.store.Store.{Store}
 use Rattle.gix_ref_store.specs.declared.file.transaction.setting.Paths.{Paths}
 use Rattle.gix_ref_store.specs.declared.file.transaction.prepare.error.Error.{Error}

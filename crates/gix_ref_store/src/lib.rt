@@ -3,6 +3,5 @@
 
 pub mod file;
 pub mod store;
-pub mod transaction;
 
 pub use gix_ref_packed::raw;

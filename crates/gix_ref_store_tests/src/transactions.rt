@@ -9,7 +9,7 @@ use gix_ref_store::file::Store;
 use gix_ref_store::file::transaction::prepare::Error;
 use gix_ref_store::file::transaction::{PackedRefs, commit};
 use gix_ref_store::store::WriteReflog;
-use gix_ref_store::transaction::{Change, LogChange, PreviousValue, RefEdit};
+use gix_ref_edits::transaction::{Change, LogChange, PreviousValue, RefEdit};
 use std::alloc::Global;
 use std::process::Abort;
 

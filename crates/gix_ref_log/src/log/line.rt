@@ -1,8 +1,8 @@
 //! A line of a reflog: who moved a reference from which object to which, when, and why (`git reflog`).
 ghost use Rattle.gix_ref_hash.specs.Ids.{IsIdText};
 
-use crate::actor::{Signature, SignatureRef};
 use super::lines::before_newline;
+use crate::actor::{Signature, SignatureRef};
 use bstr::ByteSlice;
 use gix_ref_hash::hash::{ObjectId, id_of_digits};
 use std::alloc::{AllocError, Global};

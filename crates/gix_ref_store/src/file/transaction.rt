@@ -19,7 +19,7 @@ use crate::file::transaction::prepare::hold::{Taken, Untaken};
 use crate::file::transaction::release::{release_locks, remove_locks};
 use crate::file::transaction::setting::Paths;
 use crate::store::WriteReflog;
-use crate::transaction::RefEdit;
+use gix_ref_edits::transaction::RefEdit;
 use gix_ref_files::files::Files;
 use gix_ref_log::actor::SignatureRef;
 use std::alloc::Global;

@@ -13,8 +13,8 @@ ghost use Rattle.gix_ref_log.specs.declared.log.iter.error.ReverseError.{Reverse
 
 use super::decode;
 use super::error::{EmptyBuffer, ReverseError};
-use super::stage::{Stage, stage_after};
 use super::fast::fast_decode;
+use super::stage::{Stage, stage_after};
 use crate::log::line::decode::decode_line;
 use crate::log::line::{Line, LineRef};
 use crate::log::lines::strip_cr;
@@ -161,7 +161,7 @@ impl<'a, F: ReadAt> Reverse<'a, F> {
         ensures done { IsDoneAfter (Some result) self.new.stage }
         ensures step { F.honest → IsOpen F.bytes ends self.old
             → Gives (open_items F.bytes ends self.old) (Some result) (items_left F.bytes self.new)
-                × IsTied F.bytes self.new }
+            × IsTied F.bytes self.new }
     {
         match self.find_start() {
             Err(error) => {

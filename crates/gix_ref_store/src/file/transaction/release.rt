@@ -10,7 +10,7 @@ ghost use Rattle.gix_ref_store.specs.PrepareSteps.{lock_paths};
 
 use crate::file::transaction::commit::publish::writes;
 use crate::file::transaction::setting::Paths;
-use crate::transaction::RefEdit;
+use gix_ref_edits::transaction::RefEdit;
 use gix_ref_files::files::Files;
 
 /// Removes one lock; false where it could not.

@@ -1,7 +1,7 @@
 use Rattle.std.proofs.Common.{◌≡◌, [], ◌∷◌, ◌++◌, List, refl, ◌∙◌, ap, subst, false, IfOk, if◌then◌else◌}
 use Rattle.std.specs.Result.{is_ok}
-use Rattle.gix_ref_store.specs.declared.transaction.Change.TheVariants.{Update}
-use Rattle.gix_ref_store.specs.declared.transaction.RefEdit.{RefEdit}
+use Rattle.gix_ref_edits.specs.declared.transaction.Change.TheVariants.{Update}
+use Rattle.gix_ref_edits.specs.declared.transaction.RefEdit.{RefEdit}
 use Rattle.gix_ref_store_tests.proofs.transactions.update.Goals as goal
 
 -- the list holds the one edit that was put into it

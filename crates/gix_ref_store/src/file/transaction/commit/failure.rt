@@ -6,7 +6,7 @@ ghost use Rattle.gix_ref_store.specs.PrepareSteps.{lock_paths};
 
 use crate::file::transaction::commit::Error;
 use crate::file::transaction::setting::Paths;
-use crate::transaction::RefEdit;
+use gix_ref_edits::transaction::RefEdit;
 use gix_ref_files::files::FileError;
 use std::alloc::Global;
 use std::mem;

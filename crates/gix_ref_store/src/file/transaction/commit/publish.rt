@@ -6,10 +6,10 @@ ghost use Rattle.gix_ref_files.specs.Tree.{is_folder};
 ghost use Rattle.gix_ref_base.specs.Targets.{target_value};
 ghost use Rattle.gix_ref_store.specs.CommitRenames.{writes as writes_it, rename_of, renames_of, place_at, IsRaised};
 ghost use Rattle.gix_ref_store.specs.PrepareSteps.{is_found};
-ghost use Rattle.gix_ref_store.specs.Transactions.{matched};
+ghost use Rattle.gix_ref_edits.specs.RefEdits.{matched};
 
 use crate::file::transaction::setting::Paths;
-use crate::transaction::{Change, PreviousValue, RefEdit, RefLog};
+use gix_ref_edits::transaction::{Change, PreviousValue, RefEdit, RefLog};
 use gix_ref_base::target::Target;
 use gix_ref_files::files::{FileError, Files, Rename};
 

@@ -12,7 +12,7 @@ use crate::file::transaction::prepare::Error;
 use crate::file::transaction::prepare::check::check_edits;
 use crate::file::transaction::prepare::hold::{Taken, Untaken, hold, reserve};
 use crate::file::transaction::setting::Setting;
-use crate::transaction::RefEdit;
+use gix_ref_edits::transaction::RefEdit;
 use gix_ref_files::files::Files;
 use std::alloc::Global;
 

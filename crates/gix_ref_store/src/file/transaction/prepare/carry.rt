@@ -1,9 +1,9 @@
 //! Edits that carry what was found of them.
 ghost use Rattle.std.specs.Prelude.{◌≡◌, map, vec_len};
 ghost use Rattle.gix_ref_store.specs.PrepareSteps.{value_of};
-ghost use Rattle.gix_ref_store.specs.Transactions.{IsCarried, AreCarried};
+ghost use Rattle.gix_ref_store.specs.CarriedEdits.{IsCarried, AreCarried};
 
-use crate::transaction::{Change, PreviousValue, RefEdit};
+use gix_ref_edits::transaction::{Change, PreviousValue, RefEdit};
 use gix_ref_base::target::Target;
 
 /// The edit whose reference was found expects just that.

@@ -5,10 +5,10 @@ ghost use Rattle.gix_ref_hash.specs.Ids.{id_kind, IsWhole};
 ghost use Rattle.gix_ref_base.specs.Targets.{target_ref_value};
 ghost use Rattle.gix_ref_store.specs.Causes.{IsValidEdit, IsInvalidEdit, AllValid, IsFirstInvalid, IsFullTarget, IsOfKind, IsWholeTarget, HasKind, IsNotIo};
 ghost use Rattle.gix_ref_base.specs.Locations.{is_safe};
-ghost use Rattle.gix_ref_store.specs.Transactions.{name_of, new_of};
+ghost use Rattle.gix_ref_edits.specs.RefEdits.{name_of, new_of};
 
 use crate::file::transaction::prepare::Error;
-use crate::transaction::RefEdit;
+use gix_ref_edits::transaction::RefEdit;
 use gix_ref_base::layout::location_of;
 use gix_ref_base::name::FullNameRef;
 use gix_ref_base::target::TargetRef;

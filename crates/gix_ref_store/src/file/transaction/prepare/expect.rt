@@ -1,13 +1,13 @@
 //! What was found against what an edit expects.
 ghost use Rattle.std.specs.Prelude.{◌≡◌, ◌≢◌, Some, None, MatchResult, MatchBool, IsErrAnd, IsSome};
 ghost use Rattle.gix_ref_base.specs.Targets.{target_value};
-ghost use Rattle.gix_ref_store.specs.Transactions.{Expects, expected_of, new_of, previous_of};
+ghost use Rattle.gix_ref_edits.specs.RefEdits.{Expects, expected_of, new_of, previous_of};
 ghost use Rattle.gix_ref_store.specs.Causes.{required, IsMismatch};
 ghost use Rattle.gix_ref_store.specs.PrepareSteps.{value_of};
-ghost use Rattle.gix_ref_store.specs.declared.transaction.PreviousValue.TheVariants.{MustNotExist as must_not_exist};
+ghost use Rattle.gix_ref_edits.specs.declared.transaction.PreviousValue.TheVariants.{MustNotExist as must_not_exist};
 
 use crate::file::transaction::prepare::Error;
-use crate::transaction::{Change, PreviousValue, RefEdit};
+use gix_ref_edits::transaction::{Change, PreviousValue, RefEdit};
 use gix_ref_base::target::Target;
 use gix_ref_hash::hash::Kind;
 use std::alloc::Global;

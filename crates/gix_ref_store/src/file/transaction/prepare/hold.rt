@@ -6,14 +6,14 @@ ghost use Rattle.gix_ref_files.specs.Tree.{Path};
 ghost use Rattle.gix_ref_store.specs.OwnLocks.{paths_of, is_in, AddsLocks};
 ghost use Rattle.gix_ref_store.specs.Causes.{AllValid, LocksAreApart, IsAccepted, IsCounted, IsNotIo, IsFirstCause, IsFirstInvalid, NoCause, Refuses, locks_of};
 ghost use Rattle.gix_ref_store.specs.PrepareSteps.{setting_of, value_of, lock_paths, place_paths, places_of, HoldTexts, old_targets};
-ghost use Rattle.gix_ref_store.specs.Transactions.{AreUpdates};
+ghost use Rattle.gix_ref_edits.specs.RefEdits.{AreUpdates};
 
 use crate::file::transaction::prepare::Error;
 use crate::file::transaction::prepare::lock::paths_of_edits;
 use crate::file::transaction::prepare::take::take_locks;
 use crate::file::transaction::release::remove_locks;
 use crate::file::transaction::setting::{Paths, Setting};
-use crate::transaction::RefEdit;
+use gix_ref_edits::transaction::RefEdit;
 use gix_ref_base::target::Target;
 use gix_ref_files::files::Files;
 use std::alloc::{AllocError, Global};

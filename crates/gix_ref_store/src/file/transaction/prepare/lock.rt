@@ -10,7 +10,7 @@ ghost use Rattle.gix_ref_files.specs.Lock.{lock_of};
 ghost use Rattle.gix_ref_theory.specs.OnRealTrees.{view_of};
 ghost use Rattle.gix_ref_store.specs.OwnLocks.{AddsLocks};
 ghost use Rattle.gix_ref_store.specs.Causes.{found, IsCounted, IsNotIo, IsMismatch, IsIoOrMemory, locks_of};
-ghost use Rattle.gix_ref_store.specs.Transactions.{name_of, expected_of, new_of, Expects};
+ghost use Rattle.gix_ref_edits.specs.RefEdits.{name_of, expected_of, new_of, Expects};
 ghost use Rattle.gix_ref_store.specs.PrepareSteps.{setting_of, value_of, places_of, place_paths, lock_paths, lock_text, is_new, held_by, IsText, IsRefusedLock, IsNewLock, FillsLock};
 
 use crate::file::find::loose::{Loose, loose_at};
@@ -20,7 +20,7 @@ use crate::file::loose::text_of;
 use crate::file::transaction::prepare::Error;
 use crate::file::transaction::prepare::expect::check_expected;
 use crate::file::transaction::setting::{Paths, Setting};
-use crate::transaction::{Change, RefEdit, RefLog};
+use gix_ref_edits::transaction::{Change, RefEdit, RefLog};
 use gix_ref_base::namespace::Namespace;
 use gix_ref_base::target::Target;
 use gix_ref_files::files::{Create, Files};

@@ -5,12 +5,12 @@ ghost use Rattle.gix_ref_files.specs.Files.{Leaves};
 ghost use Rattle.gix_ref_store.specs.OwnLocks.{AddsLocks, is_in};
 ghost use Rattle.gix_ref_store.specs.Causes.{LocksAreApart, IsCounted, NoCause, IsFirstCause, locks_of};
 ghost use Rattle.gix_ref_store.specs.PrepareSteps.{setting_of, value_of, lock_paths, place_paths, places_of, HoldTexts, old_targets};
-ghost use Rattle.gix_ref_store.specs.Transactions.{AreUpdates};
+ghost use Rattle.gix_ref_edits.specs.RefEdits.{AreUpdates};
 
 use crate::file::transaction::prepare::Error;
 use crate::file::transaction::prepare::lock::{acquire, settle};
 use crate::file::transaction::setting::{Paths, Setting};
-use crate::transaction::RefEdit;
+use gix_ref_edits::transaction::RefEdit;
 use gix_ref_base::target::Target;
 use gix_ref_files::files::Files;
 use std::alloc::{AllocError, Global};

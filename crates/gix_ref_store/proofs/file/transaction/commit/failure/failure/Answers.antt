@@ -2,7 +2,7 @@ use Rattle.std.proofs.Common.{◌≡◌, ◌<◌, ◌∙◌, Some, get_or, [], l
 use Rattle.std.proofs.lemmas.List.{get_or-map}
 use Rattle.gix_ref_base.specs.Names.{full_bytes}
 use Rattle.gix_ref_store.specs.CommitResult.{SaysWhy, names_of}
-use Rattle.gix_ref_store.specs.Transactions.{name_of}
+use Rattle.gix_ref_edits.specs.RefEdits.{name_of}
 use Rattle.gix_ref_store.specs.declared.file.transaction.commit.error.Error.TheVariants.{LockCommit}
 use Rattle.gix_ref_store.proofs.file.transaction.commit.failure.failure.Goals as goal
 

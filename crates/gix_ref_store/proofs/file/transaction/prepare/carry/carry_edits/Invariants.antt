@@ -1,7 +1,7 @@
 use Rattle.std.proofs.Common.{◌≡◌, ◌<◌, ◌≤◌, ℕ, None, get_or, vec_len}
-use Rattle.gix_ref_store.specs.Transactions.{IsCarried}
+use Rattle.gix_ref_store.specs.CarriedEdits.{IsCarried}
 use Rattle.gix_ref_store.specs.PrepareSteps.{value_of}
-use Rattle.gix_ref_store.specs.declared.transaction.RefEdit.{RefEdit}
+use Rattle.gix_ref_edits.specs.declared.transaction.RefEdit.{RefEdit}
 use Rattle.gix_ref_store.proofs.file.transaction.prepare.carry.carry_edits.Given as goal
 
 -- the edits that were seen carry what was found, and the rest is as it was

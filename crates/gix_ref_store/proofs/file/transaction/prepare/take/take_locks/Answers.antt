@@ -5,7 +5,7 @@ use Rattle.gix_ref_files.specs.Files.{Leaves}
 use Rattle.gix_ref_files.specs.Tree.{Path}
 use Rattle.gix_ref_store.specs.OwnLocks.{AddsLocks}
 use Rattle.gix_ref_store.specs.PrepareSteps.{setting_of, IsNewLock, IsRefusedLock}
-use Rattle.gix_ref_store.specs.Transactions.{name_of}
+use Rattle.gix_ref_edits.specs.RefEdits.{name_of}
 use Rattle.gix_ref_files.specs.Lock.{lock_of}
 use Rattle.gix_ref_store.specs.declared.file.transaction.prepare.error.Error.TheVariants.{Memory}
 use Rattle.gix_ref_store.proofs.Rounds.{lock_at, place_at, lock_refused, lock_still, lock_leaves, found_refused, free_then, adds_then_text, text_leaves, later_fault, all_pass, held_then, found_then}

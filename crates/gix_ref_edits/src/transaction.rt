@@ -1,7 +1,7 @@
 //! Edits of references (`git update-ref`): what a transaction is to change, and what it expects.
 ghost use Rattle.std.specs.Prelude.{◌≡◌, IfSome, IfOk, MatchOption, Some, None, false, []};
 ghost use Rattle.gix_ref_base.specs.Targets.{target_value, target_ref_value};
-ghost use Rattle.gix_ref_store.specs.Transactions.{new_of, expected_of, previous_of};
+ghost use Rattle.gix_ref_edits.specs.RefEdits.{new_of, expected_of, previous_of};
 
 use gix_ref_base::name::FullName;
 use gix_ref_base::target::{Target, TargetRef};
@@ -103,7 +103,7 @@ impl Change {
     }
 
     /// What the edit expects.
-    pub(crate) fn expectation(&self) -> &PreviousValue
+    pub fn expectation(&self) -> &PreviousValue
         ensures { result.now ≡ expected_of self.now }
     {
         match self {
@@ -126,7 +126,7 @@ pub struct RefEdit {
 
 /// A copy; the error says that there was no memory for it.
 impl Clone for LogChange {
-    ghost use Rattle.gix_ref_store.specs.Transactions.{SameLog};
+    ghost use Rattle.gix_ref_edits.specs.RefEdits.{SameLog};
 
     ghost is_clone = { λ log copy. SameLog log copy };
 
@@ -141,7 +141,7 @@ impl Clone for LogChange {
 
 /// A copy; the error says that there was no memory for it.
 impl Clone for PreviousValue {
-    ghost use Rattle.gix_ref_store.specs.Transactions.{SameExpectation};
+    ghost use Rattle.gix_ref_edits.specs.RefEdits.{SameExpectation};
 
     ghost is_clone = { λ value copy. SameExpectation value copy };
 
@@ -162,7 +162,7 @@ impl Clone for PreviousValue {
 
 /// A copy; the error says that there was no memory for it.
 impl Clone for Change {
-    ghost use Rattle.gix_ref_store.specs.Transactions.{SameChange};
+    ghost use Rattle.gix_ref_edits.specs.RefEdits.{SameChange};
 
     ghost is_clone = { λ change copy. SameChange change copy };
 
@@ -184,7 +184,7 @@ impl Clone for Change {
 /// A copy; the error says that there was no memory for it.
 impl Clone for RefEdit {
     ghost use Rattle.gix_ref_base.specs.Names.{full_bytes};
-    ghost use Rattle.gix_ref_store.specs.Transactions.{SameChange};
+    ghost use Rattle.gix_ref_edits.specs.RefEdits.{SameChange};
 
     ghost is_clone = { λ edit copy. (full_bytes copy.name ≡ full_bytes edit.name) × SameChange edit.change copy.change × (copy.deref ≡ edit.deref) };
 

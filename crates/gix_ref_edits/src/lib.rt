@@ -1,0 +1,4 @@
+//! Edits of references: what a transaction is to change, and what it expects.
+#![tactic(auto)]
+
+pub mod transaction;
