@@ -8,8 +8,8 @@ ghost use Rattle.gix_ref_log.specs.LogCuts.{log_lines};
 use super::decode::{Error, LineNumber};
 use super::fast::fast_first_line;
 use crate::log::line::LineRef;
-use crate::log::lines::cut_line;
 use crate::log::line::decode::decode_line;
+use crate::log::lines::cut_line;
 
 /// The lines of a log, oldest first.
 #[derive(Drop)]
