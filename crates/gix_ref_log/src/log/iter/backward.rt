@@ -1,18 +1,14 @@
 //! The lines of a log, newest first, through a window that moves towards the front of the file.
-ghost use Rattle.std.specs.Iterator.{at_most, Yields};
-ghost use Rattle.std.specs.Iterator.Runs.{EachRunFrom};
+ghost use Rattle.std.specs.Iterator.{at_most};
 ghost use Rattle.memchr.specs.Find.{IsLastByte, is_byte};
-ghost use Rattle.std.specs.Prelude.{◌≡◌, ℕ, ◌+◌, ◌-◌, ◌≤◌, ◌<◌, ◌^◌, min, length, take, drop, slice_index, slice_range, Some, ◌==◌, IfOk, OnOk, OnErr, MatchResult, None, ◌⊎◌, IsErr, ◌↔◌, true, List, Result};
+ghost use Rattle.std.specs.Prelude.{◌≡◌, ◌+◌, ◌-◌, ◌≤◌, ◌<◌, ◌==◌, ◌⊎◌, min, length, take, slice_index, slice_range, Some, None, IfOk, OnOk, MatchResult};
 ghost use Rattle.gix_ref_hash.specs.Bytes.{NoByte};
-ghost use Rattle.gix_ref_files.specs.Files.{one_more};
 ghost use Rattle.gix_ref_log.specs.LogLines.{IsOwned, line_ref_parts};
 ghost use Rattle.gix_ref_log.specs.LogStages.{text_of_line, IsDoneAfter};
-ghost use Rattle.gix_ref_log.specs.LogItems.{Gives, LineGives, IsRun, EndsAtError, items_from, count_of, faults_after};
-ghost use Rattle.gix_ref_log.specs.declared.log.line.Line.{Line};
-ghost use Rattle.gix_ref_log.specs.declared.log.iter.error.ReverseError.{ReverseError};
+ghost use Rattle.gix_ref_log.specs.LogItems.{Gives, LineGives, count_of};
 
 use super::decode;
-use super::error::{EmptyBuffer, ReverseError};
+use super::error::ReverseError;
 use super::fast::fast_decode;
 use super::stage::{Stage, stage_after};
 use crate::log::line::decode::decode_line;
