@@ -35,7 +35,8 @@ fn is_private(short: &[u8]) -> bool
 /// The location of a name by its category and its short name.
 fn location_in<'a>(category: Category<'a>, name: &'a [u8], short: &'a [u8]) -> Location<'a>
     requires { HasCategory name.now category short.now }
-    ensures { (f : Layout) → paths_in f category.entry name.now short.now ≡ paths_of f (location_value result) }
+    ensures { (f : Layout) → paths_in f category.entry name.now short.now
+        ≡ paths_of f (location_value result) }
 {
     match category {
         Category::Tag | Category::LocalBranch | Category::RemoteBranch | Category::Note => {
@@ -69,7 +70,8 @@ fn location_in<'a>(category: Category<'a>, name: &'a [u8], short: &'a [u8]) -> L
 pub fn location_of(name: FullNameRef<'_>) -> Option<Location<'_>>
     ensures { MatchOption result (is_safe (full_ref_bytes name.entry) ≡ false)
         (λ at. (is_safe (full_ref_bytes name.entry) ≡ true)
-        × ((f : Layout) → paths_at f (full_ref_bytes name.entry) ≡ paths_of f (location_value at))) }
+        × ((f : Layout) → paths_at f (full_ref_bytes name.entry)
+        ≡ paths_of f (location_value at))) }
 {
     if let Some((category, short)) = name.category_and_short_name() {
         return Some(location_in(category, name.to_path(), short));
@@ -82,7 +84,8 @@ pub fn location_of(name: FullNameRef<'_>) -> Option<Location<'_>>
 
 /// The location of any name: one that is not safe is shared, under the same name.
 pub fn location_or_common(name: FullNameRef<'_>) -> Location<'_>
-    ensures { (f : Layout) → paths_at f (full_ref_bytes name.entry) ≡ paths_of f (location_value result) }
+    ensures { (f : Layout) → paths_at f (full_ref_bytes name.entry)
+        ≡ paths_of f (location_value result) }
 {
     match location_of(name) {
         Some(location) => location,
@@ -111,7 +114,8 @@ fn path_in(
     namespace: &[u8],
     name: &[u8],
 ) -> Result<Vec<u8>, AllocError>
-    ensures { IfOk result (λ path. path.items ≡ below folder.now (front.now ++ (namespace.now ++ name.now))) }
+    ensures { IfOk result (λ path. path.items
+        ≡ below folder.now (front.now ++ (namespace.now ++ name.now))) }
 {
     let mut path = folder.to_vec(alloc)?;
     path.push(b'/')?;

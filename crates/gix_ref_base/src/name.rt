@@ -79,8 +79,10 @@ impl<'a> FullNameRef<'a> {
 
     /// The short name of the name's category, or the name itself where it has none: `main` of `refs/heads/main`.
     pub fn shorten(self) -> &'a [u8]
-        ensures short { (c : _) (s : List ℕ) → HasCategory (full_ref_bytes self.entry) c s → result.now ≡ s }
-        ensures none { NoCategory (full_ref_bytes self.entry) → result.now ≡ full_ref_bytes self.entry }
+        ensures short { (c : _) (s : List ℕ) → HasCategory (full_ref_bytes self.entry) c s
+            → result.now ≡ s }
+        ensures none { NoCategory (full_ref_bytes self.entry)
+            → result.now ≡ full_ref_bytes self.entry }
     {
         match self.category_and_short_name() {
             Some((_, short)) => short,
@@ -90,8 +92,10 @@ impl<'a> FullNameRef<'a> {
 
     /// The category of the name, or `None` where it has none.
     pub fn category(self) -> Option<Category<'a>>
-        ensures found { IfSome result (λ c. (s : List ℕ) × HasCategory (full_ref_bytes self.entry) c s) }
-        ensures only { IfSome result (λ c. (d : _) (s : List ℕ) → HasCategory (full_ref_bytes self.entry) d s → SameCategory c d) }
+        ensures found { IfSome result (λ c. (s : List ℕ)
+            × HasCategory (full_ref_bytes self.entry) c s) }
+        ensures only { IfSome result (λ c. (d : _) (s : List ℕ)
+            → HasCategory (full_ref_bytes self.entry) d s → SameCategory c d) }
         ensures none { IfNone result (NoCategory (full_ref_bytes self.entry)) }
     {
         match self.category_and_short_name() {
@@ -106,10 +110,12 @@ impl<'a> FullNameRef<'a> {
         ensures none { IfNone result (NoCategory (full_ref_bytes self.entry)) }
 
         // A name has one category and one short name.
-        ensures only { IfSome result (λ p. (c : _) (s : List ℕ) → HasCategory (full_ref_bytes self.entry) c s → SameCategory p.0 c × (p.1.now ≡ s)) }
+        ensures only { IfSome result (λ p. (c : _) (s : List ℕ)
+            → HasCategory (full_ref_bytes self.entry) c s → SameCategory p.0 c × (p.1.now ≡ s)) }
 
         // `to_full_name` gives the name back, but where the short name begins itself with what goes in front of it.
-        ensures back { IfSome result (λ p. begins_again p.0 p.1.now ≡ false → text_of p.0 p.1.now ≡ full_ref_bytes self.entry) }
+        ensures back { IfSome result (λ p. begins_again p.0 p.1.now ≡ false
+            → text_of p.0 p.1.now ≡ full_ref_bytes self.entry) }
     {
         category_of_bytes(self.bytes)
     }
@@ -128,7 +134,8 @@ impl<'a> FullNameRef<'a> {
     /// rest is no valid partial name.
     pub fn without_namespace(self, namespace: &Namespace) -> Option<FullNameRef<'a>>
         ensures { MatchOption result
-            ((rest : List ℕ) → IsPartialName rest → full_ref_bytes self.entry ≢ namespace_bytes namespace.now ++ rest)
+            ((rest : List ℕ) → IsPartialName rest
+            → full_ref_bytes self.entry ≢ namespace_bytes namespace.now ++ rest)
             (λ n. full_ref_bytes self.entry ≡ namespace_bytes namespace.now ++ full_ref_bytes n) }
     {
         let Some(rest) = strip_front(self.bytes, namespace.to_path()) else {
@@ -204,12 +211,15 @@ impl FullName {
         alloc: Global,
         namespace: &Namespace,
     ) -> Result<(), AllocError>
-        ensures ok { OnOk result (full_bytes self.new ≡ with_front (namespace_bytes namespace.now) (full_bytes self.old)) }
+        ensures ok { OnOk result (full_bytes self.new
+            ≡ with_front (namespace_bytes namespace.now) (full_bytes self.old)) }
         ensures err { OnErr result (full_bytes self.new ≡ full_bytes self.old) }
 
         // `strip_namespace` takes it off again.
-        ensures back { OnOk result (starts_with nat_eq (full_bytes self.old) (namespace_bytes namespace.now) ≡ false
-            → stripped (namespace_bytes namespace.now) (full_bytes self.new) ≡ full_bytes self.old) }
+        ensures back { OnOk result (starts_with nat_eq (full_bytes self.old)
+            (namespace_bytes namespace.now) ≡ false
+            → stripped (namespace_bytes namespace.now) (full_bytes self.new)
+            ≡ full_bytes self.old) }
     {
         if self.bytes.starts_with(namespace.to_path()) {
             return Ok(());
@@ -223,7 +233,8 @@ impl FullName {
     /// Takes the namespace off the front of the name. It leaves a name that does not begin with it, and one whose rest
     /// is no valid partial name.
     pub fn strip_namespace(&mut self, namespace: &Namespace)
-        ensures { full_bytes self.new ≡ stripped (namespace_bytes namespace.now) (full_bytes self.old) }
+        ensures { full_bytes self.new ≡ stripped (namespace_bytes namespace.now)
+            (full_bytes self.old) }
     {
         let Some(rest) = strip_front(self.bytes.as_slice(), namespace.to_path()) else {
             return;
@@ -239,7 +250,8 @@ impl FullName {
 
     /// The short name of the name's category, or the name itself where it has none: `main` of `refs/heads/main`.
     pub fn shorten(&self) -> &[u8]
-        ensures short { (c : _) (s : List ℕ) → HasCategory (full_bytes self.now) c s → result.now ≡ s }
+        ensures short { (c : _) (s : List ℕ) → HasCategory (full_bytes self.now) c s
+            → result.now ≡ s }
         ensures none { NoCategory (full_bytes self.now) → result.now ≡ full_bytes self.now }
     {
         self.as_ref().shorten()
@@ -248,7 +260,8 @@ impl FullName {
     /// The category of the name, or `None` where it has none.
     pub fn category(&self) -> Option<Category<'_>>
         ensures found { IfSome result (λ c. (s : List ℕ) × HasCategory (full_bytes self.now) c s) }
-        ensures only { IfSome result (λ c. (d : _) (s : List ℕ) → HasCategory (full_bytes self.now) d s → SameCategory c d) }
+        ensures only { IfSome result (λ c. (d : _) (s : List ℕ)
+            → HasCategory (full_bytes self.now) d s → SameCategory c d) }
         ensures none { IfNone result (NoCategory (full_bytes self.now)) }
     {
         self.as_ref().category()
@@ -258,8 +271,10 @@ impl FullName {
     pub fn category_and_short_name(&self) -> Option<(Category<'_>, &[u8])>
         ensures found { IfSome result (λ p. HasCategory (full_bytes self.now) p.0 p.1.now) }
         ensures none { IfNone result (NoCategory (full_bytes self.now)) }
-        ensures only { IfSome result (λ p. (c : _) (s : List ℕ) → HasCategory (full_bytes self.now) c s → SameCategory p.0 c × (p.1.now ≡ s)) }
-        ensures back { IfSome result (λ p. begins_again p.0 p.1.now ≡ false → text_of p.0 p.1.now ≡ full_bytes self.now) }
+        ensures only { IfSome result (λ p. (c : _) (s : List ℕ)
+            → HasCategory (full_bytes self.now) c s → SameCategory p.0 c × (p.1.now ≡ s)) }
+        ensures back { IfSome result (λ p. begins_again p.0 p.1.now ≡ false
+            → text_of p.0 p.1.now ≡ full_bytes self.now) }
     {
         self.as_ref().category_and_short_name()
     }

@@ -1,5 +1,5 @@
 -- What two renames leave, one after the other.
-use Rattle.std.proofs.Common.{◌≡◌, ◌≢◌, ◌⊎◌, inl, inr, [], ◌∷◌, refl, sym, ◌∙◌, ap}
+use Rattle.std.proofs.Common.{◌≡◌, ◌≢◌, inl, inr, [], ◌∷◌, sym, ◌∙◌, ap}
 use Rattle.gix_ref_files.specs.Tree.{Tree, Path, moved}
 use Rattle.gix_ref_files.specs.Steps.{Rename, IsLeftBy}
 use Rattle.gix_ref_files_tests.specs.Publish.{IsOld, IsNew, InOrder, AreApart}

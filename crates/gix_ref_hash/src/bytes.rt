@@ -10,7 +10,8 @@ pub use search::{first_place, last_place, some_first_break};
 
 /// What follows `front` in the text, or `None` where the text does not begin with it.
 pub fn strip_front<'a>(text: &'a [u8], front: &[u8]) -> Option<&'a [u8]>
-    ensures { MatchOption result ((rest : List ℕ) → text.now ≢ front.now ++ rest) (λ rest. text.now ≡ front.now ++ rest.now) }
+    ensures { MatchOption result ((rest : List ℕ) → text.now ≢ front.now ++ rest)
+        (λ rest. text.now ≡ front.now ++ rest.now) }
 {
     text.strip_prefix(front)
 }
@@ -22,7 +23,7 @@ pub fn begins_with(text: &[u8], front: &[u8]) -> bool
     strip_front(text, front).is_some()
 }
 
-/// What stands before the first such byte and behind it, or `None` where the text has none.
+/// The text before the first such byte and the text after it, or `None` where the text has none.
 #[inline(always)]
 pub fn cut(text: &[u8], byte: u8) -> Option<(&[u8], &[u8])>
     ensures { MatchOption result (NoByte byte text.now) (λ p. Cuts byte text.now p.0.now p.1.now) }
@@ -33,10 +34,11 @@ pub fn cut(text: &[u8], byte: u8) -> Option<(&[u8], &[u8])>
     }
 }
 
-/// What stands before the last such byte and behind it, or `None` where the text has none.
+/// The text before the last such byte and the text after it, or `None` where the text has none.
 #[inline(always)]
 pub fn cut_last(text: &[u8], byte: u8) -> Option<(&[u8], &[u8])>
-    ensures { MatchOption result (NoByte byte text.now) (λ p. CutsLast byte text.now p.0.now p.1.now) }
+    ensures { MatchOption result (NoByte byte text.now)
+        (λ p. CutsLast byte text.now p.0.now p.1.now) }
 {
     match last_place(text, byte) {
         Some(i) => Some((&text[..i], &text[i + 1..])),

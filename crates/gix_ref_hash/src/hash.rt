@@ -31,7 +31,7 @@ pub enum ObjectId {
     Sha256([u8; 32]),
 }
 
-/// The same bytes, each of which is one: a fact that a slice has, and that an array in an enum does not tell.
+/// These bytes, of which each is below 256: a fact that is known of a slice, and not of an array in an enum.
 fn as_read(bytes: &[u8]) -> &[u8]
     ensures same { result.now ≡ bytes.now }
     ensures bytes { IsBytes bytes.now }
@@ -144,7 +144,8 @@ impl fmt::Display for ObjectId {
 pub fn digits_of_ids()
     ensures one_id { (text : List ℕ) (a b : ObjectId) → ReadsId text a → ReadsId text b → a ≡ b }
     ensures written { (id : ObjectId) → IsWhole id → ReadsId (encode_lower (id_bytes id)) id }
-    ensures read { (text : List ℕ) (id : ObjectId) → ReadsId text id → IsHexOf (id_kind id) text × IsWhole id }
+    ensures read { (text : List ℕ) (id : ObjectId) → ReadsId text id
+        → IsHexOf (id_kind id) text × IsWhole id }
 {}
 
 /// The id of which these are the hex digits, 40 or 64 of them, of either case.
@@ -191,7 +192,8 @@ pub fn are_hex(text: &[u8]) -> bool
 
 /// The hex digits of an id of the kind at the front of the text, and what follows them.
 fn id_of_kind(text: &[u8], kind: Kind) -> Option<(&[u8], &[u8])>
-    ensures { MatchOption result ((digits rest : List ℕ) → IsHexOf kind digits → text.now ≡ digits ++ rest → ⊥)
+    ensures { MatchOption result ((digits rest : List ℕ) → IsHexOf kind digits
+        → text.now ≡ digits ++ rest → ⊥)
         (λ p. IsHexOf kind p.0.now × (text.now ≡ p.0.now ++ p.1.now)) }
 {
     let len = kind.len_in_hex();
@@ -208,8 +210,10 @@ fn id_of_kind(text: &[u8], kind: Kind) -> Option<(&[u8], &[u8])>
 /// Takes the hex digits of an id of the kind from the front of the input. `None` leaves the input, where it does not
 /// begin with that many digits.
 pub fn hex_hash<'a>(input: &mut &'a [u8], kind: Kind) -> Option<&'a [u8]>
-    ensures taken { IfSome result (λ digits. IsHexOf kind digits.now × (input.old.now ≡ digits.now ++ input.new.now)) }
-    ensures refused { IfNone result ((digits rest : List ℕ) → IsHexOf kind digits → input.old.now ≡ digits ++ rest → ⊥) }
+    ensures taken { IfSome result (λ digits. IsHexOf kind digits.now
+        × (input.old.now ≡ digits.now ++ input.new.now)) }
+    ensures refused { IfNone result ((digits rest : List ℕ) → IsHexOf kind digits
+        → input.old.now ≡ digits ++ rest → ⊥) }
     ensures left { IfNone result (input.new ≡ input.old) }
 {
     let (digits, rest) = id_of_kind(input, kind)?;
@@ -229,7 +233,8 @@ fn hex_run(text: &[u8]) -> usize
 
 /// The run of hex digits at the front of the text, where it is 40 or 64 digits long, and what follows it.
 fn any_id(text: &[u8]) -> Option<(&[u8], &[u8])>
-    ensures { MatchOption result ((digits rest : List ℕ) → HexRun text.now digits rest → IsHex digits → ⊥)
+    ensures { MatchOption result ((digits rest : List ℕ) → HexRun text.now digits rest
+        → IsHex digits → ⊥)
         (λ p. HexRun text.now p.0.now p.1.now × IsHex p.0.now) }
 {
     let len = hex_run(text);
@@ -242,8 +247,10 @@ fn any_id(text: &[u8]) -> Option<(&[u8], &[u8])>
 /// Takes the hex digits of an id of any kind from the front of the input: the run of hex digits, cut at 64, which
 /// must be 40 or 64 digits long. `None` leaves the input.
 pub fn hex_hash_any<'a>(input: &mut &'a [u8]) -> Option<&'a [u8]>
-    ensures taken { IfSome result (λ digits. HexRun input.old.now digits.now input.new.now × IsHex digits.now) }
-    ensures refused { IfNone result ((digits rest : List ℕ) → HexRun input.old.now digits rest → IsHex digits → ⊥) }
+    ensures taken { IfSome result (λ digits. HexRun input.old.now digits.now input.new.now
+        × IsHex digits.now) }
+    ensures refused { IfNone result ((digits rest : List ℕ) → HexRun input.old.now digits rest
+        → IsHex digits → ⊥) }
     ensures left { IfNone result (input.new ≡ input.old) }
 {
     let (digits, rest) = any_id(input)?;
@@ -253,8 +260,10 @@ pub fn hex_hash_any<'a>(input: &mut &'a [u8]) -> Option<&'a [u8]>
 
 /// Takes a newline, LF or CR and LF, from the front of the input. `None` leaves the input, where there is none.
 pub fn newline<'a>(input: &mut &'a [u8]) -> Option<&'a [u8]>
-    ensures taken { IfSome result (λ end. IsNewline end.now × (input.old.now ≡ end.now ++ input.new.now)) }
-    ensures refused { IfNone result ((end rest : List ℕ) → IsNewline end → input.old.now ≡ end ++ rest → ⊥) }
+    ensures taken { IfSome result (λ end. IsNewline end.now
+        × (input.old.now ≡ end.now ++ input.new.now)) }
+    ensures refused { IfNone result ((end rest : List ℕ) → IsNewline end
+        → input.old.now ≡ end ++ rest → ⊥) }
     ensures left { IfNone result (input.new ≡ input.old) }
 {
     let len = match *input {

@@ -1,11 +1,11 @@
 -- A text is a line where its first line is: the ids have no LF.
-use Rattle.std.proofs.Common.{◌≡◌, ℕ, ◌+◌, List, [], ◌∷◌, ◌++◌, length, inl, inr, refl, sym, ◌∙◌, ap, subst, arith}
+use Rattle.std.proofs.Common.{◌≡◌, ℕ, List, [], ◌∷◌, ◌++◌, inl, inr, refl, sym, ◌∙◌, ap, subst, arith}
 use Rattle.std.proofs.lemmas.List.{append_assoc}
 use Rattle.gix_ref_hash.specs.Bytes.{NoByte, Cuts}
 use Rattle.gix_ref_hash.proofs.ByteLemmas.{same_cut}
 use Rattle.gix_ref_hash.proofs.IdDigits.{no_byte_in_id}
 use Rattle.gix_ref_log.specs.LogIds.{IdFront}
-use Rattle.gix_ref_log.specs.LogLines.{LogLine, IsLine, NoLine, CutsOrAll}
+use Rattle.gix_ref_log.specs.LogLines.{LogLine, IsLine, CutsOrAll}
 use Rattle.gix_ref_log.proofs.LineLemmas.{none_in_rest, same_cut_or_all}
 use Rattle.gix_ref_log.proofs.SignatureLemmas.{no_cut}
 use Rattle.gix_ref_log.proofs.SignaturesAgain.{none_append, none_cons}

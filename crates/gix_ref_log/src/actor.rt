@@ -1,4 +1,4 @@
-//! Who made a change, and when: the signatures that stand in reflogs, as `git commit-tree` writes them.
+//! Who made a change, and when: the signatures in reflogs, as `git commit-tree` writes them.
 ghost use Rattle.std.specs.Prelude.{◌≡◌, ◌+◌, ◌-◌, ◌*◌, ◌↔◌, IsTrue, ℕ, ℤ, pos, List, MatchOption, IfSome, FitsSigned};
 ghost use Rattle.std.specs.Int.{w64};
 ghost use Rattle.gix_ref_log.specs.Signatures.{Who, IsSeconds, IsZone, IsDigit, IsPlain, IsSignature, IsWritableOffset, CanWrite, offset_text, signature_text, trimmed, without_space};
@@ -15,7 +15,7 @@ mod stamp;
 use number::parse_short_decimal;
 use stamp::time_of;
 
-/// A moment, and the zone in which it was told.
+/// A moment, and the zone in which it was recorded.
 #[derive(Clone, Copy, Debug, PartialEq, Eq, PartialOrd, Ord, Hash)]
 pub struct Time {
     /// Seconds since the beginning of 1970, in UTC.
@@ -57,7 +57,7 @@ pub enum WriteError {
     Io(io::Error),
 }
 
-/// The seconds that a text is: an optional `-` and decimal digits. A number of few digits takes the short way.
+/// The seconds of a text: an optional `-` and decimal digits. A number of at most 18 digits takes the fast path.
 #[inline(always)]
 fn seconds(text: &[u8]) -> Option<i64>
     ensures { MatchOption result ((n : ℤ) → IsSeconds text.now n → ⊥) (IsSeconds text.now) }
@@ -68,7 +68,7 @@ fn seconds(text: &[u8]) -> Option<i64>
     }
 }
 
-/// The same for a text of any length.
+/// The seconds of a text of any length.
 fn parse_seconds_general(text: &[u8]) -> Option<i64>
     ensures { MatchOption result ((n : ℤ) → IsSeconds text.now n → ⊥) (IsSeconds text.now) }
 {
@@ -84,7 +84,8 @@ fn parse_seconds_general(text: &[u8]) -> Option<i64>
 /// The number that two digits are.
 #[inline(always)]
 fn two_digits(tens: u8, ones: u8) -> Option<i32>
-    ensures { MatchOption result (IsDigit tens → IsDigit ones → ⊥) (λ n. IsDigit tens × IsDigit ones × (n ≡ pos (10 * (tens - 48) + (ones - 48)))) }
+    ensures { MatchOption result (IsDigit tens → IsDigit ones → ⊥)
+        (λ n. IsDigit tens × IsDigit ones × (n ≡ pos (10 * (tens - 48) + (ones - 48)))) }
 {
     match (tens, ones) {
         (b'0'..=b'9', b'0'..=b'9') => Some((10 * (tens - b'0') + (ones - b'0')) as i32),
@@ -133,7 +134,8 @@ fn is_plain(text: &[u8]) -> bool
 
 /// A sign, hours and minutes, where the offset is of whole minutes and fits.
 fn zone_text(offset: i32) -> Option<[u8; 5]>
-    ensures { MatchOption result (IsWritableOffset offset → ⊥) (λ zone. IsWritableOffset offset × (zone ≡ offset_text offset)) }
+    ensures { MatchOption result (IsWritableOffset offset → ⊥)
+        (λ zone. IsWritableOffset offset × (zone ≡ offset_text offset)) }
 {
     let size = offset.unsigned_abs();
     if size % 60 != 0 || size >= 360000 {
@@ -160,14 +162,16 @@ fn trim(text: &[u8]) -> &[u8]
 
 /// A text is one signature at most, and a signature that can be written is read again from its text.
 pub fn signatures_read_back()
-    ensures one { (text : List ℕ) (who other : Who) → IsSignature text who → IsSignature text other → other ≡ who }
-    ensures again { (who : Who) → CanWrite who → FitsSigned w64 who.seconds → IsSignature (signature_text who) who }
+    ensures one { (text : List ℕ) (who other : Who) → IsSignature text who
+        → IsSignature text other → other ≡ who }
+    ensures again { (who : Who) → CanWrite who → FitsSigned w64 who.seconds
+        → IsSignature (signature_text who) who }
 {}
 
 impl Signature {
     ghost use Rattle.gix_ref_log.specs.Signatures.{signature_who, signature_ref_who};
 
-    /// The same signature, lent.
+    /// This signature, lent.
     pub fn to_ref(&self) -> SignatureRef<'_>
         ensures { signature_ref_who result ≡ signature_who self.now }
     {
@@ -188,7 +192,8 @@ impl<'a> SignatureRef<'a> {
     /// and the email lies between that and the last `>`. `None` for any other text; nothing may follow.
     #[inline(always)]
     pub fn decode(text: &'a [u8]) -> Option<SignatureRef<'a>>
-        ensures { MatchOption result ((who : Who) → IsSignature text.now who → ⊥) (λ s. IsSignature text.now (signature_ref_who s)) }
+        ensures { MatchOption result ((who : Who) → IsSignature text.now who → ⊥)
+            (λ s. IsSignature text.now (signature_ref_who s)) }
     {
         match SignatureRef::decode_fast(text) {
             Some(signature) => Some(signature),
@@ -196,8 +201,8 @@ impl<'a> SignatureRef<'a> {
         }
     }
 
-    /// The same where a stamp of the usual length ends the signature. Its place is known then, and nothing is searched for
-    /// but the `<`. Of a text that ends otherwise `None` tells nothing.
+    /// Reads a signature whose seconds have ten digits: its time is the last 18 bytes, and only `<` is searched for. Of a
+    /// signature with other seconds `None` says nothing.
     #[inline(always)]
     pub(crate) fn decode_fast(text: &'a [u8]) -> Option<SignatureRef<'a>>
         ensures { IfSome result (λ s. IsSignature text.now (signature_ref_who s)) }
@@ -215,7 +220,8 @@ impl<'a> SignatureRef<'a> {
     /// The signature, whatever the length of its parts.
     #[inline(never)]
     fn decode_general(text: &'a [u8]) -> Option<SignatureRef<'a>>
-        ensures { MatchOption result ((who : Who) → IsSignature text.now who → ⊥) (λ s. IsSignature text.now (signature_ref_who s)) }
+        ensures { MatchOption result ((who : Who) → IsSignature text.now who → ⊥)
+            (λ s. IsSignature text.now (signature_ref_who s)) }
     {
         let (front, behind_name) = cut(text, b'<')?;
         let (email, behind_email) = cut_last(behind_name, b'>')?;
@@ -255,7 +261,8 @@ impl<'a> SignatureRef<'a> {
     /// The text of the offset, where the signature can be written.
     fn writable_zone(self) -> Option<[u8; 5]>
         ensures { MatchOption result (CanWrite (signature_ref_who self.entry) → ⊥)
-            (λ zone. CanWrite (signature_ref_who self.entry) × (zone ≡ offset_text self.entry.time.offset)) }
+            (λ zone. CanWrite (signature_ref_who self.entry)
+            × (zone ≡ offset_text self.entry.time.offset)) }
     {
         if !is_plain(self.name) || !is_plain(self.email) {
             return None;
@@ -266,7 +273,8 @@ impl<'a> SignatureRef<'a> {
     /// Writes the parts of the signature, whose offset has this text.
     fn write_parts<W: io::Write>(self, zone: &[u8], out: &mut W) -> io::Result<()>
         requires { zone.now ≡ offset_text self.time.offset }
-        ensures { OnOk result (Appends (W.contents out.old) (W.contents out.new) (signature_text (signature_ref_who self.entry))) }
+        ensures { OnOk result (Appends (W.contents out.old) (W.contents out.new)
+            (signature_text (signature_ref_who self.entry))) }
     {
         out.write_all(self.name)?;
         out.write_all(b" <")?;
@@ -275,12 +283,14 @@ impl<'a> SignatureRef<'a> {
         out.write_all(zone)
     }
 
-    /// Writes `name <email> seconds +hhmm`, as it stands: nothing is trimmed. `SignatureUnwritable` comes before the first
+    /// Writes `name <email> seconds +hhmm`, as it is: nothing is trimmed. `SignatureUnwritable` comes before the first
     /// byte; after `Io` the writer holds what it took before it failed.
     pub fn write_to<W: io::Write>(self, out: &mut W) -> Result<(), WriteError>
         ensures written { OnOk result (CanWrite (signature_ref_who self.entry)
-            × Appends (W.contents out.old) (W.contents out.new) (signature_text (signature_ref_who self.entry))) }
-        ensures refused { IsErrOf result WriteError.SignatureUnwritable ↔ (CanWrite (signature_ref_who self.entry) → ⊥) }
+            × Appends (W.contents out.old) (W.contents out.new)
+            (signature_text (signature_ref_who self.entry))) }
+        ensures refused { IsErrOf result WriteError.SignatureUnwritable
+            ↔ (CanWrite (signature_ref_who self.entry) → ⊥) }
         ensures untouched { IsErrOf result WriteError.SignatureUnwritable → out.new ≡ out.old }
     {
         let Some(zone) = self.writable_zone() else {
@@ -292,7 +302,7 @@ impl<'a> SignatureRef<'a> {
         }
     }
 
-    /// The same signature with bytes of its own.
+    /// An owned copy; the error says that there was no memory for it.
     #[inline(always)]
     pub fn to_owned(self, alloc: Global) -> Result<Signature, AllocError>
         ensures { IfOk result (λ owned. signature_who owned ≡ signature_ref_who self.entry) }

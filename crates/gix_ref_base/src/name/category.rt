@@ -230,7 +230,8 @@ impl<'a> Category<'a> {
     /// the first rule for full names that the text breaks, or `Memory`.
     #[tactic(auto, unfolding(crate::specs::Categories::text_of))]
     pub fn to_full_name(self, alloc: Global, short: &[u8]) -> Result<FullName, Error>
-        ensures { MatchResult result (λ n. (full_bytes n ≡ text_of self.entry short.now) × IsFullName (text_of self.entry short.now))
+        ensures { MatchResult result (λ n. (full_bytes n ≡ text_of self.entry short.now)
+            × IsFullName (text_of self.entry short.now))
             (λ e. (e ≡ Memory) ⊎ (full_error (text_of self.entry short.now) ≡ Some e)) }
     {
         let text = put_front(self.front(alloc)?, drop_front(short, self.word()))?;

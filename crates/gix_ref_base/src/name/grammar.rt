@@ -103,8 +103,10 @@ fn scan(name: &[u8]) -> Result<Faults, u8>
     ensures repeated_slash { IfOk result (λ s. s.repeated_slash ≡ occurs (codes "//") name.now) }
     ensures repeated_dot { IfOk result (λ s. s.repeated_dot ≡ occurs (codes "..") name.now) }
     ensures reflog_portion { IfOk result (λ s. s.reflog_portion ≡ occurs (codes "@{") name.now) }
-    ensures starts_with_dot { IfOk result (λ s. s.starts_with_dot ≡ list_any is_dotted (components name.now)) }
-    ensures lock_file_suffix { IfOk result (λ s. s.lock_file_suffix ≡ list_any is_locked (components name.now)) }
+    ensures starts_with_dot { IfOk result
+        (λ s. s.starts_with_dot ≡ list_any is_dotted (components name.now)) }
+    ensures lock_file_suffix { IfOk result
+        (λ s. s.lock_file_suffix ≡ list_any is_locked (components name.now)) }
 {
     let mut seen = Faults {
         repeated_slash: false,

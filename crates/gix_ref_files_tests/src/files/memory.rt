@@ -137,46 +137,75 @@ fn a_reader_counts_on(rt: HostRuntime) -> Result<(), Fail> {
     Ok(())
 }
 
-/// Takes the lock of a path, writes a text and commits it; what the steps answered, in a word.
-fn published(alloc: Global, memory: &mut Memory, path: &[u8], text: &[u8]) -> &'static str {
-    match Lock::acquire(alloc, memory, path) {
-        Err(_) => "acquire failed",
-        Ok(Acquire::Standing) => "standing",
-        Ok(Acquire::Blocked) => "blocked",
-        Ok(Acquire::Held(lock)) => {
-            let written = lock.write(memory, text).is_ok();
-            let (word, left) = match lock.commit(memory) {
-                Ok(Commit::Moved) => return if written { "moved" } else { "moved unwritten" },
-                Ok(Commit::FolderStands(lock)) => ("folder", lock),
-                Err(Unspent { error: _, lock }) => ("commit failed", lock),
-            };
-            match left.remove(memory) {
-                Ok(_) => word,
-                Err(Unspent { error: _, lock }) => {
-                    let _path = lock.into_path();
-                    "left"
-                }
-            }
+/// What became of a text that was to be published.
+#[derive(Clone, Copy, Debug, PartialEq, Eq)]
+enum Published {
+    Moved,
+    FolderStands,
+    Standing,
+    Blocked,
+    Failed,
+}
+
+/// Removes a lock, or gives it up where that fails.
+fn give_up(memory: &mut Memory, lock: Lock) {
+    if let Err(Unspent { error: _, lock }) = lock.remove(memory) {
+        let _path = lock.into_path();
+    }
+}
+
+/// Renames a lock to its place.
+fn commit(memory: &mut Memory, lock: Lock) -> Published {
+    match lock.commit(memory) {
+        Ok(Commit::Moved) => Published::Moved,
+        Ok(Commit::FolderStands(lock)) => {
+            give_up(memory, lock);
+            Published::FolderStands
+        }
+        Err(Unspent { error: _, lock }) => {
+            give_up(memory, lock);
+            Published::Failed
         }
     }
 }
+
+/// Takes the lock of a path, writes a text to it and commits it.
+fn publish(alloc: Global, memory: &mut Memory, path: &[u8], text: &[u8]) -> Published {
+    match Lock::acquire(alloc, memory, path) {
+        Err(_) => Published::Failed,
+        Ok(Acquire::Standing) => Published::Standing,
+        Ok(Acquire::Blocked) => Published::Blocked,
+        Ok(Acquire::Held(lock)) => {
+            if lock.write(memory, text) == Ok(true) {
+                return commit(memory, lock);
+            }
+            give_up(memory, lock);
+            Published::Failed
+        }
+    }
+}
+
+/// Where a text is to be published, and what becomes of it.
+const PUBLISHED: [(&[u8], Published, &str); 4] = [
+    (b"/r/refs/a", Published::Moved, "nothing is there"),
+    (b"/r/refs", Published::FolderStands, "a folder is there"),
+    (b"/r/refs/a/b", Published::Blocked, "a file is in the path"),
+    (b"/r/refs/b", Published::Standing, "another holds the lock"),
+];
 
 #[test]
 fn a_lock_is_renamed_to_its_place(rt: HostRuntime) -> Result<(), Fail> {
     let alloc = rt.alloc();
     let mut memory = Memory::new(alloc);
-    assert_eq!(rt; published(alloc, &mut memory, b"/r/refs/a", b"1"), "moved");
-    assert_eq!(rt; memory.get(b"/r/refs/a"), Some(b"1".as_slice()));
-    assert_eq!(rt; memory.kind(b"/r/refs/a.lock"), Ok(Node::Nothing));
-    assert_eq!(rt; published(alloc, &mut memory, b"/r/refs", b"1"), "folder");
-    assert_eq!(rt;
-        published(alloc, &mut memory, b"/r/refs/a/b", b"1"),
-        "blocked"
-    );
     memory.put(b"/r/refs/b.lock", b"")?;
+    for (path, want, what) in PUBLISHED {
+        assert_eq!(rt; publish(alloc, &mut memory, path, b"1"), want, "{what}");
+    }
+    assert_eq!(rt; memory.get(b"/r/refs/a"), Some(b"1".as_slice()), "its text");
     assert_eq!(rt;
-        published(alloc, &mut memory, b"/r/refs/b", b"1"),
-        "standing"
+        memory.kind(b"/r/refs/a.lock"),
+        Ok(Node::Nothing),
+        "its lock"
     );
     Ok(())
 }

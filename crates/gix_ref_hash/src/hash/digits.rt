@@ -41,7 +41,8 @@ const SECOND: [usize; 16] = [1, 3, 5, 7, 9, 11, 13, 15, 17, 19, 21, 23, 25, 27, 
 /// The values of hex digits, of either case: the low four bits of a digit, and nine more for a letter.
 #[inline(always)]
 fn digit_values(digits: u8x16) -> u8x16
-    ensures { (k : ℕ) → k < 16 → is_hex_digit (get_or digits k 0) ≡ true → hex_digit_value (get_or digits k 0) ≡ Some (get_or result k 0) }
+    ensures { (k : ℕ) → k < 16 → is_hex_digit (get_or digits k 0) ≡ true
+        → hex_digit_value (get_or digits k 0) ≡ Some (get_or result k 0) }
 {
     (digits & u8x16::splat(15)) + (digits >> u8x16::splat(6)) * u8x16::splat(9)
 }
@@ -58,7 +59,8 @@ fn bytes_of_pairs(first: u8x16, second: u8x16) -> u8x16
 #[inline(always)]
 fn sixteen_bytes(digits: &[u8]) -> [u8; 16]
     requires { length digits.now ≡ 32 }
-    ensures { (k : ℕ) → k < 16 → IsPair (slice_index digits.now (2 * k)) (slice_index digits.now (2 * k + 1)) (slice_index result k) }
+    ensures { (k : ℕ) → k < 16 → IsPair (slice_index digits.now (2 * k))
+        (slice_index digits.now (2 * k + 1)) (slice_index result k) }
 {
     let front = u8x16::from_slice(digits);
     let back = u8x16::from_slice(&digits[16..]);

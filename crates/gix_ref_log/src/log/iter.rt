@@ -27,7 +27,8 @@ use std::alloc::Global;
 /// are cut at LF, a CR before LF is dropped, and nothing follows a final LF. Costs time in proportion to what is read.
 pub fn forward(log: &[u8]) -> Forward<'_>
     // Whatever calls of `next` follow, they give the lines of the log, in order.
-    ensures { EachRunFrom ForwardStep result (λ run. IsForwardRun (run.whole ≡ true) 1 (log_lines log.now) run.items) }
+    ensures { EachRunFrom ForwardStep result
+        (λ run. IsForwardRun (run.whole ≡ true) 1 (log_lines log.now) run.items) }
 {
     Forward {
         rest: log,
@@ -55,9 +56,11 @@ pub fn reverse<F: ReadAt + Drop>(
         (λ run. IsRun (run.whole ≡ true) (items_from (length buf.old) 1 (F.bytes log)) run.items)) }
 
     // Of any reader: an `Io` is a fault that the reader counted, and nothing follows an error but a decode fault.
-    ensures faults { IfOk result (λ r. (items : List (Result Line ReverseError)) (s : _) → Yields (NextStep F.honest F.bytes F.faults) r items s
+    ensures faults { IfOk result (λ r. (items : List (Result Line ReverseError)) (s : _)
+        → Yields (NextStep F.honest F.bytes F.faults) r items s
         → F.faults s.reader ≡ faults_after (F.faults log) items) }
-    ensures ends { IfOk result (λ r. EachRunFrom (NextStep F.honest F.bytes F.faults) r (λ run. EndsAtError run.items)) }
+    ensures ends { IfOk result (λ r. EachRunFrom (NextStep F.honest F.bytes F.faults) r
+        (λ run. EndsAtError run.items)) }
 {
     if buf.is_empty() {
         return Err(EmptyBuffer);

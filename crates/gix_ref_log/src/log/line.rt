@@ -14,7 +14,7 @@ mod write;
 use decode::decode_line;
 pub use write::{AppendError, WriteError, appended_line, lines_read_back};
 
-/// A line of a reflog with bytes of its own.
+/// An owned line of a reflog.
 #[derive(Debug, PartialEq, Eq, PartialOrd, Ord, Hash, Clone, Drop)]
 pub struct Line {
     /// The object that the reference pointed to before; the null id where there was none.
@@ -48,9 +48,11 @@ impl<'a> LineRef<'a> {
     ghost use Rattle.gix_ref_log.specs.LogLines.{IsLine, NoLine, IsFirstLine, IsOwned, line_ref_parts};
 
     /// Reads the first line of the text: an id, a space, an id, a space, a signature, and optionally a tab and the message,
-    /// up to LF or the end. A CR before the LF belongs to the message. The error lends the first line of a text that is not so.
+    /// up to LF or the end. A CR before the LF belongs to the message. The error lends the first line of
+    /// any other text.
     pub fn from_bytes(text: &'a [u8]) -> Result<LineRef<'a>, decode::Error<'a>>
-        ensures { MatchResult result (λ line. IsLine text.now (line_ref_parts line)) (λ error. NoLine text.now × IsFirstLine text.now error.input.now) }
+        ensures { MatchResult result (λ line. IsLine text.now (line_ref_parts line))
+            (λ error. NoLine text.now × IsFirstLine text.now error.input.now) }
     {
         let input = before_newline(text);
         match decode_line(input) {
@@ -73,7 +75,7 @@ impl<'a> LineRef<'a> {
         id_of_digits(self.new_oid)
     }
 
-    /// The same line with bytes of its own.
+    /// An owned copy with the ids read; the error says that there was no memory for it.
     #[inline(always)]
     pub fn to_owned(&self, alloc: Global) -> Result<Line, AllocError>
         ensures { IfOk result (IsOwned (line_ref_parts self.now)) }
@@ -94,16 +96,22 @@ impl Line {
     ghost use Rattle.gix_ref_log.specs.Signatures.{CanWrite, signature_who};
     ghost use Rattle.gix_ref_log.specs.LogLines.{CanWriteLine, line_text};
 
-    /// Writes the ids in lower case, the signature as it stands, a tab also before an empty message, and LF. A message with
+    /// Writes the ids in lower case, the signature as it is, a tab also before an empty message, and LF. A message with
     /// LF is `MessageWithNewlines`, else a signature that cannot be written is `SignatureUnwritable`, both before the first
     /// byte; after `Io` the writer holds what it took before it failed.
     pub fn write_to<W: io::Write>(&self, out: &mut W) -> Result<(), WriteError>
-        ensures written { OnOk result (CanWriteLine (signature_who self.now.signature) self.now.message.items
+        ensures written { OnOk result (CanWriteLine
+            (signature_who self.now.signature) self.now.message.items
             × Appends (W.contents out.old) (W.contents out.new) (line_text self.now)) }
-        ensures message { IsErrOf result WriteError.MessageWithNewlines ↔ (NoByte 10 self.now.message.items → ⊥) }
-        ensures signature { IsErrOf result WriteError.SignatureUnwritable ↔ (NoByte 10 self.now.message.items × (CanWrite (signature_who self.now.signature) → ⊥)) }
-        ensures message_untouched { IsErrOf result WriteError.MessageWithNewlines → out.new ≡ out.old }
-        ensures signature_untouched { IsErrOf result WriteError.SignatureUnwritable → out.new ≡ out.old }
+        ensures message { IsErrOf result WriteError.MessageWithNewlines
+            ↔ (NoByte 10 self.now.message.items → ⊥) }
+        ensures signature { IsErrOf result WriteError.SignatureUnwritable
+            ↔ (NoByte 10 self.now.message.items
+            × (CanWrite (signature_who self.now.signature) → ⊥)) }
+        ensures message_untouched { IsErrOf result WriteError.MessageWithNewlines
+            → out.new ≡ out.old }
+        ensures signature_untouched { IsErrOf result WriteError.SignatureUnwritable
+            → out.new ≡ out.old }
     {
         if self.message.as_slice().find_byte(b'\n').is_some() {
             return Err(WriteError::MessageWithNewlines);

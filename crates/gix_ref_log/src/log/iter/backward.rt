@@ -1,18 +1,14 @@
 //! The lines of a log, newest first, through a window that moves towards the front of the file.
-ghost use Rattle.std.specs.Iterator.{at_most, Yields};
-ghost use Rattle.std.specs.Iterator.Runs.{EachRunFrom};
+ghost use Rattle.std.specs.Iterator.{at_most};
 ghost use Rattle.memchr.specs.Find.{IsLastByte, is_byte};
-ghost use Rattle.std.specs.Prelude.{◌≡◌, ℕ, ◌+◌, ◌-◌, ◌≤◌, ◌<◌, ◌^◌, min, length, take, drop, slice_index, slice_range, Some, ◌==◌, IfOk, OnOk, OnErr, MatchResult, None, ◌⊎◌, IsErr, ◌↔◌, true, List, Result};
+ghost use Rattle.std.specs.Prelude.{◌≡◌, ◌+◌, ◌-◌, ◌≤◌, ◌<◌, ◌==◌, ◌⊎◌, min, length, take, slice_index, slice_range, Some, None, IfOk, OnOk, MatchResult};
 ghost use Rattle.gix_ref_hash.specs.Bytes.{NoByte};
-ghost use Rattle.gix_ref_files.specs.Files.{one_more};
 ghost use Rattle.gix_ref_log.specs.LogLines.{IsOwned, line_ref_parts};
 ghost use Rattle.gix_ref_log.specs.LogStages.{text_of_line, IsDoneAfter};
-ghost use Rattle.gix_ref_log.specs.LogItems.{Gives, LineGives, IsRun, EndsAtError, items_from, count_of, faults_after};
-ghost use Rattle.gix_ref_log.specs.declared.log.line.Line.{Line};
-ghost use Rattle.gix_ref_log.specs.declared.log.iter.error.ReverseError.{ReverseError};
+ghost use Rattle.gix_ref_log.specs.LogItems.{Gives, LineGives, count_of};
 
 use super::decode;
-use super::error::{EmptyBuffer, ReverseError};
+use super::error::ReverseError;
 use super::fast::fast_decode;
 use super::stage::{Stage, stage_after};
 use crate::log::line::decode::decode_line;
@@ -39,10 +35,11 @@ pub struct Reverse<'a, F> {
     ghost has_room: { 0 < length buf.now },
 }
 
-/// The same line with bytes of its own.
+/// The owned line, or `Memory`.
 #[inline(always)]
 fn owned(alloc: Global, line: &LineRef<'_>) -> Result<Line, ReverseError>
-    ensures { MatchResult result (IsOwned (line_ref_parts line.now)) (λ error. error ≡ ReverseError.Memory) }
+    ensures { MatchResult result (IsOwned (line_ref_parts line.now))
+        (λ error. error ≡ ReverseError.Memory) }
 {
     match line.to_owned(alloc) {
         Ok(line) => Ok(line),
@@ -67,12 +64,13 @@ fn line_of(alloc: Global, text: &[u8], number: u64) -> Result<Line, ReverseError
 impl<'a, F: ReadAt> Reverse<'a, F> {
     ghost use Rattle.gix_ref_log.specs.LogWindows.{SameLog, OnlyWindowMoves, KeepsWindow, Counts, Begins, IsOpen, open_items, items_left, IsTied, most_left};
 
-    /// Moves what is in the window to its back, and reads what stands before it in the file.
+    /// Moves the bytes of the window to the end of the buffer, and reads the bytes before them in the file.
     fn widen(&mut self) -> Result<(), FileError>
         ensures only { OnlyWindowMoves F.bytes self.old self.new }
         ensures counts { Counts F.faults result self.old self.new }
         ensures end { OnOk result
-            (self.new.end ≡ self.old.end + min self.old.pos (length self.old.buf.now - self.old.end)) }
+            (self.new.end ≡ self.old.end
+            + min self.old.pos (length self.old.buf.now - self.old.end)) }
         ensures pos { OnOk result (self.new.pos + self.new.end ≡ self.old.pos + self.old.end) }
         ensures window { OnOk result (F.honest → KeepsWindow F.bytes self.old self.new) }
     {
@@ -108,8 +106,8 @@ impl<'a, F: ReadAt> Reverse<'a, F> {
         ensures counts { Counts F.faults result self.old self.new }
         ensures nearer { OnOk result (self.new.pos + self.new.end ≤ self.old.pos + self.old.end) }
         ensures begins { F.honest → self.old.end ≡ 0
-            → self.old.pos ≡ length (F.bytes self.old.reader)
-            → IfOk result (Begins (F.bytes self.old.reader) self.new.buf.now self.new.pos self.new.end) }
+            → self.old.pos ≡ length (F.bytes self.old.reader) → IfOk result
+            (Begins (F.bytes self.old.reader) self.new.buf.now self.new.pos self.new.end) }
     {
         self.widen()?;
         let ends = self.ends_with_feed();
@@ -143,7 +141,8 @@ impl<'a, F: ReadAt> Reverse<'a, F> {
     fn line_at(&self, start: usize, ends: bool) -> Result<Line, ReverseError>
         requires within { start ≤ self.now.end }
         requires one_line { NoByte 10 (slice_range self.now.buf.now start self.now.end) }
-        ensures { LineGives self.now.number (text_of_line ends (slice_range self.now.buf.now start self.now.end)) result }
+        ensures { LineGives self.now.number
+            (text_of_line ends (slice_range self.now.buf.now start self.now.end)) result }
     {
         let text = strip_cr(&self.buf[start..self.end], ends);
         match fast_decode(text) {
@@ -157,7 +156,8 @@ impl<'a, F: ReadAt> Reverse<'a, F> {
     fn next_line(&mut self, ends: bool) -> Result<Line, ReverseError>
         ensures log { SameLog F.bytes self.old self.new }
         ensures nearer { most_left self.new ≤ self.old.pos + self.old.end }
-        ensures counts { F.faults self.new.reader ≡ count_of (Some result) (F.faults self.old.reader) }
+        ensures counts { F.faults self.new.reader
+            ≡ count_of (Some result) (F.faults self.old.reader) }
         ensures done { IsDoneAfter (Some result) self.new.stage }
         ensures step { F.honest → IsOpen F.bytes ends self.old
             → Gives (open_items F.bytes ends self.old) (Some result) (items_left F.bytes self.new)

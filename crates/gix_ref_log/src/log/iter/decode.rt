@@ -1,4 +1,4 @@
-//! What is told of a line of a log that cannot be read.
+//! The report of a line of a log that cannot be read.
 use thiserror::Error;
 
 /// The number of a line, from 1.

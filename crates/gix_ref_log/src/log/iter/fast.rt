@@ -14,7 +14,8 @@ use gix_ref_hash::hash::are_hex;
 /// The ids of a SHA-1 at the front, and what follows the space behind them. `None` says nothing.
 #[inline(always)]
 fn sha1_ids(text: &[u8]) -> Option<(&[u8], &[u8], &[u8])>
-    ensures { IfSome result (λ p. (ids : List ℕ) × IdFront text.now p.0.now ids × IdFront ids p.1.now p.2.now) }
+    ensures { IfSome result (λ p. (ids : List ℕ) × IdFront text.now p.0.now ids
+        × IdFront ids p.1.now p.2.now) }
 {
     if text.len() < 82 || text[40] != b' ' || text[81] != b' ' {
         return None;
@@ -45,7 +46,8 @@ fn cut_at_tab(text: &[u8]) -> Option<(&[u8], &[u8])>
 #[inline(always)]
 pub(super) fn fast_decode<'a>(text: &'a [u8]) -> Option<LineRef<'a>>
     ensures front { IfSome result (λ line. HasFront text.now (line_ref_parts line)) }
-    ensures line { NoByte 10 text.now → IfSome result (λ line. IsLine text.now (line_ref_parts line)) }
+    ensures line { NoByte 10 text.now → IfSome result
+        (λ line. IsLine text.now (line_ref_parts line)) }
 {
     let (previous_oid, new_oid, rest) = sha1_ids(text)?;
     let (head, message) = cut_at_tab(rest)?;

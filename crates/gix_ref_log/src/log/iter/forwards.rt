@@ -1,9 +1,6 @@
 //! The lines of a log, oldest first.
 ghost use Rattle.std.specs.Iterator.{at_most};
-ghost use Rattle.std.specs.Iterator.Runs.{EachRunFrom};
-ghost use Rattle.std.specs.Prelude.{◌≡◌, ◌∷◌, ◌+◌, ◌<◌, ◌^◌, length, true};
-ghost use Rattle.gix_ref_hash.specs.Bytes.{NoByte};
-ghost use Rattle.gix_ref_log.specs.LogCuts.{log_lines};
+ghost use Rattle.std.specs.Prelude.{◌+◌, ◌<◌, ◌^◌, length};
 
 use super::decode::{Error, LineNumber};
 use super::fast::fast_first_line;

@@ -34,7 +34,8 @@ fn id_len(text: &[u8]) -> usize
 /// The id in front, and what follows its space.
 #[inline(always)]
 fn id_front(text: &[u8]) -> Option<(&[u8], &[u8])>
-    ensures { MatchOption result ((id rest : List ℕ) → IdFront text.now id rest → ⊥) (λ p. IdFront text.now p.0.now p.1.now) }
+    ensures { MatchOption result ((id rest : List ℕ) → IdFront text.now id rest → ⊥)
+        (λ p. IdFront text.now p.0.now p.1.now) }
 {
     let len = id_len(text);
     if text.len() <= len || text[len] != b' ' {

@@ -51,7 +51,8 @@ fn write_head<W: io::Write>(
     out: &mut W,
 ) -> io::Result<()>
     requires { CanWrite (signature_ref_who who) }
-    ensures { OnOk result (Appends (W.contents out.old) (W.contents out.new) (head_text previous.now new.now (signature_ref_who who.entry))) }
+    ensures { OnOk result (Appends (W.contents out.old) (W.contents out.new)
+        (head_text previous.now new.now (signature_ref_who who.entry))) }
 {
     write!(out, "{previous} {new} ")?;
     match who.write_to(out) {
@@ -86,7 +87,9 @@ fn append_parts(
     message: &[u8],
 ) -> io::Result<Vec<u8>>
     requires { CanWrite (signature_ref_who who) }
-    ensures { IfOk result (λ line. line.items ≡ head_text previous.now new.now (signature_ref_who who.entry) ++ (message_part message.now ++ 10 ∷ [])) }
+    ensures { IfOk result (λ line. line.items
+        ≡ head_text previous.now new.now (signature_ref_who who.entry) ++
+        (message_part message.now ++ 10 ∷ [])) }
 {
     let mut line = Vec::new(alloc);
     write_head(previous, new, who, &mut line)?;
@@ -108,10 +111,14 @@ pub fn appended_line(
     committer: SignatureRef<'_>,
     message: &[u8],
 ) -> Result<Vec<u8>, AppendError>
-    ensures made { IfOk result (λ line. CanWriteLine (trimmed_who (signature_ref_who committer.entry)) message.now
-        × (line.items ≡ appended_text previous.now new.now (signature_ref_who committer.entry) message.now)) }
+    ensures made { IfOk result (λ line. CanWriteLine
+        (trimmed_who (signature_ref_who committer.entry)) message.now
+        × (line.items ≡ appended_text previous.now new.now
+        (signature_ref_who committer.entry) message.now)) }
     ensures message { IsErrOf result AppendError.MessageWithNewlines ↔ (NoByte 10 message.now → ⊥) }
-    ensures signature { IsErrOf result AppendError.SignatureUnwritable ↔ (NoByte 10 message.now × (CanWrite (trimmed_who (signature_ref_who committer.entry)) → ⊥)) }
+    ensures signature { IsErrOf result AppendError.SignatureUnwritable
+        ↔ (NoByte 10 message.now × (CanWrite (trimmed_who (signature_ref_who committer.entry))
+        → ⊥)) }
 {
     if message.find_byte(b'\n').is_some() {
         return Err(AppendError::MessageWithNewlines);
@@ -129,8 +136,12 @@ pub fn appended_line(
 /// A text is one line at most. A line that can be written, with no tab in name or email, is read again as it was, and so is
 /// one that a transaction adds.
 pub fn lines_read_back()
-    ensures one { (text : List ℕ) (line other : LogLine) → IsLine text line → IsLine text other → other ≡ line }
-    ensures written { (line : Line) → IsReadable line.previous_oid line.new_oid (signature_who line.signature) line.message.items → IsReadAs (line_text line) line }
-    ensures appended { (previous new : ObjectId) (who : Who) (message : List ℕ) → IsReadable previous new (trimmed_who who) message
-        → IsLine (appended_text previous new who message) (written_parts previous new (trimmed_who who) message) }
+    ensures one { (text : List ℕ) (line other : LogLine) → IsLine text line → IsLine text other
+        → other ≡ line }
+    ensures written { (line : Line) → IsReadable line.previous_oid line.new_oid
+        (signature_who line.signature) line.message.items → IsReadAs (line_text line) line }
+    ensures appended { (previous new : ObjectId) (who : Who) (message : List ℕ)
+        → IsReadable previous new (trimmed_who who) message
+        → IsLine (appended_text previous new who message)
+        (written_parts previous new (trimmed_who who) message) }
 {}
