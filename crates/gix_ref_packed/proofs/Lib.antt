@@ -10,6 +10,7 @@ pub mod PackedPlaces
 pub mod PackedPrefixRuns
 pub mod PackedReadings
 pub mod PackedRuns
+pub mod PackedSearched
 pub mod PackedSorting
 pub mod PackedSources
 pub mod PackedWindows

@@ -14,9 +14,10 @@ use Rattle.gix_ref_packed.specs.declared.packed.decode.options.Header.{Header}
 use Rattle.gix_ref_packed.specs.PackedText.{Record, Line, Peeled, Takes, Records, in_line, is_caret}
 use Rattle.gix_ref_packed.specs.PackedHeader.{TakesHeader, told_by, told, silent, words}
 use Rattle.gix_ref_packed.specs.PackedOpening.{Heads, is_hash}
-use Rattle.gix_ref_packed.specs.PackedWritten.{object_line, record_text, header_text, written_header, IsObject, IsReadable, WrittenTextReadsBack, PackedTextIsOne}
+use Rattle.gix_ref_packed.specs.PackedLookup.{IsObject, IsReadable}
+use Rattle.gix_ref_packed.specs.PackedWritten.{object_line, record_text, header_text, written_header, WrittenTextReadsBack, PackedTextIsOne}
 use Rattle.gix_ref_packed.proofs.PackedReadings.{same_record, same_line}
-use Rattle.gix_ref_packed.proofs.PackedPlaces.{shorter}
+use Rattle.gix_ref_packed.proofs.PackedPlaces.{shorter_record as shorter}
 use Rattle.gix_ref_packed.proofs.PackedFronts.{records_stop}
 
 first_none : (o : Option Error) (rest : List (Option Error)) → first_told (o ∷ rest) ≡ None → o ≡ None

@@ -3,6 +3,8 @@ use Rattle.std.proofs.Common.{◌≡◌, ◌⊎◌, inl, inr, ⊎_elim, ℕ, ◌
 use Rattle.std.specs.List.{All, starts_with, take_while}
 use Rattle.std.specs.Cmp.Lexicographic.{slice_cmp}
 use Rattle.std.specs.Ordering.{nat_cmp, ordering_then}
+use Rattle.std.specs.declared.cmp.Ordering.{Ordering}
+use Rattle.std.proofs.lemmas.Map.Lookups.{exact_bytes}
 use Rattle.std.specs.declared.cmp.Ordering.TheVariants.{Less, Equal, Greater}
 use Rattle.std.specs.Cmp.{nat_cmp_is}
 use Rattle.std.proofs.Math.Seq.{drop-append-add}
@@ -15,28 +17,50 @@ use Rattle.std.proofs.lemmas.Slice.Eq.{starts_is}
 use Rattle.std.proofs.lemmas.Bool.Decides.{Decides-eqb}
 use Rattle.gix_ref_hash.specs.declared.hash.Kind.{Kind}
 use Rattle.gix_ref_base.proofs.FrontLemmas.{begins_true}
-use Rattle.gix_ref_packed.specs.PackedText.{Record, Records, Below, Ascending}
-use Rattle.gix_ref_packed.specs.PackedLookup.{RecordOf, SameLine, NameAt}
+use Rattle.gix_ref_packed.specs.PackedText.{Record, Records, Forms, Below, Rising}
+use Rattle.gix_ref_packed.specs.PackedLookup.{LineOf, RecordOf, SameLine, NameAt}
 use Rattle.gix_ref_packed.specs.PackedPrefixes.{SplitsAt, records_prefixed}
 use Rattle.gix_ref_packed.proofs.PackedReadings.{same_shape}
-use Rattle.gix_ref_packed.proofs.PackedPlaces.{Begins, owned, shorter, begins_a_line}
+use Rattle.gix_ref_packed.proofs.PackedPlaces.{Begins, owned, shorter, shorter_record, begins_a_line, forms_of}
 use Rattle.gix_ref_packed.proofs.PackedFronts.{lines_taken}
-use Rattle.gix_ref_packed.proofs.PackedHalving.{ordered, same_place}
+use Rattle.gix_ref_packed.proofs.PackedHalving.{belongs, greater_is_below, same_place}
 
 -- the end of the text, or the place of a record
-abbrev pub Edge : (k : Kind) (text : List ℕ) (rs : List Record) → Records k text rs → ℕ → Type 0
+abbrev pub Edge : (k : Kind) (text : List ℕ) (rs : List Record) → Forms k text rs → ℕ → Type 0
 Edge k text rs h p = (p ≡ length text) ⊎ ((r : Record) × Begins k text rs h p r)
 
 -- the names before `low` are below the asked one, those from `high` on are not
-pub record Bounded (k : Kind) (text n : List ℕ) (low high : ℕ) (rs : List Record) (h : Records k text rs) : Type 0 where
+pub record Bounded (k : Kind) (text n : List ℕ) (low high : ℕ) (rs : List Record) (h : Forms k text rs) : Type 0 where
   pub under : (q : ℕ) (y : Record) → Begins k text rs h q y → q < low → Below y.name n
   pub over : (q : ℕ) (y : Record) → Begins k text rs h q y → high ≤ q → Below y.name n → ⊥
   pub edge : Edge k text rs h high
 
 abbrev pub Bound : Kind → List ℕ → List ℕ → ℕ → ℕ → Type 0
-Bound k text n low high = (rs : List Record) (h : Records k text rs) → Ascending rs → Bounded k text n low high rs h
+Bound k text n low high = (rs : List Record) (h : Forms k text rs) → Rising rs → Bounded k text n low high rs h
 
-in_text : (k : Kind) (text : List ℕ) (rs : List Record) (h : Records k text rs) (p : ℕ) (r : Record) → Begins k text rs h p r → p < length text
+below_low : (a b n : List ℕ) → (Below b a → ⊥) → Below b n → Below a n
+below_low a b n low below = go (slice_cmp nat_cmp a b) refl
+  where
+    go : (o : Ordering) → slice_cmp nat_cmp a b ≡ o → Below a n
+    go Less is = nat_list_cmp_total.trans a b n is below
+    go Equal is = subst (λ (x : List ℕ). Below x n) (sym (exact_bytes a b is)) below
+    go Greater is = absurd (low (greater_is_below a b is))
+
+-- a later record has no lower name
+not_later : (k : Kind) (text : List ℕ) (rs : List Record) (h : Forms k text rs) → Rising rs → (p : ℕ) (r : Record) (q : ℕ) (s : Record) → Begins k text rs h p r → Begins k text rs h q s → p < q → Below s.name r.name → ⊥
+not_later k text [] h up p r q s a b before = absurd a
+not_later k text (x ∷ xs) h up p r q s a b before = ⊎_elim
+    (λ (first : (p ≡ 0) × (r ≡ x)). ⊎_elim
+    (λ (again : (q ≡ 0) × (s ≡ x)). let e = again.0 in absurd (omega arith))
+    (λ (second : (j : ℕ) × (q + length h.0 ≡ length text + j) × Begins k h.0 xs h.2 j s).
+    subst (λ (y : Record). Below s.name y.name → ⊥) (sym first.1) (belongs (λ y. Below y.name x.name → ⊥) k h.0 xs h.2 second.0 s up.0 second.2)) b)
+    (λ (first : (i : ℕ) × (p + length h.0 ≡ length text + i) × Begins k h.0 xs h.2 i r). ⊎_elim
+    (λ (again : (q ≡ 0) × (s ≡ x)). let e = again.0 in absurd (omega arith))
+    (λ (second : (j : ℕ) × (q + length h.0 ≡ length text + j) × Begins k h.0 xs h.2 j s).
+    let e = first.1 in let d = second.1 in
+    not_later k h.0 xs h.2 up.1 first.0 r second.0 s first.2 second.2 (omega arith)) b) a
+
+in_text : (k : Kind) (text : List ℕ) (rs : List Record) (h : Forms k text rs) (p : ℕ) (r : Record) → Begins k text rs h p r → p < length text
 in_text k text [] h p r b = absurd b
 in_text k text (x ∷ xs) h p r b =
     let less = shorter k text x h.0 h.1 in
@@ -53,7 +77,7 @@ bound_first k text n rs h up = record {
 }
 
 module _ (k : Kind) (text n m : List ℕ) (s o : ℕ) (within : o < length text) (at : RecordOf text s o) (name : NameAt k (drop s text) m) where
-  owner_name : (rs : List Record) (h : Records k text rs) → (owned k text rs h s o within at).owner.name ≡ m
+  owner_name : (rs : List Record) (h : Forms k text rs) → (owned k text rs h s o within at).owner.name ≡ m
   owner_name rs h =
       let own = owned k text rs h s o within at in
       (same_shape k (drop s text) own.owner.target own.owner.name own.takes.after name.0 m name.1 own.takes.line name.2).1
@@ -70,7 +94,7 @@ module _ (k : Kind) (text n m : List ℕ) (s o : ℕ) (within : o < length text)
             (λ (far : o < q). absurd (line (q - 1) (omega arith) (omega arith) (begins_a_line k text rs h q y b (omega arith))))
             (own.others q y b) in
             ⊎_elim
-            (λ (before : q < s). nat_list_cmp_total.trans y.name own.owner.name n (ordered k text rs h up q y s own.owner b own.begins before) under)
+            (λ (before : q < s). below_low y.name own.owner.name n (not_later k text rs h up q y s own.owner b own.begins before) under)
             (λ (late : s ≤ q). subst (λ (x : Record). Below x.name n) (sym (same_place k text rs h q y s own.owner b own.begins (omega arith))) under)
             (cases_lt q s);
         over = was.over;
@@ -85,7 +109,7 @@ module _ (k : Kind) (text n m : List ℕ) (s o : ℕ) (within : o < length text)
       record {
         under = was.under;
         over = λ q y b late below. ⊎_elim
-            (λ (after : s < q). over (nat_list_cmp_total.trans own.owner.name y.name n (ordered k text rs h up s own.owner q y own.begins b after) below))
+            (λ (after : s < q). over (below_low own.owner.name y.name n (not_later k text rs h up s own.owner q y own.begins b after) below))
             (λ (same : q ≤ s). over (subst (λ (x : Record). Below x.name n) (same_place k text rs h q y s own.owner b own.begins (omega arith)) below))
             (cases_lt s q);
         edge = inr (own.owner, own.begins);
@@ -93,18 +117,18 @@ module _ (k : Kind) (text n m : List ℕ) (s o : ℕ) (within : o < length text)
 
 -- ---- the list at a place
 
-all_of : (k : Kind) (text : List ℕ) (rs : List Record) (h : Records k text rs) (Q : Record → Type 0) → ((q : ℕ) (y : Record) → Begins k text rs h q y → Q y) → All Q rs
+all_of : (k : Kind) (text : List ℕ) (rs : List Record) (h : Forms k text rs) (Q : Record → Type 0) → ((q : ℕ) (y : Record) → Begins k text rs h q y → Q y) → All Q rs
 all_of k text [] h Q f = All-nil Q
 all_of k text (x ∷ xs) h Q f =
     let less = shorter k text x h.0 h.1 in
     All-cons Q x xs (f 0 x (inl (refl, refl))) (all_of k h.0 xs h.2 Q (λ q y b. f (length text - length h.0 + q) y (inr (q, omega arith, b))))
 
-split_at : (k : Kind) (text n : List ℕ) (rs : List Record) (h : Records k text rs) (p : ℕ) → Bounded k text n p p rs h → SplitsAt k text rs n p
+split_at : (k : Kind) (text n : List ℕ) (rs : List Record) (h : Records k text rs) (p : ℕ) → Bounded k text n p p rs (forms_of k text rs h) → SplitsAt k text rs n p
 split_at k text n [] h p bound =
     let len : length text ≡ 0 = ap length h in
     record { before = []; after = []; is = refl; rest = drop_all p text (omega arith); low = All-nil (λ r. Below r.name n); high = All-nil (λ r. Below r.name n → ⊥) }
 split_at k text n (x ∷ xs) h p bound =
-    let less = shorter k text x h.0 h.1 in
+    let less = shorter_record k text x h.0 h.1 in
     ⊎_elim
     (λ (first : p ≡ 0).
     record {
@@ -113,14 +137,14 @@ split_at k text n (x ∷ xs) h p bound =
       is = refl;
       rest = subst (λ (i : ℕ). Records k (drop i text) (x ∷ xs)) (sym first) h;
       low = All-nil (λ r. Below r.name n);
-      high = all_of k text (x ∷ xs) h (λ r. Below r.name n → ⊥) (λ q y b. bound.over q y b (omega arith));
+      high = all_of k text (x ∷ xs) (forms_of k text (x ∷ xs) h) (λ r. Below r.name n → ⊥) (λ q y b. bound.over q y b (omega arith));
     })
     (λ (later : p ≡ 0 → ⊥).
-    let edge : (m : ℕ) × (p + length h.0 ≡ length text + m) × Edge k h.0 xs h.2 m = ⊎_elim
+    let edge : (m : ℕ) × (p + length h.0 ≡ length text + m) × Edge k h.0 xs (forms_of k h.0 xs h.2) m = ⊎_elim
     (λ (end : p ≡ length text). (length h.0, omega arith, inl refl))
-    (λ (at : (r : Record) × Begins k text (x ∷ xs) h p r). ⊎_elim
+    (λ (at : (r : Record) × Begins k text (x ∷ xs) (forms_of k text (x ∷ xs) h) p r). ⊎_elim
     (λ (here : (p ≡ 0) × (at.0 ≡ x)). absurd (later here.0))
-    (λ (there : (q : ℕ) × (p + length h.0 ≡ length text + q) × Begins k h.0 xs h.2 q at.0). (there.0, there.1, inr (at.0, there.2))) at.1)
+    (λ (there : (q : ℕ) × (p + length h.0 ≡ length text + q) × Begins k h.0 xs (forms_of k h.0 xs h.2) q at.0). (there.0, there.1, inr (at.0, there.2))) at.1)
     bound.edge in
     let m = edge.0 in
     let place = edge.1 in
@@ -144,9 +168,9 @@ split_at k text n (x ∷ xs) h p bound =
     (cases_eq p 0)
 
 -- where the two bounds met
-pub splits : (k : Kind) (text n : List ℕ) (low high : ℕ) → high ≤ low → Bound k text n low high → (rs : List Record) → Records k text rs → Ascending rs → SplitsAt k text rs n high
+pub splits : (k : Kind) (text n : List ℕ) (low high : ℕ) → high ≤ low → Bound k text n low high → (rs : List Record) → Records k text rs → Rising rs → SplitsAt k text rs n high
 splits k text n low high met bound rs h up =
-    let was = bound rs h up in
+    let was = bound rs (forms_of k text rs h) up in
     split_at k text n rs h high (record { under = λ q y b early. was.under q y b (omega arith); over = was.over; edge = was.edge })
 
 -- ---- names of a prefix
@@ -175,6 +199,14 @@ between (a ∷ p) (b ∷ y) r above below = ⊎_elim
     (cases_eq b a))
     (cases_lt b a)
 
+between_or_same : (p y z r : List ℕ) → (Below y p → ⊥) → z ≡ p ++ r → (Below z y → ⊥) → (s : List ℕ) × (y ≡ p ++ s)
+between_or_same p y z r above is low = go (slice_cmp nat_cmp y z) refl
+  where
+    go : (o : Ordering) → slice_cmp nat_cmp y z ≡ o → (s : List ℕ) × (y ≡ p ++ s)
+    go Less below = between p y r above (subst (Below y) is below)
+    go Equal same = (r, exact_bytes y z same ∙ is)
+    go Greater great = absurd (low (greater_is_below y z great))
+
 begins : (n front : List ℕ) → starts_with nat_eq n front ≡ true → n ≡ front ++ drop (length front) n
 begins n front h = (starts_is Decides-eqb n front (starts_with nat_eq n front) refl).0 h
 
@@ -196,17 +228,17 @@ module _ (prefix : List ℕ) where
       (by_false (starts_with nat_eq x.name prefix) (λ t. prefix_not_below prefix (drop (length prefix) x.name) (subst (λ (m : List ℕ). Below m prefix) (begins x.name prefix t) (All-head (λ r. Below r.name prefix) x xs all))))
       (low_are_not xs (All-tail (λ r. Below r.name prefix) x xs all))
 
-  past_are_not : (y : Record) (ys : List Record) → (Below y.name prefix → ⊥) → starts_with nat_eq y.name prefix ≡ false → All (λ s. Below y.name s.name) ys → All (λ r. starts_with nat_eq r.name prefix ≡ false) ys
+  past_are_not : (y : Record) (ys : List Record) → (Below y.name prefix → ⊥) → starts_with nat_eq y.name prefix ≡ false → All (λ s. Below s.name y.name → ⊥) ys → All (λ r. starts_with nat_eq r.name prefix ≡ false) ys
   past_are_not y [] above other all = All-nil (λ r. starts_with nat_eq r.name prefix ≡ false)
   past_are_not y (z ∷ ys) above other all =
       All-cons (λ r. starts_with nat_eq r.name prefix ≡ false) z ys
       (by_false (starts_with nat_eq z.name prefix) (λ t.
-      let mid = between prefix y.name (drop (length prefix) z.name) above (subst (Below y.name) (begins z.name prefix t) (All-head (λ s. Below y.name s.name) z ys all)) in
+      let mid = between_or_same prefix y.name z.name (drop (length prefix) z.name) above (begins z.name prefix t) (All-head (λ s. Below s.name y.name → ⊥) z ys all) in
       let yes_it_has : starts_with nat_eq y.name prefix ≡ true = begins_true prefix y.name mid.0 mid.1 in
       let bad : true ≡ false = sym yes_it_has ∙ other in cc))
-      (past_are_not y ys above other (All-tail (λ s. Below y.name s.name) z ys all))
+      (past_are_not y ys above other (All-tail (λ s. Below s.name y.name → ⊥) z ys all))
 
-  high_are_first : (ys : List Record) → Ascending ys → All (λ r. Below r.name prefix → ⊥) ys → records_prefixed prefix ys ≡ take_while (λ r. starts_with nat_eq r.name prefix) ys
+  high_are_first : (ys : List Record) → Rising ys → All (λ r. Below r.name prefix → ⊥) ys → records_prefixed prefix ys ≡ take_while (λ r. starts_with nat_eq r.name prefix) ys
   high_are_first [] up all = refl
   high_are_first (y ∷ ys) up all =
       go (starts_with nat_eq y.name prefix) refl (high_are_first ys up.1 (All-tail (λ r. Below r.name prefix → ⊥) y ys all))
@@ -227,14 +259,18 @@ module _ (prefix : List ℕ) where
       go true more = ap (λ rs. x ∷ rs) more
       go false more = more
 
-  later_ascend : (xs ys : List Record) → Ascending (xs ++ ys) → Ascending ys
+  later_ascend : (xs ys : List Record) → Rising (xs ++ ys) → Rising ys
   later_ascend [] ys up = up
   later_ascend (x ∷ xs) ys up = later_ascend xs ys up.1
 
   -- the records of the prefix are those from its place on, up to the first other name
-  pub prefixed_are : (k : Kind) (text : List ℕ) (rs : List Record) (start : ℕ) → Ascending rs → (split : SplitsAt k text rs prefix start) → take_while (λ r. starts_with nat_eq r.name prefix) split.after ≡ records_prefixed prefix rs
+  pub prefixed_are : (k : Kind) (text : List ℕ) (rs : List Record) (start : ℕ) → Rising rs → (split : SplitsAt k text rs prefix start) → take_while (λ r. starts_with nat_eq r.name prefix) split.after ≡ records_prefixed prefix rs
   prefixed_are k text rs start up split =
-      let after : Ascending split.after = later_ascend split.before split.after (subst Ascending split.is up) in
+      let after : Rising split.after = later_ascend split.before split.after (subst Rising split.is up) in
       sym (ap (records_prefixed prefix) split.is ∙ kept_append split.before split.after
       ∙ ap (λ xs. xs ++ records_prefixed prefix split.after) (none_kept split.before (low_are_not split.before split.low))
       ∙ high_are_first split.after after split.high)
+
+-- a byte of the text is not at its end
+pub inside_end : (text : List ℕ) (o : ℕ) → o < length text → LineOf text (length text) o → ⊥
+inside_end text o within end = let below = end.below in omega arith

@@ -11,7 +11,7 @@ use Rattle.gix_ref_packed.specs.declared.packed.decode.options.Header.{Header}
 use Rattle.gix_ref_packed.specs.PackedHeader.{TakesHeader}
 use Rattle.gix_ref_packed.specs.PackedOpening.{Fronts, lines_with, lines_of, line_count}
 use Rattle.gix_ref_packed.proofs.PackedReadings.{same_record}
-use Rattle.gix_ref_packed.proofs.PackedPlaces.{no_caret_at, shorter}
+use Rattle.gix_ref_packed.proofs.PackedPlaces.{no_caret_at, forms_of, shorter_record as shorter}
 
 newline_end : (a rest : List ℕ) → Newline a rest → (e : List ℕ) × (a ≡ e ++ rest) × ((x : List ℕ) → Newline (e ++ x) x) × (length e ≤ 2)
 newline_end a rest (inl lf) = (10 ∷ [], lf, λ x. inl refl, lit≤ tt)
@@ -111,7 +111,7 @@ no_caret_in [] none = tt
 no_caret_in (b ∷ t) none = ne_eqb b 94 none
 
 pub records_stop : (k : Kind) (t : List ℕ) (rs : List Record) → Records k t rs → StopsAt is_caret t
-records_stop k t rs h = no_caret_in t (no_caret_at k t rs h)
+records_stop k t rs h = no_caret_in t (no_caret_at k t rs (forms_of k t rs h))
 
 -- ---- records at the front of a text
 

@@ -1,5 +1,5 @@
 -- Each probe leaves the record inside.
-use Rattle.std.proofs.Common.{◌≡◌, ◌≢◌, inl, inr, ⊎_elim, ℕ, ◌*◌, ◌+◌, ◌-◌, ◌^◌, ◌<◌, ◌≤◌, Bool, true, false, cond, List, [], ◌∷◌, length, drop, get_or, refl, sym, ◌∙◌, ap, subst, arith, add-one, Some, None, nat_eq}
+use Rattle.std.proofs.Common.{◌≡◌, ◌≢◌, inl, inr, ⊎_elim, ℕ, ◌*◌, ◌+◌, ◌-◌, ◌/◌, ◌^◌, ◌<◌, ◌≤◌, Bool, true, false, cond, List, [], ◌∷◌, length, drop, get_or, refl, sym, ◌∙◌, ap, subst, arith, add-one, Some, None, nat_eq}
 use Rattle.std.specs.List.{All}
 use Rattle.std.specs.Cmp.Lexicographic.{pointwise, slice_cmp, bytes_decides}
 use Rattle.std.specs.Ordering.{nat_cmp, ordering_reverse}
@@ -10,10 +10,14 @@ use Rattle.std.proofs.lemmas.Cmp.{nat_list_cmp_total, tied_itself}
 use Rattle.std.proofs.lemmas.Map.Lookups.{exact_bytes}
 use Rattle.std.proofs.lemmas.List.Elements.{All-head, All-tail}
 use Rattle.gix_ref_hash.specs.declared.hash.Kind.{Kind}
-use Rattle.gix_ref_packed.specs.PackedText.{Record, Shape, Takes, Records, Below, Ascending}
-use Rattle.gix_ref_packed.specs.PackedLookup.{record_named, LineOf, SameLine, RecordOf, NameAt, FindsAt, HitsAt, BeginsLine}
-use Rattle.gix_ref_packed.proofs.PackedReadings.{same_shape, same_record, some_name}
-use Rattle.gix_ref_packed.proofs.PackedPlaces.{Begins, owned, shorter, begins_a_line}
+use Rattle.gix_ref_packed.specs.PackedText.{Record, Shape, Takes, Forms, Below, Ascending}
+use Rattle.gix_ref_packed.specs.PackedLookup.{record_named, LineOf, SameLine, RecordOf, NameAt, Compares, FindsAt, HitsAt, BeginsLine, IsMalformed}
+use Rattle.gix_ref_packed.specs.PackedLooks.{LooksAt}
+use Rattle.gix_ref_packed.specs.PackedSearches.{CountsProbes}
+use Rattle.gix_ref_packed.specs.declared.packed.text.Look.{Look}
+use Rattle.std.specs.declared.cmp.Ordering.{Ordering}
+use Rattle.gix_ref_packed.proofs.PackedReadings.{same_shape, same_form}
+use Rattle.gix_ref_packed.proofs.PackedPlaces.{Begins, owned, shorter, begins_a_line, form_of}
 
 -- a name is not below itself, nor two names below each other
 pub not_itself : (n : List ℕ) → Below n n → ⊥
@@ -25,14 +29,14 @@ not_both m n a b = not_itself m (nat_list_cmp_total.trans m n m a b)
 pub greater_is_below : (m n : List ℕ) → slice_cmp nat_cmp m n ≡ Greater → Below n m
 greater_is_below m n g = nat_list_cmp_total.antisymm n m ∙ ap ordering_reverse g
 
-belongs : (P : Record → Type 0) (k : Kind) (text : List ℕ) (rs : List Record) (h : Records k text rs) (p : ℕ) (r : Record) → All P rs → Begins k text rs h p r → P r
+pub belongs : (P : Record → Type 0) (k : Kind) (text : List ℕ) (rs : List Record) (h : Forms k text rs) (p : ℕ) (r : Record) → All P rs → Begins k text rs h p r → P r
 belongs P k text [] h p r all b = absurd b
 belongs P k text (x ∷ xs) h p r all b = ⊎_elim
     (λ (here : (p ≡ 0) × (r ≡ x)). subst P (sym here.1) (All-head P x xs all))
     (λ (there : (q : ℕ) × (p + length h.0 ≡ length text + q) × Begins k h.0 xs h.2 q r). belongs P k h.0 xs h.2 there.0 r (All-tail P x xs all) there.2) b
 
 -- an earlier record has the lower name
-pub ordered : (k : Kind) (text : List ℕ) (rs : List Record) (h : Records k text rs) → Ascending rs → (p : ℕ) (r : Record) (q : ℕ) (s : Record) → Begins k text rs h p r → Begins k text rs h q s → p < q → Below r.name s.name
+pub ordered : (k : Kind) (text : List ℕ) (rs : List Record) (h : Forms k text rs) → Ascending rs → (p : ℕ) (r : Record) (q : ℕ) (s : Record) → Begins k text rs h p r → Begins k text rs h q s → p < q → Below r.name s.name
 ordered k text [] h up p r q s a b before = absurd a
 ordered k text (x ∷ xs) h up p r q s a b before = ⊎_elim
     (λ (first : (p ≡ 0) × (r ≡ x)). ⊎_elim
@@ -46,7 +50,7 @@ ordered k text (x ∷ xs) h up p r q s a b before = ⊎_elim
     ordered k h.0 xs h.2 up.1 first.0 r second.0 s first.2 second.2 (omega arith)) b) a
 
 -- one record begins at a byte
-pub same_place : (k : Kind) (text : List ℕ) (rs : List Record) (h : Records k text rs) (p : ℕ) (r : Record) (q : ℕ) (s : Record) → Begins k text rs h p r → Begins k text rs h q s → p ≡ q → r ≡ s
+pub same_place : (k : Kind) (text : List ℕ) (rs : List Record) (h : Forms k text rs) (p : ℕ) (r : Record) (q : ℕ) (s : Record) → Begins k text rs h p r → Begins k text rs h q s → p ≡ q → r ≡ s
 same_place k text [] h p r q s a b same = absurd a
 same_place k text (x ∷ xs) h p r q s a b same =
     let less = shorter k text x h.0 h.1 in
@@ -61,7 +65,7 @@ same_place k text (x ∷ xs) h p r q s a b same =
     same_place k h.0 xs h.2 first.0 r second.0 s first.2 second.2 (omega arith)) b) a
 
 -- a record of the list is the one of its name
-pub is_named : (k : Kind) (text : List ℕ) (rs : List Record) (h : Records k text rs) → Ascending rs → (p : ℕ) (r : Record) → Begins k text rs h p r → (n : List ℕ) → r.name ≡ n → record_named n rs ≡ Some r
+pub is_named : (k : Kind) (text : List ℕ) (rs : List Record) (h : Forms k text rs) → Ascending rs → (p : ℕ) (r : Record) → Begins k text rs h p r → (n : List ℕ) → r.name ≡ n → record_named n rs ≡ Some r
 is_named k text [] h up p r b n named = absurd b
 is_named k text (x ∷ xs) h up p r b n named = ⊎_elim
     (λ (here : (p ≡ 0) × (r ≡ x)).
@@ -76,7 +80,7 @@ is_named k text (x ∷ xs) h up p r b n named = ⊎_elim
     by true bad = absurd (bad refl)
     by false bad = refl
 
-pub none_named : (k : Kind) (text : List ℕ) (rs : List Record) (h : Records k text rs) (n : List ℕ) → ((p : ℕ) (r : Record) → Begins k text rs h p r → r.name ≢ n) → record_named n rs ≡ None
+pub none_named : (k : Kind) (text : List ℕ) (rs : List Record) (h : Forms k text rs) (n : List ℕ) → ((p : ℕ) (r : Record) → Begins k text rs h p r → r.name ≢ n) → record_named n rs ≡ None
 none_named k text [] h n none = refl
 none_named k text (x ∷ xs) h n none =
     let less = shorter k text x h.0 h.1 in
@@ -91,7 +95,7 @@ none_named k text (x ∷ xs) h n none =
 -- the record of the name, if it is there, begins in [low, high)
 abbrev pub Inside : Kind → List ℕ → List ℕ → ℕ → ℕ → Type 0
 Inside k text n low high =
-    (rs : List Record) (h : Records k text rs) → Ascending rs → (p : ℕ) (r : Record) → Begins k text rs h p r → r.name ≡ n → (low ≤ p) × (p < high)
+    (rs : List Record) (h : Forms k text rs) → Ascending rs → (p : ℕ) (r : Record) → Begins k text rs h p r → r.name ≡ n → (low ≤ p) × (p < high)
 
 pub start_below : (text : List ℕ) (s o : ℕ) → RecordOf text s o → s ≤ o
 start_below text s o at =
@@ -99,13 +103,13 @@ start_below text s o at =
     ⊎_elim (λ (goes : (get_or text at.line 0 ≡ 94) × (0 < at.line) × LineOf text s (at.line - 1)). let start = goes.2.below in omega arith)
     (λ (stays : (get_or text at.line 0 ≡ 94 → at.line ≡ 0) × (s ≡ at.line)). let e = stays.1 in omega arith) at.goes
 
-begins_line : (text : List ℕ) (s o : ℕ) → RecordOf text s o → BeginsLine text s
+pub begins_line : (text : List ℕ) (s o : ℕ) → RecordOf text s o → BeginsLine text s
 begins_line text s o at =
     ⊎_elim (λ (goes : (get_or text at.line 0 ≡ 94) × (0 < at.line) × LineOf text s (at.line - 1)). goes.2.begins)
     (λ (stays : (get_or text at.line 0 ≡ 94 → at.line ≡ 0) × (s ≡ at.line)). subst (BeginsLine text) (sym stays.1) at.in_line.begins) at.goes
 
 module _ (k : Kind) (text n m : List ℕ) (s o : ℕ) (within : o < length text) (at : RecordOf text s o) (name : NameAt k (drop s text) m) where
-  owner_name : (rs : List Record) (h : Records k text rs) → (owned k text rs h s o within at).owner.name ≡ m
+  owner_name : (rs : List Record) (h : Forms k text rs) → (owned k text rs h s o within at).owner.name ≡ m
   owner_name rs h =
       let own = owned k text rs h s o within at in
       (same_shape k (drop s text) own.owner.target own.owner.name own.takes.after name.0 m name.1 own.takes.line name.2).1
@@ -142,7 +146,7 @@ module _ (k : Kind) (text n m : List ℕ) (s o : ℕ) (within : o < length text)
       (cases_lt p s) in
       ((inside rs h up p r b named).0, near)
 
-  pub equal : slice_cmp nat_cmp m n ≡ Equal → (rs : List Record) → Records k text rs → Ascending rs → FindsAt k text rs n s
+  pub equal : slice_cmp nat_cmp m n ≡ Equal → (rs : List Record) → Forms k text rs → Ascending rs → FindsAt k text rs n s
   equal same rs h up =
       let own = owned k text rs h s o within at in
       let named : own.owner.name ≡ n = owner_name rs h ∙ exact_bytes m n same in
@@ -155,13 +159,18 @@ module _ (k : Kind) (text n m : List ℕ) (s o : ℕ) (within : o < length text)
     named = (name.0, name.1, subst (λ (x : List ℕ). Shape k (drop s text) name.0 x name.1) (exact_bytes m n same) name.2);
   }
 
--- where no name stands, the text is not one of records
-pub shapeless : (k : Kind) (text : List ℕ) (s o : ℕ) → o < length text → RecordOf text s o → ((name : List ℕ) → name ≢ [] → NameAt k (drop s text) name → ⊥) → (rs : List Record) → Records k text rs → ⊥
+-- a text of records has no malformed line
+pub not_malformed : (k : Kind) (text : List ℕ) (rs : List Record) → IsMalformed k text → Forms k text rs → ⊥
+not_malformed k text rs bad h =
+    let own = owned k text rs h bad.start bad.offset bad.within bad.begins in
+    bad.no_name own.owner.name own.takes.some_name (own.owner.target, own.takes.after, own.takes.line)
+
+pub shapeless : (k : Kind) (text : List ℕ) (s o : ℕ) → o < length text → RecordOf text s o → ((name : List ℕ) → name ≢ [] → NameAt k (drop s text) name → ⊥) → (rs : List Record) → Forms k text rs → ⊥
 shapeless k text s o within at none rs h =
     let own = owned k text rs h s o within at in
-    none own.owner.name (some_name own.owner.name own.takes.valid) (own.owner.target, own.takes.after, own.takes.line)
+    none own.owner.name own.takes.some_name (own.owner.target, own.takes.after, own.takes.line)
 
-pub nowhere : (k : Kind) (text n : List ℕ) (low high : ℕ) → high ≤ low → Inside k text n low high → (rs : List Record) → Records k text rs → Ascending rs → record_named n rs ≡ None
+pub nowhere : (k : Kind) (text n : List ℕ) (low high : ℕ) → high ≤ low → Inside k text n low high → (rs : List Record) → Forms k text rs → Ascending rs → record_named n rs ≡ None
 nowhere k text n low high none inside rs h up =
     none_named k text rs h n (λ p r b named. let both = inside rs h up p r b named in let one = both.0 in let two = both.1 in omega arith)
 
@@ -169,7 +178,7 @@ nowhere k text n low high none inside rs h up =
 pub at_first : (k : Kind) (text n : List ℕ) → Inside k text n 0 (length text)
 at_first k text n rs h up p r b named = (omega arith, in_text k text rs h p r b)
   where
-    in_text : (k : Kind) (text : List ℕ) (rs : List Record) (h : Records k text rs) (p : ℕ) (r : Record) → Begins k text rs h p r → p < length text
+    in_text : (k : Kind) (text : List ℕ) (rs : List Record) (h : Forms k text rs) (p : ℕ) (r : Record) → Begins k text rs h p r → p < length text
     in_text k text [] h p r b = absurd b
     in_text k text (x ∷ xs) h p r b =
         let less = shorter k text x h.0 h.1 in
@@ -185,7 +194,7 @@ hit_named k text asked s r rest hit takes =
 
 pub found_read : (k : Kind) (text : List ℕ) (rs : List Record) (asked : List ℕ) (s : ℕ) (r : Record) (rest : List ℕ) → FindsAt k text rs asked s → Takes k (drop s text) r rest → Some r ≡ record_named asked rs
 found_read k text rs asked s r rest found takes =
-    ap (λ x. Some x) (same_record k (drop s text) r rest found.found found.rest takes found.takes).0 ∙ sym found.is
+    ap (λ x. Some x) (same_form k (drop s text) r rest found.found found.rest (form_of k (drop s text) r rest takes) found.takes).0 ∙ sym found.is
 
 -- ---- the count
 
@@ -213,10 +222,102 @@ cost_counted first p q low high n begun next all some =
     let one : p - first + 1 ≡ q - first = omega arith in
     subst (λ (i : ℕ). 2 ^ i ≤ 2 * n + 1) one (counted (p - first) (high - low) n all (omega arith))
 
-pub none_yet : (p high n : ℕ) → high ≡ n → (2 ^ (p - p) * (high - 0) ≤ n) × (2 ^ (p - p) ≤ 2 * n + 1)
-none_yet p high n whole =
+-- ---- the turns of the search
+
+-- what is known at the beginning of a turn: `first` probes before the search, and now `now`
+pub record Halving (k : Kind) (text n : List ℕ) (first now low high : ℕ) : Type 0 where
+  pub within : high ≤ length text
+  pub counts : first ≤ now
+  pub width : 2 ^ (now - first) * (high - low) ≤ length text
+  pub few : 2 ^ (now - first) ≤ 2 * length text + 1
+  pub begun : now ≤ first → (low ≡ 0) × (high ≡ length text)
+  pub inside : Inside k text n low high
+
+pub none_yet : (k : Kind) (text n : List ℕ) (p high : ℕ) → high ≡ length text → Halving k text n p p 0 high
+none_yet k text n p high whole =
     let zero : 2 ^ (p - p) ≡ 1 = ap (λ i. 2 ^ i) none in
-    let all : 2 ^ (p - p) * (high - 0) ≡ 1 * (high - 0) = ap (λ x. x * (high - 0)) zero in (omega arith, omega arith)
+    let all : 2 ^ (p - p) * (high - 0) ≡ 1 * (high - 0) = ap (λ x. x * (high - 0)) zero in
+    record {
+      within = omega arith;
+      counts = omega arith;
+      width = omega arith;
+      few = omega arith;
+      begun = λ same. (refl, whole);
+      inside = subst (λ (i : ℕ). Inside k text n 0 i) (sym whole) (at_first k text n);
+    }
   where
     none : p - p ≡ 0
     none = omega arith
+
+-- one record that is met at a byte `at` between `low` and `high`
+module _ (k : Kind) (text n : List ℕ) (first p q low high at : ℕ) (was : Halving k text n first p low high) (some : low < high)
+    (middle : at ≡ low + (high - low) / 2) (next_probe : q ≡ p + 1) (look : Look) (looks : LooksAt k text n at look) (beyond : at < look.next) where
+  inside_text : at < length text
+  inside_text = let within = was.within in omega arith
+
+  name_there : (o : Ordering) → look.order ≡ Some o → (name : List ℕ) × NameAt k (drop look.start text) name × (o ≡ slice_cmp nat_cmp name n) × (name ≢ [])
+  name_there o is = let order = looks.order in subst (Compares k (drop look.start text) n) is order
+
+  pub counted_now : CountsProbes (length text) first q
+  counted_now = let counts = was.counts in record { some = λ more. omega arith; few = cost_counted first p q low high (length text) was.counts next_probe was.width some }
+
+  pub step_low : look.order ≡ Some Less → Halving k text n first q look.next high
+  step_low is =
+      let counts = was.counts in let name = name_there Less is in
+      record {
+        within = was.within;
+        counts = omega arith;
+        width = width_halves first p q low high look.next high (length text) counts next_probe was.width (omega arith);
+        few = cost_counted first p q low high (length text) counts next_probe was.width some;
+        begun = λ same. absurd (omega arith);
+        inside = less k text n name.0 look.start at inside_text looks.record_of name.1 low high look.next beyond looks.line (sym name.2) was.inside;
+      }
+
+  pub step_high : look.order ≡ Some Greater → Halving k text n first q low look.start
+  step_high is =
+      let counts = was.counts in let within = was.within in let name = name_there Greater is in
+      let below = start_below text look.start at looks.record_of in
+      record {
+        within = omega arith;
+        counts = omega arith;
+        width = width_halves first p q low high low look.start (length text) counts next_probe was.width (omega arith);
+        few = cost_counted first p q low high (length text) counts next_probe was.width some;
+        begun = λ same. absurd (omega arith);
+        inside = greater k text n name.0 look.start at inside_text looks.record_of name.1 low high (sym name.2) was.inside;
+      }
+
+  pub malformed : look.order ≡ None → IsMalformed k text
+  malformed is = record {
+    start = look.start;
+    offset = at;
+    within = inside_text;
+    begins = looks.record_of;
+    no_name = let order = looks.order in subst (Compares k (drop look.start text) n) is order;
+  }
+
+  pub step_malformed : look.order ≡ None → Halving k text n first q look.next high
+  step_malformed is =
+      let counts = was.counts in
+      record {
+        within = was.within;
+        counts = omega arith;
+        width = width_halves first p q low high look.next high (length text) counts next_probe was.width (omega arith);
+        few = cost_counted first p q low high (length text) counts next_probe was.width some;
+        begun = λ same. absurd (omega arith);
+        inside = λ rs h up y r b named. absurd (not_malformed k text rs (malformed is) h);
+      }
+
+  pub found_hit : look.order ≡ Some Equal → HitsAt k text n look.start
+  found_hit is =
+      let name = name_there Equal is in hits k text n name.0 look.start at inside_text looks.record_of name.1 (sym name.2)
+
+  pub found_there : look.order ≡ Some Equal → (rs : List Record) → Forms k text rs → Ascending rs → FindsAt k text rs n look.start
+  found_there is =
+      let name = name_there Equal is in equal k text n name.0 look.start at inside_text looks.record_of name.1 (sym name.2)
+
+pub counted_end : (k : Kind) (text n : List ℕ) (first p low high : ℕ) → Halving k text n first p low high → high ≤ low → CountsProbes (length text) first p
+counted_end k text n first p low high was met = record {
+  some = λ more. ⊎_elim (λ (less : first < p). less)
+      (λ (same : p ≤ first). let begun = was.begun same in let zero = begun.0 in let all = begun.1 in absurd (omega arith)) (cases_lt first p);
+  few = was.few;
+}

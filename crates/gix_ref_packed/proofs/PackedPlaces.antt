@@ -1,6 +1,6 @@
 -- Where the records of a text begin, and the record that a byte is in.
-use Rattle.std.proofs.Common.{◌≡◌, ◌≢◌, ◌⊎◌, inl, inr, ⊎_elim, ℕ, ◌*◌, ◌+◌, ◌-◌, ◌<◌, ◌≤◌, ◌==◌, get_or, true, false, List, [], ◌∷◌, ◌++◌, length, drop, refl, sym, ◌∙◌, ap, subst, arith, Option, Some, None, append_assoc, length-append, eq-eqb, zero, suc}
-use Rattle.std.specs.List.{All}
+use Rattle.std.proofs.Common.{◌≡◌, ◌≢◌, ◌⊎◌, inl, inr, ⊎_elim, ℕ, ◌*◌, ◌+◌, ◌-◌, ◌<◌, ◌≤◌, ◌==◌, ◌||◌, get_or, Bool, true, false, not, List, [], ◌∷◌, ◌++◌, length, drop, refl, sym, ◌∙◌, ap, subst, arith, Option, Some, None, append_assoc, length-append, eq-eqb, eqb-true, ne_eqb, zero, suc}
+use Rattle.std.specs.List.{All, AllPass}
 use Rattle.std.proofs.lemmas.Bool.{cases_eq, cases_lt}
 use Rattle.std.proofs.lemmas.List.{get_or-append-add, get_or_append_left}
 use Rattle.std.proofs.lemmas.List.Elements.{All-append}
@@ -9,8 +9,10 @@ use Rattle.hex.specs.Hex.{is_hex_digit}
 use Rattle.gix_ref_hash.specs.declared.hash.Kind.{Kind}
 use Rattle.gix_ref_hash.specs.declared.hash.Kind.TheVariants as kinds
 use Rattle.gix_ref_hash.specs.Ids.{kind_len, IsHexOf}
-use Rattle.gix_ref_packed.specs.PackedText.{Record, Newline, Line, Peeled, Takes, Records, in_line}
+use Rattle.gix_ref_hash.specs.Bytes.{StopsAt}
+use Rattle.gix_ref_packed.specs.PackedText.{Record, Newline, Line, Peeled, PeeledForm, Takes, TakesForm, Records, Forms, in_line, is_caret}
 use Rattle.gix_ref_packed.specs.PackedLookup.{LineOf, RecordOf, BeginsLine}
+use Rattle.gix_ref_packed.proofs.PackedReadings.{some_name as some_full_name}
 
 -- no byte is a LF
 abbrev pub NoLf : List ℕ → Type 0
@@ -55,27 +57,21 @@ to_lf after line rest f = ⊎_elim
     (λ (crlf : f.after ≡ 13 ∷ 10 ∷ rest). (line ++ 13 ∷ [], All-append (λ b. b ≢ 10) line (13 ∷ []) (line_no_lf line f.cut.front_passes) (one_no_lf 13 refl), f.cut.whole ∙ ap (λ r. line ++ r) crlf ∙ sym (append_assoc line (13 ∷ []) (10 ∷ rest))))
     f.newline
 
-id_to_lf : (k : Kind) (object after rest : List ℕ) → IsHexOf k object → Newline after rest → (body : List ℕ) × NoLf body × (object ++ after ≡ body ++ 10 ∷ rest)
-id_to_lf k object after rest id newline = ⊎_elim
-    (λ (lf : after ≡ 10 ∷ rest). (object, hex_no_lf object k id, ap (λ r. object ++ r) lf))
-    (λ (crlf : after ≡ 13 ∷ 10 ∷ rest). (object ++ 13 ∷ [], All-append (λ b. b ≢ 10) object (13 ∷ []) (hex_no_lf object k id) (one_no_lf 13 refl), ap (λ r. object ++ r) crlf ∙ sym (append_assoc object (13 ∷ []) (10 ∷ rest))))
-    newline
-
-second_of : (k : Kind) (after : List ℕ) (o : Option (List ℕ)) (rest : List ℕ) → Peeled k after o rest
+second_of : (after : List ℕ) (o : Option (List ℕ)) (rest : List ℕ) → PeeledForm after o rest
     → (second : List ℕ) × (after ≡ second ++ rest) × ((second ≡ []) ⊎ ((body : List ℕ) × NoLf (94 ∷ body) × (second ≡ (94 ∷ body) ++ 10 ∷ [])))
-second_of k after None rest f = ([], f.0, inl refl)
-second_of k after (Some object) rest f =
-    let body = id_to_lf k object f.after rest f.id f.newline in
-    ((94 ∷ body.0) ++ 10 ∷ [], f.whole ∙ ap (λ r. 94 ∷ r) (body.2 ∙ sym (append_assoc body.0 (10 ∷ []) rest)), inr (body.0, All-append (λ b. b ≢ 10) (94 ∷ []) body.0 (one_no_lf 94 refl) body.1, refl))
+second_of after None rest f = ([], f.0, inl refl)
+second_of after (Some object) rest f =
+    let body = to_lf f.0 object rest f.2 in
+    ((94 ∷ body.0) ++ 10 ∷ [], f.1 ∙ ap (λ r. 94 ∷ r) (body.2 ∙ sym (append_assoc body.0 (10 ∷ []) rest)), inr (body.0, All-append (λ b. b ≢ 10) (94 ∷ []) body.0 (one_no_lf 94 refl) body.1, refl))
 
-pub parts_of : (k : Kind) (text : List ℕ) (r : Record) (rest : List ℕ) → Takes k text r rest → Parts text rest
+pub parts_of : (k : Kind) (text : List ℕ) (r : Record) (rest : List ℕ) → TakesForm k text r rest → Parts text rest
 parts_of k text r rest f =
     let line = to_lf f.line.after r.name f.after f.line.line in
-    let second = second_of k f.after r.object rest f.peeled in
+    let second = second_of f.after r.object rest f.peeled in
     record {
       first = r.target ++ ((32 ∷ []) ++ line.0);
       second = second.0;
-      first_line = All-append (λ b. b ≢ 10) r.target ((32 ∷ []) ++ line.0) (hex_no_lf r.target k f.id) (All-append (λ b. b ≢ 10) (32 ∷ []) line.0 (one_no_lf 32 refl) line.1);
+      first_line = All-append (λ b. b ≢ 10) r.target ((32 ∷ []) ++ line.0) f.one_line (All-append (λ b. b ≢ 10) (32 ∷ []) line.0 (one_no_lf 32 refl) line.1);
       whole = f.line.whole ∙ ap (λ a. r.target ++ 32 ∷ a) (line.2 ∙ ap (λ a. line.0 ++ 10 ∷ a) second.1) ∙ regroup r.target line.0 (second.0 ++ rest);
       second_line = second.2;
     }
@@ -122,26 +118,75 @@ past text front rest s o n ends whole at is =
 
 -- ---- records
 
+some_digits : (k : Kind) (n : ℕ) → n ≡ 2 * kind_len k → 0 < n
+some_digits kinds.Sha1 n e = omega arith
+some_digits kinds.Sha256 n e = omega arith
+
+hex_in_line : (d : List ℕ) (k : Kind) → IsHexOf k d → AllPass in_line d
+hex_in_line d k h i x lt = go (get_or d i x) (h.digits i x lt)
+  where
+    go : (b : ℕ) → is_hex_digit b ≡ true → in_line b ≡ true
+    go b hex = ⊎_elim
+        (λ (lf : b ≡ 10). let bad : is_hex_digit 10 ≡ true = subst (λ (x : ℕ). is_hex_digit x ≡ true) lf hex in absurd (cc))
+        (λ (not_lf : b ≡ 10 → ⊥). ⊎_elim
+        (λ (cr : b ≡ 13). let bad : is_hex_digit 13 ≡ true = subst (λ (x : ℕ). is_hex_digit x ≡ true) cr hex in absurd (cc))
+        (λ (not_cr : b ≡ 13 → ⊥). neither (b == 10) (b == 13) (λ e. not_lf (eqb-true b 10 e)) (λ e. not_cr (eqb-true b 13 e)))
+        (cases_eq b 13))
+        (cases_eq b 10)
+      where
+        neither : (x y : Bool) → (x ≡ true → ⊥) → (y ≡ true → ⊥) → not (x || y) ≡ true
+        neither true y p q = absurd (p refl)
+        neither false true p q = absurd (q refl)
+        neither false false p q = refl
+
+newline_stops : (a rest : List ℕ) → Newline a rest → StopsAt in_line a
+newline_stops a rest (inl lf) = subst (StopsAt in_line) (sym lf) refl
+newline_stops a rest (inr crlf) = subst (StopsAt in_line) (sym crlf) refl
+
+peeled_form : (k : Kind) (after : List ℕ) (o : Option (List ℕ)) (rest : List ℕ) → Peeled k after o rest → PeeledForm after o rest
+peeled_form k after None rest f = f
+peeled_form k after (Some object) rest f = (object ++ f.after, f.whole, record {
+  after = f.after;
+  cut = record { whole = refl; front_passes = hex_in_line object k f.id; stops = newline_stops f.after rest f.newline };
+  newline = f.newline;
+})
+
+digit_first : (k : Kind) (d t : List ℕ) → IsHexOf k d → StopsAt is_caret (d ++ t)
+digit_first k [] t h = let len : 0 ≡ 2 * kind_len k = h.len in let some = some_digits k 0 len in absurd (omega arith)
+digit_first k (b ∷ d) t h = ⊎_elim
+    (λ (same : b ≡ 94). let bad : is_hex_digit 94 ≡ true = subst (λ (x : ℕ). is_hex_digit x ≡ true) same (h.digits 0 0 (omega arith)) in absurd (cc))
+    (λ (other : b ≡ 94 → ⊥). ne_eqb b 94 other) (cases_eq b 94)
+
+-- a record has the form of one
+pub form_of : (k : Kind) (text : List ℕ) (r : Record) (rest : List ℕ) → Takes k text r rest → TakesForm k text r rest
+form_of k text r rest f = record {
+  after = f.after;
+  line = f.line;
+  no_caret = subst (StopsAt is_caret) (sym f.line.whole) (digit_first k r.target (32 ∷ f.line.after) f.id);
+  one_line = hex_no_lf r.target k f.id;
+  some_name = some_full_name r.name f.valid;
+  peeled = peeled_form k f.after r.object rest f.peeled;
+}
+
+abbrev pub forms_of : (k : Kind) (text : List ℕ) (rs : List Record) → Records k text rs → Forms k text rs
+forms_of k text [] h = h
+forms_of k text (r ∷ rs) h = (h.0, form_of k text r h.0 h.1, forms_of k h.0 rs h.2)
+
 -- the record of the list begins at the byte
-abbrev pub Begins : (k : Kind) (text : List ℕ) (rs : List Record) → Records k text rs → ℕ → Record → Type 0
+abbrev pub Begins : (k : Kind) (text : List ℕ) (rs : List Record) → Forms k text rs → ℕ → Record → Type 0
 Begins k text [] h p r = ⊥
 Begins k text (x ∷ xs) h p r = ((p ≡ 0) × (r ≡ x)) ⊎ ((q : ℕ) × (p + length h.0 ≡ length text + q) × Begins k h.0 xs h.2 q r)
 
 -- no record begins with `^`
-pub no_caret_at : (k : Kind) (text : List ℕ) (rs : List Record) → Records k text rs → get_or text 0 0 ≢ 94
+pub no_caret_at : (k : Kind) (text : List ℕ) (rs : List Record) → Forms k text rs → get_or text 0 0 ≢ 94
 no_caret_at k text [] h caret =
     let none : get_or text 0 0 ≡ 0 = ap (λ t. get_or t 0 0) h in
     let bad : (94 == 0) ≡ true = subst (λ (b : ℕ). (b == 0) ≡ true) (sym none ∙ caret) refl in absurd (cc)
-no_caret_at k text (r ∷ rs) h caret =
-    let f = h.1 in
-    let some : 0 < length r.target = some_digits k (length r.target) f.line.len in
-    let here : get_or r.target 0 0 ≡ 94 = sym (get_or_append_left r.target (32 ∷ f.line.after) 0 0 some) ∙ ap (λ t. get_or t 0 0) (sym f.line.whole) ∙ caret in
-    let hex : is_hex_digit (get_or r.target 0 0) ≡ true = f.id.digits 0 0 some in
-    let bad : is_hex_digit 94 ≡ true = subst (λ (b : ℕ). is_hex_digit b ≡ true) here hex in absurd (cc)
+no_caret_at k text (r ∷ rs) h caret = first text h.1.no_caret caret
   where
-    some_digits : (k : Kind) (n : ℕ) → n ≡ 2 * kind_len k → 0 < n
-    some_digits kinds.Sha1 n e = omega arith
-    some_digits kinds.Sha256 n e = omega arith
+    first : (t : List ℕ) → StopsAt is_caret t → get_or t 0 0 ≢ 94
+    first [] stops caret = let zero : 0 ≡ 94 = caret in absurd (omega arith)
+    first (b ∷ t) stops caret = let bad : (b == 94) ≡ true = eq-eqb b 94 caret in let no : (b == 94) ≡ false = stops in cc
 
 -- what a byte's record is, where the first record ends in `front`
 pub record Front (text front rest : List ℕ) : Type 0 where
@@ -243,14 +288,14 @@ later_record text front rest s o n f plain at is =
     at.goes
 
 -- the record that a byte is in
-pub record Owned (k : Kind) (text : List ℕ) (rs : List Record) (h : Records k text rs) (s o : ℕ) : Type 0 where
+pub record Owned (k : Kind) (text : List ℕ) (rs : List Record) (h : Forms k text rs) (s o : ℕ) : Type 0 where
   pub owner : Record
   pub begins : Begins k text rs h s owner
   pub others : (q : ℕ) (y : Record) → Begins k text rs h q y → (q ≤ s) ⊎ (o < q)
   pub rest : List ℕ
-  pub takes : Takes k (drop s text) owner rest
+  pub takes : TakesForm k (drop s text) owner rest
 
-pub owned : (k : Kind) (text : List ℕ) (rs : List Record) (h : Records k text rs) (s o : ℕ) → o < length text → RecordOf text s o → Owned k text rs h s o
+pub owned : (k : Kind) (text : List ℕ) (rs : List Record) (h : Forms k text rs) (s o : ℕ) → o < length text → RecordOf text s o → Owned k text rs h s o
 owned k text [] h s o within at = let len : length text ≡ 0 = ap length h in absurd (omega arith)
 owned k text (r ∷ rs) h s o within at =
     let rest = h.0 in
@@ -267,7 +312,7 @@ owned k text (r ∷ rs) h s o within at =
           (λ (here : (q ≡ 0) × (y ≡ r)). inl (let e = here.0 in omega arith))
           (λ (there : (p : ℕ) × (q + length rest ≡ length text + p) × Begins k rest rs h.2 p y). inr (let e = there.1 in omega arith)) b;
       rest = rest;
-      takes = subst (λ (i : ℕ). Takes k (drop i text) r rest) (sym first) h.1;
+      takes = subst (λ (i : ℕ). TakesForm k (drop i text) r rest) (sym first) h.1;
     })
     (λ (late : length front.0 ≤ o).
     let is : o ≡ length front.0 + (o - length front.0) = omega arith in
@@ -284,18 +329,18 @@ owned k text (r ∷ rs) h s o within at =
           let e = there.1 in
           ⊎_elim (λ (low : there.0 ≤ next.0). inl (omega arith)) (λ (high : o - length front.0 < there.0). inr (omega arith)) (more.others there.0 y there.2)) b;
       rest = more.rest;
-      takes = subst (λ (t : List ℕ). Takes k t more.owner more.rest) dropped more.takes;
+      takes = subst (λ (t : List ℕ). TakesForm k t more.owner more.rest) dropped more.takes;
     })
     (cases_lt o (length front.0))
 
-pub shorter : (k : Kind) (text : List ℕ) (r : Record) (rest : List ℕ) → Takes k text r rest → length rest < length text
+pub shorter : (k : Kind) (text : List ℕ) (r : Record) (rest : List ℕ) → TakesForm k text r rest → length rest < length text
 shorter k text r rest takes =
     let front = front_of text rest (parts_of k text r rest takes) in
     let some = front.1.ends.some in
     let len : length text ≡ length front.0 + length rest = ap length front.1.whole ∙ length-append front.0 rest in omega arith
 
 -- a record begins a line
-pub begins_a_line : (k : Kind) (text : List ℕ) (rs : List Record) (h : Records k text rs) (p : ℕ) (r : Record) → Begins k text rs h p r → BeginsLine text p
+pub begins_a_line : (k : Kind) (text : List ℕ) (rs : List Record) (h : Forms k text rs) (p : ℕ) (r : Record) → Begins k text rs h p r → BeginsLine text p
 begins_a_line k text [] h p r b some = absurd b
 begins_a_line k text (x ∷ xs) h p r b some =
     let rest = h.0 in
@@ -317,3 +362,6 @@ begins_a_line k text (x ∷ xs) h p r b some =
     ap (λ i. get_or text i 0) at ∙ ap (λ t. get_or t (length front.0 + (there.0 - 1)) 0) f.whole ∙ get_or-append-add front.0 rest (there.0 - 1) 0
     ∙ begins_a_line k rest xs h.2 there.0 r there.2 (omega arith))
     (cases_eq there.0 0)) b
+
+pub shorter_record : (k : Kind) (text : List ℕ) (r : Record) (rest : List ℕ) → Takes k text r rest → length rest < length text
+shorter_record k text r rest takes = shorter k text r rest (form_of k text r rest takes)

@@ -3,17 +3,17 @@ use Rattle.std.proofs.Common.{◌≡◌, ℕ, true, List, drop, subst, Some}
 use Rattle.std.specs.Iterator.Runs.{EachRunFrom}
 use Rattle.gix_ref_hash.specs.declared.hash.Kind.{Kind}
 use Rattle.gix_ref_packed.specs.declared.packed.iter.Iter.{Iter}
-use Rattle.gix_ref_packed.specs.PackedText.{Record, Records, Ascending}
+use Rattle.gix_ref_packed.specs.PackedText.{Record, Records, Rising}
 use Rattle.gix_ref_packed.specs.PackedItems.{AreRecords, ItemStep, unread}
 use Rattle.gix_ref_packed.specs.PackedPrefixes.{SplitsAt, records_prefixed}
 use Rattle.gix_ref_packed.proofs.PackedRuns.{each_records}
 use Rattle.gix_ref_packed.proofs.PackedBounds.{prefixed_are}
 
 abbrev pub EachSplits : Kind → List ℕ → List ℕ → ℕ → Type 0
-EachSplits k text n start = (rs : List Record) → Records k text rs → Ascending rs → SplitsAt k text rs n start
+EachSplits k text n start = (rs : List Record) → Records k text rs → Rising rs → SplitsAt k text rs n start
 
 pub prefix_records : (s : Iter) (k kind : Kind) (text t p asked : List ℕ) (number start : ℕ) (rs : List Record) → kind ≡ k → t ≡ text → asked ≡ p
-    → unread s ≡ record { kind = k; prefix = Some p; number = number; text = drop start text } → EachSplits kind t asked start → Records k text rs → Ascending rs
+    → unread s ≡ record { kind = k; prefix = Some p; number = number; text = drop start text } → EachSplits kind t asked start → Records k text rs → Rising rs
     → EachRunFrom ItemStep s (λ run. AreRecords (run.whole ≡ true) (records_prefixed p rs) run.items)
 prefix_records s k kind text t p asked number start rs same_kind same_text same_name is each h up =
     let all : EachSplits k text p start = subst (λ (x : Kind). EachSplits x text p start) same_kind (subst (λ (u : List ℕ). EachSplits kind u p start) same_text (subst (λ (n : List ℕ). EachSplits kind t n start) same_name each)) in

@@ -7,7 +7,7 @@ use Rattle.gix_ref_hash.specs.Ids.{kind_len, IsHexOf}
 use Rattle.gix_ref_hash.specs.Bytes.{StopsAt, Spans}
 use Rattle.gix_ref_base.specs.NameGrammar.{IsFullName, full_error, partial_error}
 use Rattle.gix_ref_hash.proofs.ByteLemmas.{same_span}
-use Rattle.gix_ref_packed.specs.PackedText.{Record, Newline, Line, Shape, Peeled, Takes, in_line, is_caret}
+use Rattle.gix_ref_packed.specs.PackedText.{Record, Newline, Line, Shape, Peeled, PeeledForm, Takes, TakesForm, in_line, is_caret}
 
 abbrev is_lf : List ℕ → Bool
 is_lf [] = false
@@ -59,6 +59,25 @@ pub same_record : (k : Kind) (t : List ℕ) (r : Record) (a : List ℕ) (s : Rec
 same_record k t r a s b f g =
     let shape = same_shape k t r.target r.name f.after s.target s.name g.after f.line g.line in
     let peeled = same_peeled k g.after r.object a s.object b (subst (λ (u : List ℕ). Peeled k u r.object a) shape.2 f.peeled) g.peeled in
+    let all : r ≡ s = λ i. record { name = shape.1 i; target = shape.0 i; object = peeled.0 i } in
+    (all, peeled.1)
+
+pub same_peeled_form : (t : List ℕ) (o : Option (List ℕ)) (a : List ℕ) (p : Option (List ℕ)) (b : List ℕ) → PeeledForm t o a → PeeledForm t p b → (o ≡ p) × (a ≡ b)
+same_peeled_form t None a None b f g = (refl, sym f.0 ∙ g.0)
+same_peeled_form t None a (Some y) b f g =
+    let stop : true ≡ false = subst (StopsAt is_caret) (sym f.0 ∙ g.1) f.1 in absurd (cc)
+same_peeled_form t (Some x) a None b f g =
+    let stop : true ≡ false = subst (StopsAt is_caret) (sym g.0 ∙ f.1) g.1 in absurd (cc)
+same_peeled_form t (Some x) a (Some y) b f g =
+    let after : f.0 ≡ g.0 = cc (f.1, g.1) in
+    let line = same_line g.0 x a y b (subst (λ (u : List ℕ). Line u x a) after f.2) g.2 in
+    (ap (λ z. Some z) line.0, line.1)
+
+-- a text has one record's form at its front
+pub same_form : (k : Kind) (t : List ℕ) (r : Record) (a : List ℕ) (s : Record) (b : List ℕ) → TakesForm k t r a → TakesForm k t s b → (r ≡ s) × (a ≡ b)
+same_form k t r a s b f g =
+    let shape = same_shape k t r.target r.name f.after s.target s.name g.after f.line g.line in
+    let peeled = same_peeled_form g.after r.object a s.object b (subst (λ (u : List ℕ). PeeledForm u r.object a) shape.2 f.peeled) g.peeled in
     let all : r ≡ s = λ i. record { name = shape.1 i; target = shape.0 i; object = peeled.0 i } in
     (all, peeled.1)
 

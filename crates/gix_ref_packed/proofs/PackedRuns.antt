@@ -14,7 +14,7 @@ use Rattle.gix_ref_packed.specs.PackedText.{Record, Takes, Records}
 use Rattle.gix_ref_packed.specs.PackedViews.{record_of}
 use Rattle.gix_ref_packed.specs.PackedItems.{Unread, AreItems, AreRecords, ItemStep, unread, has_prefix}
 use Rattle.gix_ref_packed.proofs.PackedReadings.{same_record}
-use Rattle.gix_ref_packed.proofs.PackedPlaces.{shorter}
+use Rattle.gix_ref_packed.proofs.PackedPlaces.{shorter_record as shorter}
 
 items_law : (Ended : Type 0) (xs : List (Result Reference Error)) (s t : Iter) → Yields ItemStep s xs t → (Ended → (u : Iter) × ItemStep t None u) → AreItems Ended (unread s) xs
 items_law Ended [] s t y e = λ end.

@@ -2,13 +2,16 @@ pub mod PackedBuffer
 pub mod PackedEntries
 pub mod PackedFound
 pub mod PackedHeader
+pub mod PackedHeadings
 pub mod PackedIds
 pub mod PackedItems
 pub mod PackedKeys
+pub mod PackedLooks
 pub mod PackedLookup
 pub mod PackedOpening
 pub mod PackedPrefixes
 pub mod PackedSearches
+pub mod PackedShown
 pub mod PackedSources
 pub mod PackedText
 pub mod PackedViews

@@ -1,7 +1,8 @@
 -- What an opened buffer holds, and why a text is not opened. Clauses speak of a buffer through these words.
-use Rattle.std.specs.Prelude.{◌≡◌, ℕ, List, drop, Option, Result, Ok, Err}
+use Rattle.std.specs.Prelude.{◌≡◌, ◌≢◌, ℕ, List, drop, Option, Result, Ok, Err}
 use Rattle.gix_ref_files.specs.Tree.{Content, bytes_of}
 use Rattle.gix_ref_files.specs.Files.{one_more}
+use Rattle.gix_ref_files.specs.declared.files.FileError.TheVariants.{Memory as NoMemory}
 use Rattle.gix_ref_hash.specs.declared.hash.Kind.{Kind}
 use Rattle.gix_ref_packed.specs.declared.packed.buffer.Buffer.{Buffer}
 use Rattle.gix_ref_packed.specs.declared.packed.buffer.open.Error.{Error}
@@ -40,7 +41,7 @@ IsStuck kind first text (Io error) = ⊥
 
 -- why the file that stands at a path is not opened
 abbrev pub IsRefusedFile : Kind → Option Content → Error → Type 0
-IsRefusedFile kind content (Io error) = Unit {0}
+IsRefusedFile kind content (Io error) = error ≢ NoMemory
 IsRefusedFile kind content HeaderParsing = IsRefused kind (bytes_of content) HeaderParsing
 IsRefusedFile kind content (Iter line) = IsRefused kind (bytes_of content) (Iter line)
 IsRefusedFile kind content Memory = Unit {0}

@@ -1,12 +1,18 @@
 -- Where the names of a prefix begin among ascending records, and the filter of a list of records by a prefix.
-use Rattle.std.specs.Prelude.{◌≡◌, ℕ, List, ◌++◌, nat_eq, drop}
+use Rattle.std.specs.Prelude.{◌≡◌, ◌≤◌, ◌⊎◌, ℕ, List, ◌++◌, nat_eq, length, drop}
 use Rattle.std.specs.List.{All, filter, starts_with}
 use Rattle.gix_ref_hash.specs.declared.hash.Kind.{Kind}
 use Rattle.gix_ref_packed.specs.PackedText.{Record, Records, Below}
+use Rattle.gix_ref_packed.specs.PackedLookup.{BeginsLine}
 
 -- the records whose names begin with the prefix
 abbrev pub records_prefixed : List ℕ → List Record → List Record
 records_prefixed prefix rs = filter (λ r. starts_with nat_eq r.name prefix) rs
+
+-- a line begins there, or the text ends
+pub record IsListStart (text : List ℕ) (start : ℕ) : Type 0 where
+  pub within : start ≤ length text
+  pub begins : (start ≡ length text) ⊎ BeginsLine text start
 
 -- the names before the place are below the asked one, and those from there on are not
 pub record SplitsAt (kind : Kind) (text : List ℕ) (rs : List Record) (asked : List ℕ) (start : ℕ) : Type 0 where

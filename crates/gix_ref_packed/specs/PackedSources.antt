@@ -1,26 +1,49 @@
--- Why a record is not found in a source.
-use Rattle.std.specs.Prelude.{ℕ}
+-- What a search in a file answers.
+use Rattle.std.specs.Prelude.{◌≢◌, ℕ, List, Option, Result, IfOk, IfErr, IfSome, MatchResult}
+use Rattle.gix_ref_hash.specs.declared.hash.Kind.{Kind}
 use Rattle.gix_ref_files.specs.Files.{one_more}
+use Rattle.gix_ref_files.specs.declared.files.FileError.TheVariants.{Memory as NoMemory}
+use Rattle.gix_ref_packed.specs.PackedText.{Record, Records, Forms, Ascending}
+use Rattle.gix_ref_packed.specs.PackedLookup.{record_named, CannotRead, IsUnreadable}
+use Rattle.gix_ref_packed.specs.PackedWindows.{AreFound, HitsRecord}
+use Rattle.gix_ref_packed.specs.declared.packed.window.Found.{Found}
 use Rattle.gix_ref_packed.specs.declared.packed.source.SourceError.{SourceError}
 use Rattle.gix_ref_packed.specs.declared.packed.source.SourceError.TheVariants.{Io, Memory, Changed}
 use Rattle.gix_ref_packed.specs.declared.packed.source.FindError.{FindError}
 use Rattle.gix_ref_packed.specs.declared.packed.source.FindError.TheVariants.{Source, Parse}
 
--- the file could not be read, or there was no memory: nothing else befalls a file that stays the same
+-- the device failed, or there was no memory: nothing else befalls a file that stays the same
 abbrev pub IsNoChange : SourceError → Type 0
-IsNoChange (Io error) = Unit {0}
+IsNoChange (Io error) = error ≢ NoMemory
 IsNoChange Memory = Unit {0}
 IsNoChange Changed = ⊥
 
--- a record is not found, and that is not told of a file that changed
-abbrev pub MissesByNoChange : FindError → Type 0
-MissesByNoChange (Source error) = IsNoChange error
-MissesByNoChange Parse = Unit {0}
+-- why a record is not found on any text of a file that stays the same
+abbrev pub FailsIn : Kind → List ℕ → List ℕ → FindError → Type 0
+FailsIn kind text name (Source error) = IsNoChange error
+FailsIn kind text name Parse = CannotRead kind text name
 
--- the source could not be looked at
+-- the file could not be read
 abbrev pub IsSourceFault : FindError → Type 0
 IsSourceFault (Source error) = Unit {0}
 IsSourceFault Parse = ⊥
+
+-- the file could not be read, or the record of the name cannot be read
+abbrev pub IsFaultOr : Type 0 → FindError → Type 0
+IsFaultOr unreadable (Source error) = Unit {0}
+IsFaultOr unreadable Parse = unreadable
+
+-- What a search for one full name in a file answers.
+pub record FindsIn (kind : Kind) (text name : List ℕ) (result : Result (Option Found) FindError) : Type 0 where
+  -- on any text a hit is a record of that name at the start of a line
+  pub hit : IfOk result (λ found. IfSome found (HitsRecord kind text name))
+  -- why it fails on any text
+  pub refused : IfErr result (FailsIn kind text name)
+  -- among ascending records it is the record of the name, or there is none
+  pub records : (rs : List Record) → Records kind text rs → Ascending rs → MatchResult result (AreFound (record_named name rs)) IsSourceFault
+  -- so it is where ids and names are not checked, but for a record of the name that cannot be read
+  pub forms : (rs : List Record) → Forms kind text rs → Ascending rs →
+    MatchResult result (AreFound (record_named name rs)) (IsFaultOr (IsUnreadable kind (record_named name rs)))
 
 -- the count of a reader's faults after the source could not be looked at: one more where the file could not be read
 abbrev pub count_source : SourceError → ℕ → ℕ

@@ -1,5 +1,5 @@
 -- The text of packed references (`git pack-refs`): an optional header, then records of one or two lines.
-use Rattle.std.specs.Prelude.{◌≡◌, ◌==◌, ◌*◌, ◌⊎◌, ℕ, Bool, not, ◌||◌, List, [], ◌∷◌, ◌++◌, length, Option, Some, None}
+use Rattle.std.specs.Prelude.{◌≡◌, ◌≢◌, ◌==◌, ◌*◌, ◌⊎◌, ℕ, Bool, not, ◌||◌, List, [], ◌∷◌, ◌++◌, length, Option, Some, None}
 use Rattle.std.specs.List.{All}
 use Rattle.std.specs.Cmp.Lexicographic.{slice_cmp}
 use Rattle.std.specs.Ordering.{nat_cmp}
@@ -59,6 +59,25 @@ pub record Takes (kind : Kind) (text : List ℕ) (r : Record) (rest : List ℕ) 
   pub valid : IsFullName r.name
   pub peeled : Peeled kind after r.object rest
 
+-- a line that begins with `^` belongs to the record before it; what follows the `^` is not checked
+abbrev pub PeeledForm : List ℕ → Option (List ℕ) → List ℕ → Type 0
+PeeledForm text None rest = (text ≡ rest) × StopsAt is_caret rest
+PeeledForm text (Some object) rest = (after : List ℕ) × (text ≡ 94 ∷ after) × Line after object rest
+
+-- the lines of a record at the front of a text, by their form alone: neither the ids nor the name are checked
+pub record TakesForm (kind : Kind) (text : List ℕ) (r : Record) (rest : List ℕ) : Type 0 where
+  pub after : List ℕ
+  pub line : Shape kind text r.target r.name after
+  pub no_caret : StopsAt is_caret text
+  pub one_line : All (λ b. b ≢ 10) r.target
+  pub some_name : r.name ≢ []
+  pub peeled : PeeledForm after r.object rest
+
+-- the whole text is lines of this form
+abbrev pub Forms : Kind → List ℕ → List Record → Type 0
+Forms kind text [] = text ≡ []
+Forms kind text (r ∷ rs) = (rest : List ℕ) × TakesForm kind text r rest × Forms kind rest rs
+
 -- no record stands at the front of a text
 abbrev pub NoRecord : Kind → List ℕ → Type 0
 NoRecord kind text = (r : Record) (rest : List ℕ) → Takes kind text r rest → ⊥
@@ -76,3 +95,8 @@ Below m n = slice_cmp nat_cmp m n ≡ Less
 abbrev pub Ascending : List Record → Type 0
 Ascending [] = Unit {0}
 Ascending (r ∷ rs) = All (λ s. Below r.name s.name) rs × Ascending rs
+
+-- no name is below an earlier one, but names may be equal
+abbrev pub Rising : List Record → Type 0
+Rising [] = Unit {0}
+Rising (r ∷ rs) = All (λ s. Below s.name r.name → ⊥) rs × Rising rs

@@ -1,12 +1,14 @@
 -- A window of a text, and what a look at it says of the text.
-use Rattle.std.specs.Prelude.{◌≡◌, ◌+◌, ℕ, Bool, true, List, length, take, drop, Option, Some, None, IfSome, MatchOption}
+use Rattle.std.specs.Prelude.{◌≡◌, ◌≢◌, ◌+◌, ℕ, Bool, true, List, [], length, take, drop, Option, Some, None, IfSome, MatchOption}
 use Rattle.gix_ref_hash.specs.declared.hash.Kind.{Kind}
 use Rattle.gix_ref_hash.specs.declared.hash.ObjectId.{ObjectId}
 use Rattle.gix_ref_hash.specs.Ids.{ReadsId}
-use Rattle.gix_ref_packed.specs.declared.packed.text.Look.{Look}
+use denote.Ref.{Bor}
 use Rattle.gix_ref_packed.specs.declared.packed.window.Found.{Found}
+use Rattle.gix_ref_packed.specs.declared.packed.window.InWindow.{InWindow}
+use Rattle.gix_ref_packed.specs.PackedShown.{IfHere}
 use Rattle.gix_ref_packed.specs.PackedText.{Record, Takes, NoRecord}
-use Rattle.gix_ref_packed.specs.PackedLookup.{LineOf, RecordOf, NameAt, Compares, SameLine, StandsIn}
+use Rattle.gix_ref_packed.specs.PackedLookup.{LineOf, RecordOf, NameAt, StandsIn}
 
 -- the window holds the bytes of the text from a place on
 abbrev pub IsWindow : List ℕ → ℕ → List ℕ → Type 0
@@ -26,16 +28,10 @@ TellsRecord first window at found = IfSome found (λ start. EachText first windo
 
 -- the name in a record's place at the front of a text, or that none stands there, if the part of it tells that; the
 -- part is the whole text where `whole` holds
-abbrev pub TellsName : Kind → Bool → List ℕ → Option (Option (List ℕ)) → Type 0
+abbrev pub TellsName : Kind → Bool → List ℕ → InWindow (Option (Bor (List ℕ))) → Type 0
 TellsName kind whole part found =
-    IfSome found (λ name. (text : List ℕ) → part ≡ take (length part) text → (whole ≡ true → part ≡ text) →
-    MatchOption name ((n : List ℕ) → NameAt kind text n → ⊥) (λ n. NameAt kind text n))
-
--- what a look at a byte of the window says of each text that has the window; `last` holds where the text ends with it
-pub record LooksAt (kind : Kind) (text asked : List ℕ) (offset : ℕ) (look : Look) : Type 0 where
-  pub record_of : RecordOf text look.start offset
-  pub order : Compares kind (drop look.start text) asked look.order
-  pub line : SameLine text offset look.next
+    IfHere found (λ name. (text : List ℕ) → part ≡ take (length part) text → (whole ≡ true → part ≡ text) →
+    MatchOption name ((n : List ℕ) → n ≢ [] → NameAt kind text n → ⊥) (λ n. (n.now ≢ []) × NameAt kind text n.now))
 
 -- the digits, where they are there, are read as this id
 abbrev pub ReadsOption : Option (List ℕ) → Option ObjectId → Type 0

@@ -3,11 +3,10 @@
 use Rattle.std.specs.Prelude.{◌≡◌, ℕ, true, List, [], ◌∷◌, ◌++◌, codes, Option, Some, None}
 use Rattle.std.specs.List.{All, flat_map}
 use Rattle.gix_ref_hash.specs.declared.hash.Kind.{Kind}
-use Rattle.gix_ref_hash.specs.Ids.{IsHexOf}
-use Rattle.gix_ref_base.specs.NameGrammar.{IsFullName}
 use Rattle.gix_ref_packed.specs.declared.packed.decode.options.Header.{Header}
 use Rattle.gix_ref_packed.specs.declared.packed.decode.options.Peeled.TheVariants.{Fully}
 use Rattle.gix_ref_packed.specs.PackedText.{Record}
+use Rattle.gix_ref_packed.specs.PackedLookup.{IsReadable}
 use Rattle.gix_ref_packed.specs.PackedOpening.{PackedText}
 
 -- `^`, the digits of a peeled id and LF
@@ -29,16 +28,6 @@ written_text rs = header_text ++ flat_map record_text rs
 -- what that header says
 abbrev pub written_header : Header
 written_header = record { peeled = Fully; sorted = true }
-
-abbrev pub IsObject : Kind → Option (List ℕ) → Type 0
-IsObject kind None = Unit {0}
-IsObject kind (Some object) = IsHexOf kind object
-
--- a record whose name and ids can be read
-pub record IsReadable (kind : Kind) (r : Record) : Type 0 where
-  pub name : IsFullName r.name
-  pub target : IsHexOf kind r.target
-  pub object : IsObject kind r.object
 
 -- the written text of such records is that of these records
 abbrev pub WrittenTextReadsBack : Type 0

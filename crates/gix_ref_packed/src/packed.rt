@@ -6,7 +6,6 @@ pub mod decode;
 pub mod find;
 mod heading;
 pub mod iter;
-mod keys;
 mod lines;
 pub mod opening;
 mod probes;

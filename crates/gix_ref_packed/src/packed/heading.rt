@@ -1,6 +1,7 @@
 //! Where the records of a text begin.
 ghost use Rattle.std.specs.Prelude.{◌≡◌, ◌≤◌, ◌<◌, length, drop, MatchOption};
-ghost use Rattle.gix_ref_packed.specs.PackedOpening.{Heads, NoHeading, line_behind};
+ghost use Rattle.gix_ref_packed.specs.PackedOpening.{NoHeading, line_behind};
+ghost use Rattle.gix_ref_packed.specs.PackedHeadings.{HeadsAt};
 
 use crate::packed::decode::{Header, take_header};
 
@@ -15,8 +16,7 @@ pub struct Heading {
 
 /// The header of a text, which has one where it begins with `#`; `None` where it should have one and has not.
 pub fn read_heading(text: &[u8]) -> Option<Heading>
-    ensures { MatchOption result (NoHeading text.now)
-        (λ found. Heads text.now found.header (drop found.start text.now) × (found.start ≤ length text.now)) }
+    ensures { MatchOption result (NoHeading text.now) (HeadsAt text.now) }
 {
     match text {
         [b'#', ..] => {}

@@ -107,8 +107,8 @@ impl<'a> Iterator for Iter<'a> {
 impl Buffer {
     ghost use Rattle.std.specs.Prelude.{◌≡◌, ◌+◌, ℕ, List, None, Some, true, take, drop};
     ghost use Rattle.std.specs.Iterator.Runs.{EachRunFrom};
-    ghost use Rattle.gix_ref_packed.specs.PackedText.{Record, Records, Ascending};
-    ghost use Rattle.gix_ref_packed.specs.PackedPrefixes.{records_prefixed};
+    ghost use Rattle.gix_ref_packed.specs.PackedText.{Record, Records, Rising};
+    ghost use Rattle.gix_ref_packed.specs.PackedPrefixes.{records_prefixed, IsListStart};
     ghost use Rattle.gix_ref_packed.specs.PackedBuffer.{buffer_text, buffer_kind, buffer_line};
     ghost use Rattle.gix_ref_packed.specs.PackedItems.{ItemStep, AreItems, AreRecords, line_feeds};
 
@@ -127,13 +127,13 @@ impl Buffer {
     /// The records whose names begin with the prefix, in the order of their names: the first is found by halving, and
     /// the first other name ends them.
     pub fn iter_prefixed(&self, prefix: Vec<u8>) -> Iter<'_>
-        // Whatever calls of `next` follow, they give the records and faults from some place of the text on, up to the
-        // first other name.
-        ensures items { (start : ℕ) × EachRunFrom ItemStep result (λ run. AreItems (run.whole ≡ true)
+        // Whatever calls of `next` follow, they give the records and faults from the start of a line on, up to the first
+        // other name.
+        ensures items { (start : ℕ) × IsListStart (buffer_text self.now) start × EachRunFrom ItemStep result (λ run. AreItems (run.whole ≡ true)
             (record { kind = buffer_kind self.now; prefix = Some prefix.items; number = buffer_line self.now + line_feeds (take start (buffer_text self.now)); text = drop start (buffer_text self.now) }) run.items) }
 
-        // Where the text is ascending records, they give those of the prefix.
-        ensures records { (rs : List Record) → Records (buffer_kind self.now) (buffer_text self.now) rs → Ascending rs →
+        // Where the text is records whose names do not descend, they give those of the prefix.
+        ensures records { (rs : List Record) → Records (buffer_kind self.now) (buffer_text self.now) rs → Rising rs →
             EachRunFrom ItemStep result (λ run. AreRecords (run.whole ≡ true) (records_prefixed prefix.items rs) run.items) }
     {
         let text = self.as_bytes();

@@ -1,31 +1,37 @@
 //! The header of a `packed-refs` that stays in its file.
-ghost use Rattle.std.specs.Prelude.{◌≡◌, ℕ, List, length, take, drop, true, false, IfOk, IfErr, IfSome, IsSome, MatchOption};
-ghost use Rattle.gix_ref_packed.specs.PackedOpening.{Heads, NoHeading};
+ghost use Rattle.std.specs.Prelude.{◌≡◌, ℕ, List, length, take, true, false, IfOk, IfErr, MatchOption};
+ghost use Rattle.gix_ref_packed.specs.PackedShown.{IfHere, IsHere};
+ghost use Rattle.gix_ref_packed.specs.PackedOpening.{NoHeading};
+ghost use Rattle.gix_ref_packed.specs.PackedHeadings.{HeadsAt};
 ghost use Rattle.gix_ref_packed.specs.PackedSources.{IsNoChange, count_source};
 
 pub use crate::packed::heading::Heading;
 use crate::packed::heading::read_heading;
+use crate::packed::window::InWindow;
 use crate::packed::source::{GROWTHS, SourceError, read_window, window_size};
 use gix_ref_files::files::ReadAt;
 use std::alloc::Global;
 
-/// What the header of a beginning of a text says of the text, which it is as a whole where `whole` holds; `None` where the
-/// part is too short to tell, and `Some(None)` where the text should have a header and has none.
-fn heading_in(part: &[u8], whole: bool) -> Option<Option<Heading>>
-    ensures heads { IfSome result (λ found. (text : List ℕ) → part.now ≡ take (length part.now) text → (whole ≡ true → part.now ≡ text) →
-        MatchOption found (NoHeading text) (λ heading. Heads text heading.header (drop heading.start text))) }
-    ensures sure { whole ≡ true → IsSome result }
+/// What the header of a beginning of a text says of the text, which it is as a whole where `whole` holds. `Here(None)` where
+/// the text begins with `#` and has no header.
+fn heading_in(part: &[u8], whole: bool) -> InWindow<Option<Heading>>
+    ensures heads { IfHere result (λ found. (text : List ℕ) → part.now ≡ take (length part.now) text →
+        (whole ≡ true → part.now ≡ text) → MatchOption found (NoHeading text) (HeadsAt text)) }
+    ensures sure { whole ≡ true → IsHere result }
 {
     let Some(heading) = read_heading(part) else {
-        return if whole { Some(None) } else { None };
+        if whole {
+            return InWindow::Here(None);
+        }
+        return InWindow::NeedMore;
     };
     if whole {
-        return Some(Some(heading));
+        return InWindow::Here(Some(heading));
     }
     if part.is_empty() {
-        return None;
+        return InWindow::NeedMore;
     }
-    Some(Some(heading))
+    InWindow::Here(Some(heading))
 }
 
 /// The header of a file, and where its records begin: a `Source` from there on is searched where the header says sorted.
@@ -39,13 +45,13 @@ pub fn file_heading<R: ReadAt>(
     ensures no_fault { IfOk result (λ _. R.faults reader.new ≡ R.faults reader.old) }
     ensures fault { IfErr result (λ error. R.faults reader.new ≡ count_source error (R.faults reader.old)) }
     ensures stays { IfErr result IsNoChange }
-    ensures heads { R.honest → IfOk result (λ found. MatchOption found (NoHeading (R.bytes reader.old)) (λ heading. Heads (R.bytes reader.old) heading.header (drop heading.start (R.bytes reader.old)))) }
+    ensures heads { R.honest → IfOk result (λ found. MatchOption found (NoHeading (R.bytes reader.old)) (HeadsAt (R.bytes reader.old))) }
 {
     let mut window = Vec::new(alloc);
     for turn in 0..GROWTHS {
         let len = window_size(turn).min(reader.len());
         read_window(reader, &mut window, 0, len as usize)?;
-        if let Some(found) = heading_in(window.as_slice(), len == reader.len()) {
+        if let InWindow::Here(found) = heading_in(window.as_slice(), len == reader.len()) {
             return Ok(found);
         }
     }

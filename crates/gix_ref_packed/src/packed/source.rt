@@ -6,7 +6,7 @@ ghost use Rattle.gix_ref_packed.specs.declared.packed.source.TheConstants.{GROWT
 use crate::packed::probes::Probes;
 use crate::packed::search::{SearchError, search};
 use crate::packed::text::{Look, Text};
-use crate::packed::window::{Found, look_in, record_in};
+use crate::packed::window::{Found, InWindow, look_in, record_in};
 use gix_ref_base::name::FullNameRef;
 use gix_ref_files::files::{FileError, ReadAt};
 use gix_ref_hash::hash::Kind;
@@ -119,12 +119,13 @@ pub(crate) fn read_window<R: ReadAt>(
 }
 
 impl<R: ReadAt + Drop> Source<R> {
-    ghost use Rattle.std.specs.Prelude.{◌≡◌, ◌≤◌, ◌<◌, ◌+◌, ◌-◌, ◌*◌, ◌^◌, List, length, drop, IfOk, IfErr, IfSome, IsSome};
+    ghost use Rattle.std.specs.Prelude.{◌≡◌, ◌≤◌, ◌<◌, ◌+◌, ◌^◌, length, drop, IfOk, IfErr, IfSome, IsSome};
     ghost use Rattle.gix_ref_base.specs.Names.{full_ref_bytes};
-    ghost use Rattle.gix_ref_packed.specs.PackedText.{Record, Records, Ascending};
-    ghost use Rattle.gix_ref_packed.specs.PackedLookup.{record_named};
-    ghost use Rattle.gix_ref_packed.specs.PackedWindows.{LooksAt, AreFound, FrontIs, HitsRecord};
-    ghost use Rattle.gix_ref_packed.specs.PackedSources.{IsNoChange, MissesByNoChange, IsSourceFault, count_source, count_find};
+    ghost use Rattle.gix_ref_packed.specs.PackedSearches.{CountsProbes};
+    ghost use Rattle.gix_ref_packed.specs.PackedWindows.{FrontIs};
+    ghost use Rattle.gix_ref_packed.specs.PackedLooks.{LooksAt};
+    ghost use Rattle.gix_ref_packed.specs.PackedShown.{IfHere, IsHere};
+    ghost use Rattle.gix_ref_packed.specs.PackedSources.{IsNoChange, FindsIn, count_source, count_find};
 
     /// The records of a file from that place on. Nothing is read yet.
     pub fn new(alloc: Global, reader: R, base: u64) -> Source<R>
@@ -150,7 +151,7 @@ impl<R: ReadAt + Drop> Source<R> {
     /// Reads a window of that size around the place; all where the size holds any file.
     fn fill(&mut self, offset: u64, size: u64) -> Result<(), SourceError>
         ensures same { R.bytes self.new.reader ≡ R.bytes self.old.reader }
-        ensures base { self.new.base ≡ self.old.base }
+        ensures place { (self.new.base ≡ self.old.base) × (R.size self.new.reader ≡ R.size self.old.reader) }
         ensures no_fault { IfOk result (λ _. R.faults self.new.reader ≡ R.faults self.old.reader) }
         ensures fault { IfErr result (λ error. R.faults self.new.reader ≡ count_source error (R.faults self.old.reader)) }
         ensures whole { R.honest → size ≡ 2 ^ 64 - 1 → IfOk result (λ _. (self.new.from ≡ 0) × (length self.new.window.items ≡ length (drop self.old.base (R.bytes self.old.reader)))) }
@@ -187,14 +188,14 @@ impl<R: ReadAt + Drop> Source<R> {
         look_in(self.window.as_slice(), self.from, at, last, kind, asked)
     }
 
-    /// The record that begins at the place, if the window tells it; `Some(None)` where none stands there.
-    fn known_record(&self, kind: Kind, start: u64) -> Option<Option<Found>>
-        ensures front { R.honest → IfSome result (FrontIs kind (drop start (drop self.now.base (R.bytes self.now.reader)))) }
-        ensures sure { R.honest → self.now.from ≡ 0 → length self.now.window.items ≡ length (drop self.now.base (R.bytes self.now.reader)) → start < length self.now.window.items → IsSome result }
+    /// The record that begins at the place, if the window shows it; `Here(None)` where none is there.
+    fn known_record(&self, kind: Kind, start: u64) -> InWindow<Option<Found>>
+        ensures front { R.honest → IfHere result (FrontIs kind (drop start (drop self.now.base (R.bytes self.now.reader)))) }
+        ensures sure { R.honest → self.now.from ≡ 0 → length self.now.window.items ≡ length (drop self.now.base (R.bytes self.now.reader)) → start < length self.now.window.items → IsHere result }
     {
         let len = self.window.len() as u64;
         if start < self.from || start - self.from >= len {
-            return None;
+            return InWindow::NeedMore;
         }
         let at = (start - self.from) as usize;
         let last = self.from + len == self.records_len();
@@ -204,21 +205,21 @@ impl<R: ReadAt + Drop> Source<R> {
     /// The record that begins at the place, or none where none stands there.
     fn record_at(&mut self, kind: Kind, start: u64) -> Result<Option<Found>, SourceError>
         ensures same { R.bytes self.new.reader ≡ R.bytes self.old.reader }
-        ensures base { self.new.base ≡ self.old.base }
+        ensures place { (self.new.base ≡ self.old.base) × (R.size self.new.reader ≡ R.size self.old.reader) }
         ensures no_fault { IfOk result (λ _. R.faults self.new.reader ≡ R.faults self.old.reader) }
         ensures fault { IfErr result (λ error. R.faults self.new.reader ≡ count_source error (R.faults self.old.reader)) }
         ensures front { R.honest → IfOk result (FrontIs kind (drop start (drop self.old.base (R.bytes self.old.reader)))) }
         ensures stays { R.honest → start < length (drop self.old.base (R.bytes self.old.reader)) → IfErr result IsNoChange }
     {
         for turn in 0..GROWTHS {
-            if let Some(found) = self.known_record(kind, start) {
+            if let InWindow::Here(found) = self.known_record(kind, start) {
                 return Ok(found);
             }
             self.fill(start, window_size(turn))?;
         }
         match self.known_record(kind, start) {
-            Some(found) => Ok(found),
-            None => Err(SourceError::Changed),
+            InWindow::Here(found) => Ok(found),
+            InWindow::NeedMore => Err(SourceError::Changed),
         }
     }
 
@@ -232,21 +233,11 @@ impl<R: ReadAt + Drop> Source<R> {
         name: FullNameRef<'_>,
         probes: &mut Probes<L>,
     ) -> Result<Option<Found>, FindError>
-        ensures same { R.honest → drop self.new.base (R.bytes self.new.reader) ≡ drop self.old.base (R.bytes self.old.reader) }
+        ensures same { R.bytes self.new.reader ≡ R.bytes self.old.reader }
+        ensures place { (self.new.base ≡ self.old.base) × (R.size self.new.reader ≡ R.size self.old.reader) }
         ensures counts { probes.old ≤ probes.new }
-        ensures cost { R.honest → 2 ^ (probes.new - probes.old) ≤ 2 * length (drop self.old.base (R.bytes self.old.reader)) + 1 }
-
-        // On any text a hit is a record of the asked name at the start of a line.
-        ensures hit { R.honest → IfOk result (λ found. IfSome found (HitsRecord kind (drop self.old.base (R.bytes self.old.reader)) (full_ref_bytes name.entry))) }
-
-        // On ascending records it is the record of the name, or there is none.
-        ensures finds { R.honest → (rs : List Record) → Records kind (drop self.old.base (R.bytes self.old.reader)) rs → Ascending rs →
-            IfOk result (AreFound (record_named (full_ref_bytes name.entry) rs)) }
-        ensures fails { R.honest → (rs : List Record) → Records kind (drop self.old.base (R.bytes self.old.reader)) rs → Ascending rs →
-            IfErr result IsSourceFault }
-
-        // A file that stays the same is never told as changed.
-        ensures stays { R.honest → IfErr result MissesByNoChange }
+        ensures cost { R.honest → CountsProbes (length (drop self.old.base (R.bytes self.old.reader))) probes.old probes.new }
+        ensures finds { R.honest → FindsIn kind (drop self.old.base (R.bytes self.old.reader)) (full_ref_bytes name.entry) result }
 
         // The reader counts a fault where the file could not be read, and nowhere else.
         ensures no_fault { IfOk result (λ _. R.faults self.new.reader ≡ R.faults self.old.reader) }
@@ -274,6 +265,8 @@ impl<R: ReadAt + Drop> Text for Source<R> {
     ghost honest = { R.honest };
 
     ghost bytes = { λ s. drop s.base (R.bytes s.reader) };
+
+    ghost frame = { λ s. (R.bytes s.reader, s.base, R.size s.reader) };
 
     ghost faults = { λ s. R.faults s.reader };
 

@@ -1,6 +1,6 @@
 //! Texts in whose records a search looks, wherever they lie.
-ghost use Rattle.std.specs.Prelude.{◌≡◌, ◌<◌, ◌≤◌, ℕ, List, drop, length, IfOk, IfErr};
-ghost use Rattle.gix_ref_packed.specs.PackedLookup.{RecordOf, Compares, SameLine};
+ghost use Rattle.std.specs.Prelude.{◌≡◌, ◌<◌, ◌≤◌, ℕ, List, length, IfOk, IfErr};
+ghost use Rattle.gix_ref_packed.specs.PackedLooks.{LooksAt};
 
 use crate::packed::decode::{name_order, record_start_at_offset};
 use crate::packed::lines::next_place;
@@ -27,6 +27,9 @@ pub trait Text {
     /// The text: records, without a header.
     ghost bytes: { Self → List ℕ };
 
+    /// What else a look leaves as it is.
+    ghost frame: { Self → List ℕ × ℕ × ℕ };
+
     /// How many faults its looks met.
     ghost faults: { Self → ℕ };
 
@@ -48,10 +51,8 @@ pub trait Text {
         requires { honest → offset < length (bytes self.old) }
         ensures below { IfOk result (λ look. look.start ≤ offset) }
         ensures beyond { IfOk result (λ look. offset < look.next) }
-        ensures kept { honest → bytes self.new ≡ bytes self.old }
-        ensures record { honest → IfOk result (λ look. RecordOf (bytes self.old) look.start offset) }
-        ensures order { honest → IfOk result (λ look. Compares kind (drop look.start (bytes self.old)) asked.now look.order) }
-        ensures line { honest → IfOk result (λ look. SameLine (bytes self.old) offset look.next) }
+        ensures kept { (bytes self.new ≡ bytes self.old) × (frame self.new ≡ frame self.old) }
+        ensures looks { honest → IfOk result (LooksAt kind (bytes self.old) asked.now offset) }
         ensures fails { honest → IfErr result can_fail }
         ensures no_fault { IfOk result (λ _. faults self.new ≡ faults self.old) }
         ensures fault { IfErr result (λ error. faults self.new ≡ count error (faults self.old)) };
@@ -68,6 +69,8 @@ impl<'a> Text for Whole<'a> {
     ghost honest = { Unit {0} };
 
     ghost bytes = { λ text. text.bytes.now };
+
+    ghost frame = { λ text. (text.bytes.now, 0, 0) };
 
     ghost faults = { λ _. 0 };
 

@@ -1,11 +1,13 @@
 //! Looking at a record in a window of a text, where the window has enough of it.
 ghost use Rattle.std.specs.Prelude.{◌≡◌, ◌≤◌, ◌<◌, ◌+◌, ◌^◌, ℕ, List, true, length, take, drop, IfSome, IsSome};
+ghost use Rattle.gix_ref_packed.specs.PackedShown.{IfHere, IsHere};
 ghost use Rattle.std.specs.Option.{option_map};
 ghost use Rattle.std.specs.Cmp.Lexicographic.{slice_cmp};
 ghost use Rattle.std.specs.Ordering.{nat_cmp};
 ghost use Rattle.gix_ref_packed.specs.PackedText.{Shape};
 ghost use Rattle.gix_ref_packed.specs.PackedLookup.{NameAt};
-ghost use Rattle.gix_ref_packed.specs.PackedWindows.{TellsLine, TellsRecord, TellsName, IsWindow, LooksAt, IsFound, FrontIs};
+ghost use Rattle.gix_ref_packed.specs.PackedWindows.{TellsLine, TellsRecord, TellsName, IsWindow, IsFound, FrontIs};
+ghost use Rattle.gix_ref_packed.specs.PackedLooks.{LooksAt};
 ghost use Rattle.gix_ref_packed.specs.PackedViews.{record_of};
 
 use crate::packed::decode::{take_record, take_shape};
@@ -15,6 +17,15 @@ use crate::packed::text::Look;
 use gix_ref_hash::hash::{Kind, ObjectId};
 use memchr::{memchr2, memrchr};
 use std::cmp::Ordering;
+
+/// What a window shows of a text.
+#[derive(Clone, Copy, Debug)]
+pub enum InWindow<T> {
+    /// It ends, or begins, too early.
+    NeedMore,
+    /// This.
+    Here(T),
+}
 
 /// The ids of a record that was found.
 #[derive(Clone, Copy, Debug, PartialEq, Eq)]
@@ -83,21 +94,22 @@ fn lacks_name(part: &[u8], kind: Kind, whole: bool) -> bool
 }
 
 /// The name at the front of a record, of which the part may be a beginning; it is the whole text where `whole` holds.
-/// `None` where the part is too short to tell.
-pub fn name_in(part: &[u8], kind: Kind, whole: bool) -> Option<Option<&[u8]>>
-    ensures tells { TellsName kind whole part.now (option_map (λ name. option_map (λ n. n.now) name) result) }
-    ensures sure { whole ≡ true → IsSome result }
+/// An
+/// empty name is no name.
+pub fn name_in(part: &[u8], kind: Kind, whole: bool) -> InWindow<Option<&[u8]>>
+    ensures tells { TellsName kind whole part.now result }
+    ensures sure { whole ≡ true → IsHere result }
 {
-    match take_shape(part, kind) {
-        Some((_, name, _)) => Some(Some(name)),
-        None => {
-            if lacks_name(part, kind, whole) {
-                Some(None)
-            } else {
-                None
-            }
+    let Some((_, name, _)) = take_shape(part, kind) else {
+        if lacks_name(part, kind, whole) {
+            return InWindow::Here(None);
         }
+        return InWindow::NeedMore;
+    };
+    if name.is_empty() {
+        return InWindow::Here(None);
     }
+    InWindow::Here(Some(name))
 }
 
 /// How a name compares with the one that is asked.
@@ -133,7 +145,7 @@ pub fn look_in(
     let Some(start) = record_start_in(window, at, from == 0) else {
         return None;
     };
-    let Some(name) = name_in(&window[start..], kind, last) else {
+    let InWindow::Here(name) = name_in(&window[start..], kind, last) else {
         return None;
     };
     let order = order_of(name, asked);
@@ -152,38 +164,43 @@ fn ids_of(reference: Reference<'_>) -> Found
     }
 }
 
-/// The record at the front of a text, of which the part may be a beginning; it is the whole text where `whole` holds.
-/// `None` where the part is too short to tell; `Some(None)` where no record stands there.
-fn found_in(part: &[u8], kind: Kind, whole: bool) -> Option<Option<Found>>
-    ensures front { (text : List ℕ) → part.now ≡ take (length part.now) text → (whole ≡ true → part.now ≡ text) → IfSome result (FrontIs kind text) }
-    ensures sure { whole ≡ true → IsSome result }
+/// The ids of the record at the front of a text, of which the part may be a beginning; it is the whole text where `whole`
+/// holds. `Here(None)` where no record is there.
+fn found_in(part: &[u8], kind: Kind, whole: bool) -> InWindow<Option<Found>>
+    ensures front { (text : List ℕ) → part.now ≡ take (length part.now) text → (whole ≡ true → part.now ≡ text) →
+        IfHere result (FrontIs kind text) }
+    ensures sure { whole ≡ true → IsHere result }
 {
     let Some((reference, rest)) = take_record(part, kind) else {
-        return if whole { Some(None) } else { None };
+        if whole {
+            return InWindow::Here(None);
+        }
+        return InWindow::NeedMore;
     };
     if whole {
-        return Some(Some(ids_of(reference)));
+        return InWindow::Here(Some(ids_of(reference)));
     }
     if rest.is_empty() {
-        return None;
+        return InWindow::NeedMore;
     }
-    Some(Some(ids_of(reference)))
+    InWindow::Here(Some(ids_of(reference)))
 }
 
-/// The record that begins at a byte of the window, if the window tells it; `Some(None)` where none stands there. The
-/// window begins at the place `from` of the text, and the text ends with it where `last` holds.
+/// The ids of the record that begins at a byte of the window; `Here(None)` where no record is there. The window begins at
+/// the place `from` of the text, and the text ends with it where `last` holds.
 pub fn record_in(
     window: &[u8],
     from: u64,
     at: usize,
     last: bool,
     kind: Kind,
-) -> Option<Option<Found>>
+) -> InWindow<Option<Found>>
     requires inside { at < length window.now }
     requires fits { from + length window.now < 2 ^ 64 }
-    ensures front { (text : List ℕ) (start : ℕ) → IsWindow text from window.now → (last ≡ true → from + length window.now ≡ length text) → start ≡ from + at →
-        IfSome result (FrontIs kind (drop start text)) }
-    ensures sure { last ≡ true → IsSome result }
+    ensures front { (text : List ℕ) (start : ℕ) → IsWindow text from window.now →
+        (last ≡ true → from + length window.now ≡ length text) → start ≡ from + at →
+        IfHere result (FrontIs kind (drop start text)) }
+    ensures sure { last ≡ true → IsHere result }
 {
     found_in(&window[at..], kind, last)
 }

@@ -1,10 +1,11 @@
-use Rattle.std.proofs.Common.{◌-◌, ◌≤◌, length}
+use Rattle.std.proofs.Common.{◌-◌}
+use Rattle.gix_ref_packed.specs.PackedPrefixes.{IsListStart}
 use Rattle.gix_ref_packed.proofs.PackedBounds.{Bound}
 use Rattle.gix_ref_packed.proofs.packed.bound.lower_bound.Given as goal
 
 abbrev pub invariant-loop-low : goal.invariant-loop-low
 invariant-loop-low l = record {
-  within : l.high ≤ length l.text;
+  starts : IsListStart l.text l.high;
   bound : Bound l.kind l.text l.asked l.low l.high;
 }
 

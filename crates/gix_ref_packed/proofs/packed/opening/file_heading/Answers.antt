@@ -12,6 +12,6 @@ loop-turn-preserved g c =
       same = now.same ∙ was.same;
       size = now.size ∙ was.size;
       no_fault = now.no_fault ∙ was.no_fault;
-      before = ⊎_elim (λ (last : c.loop-turn.turn ≡ 53). let bad : false ≡ true = c.in_default.ensures.sure (eq-eqb _ _ (let window = c.window_size.ensures (omega (arith, last)) in omega (arith, c.min-len.ensures, size))) in absurd (cc))
+      before = ⊎_elim (λ (last : c.loop-turn.turn ≡ 53). let bad : ⊥ = c.in_default.ensures.sure (eq-eqb _ _ (let window = c.window_size.ensures (omega (arith, last)) in omega (arith, c.min-len.ensures, size))) in absurd bad)
           (λ (less : c.loop-turn.turn < 53). omega arith) (eq-or-lt_of_le (let before = was.before in omega arith));
     }

@@ -1,4 +1,4 @@
-use Rattle.std.proofs.Common.{◌+◌, ◌≤◌, ℕ, List, length, drop, eqb-true, arith, refl, sym, subst, Option, Some, None}
+use Rattle.std.proofs.Common.{◌≢◌, ◌+◌, ◌≤◌, ℕ, List, [], length, drop, eqb-true, arith, refl, sym, subst, Option, Some, None}
 use Rattle.std.proofs.lemmas.List.{take_rest}
 use Rattle.std.specs.Option.{option_map}
 use Rattle.std.specs.Prelude.{MatchOption}
@@ -11,9 +11,9 @@ use Rattle.gix_ref_packed.proofs.PackedWindows.{part_is, whole_part, same_line_i
 use Rattle.gix_ref_packed.proofs.packed.window.look_in.Goals as goal
 
 -- the order of the name that stands there, if one does
-ordered : (kind : Kind) (text asked : List ℕ) (name : Option (Bor (List ℕ))) → MatchOption (option_map (λ n. n.now) name) ((n : List ℕ) → NameAt kind text n → ⊥) (λ n. NameAt kind text n) → Compares kind text asked (option_map (λ n. slice_cmp nat_cmp n.now asked) name)
-ordered kind text asked None none = λ n some at. none n at
-ordered kind text asked (Some n) at = (n.now, at, refl)
+ordered : (kind : Kind) (text asked : List ℕ) (name : Option (Bor (List ℕ))) → MatchOption name ((n : List ℕ) → n ≢ [] → NameAt kind text n → ⊥) (λ n. (n.now ≢ []) × NameAt kind text n.now) → Compares kind text asked (option_map (λ n. slice_cmp nat_cmp n.now asked) name)
+ordered kind text asked None none = none
+ordered kind text asked (Some n) at = (n.now, at.1, refl, at.0)
 
 pub returns-clause-looks : goal.returns-clause-looks
 returns-clause-looks c = λ text is last.
@@ -23,10 +23,10 @@ returns-clause-looks c = λ text is last.
     let below = c.in-Some.ensures.below in
     let inside = c.requires.inside in
     let low : start ≤ length w = omega arith in
-    let tells = rw take_rest at c.in-Some-name_in.ensures.tells in
+    let tells = rw take_rest at c.in-Here.ensures.tells in
     let name = tells (drop (from + start) text) (part_is text w from start is low) (λ e. whole_part text w from start is low (last e)) in
     record {
       record_of = c.in-Some.ensures.tells text from is (eqb-true from 0);
-      order = subst (Compares c.args.kind (drop (from + start) text) c.args.asked.now) (sym c.order_of-order.ensures) (ordered c.args.kind (drop (from + start) text) c.args.asked.now c.in-Some-name_in.name name);
+      order = subst (Compares c.args.kind (drop (from + start) text) c.args.asked.now) (sym c.order_of-order.ensures) (ordered c.args.kind (drop (from + start) text) c.args.asked.now c.in-Here.name name);
       line = same_line_in text w from c.args.at c.next_place.result is c.next_place.ensures.within c.next_place.ensures.line;
     }

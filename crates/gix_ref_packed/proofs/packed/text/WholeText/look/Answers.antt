@@ -1,5 +1,10 @@
-use Rattle.gix_ref_packed.proofs.packed.text.WholeText.look.Goals as goal
 use Rattle.std.proofs.lemmas.List.{take_rest}
+use Rattle.gix_ref_packed.proofs.PackedBounds.{inside_end}
+use Rattle.gix_ref_packed.proofs.packed.text.WholeText.look.Goals as goal
 
-pub returns-clause-order : goal.returns-clause-order
-returns-clause-order c honest = rw take_rest at c.name_order-order.ensures
+pub returns-clause-looks : goal.returns-clause-looks
+returns-clause-looks c = λ honest. record {
+  record_of = c.record_start_at_offset-start.ensures.record_there (inside_end c.args.self.now.bytes.now c.args.offset (c.requires honest));
+  order = rw take_rest at c.name_order-order.ensures;
+  line = c.next_place-next.ensures.line;
+}
