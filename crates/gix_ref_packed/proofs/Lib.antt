@@ -14,3 +14,4 @@ pub mod PackedSearched
 pub mod PackedSorting
 pub mod PackedSources
 pub mod PackedWindows
+pub mod PackedWellFormed

@@ -46,6 +46,14 @@ below_low a b n low below = go (slice_cmp nat_cmp a b) refl
     go Equal is = subst (λ (x : List ℕ). Below x n) (sym (exact_bytes a b is)) below
     go Greater is = absurd (low (greater_is_below a b is))
 
+pub below_or : (s x y : List ℕ) → Below s x → (Below y x → ⊥) → Below s y
+below_or s x y below low = go (slice_cmp nat_cmp x y) refl
+  where
+    go : (o : Ordering) → slice_cmp nat_cmp x y ≡ o → Below s y
+    go Less is = nat_list_cmp_total.trans s x y below is
+    go Equal is = subst (Below s) (exact_bytes x y is) below
+    go Greater is = absurd (low (greater_is_below x y is))
+
 -- a later record has no lower name
 not_later : (k : Kind) (text : List ℕ) (rs : List Record) (h : Forms k text rs) → Rising rs → (p : ℕ) (r : Record) (q : ℕ) (s : Record) → Begins k text rs h p r → Begins k text rs h q s → p < q → Below s.name r.name → ⊥
 not_later k text [] h up p r q s a b before = absurd a

@@ -7,7 +7,11 @@ use Rattle.gix_ref_hash.specs.declared.hash.Kind.{Kind}
 use Rattle.gix_ref_packed.specs.declared.packed.buffer.Buffer.{Buffer}
 use Rattle.gix_ref_packed.specs.declared.packed.buffer.open.Error.{Error}
 use Rattle.gix_ref_packed.specs.declared.packed.buffer.open.Error.TheVariants.{Iter, HeaderParsing, Io, Memory}
-use Rattle.gix_ref_packed.specs.PackedOpening.{OpensTo, NoHeading, HasBadLine, StuckAt}
+use Rattle.gix_ref_packed.specs.PackedOpening.{OpensTo, NoHeading, HasBadLine, StuckAt, IsWellFormed}
+use Rattle.gix_ref_packed.specs.PackedText.{Record, Records, Ascending}
+use Rattle.gix_ref_packed.specs.PackedLookup.{record_named}
+use Rattle.gix_ref_packed.specs.declared.packed.decode.options.Header.{Header}
+use Rattle.std.specs.List.Sorted.{IsPermutation}
 
 -- the records, without the header
 abbrev pub buffer_text : Buffer → List ℕ
@@ -53,3 +57,17 @@ count_open (Err (Io error)) n = one_more n
 count_open (Err HeaderParsing) n = n
 count_open (Err (Iter line)) n = n
 count_open (Err Memory) n = n
+
+-- what a buffer holds that was opened from a well-formed text: its records, ascending, each found by its name
+pub record HoldsRecords (kind : Kind) (rs : List Record) (b : Buffer) : Type 0 where
+  pub held : List Record
+  pub moved : IsPermutation rs held
+  pub records : Records kind (buffer_text b) held
+  pub ascending : Ascending held
+  pub named : (n : List ℕ) → record_named n held ≡ record_named n rs
+
+-- an opened buffer of a well-formed text holds its records
+abbrev pub OpenedHoldsRecords : Type 0
+OpenedHoldsRecords =
+    (kind : Kind) (text : List ℕ) (h : Option Header) (rs : List Record) (b : Buffer) → IsWellFormed kind text h rs → Opened kind text b →
+    HoldsRecords kind rs b

@@ -1,10 +1,9 @@
 -- Records that are read to be sorted, each with its bytes.
-use Rattle.std.specs.Prelude.{ℕ, List, ◌++◌}
-use Rattle.gix_ref_hash.specs.declared.hash.Kind.{Kind}
-use Rattle.gix_ref_hash.specs.Bytes.{StopsAt}
+use Rattle.std.specs.Prelude.{ℕ, List}
 use Rattle.gix_ref_base.specs.Names.{full_ref_bytes}
 use Rattle.gix_ref_packed.specs.declared.packed.sorting.Entry.{Entry}
-use Rattle.gix_ref_packed.specs.PackedText.{Record, Takes, is_caret}
+use Rattle.gix_ref_packed.specs.PackedText.{Record}
+use Rattle.gix_ref_packed.specs.PackedOpening.{Piece}
 use Rattle.gix_ref_packed.specs.PackedViews.{record_of}
 
 abbrev pub entry_record : Entry → Record
@@ -16,6 +15,5 @@ entry_name e = full_ref_bytes e.reference.name
 abbrev pub entry_bytes : Entry → List ℕ
 entry_bytes e = e.bytes.now
 
--- the bytes are those of the record, whatever follows them but a line with `^`
-abbrev pub Stands : Kind → Entry → Type 0
-Stands kind e = (rest : List ℕ) → StopsAt is_caret rest → Takes kind (entry_bytes e ++ rest) (entry_record e) rest
+abbrev pub entry_piece : Entry → Piece
+entry_piece e = record { said = entry_record e; bytes = entry_bytes e }

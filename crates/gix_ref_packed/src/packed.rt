@@ -6,6 +6,7 @@ pub mod decode;
 pub mod find;
 mod heading;
 pub mod iter;
+pub mod laws;
 mod lines;
 pub mod opening;
 mod probes;

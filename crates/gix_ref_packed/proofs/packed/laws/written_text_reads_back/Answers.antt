@@ -1,5 +1,5 @@
 use Rattle.gix_ref_packed.proofs.PackedBack.{reads_back, text_is_one}
-use Rattle.gix_ref_packed.proofs.packed.written.written_text_reads_back.Goals as goal
+use Rattle.gix_ref_packed.proofs.packed.laws.written_text_reads_back.Goals as goal
 
 pub returns-clause-back : goal.returns-clause-back
 returns-clause-back c = reads_back
