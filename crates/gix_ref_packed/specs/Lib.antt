@@ -1,5 +1,6 @@
 pub mod PackedBuffer
 pub mod PackedEntries
+pub mod PackedFiles
 pub mod PackedFound
 pub mod PackedHeader
 pub mod PackedHeadings

@@ -43,12 +43,16 @@ IsStuck kind first text Memory = Unit {0}
 IsStuck kind first text HeaderParsing = ⊥
 IsStuck kind first text (Io error) = ⊥
 
--- why the file that stands at a path is not opened
+-- why a file with these bytes is not opened
+abbrev pub IsRefusedBytes : Kind → List ℕ → Error → Type 0
+IsRefusedBytes kind bytes (Io error) = error ≢ NoMemory
+IsRefusedBytes kind bytes HeaderParsing = IsRefused kind bytes HeaderParsing
+IsRefusedBytes kind bytes (Iter line) = IsRefused kind bytes (Iter line)
+IsRefusedBytes kind bytes Memory = Unit {0}
+
+-- why the file at a path is not opened
 abbrev pub IsRefusedFile : Kind → Option Content → Error → Type 0
-IsRefusedFile kind content (Io error) = error ≢ NoMemory
-IsRefusedFile kind content HeaderParsing = IsRefused kind (bytes_of content) HeaderParsing
-IsRefusedFile kind content (Iter line) = IsRefused kind (bytes_of content) (Iter line)
-IsRefusedFile kind content Memory = Unit {0}
+IsRefusedFile kind content error = IsRefusedBytes kind (bytes_of content) error
 
 -- the count of faults after opening: one more where the file could not be read
 abbrev pub count_open : Result (Option Buffer) Error → ℕ → ℕ

@@ -3,6 +3,7 @@
 mod bound;
 pub mod buffer;
 pub mod decode;
+pub mod file;
 pub mod find;
 mod heading;
 pub mod iter;

@@ -3,8 +3,7 @@ ghost use Rattle.std.specs.Prelude.{◌≤◌, ◌<◌, vec_len};
 
 pub mod open;
 
-use crate::packed::decode::Header;
-use crate::packed::heading::{Heading, read_heading};
+use crate::packed::heading::{Heading, first_line_behind, read_heading, says_sorted};
 use crate::packed::sorting::sorted_text;
 use gix_ref_files::files::{FileError, Files, Node};
 use gix_ref_hash::hash::Kind;
@@ -72,21 +71,16 @@ impl Buffer {
         let Some(Heading { header, start }) = read_heading(&bytes) else {
             return Err(Error::HeaderParsing);
         };
-        match header {
-            Some(
-                Header {
-                    peeled: _,
-                    sorted: true,
-                },
-            ) => Ok(Buffer {
+        let first_line = first_line_behind(header);
+        if says_sorted(header) {
+            return Ok(Buffer {
                 bytes,
                 start,
                 kind,
-                first_line: 2,
-            }),
-            Some(_) => Buffer::sorted(alloc, bytes, start, kind, 2),
-            None => Buffer::sorted(alloc, bytes, start, kind, 1),
+                first_line,
+            });
         }
+        Buffer::sorted(alloc, bytes, start, kind, first_line)
     }
 
     /// The buffer of a text whose records are to be sorted.

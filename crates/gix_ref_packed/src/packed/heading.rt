@@ -1,6 +1,6 @@
 //! Where the records of a text begin.
 ghost use Rattle.std.specs.Prelude.{◌≡◌, ◌≤◌, ◌<◌, length, drop, MatchOption};
-ghost use Rattle.gix_ref_packed.specs.PackedOpening.{NoHeading, line_behind};
+ghost use Rattle.gix_ref_packed.specs.PackedOpening.{NoHeading, line_behind, says_sorted as sorted_by};
 ghost use Rattle.gix_ref_packed.specs.PackedHeadings.{HeadsAt};
 
 use crate::packed::decode::{Header, take_header};
@@ -44,5 +44,15 @@ pub fn first_line_behind(header: Option<Header>) -> u64
     match header {
         Some(_) => 2,
         None => 1,
+    }
+}
+
+/// Whether a header says that the records are sorted.
+pub fn says_sorted(header: Option<Header>) -> bool
+    ensures { result ≡ sorted_by header }
+{
+    match header {
+        Some(header) => header.sorted,
+        None => false,
     }
 }

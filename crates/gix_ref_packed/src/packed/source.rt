@@ -1,6 +1,7 @@
 //! The records of a `packed-refs` that is not in memory: looks at windows of its file.
 ghost use Rattle.std.specs.Prelude.{◌≡◌, ◌+◌, ◌-◌, ◌<◌, ◌≤◌, ◌^◌, length, take, drop, OnOk, IfErr};
-ghost use Rattle.gix_ref_packed.specs.PackedSources.{IsNoChange, count_source};
+ghost use Rattle.gix_ref_base.specs.Names.{full_ref_bytes};
+ghost use Rattle.gix_ref_packed.specs.PackedSources.{IsNoChange, FindsIn, count_source};
 ghost use Rattle.gix_ref_packed.specs.declared.packed.source.TheConstants.{GROWTHS};
 
 use crate::packed::probes::Probes;
@@ -11,7 +12,8 @@ use gix_ref_base::name::FullNameRef;
 use gix_ref_files::files::{FileError, ReadAt};
 use gix_ref_hash::hash::Kind;
 use std::alloc::{AllocError, Global};
-use std::sync::ledger::Ledger;
+use std::marker::Brand;
+use std::sync::ledger::{Blank, Ledger};
 use thiserror::Error;
 
 /// Why a source cannot be looked at.
@@ -254,6 +256,45 @@ impl<R: ReadAt + Drop> Source<R> {
             Ok(None) => Err(FindError::Parse),
             Err(error) => Err(FindError::Source(error)),
         }
+    }
+}
+
+/// The record of a full name, where the ledger of the count is new.
+fn find_blank<R: ReadAt + Drop, L: Ledger>(
+    source: &mut Source<R>,
+    kind: Kind,
+    name: FullNameRef<'_>,
+    blank: Blank,
+) -> Result<Option<Found>, FindError>
+    requires name { blank.name ≡ L.name }
+    requires parts { blank.parts ≡ L.parts }
+    requires some { 0 < blank.parts }
+    ensures same { R.bytes source.new.reader ≡ R.bytes source.old.reader }
+    ensures base { source.new.base ≡ source.old.base }
+    ensures finds { R.honest →
+        FindsIn kind (drop source.old.base (R.bytes source.old.reader)) (full_ref_bytes name.entry) result }
+{
+    let mut probes = Probes::<L>::new(blank);
+    source.try_find_full(kind, name, &mut probes)
+}
+
+impl<R: ReadAt + Drop> Source<R> {
+    ghost use Rattle.std.specs.Prelude.{◌≡◌, drop};
+    ghost use Rattle.gix_ref_base.specs.Names.{full_ref_bytes};
+    ghost use Rattle.gix_ref_packed.specs.PackedSources.{FindsIn};
+
+    /// The ids of the record of a full name, as `try_find_full` finds it, for a caller who does not count.
+    pub fn find(
+        &mut self,
+        kind: Kind,
+        name: FullNameRef<'_>,
+    ) -> Result<Option<Found>, FindError>
+        ensures same { R.bytes self.new.reader ≡ R.bytes self.old.reader }
+        ensures base { self.new.base ≡ self.old.base }
+        ensures finds { R.honest →
+            FindsIn kind (drop self.old.base (R.bytes self.old.reader)) (full_ref_bytes name.entry) result }
+    {
+        find_blank::<R, Brand>(self, kind, name, Blank::new(1))
     }
 }
 

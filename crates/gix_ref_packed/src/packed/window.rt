@@ -155,7 +155,7 @@ pub fn look_in(
 }
 
 /// The ids of a record.
-fn ids_of(reference: Reference<'_>) -> Found
+pub fn ids_of(reference: Reference<'_>) -> Found
     ensures { IsFound (record_of reference.entry) result }
 {
     Found {
