@@ -3,7 +3,7 @@ ghost use Rattle.std.specs.Prelude.{◌≤◌, ◌<◌, vec_len};
 
 pub mod open;
 
-use crate::packed::heading::{Heading, first_line_behind, read_heading, says_sorted};
+use crate::packed::header_end::{HeaderEnd, first_line_behind, read_header_end, says_sorted};
 use crate::packed::sorting::sorted_text;
 use gix_ref_files::files::{FileError, Files, Node};
 use gix_ref_hash::hash::Kind;
@@ -28,8 +28,8 @@ impl Buffer {
     ghost use Rattle.gix_ref_files.specs.Tree.{is_file, bytes_of};
     ghost use Rattle.gix_ref_files.specs.Files.{Leaves};
     ghost use Rattle.gix_ref_files.specs.Calls.{Only};
-    ghost use Rattle.gix_ref_packed.specs.PackedOpening.{Keeps};
-    ghost use Rattle.gix_ref_packed.specs.PackedBuffer.{buffer_text, buffer_kind, buffer_line, Opened, IsRefused, IsRefusedFile, IsStuck, count_open};
+    ghost use Rattle.gix_ref_packed.specs.OpenedText.{Keeps};
+    ghost use Rattle.gix_ref_packed.specs.Buffers.{buffer_text, buffer_kind, buffer_line, Opened, IsRefused, IsRefusedFile, IsStuck, count_open};
 
     /// Opens the file at a path, whose ids are of the kind; `None` where no file stands there. `Io` where it cannot be
     /// read, and else what `from_bytes` answers. The threshold, from which on other stores map the file into memory, has
@@ -68,7 +68,7 @@ impl Buffer {
         ensures opened { IfOk result (Opened kind bytes.items) }
         ensures refused { IfErr result (IsRefused kind bytes.items) }
     {
-        let Some(Heading { header, start }) = read_heading(&bytes) else {
+        let Some(HeaderEnd { header, start }) = read_header_end(&bytes) else {
             return Err(Error::HeaderParsing);
         };
         let first_line = first_line_behind(header);

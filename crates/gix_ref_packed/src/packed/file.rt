@@ -1,15 +1,15 @@
 //! A `packed-refs` that is searched where it is: opening it, and the search for a full name.
 ghost use Rattle.std.specs.Prelude.{◌≡◌, ◌≢◌, IfOk, IfErr};
-ghost use Rattle.gix_ref_packed.specs.PackedBuffer.{IsRefusedBytes};
-ghost use Rattle.gix_ref_packed.specs.PackedSources.{IsNoChange};
-ghost use Rattle.gix_ref_packed.specs.PackedFiles.{OpenedFile};
+ghost use Rattle.gix_ref_packed.specs.Buffers.{IsRefusedBytes};
+ghost use Rattle.gix_ref_packed.specs.FileSearches.{IsNoChange};
+ghost use Rattle.gix_ref_packed.specs.OpenFiles.{OpenedFile};
 
 use crate::packed::buffer::Buffer;
 use crate::packed::buffer::open::Error;
 use crate::packed::find::ParseError;
-use crate::packed::heading::says_sorted;
-use crate::packed::opening::file_heading;
-use crate::packed::source::{FindError, Source, SourceError, read_window};
+use crate::packed::header_end::says_sorted;
+use crate::packed::file_header::file_header;
+use crate::packed::sorted_file::{FindError, SortedFile, ReadError, read_window};
 use crate::packed::window::{Found, ids_of};
 use gix_ref_base::name::FullNameRef;
 use gix_ref_files::files::{FileError, Files, ReadAt};
@@ -21,20 +21,20 @@ use std::alloc::Global;
 #[derive(Drop)]
 pub enum PackedFile<R: ReadAt + Drop> {
     /// The file is sorted: a search reads the parts of it that it needs.
-    InFile { source: Source<R>, kind: Kind },
+    InFile { source: SortedFile<R>, kind: Kind },
     /// The file was read as a whole, and its records were sorted.
     InMemory(Buffer),
 }
 
 /// The error of opening for one of reading; a file that is opened has no earlier reads from which it could differ.
-fn refusal(error: SourceError) -> Error
+fn refusal(error: ReadError) -> Error
     requires { IsNoChange error }
     ensures { (kind : _) (bytes : _) → IsRefusedBytes kind bytes result }
 {
     match error {
-        SourceError::Io(error) => Error::Io(error),
-        SourceError::Memory => Error::Memory,
-        SourceError::Changed => unreachable!(),
+        ReadError::Io(error) => Error::Io(error),
+        ReadError::Memory => Error::Memory,
+        ReadError::Changed => unreachable!(),
     }
 }
 
@@ -47,13 +47,13 @@ fn open_reader<R: ReadAt + Drop>(
     ensures opened { R.honest → IfOk result (OpenedFile kind (R.bytes reader)) }
     ensures refused { R.honest → IfErr result (IsRefusedBytes kind (R.bytes reader)) }
 {
-    let heading = match file_heading(alloc, &mut reader) {
+    let heading = match file_header(alloc, &mut reader) {
         Ok(Some(heading)) => heading,
         Ok(None) => return Err(Error::HeaderParsing),
         Err(error) => return Err(refusal(error)),
     };
     if says_sorted(heading.header) {
-        let source = Source::new(alloc, reader, heading.start as u64);
+        let source = SortedFile::new(alloc, reader, heading.start as u64);
         return Ok(PackedFile::InFile { source, kind });
     }
     let mut bytes = Vec::new(alloc);
@@ -74,9 +74,9 @@ impl<R: ReadAt + Drop> PackedFile<R> {
     ghost use Rattle.gix_ref_files.specs.Tree.{is_file, bytes_of};
     ghost use Rattle.gix_ref_files.specs.Files.{Leaves};
     ghost use Rattle.gix_ref_files.specs.Calls.{Only};
-    ghost use Rattle.gix_ref_packed.specs.PackedBuffer.{IsRefusedFile};
-    ghost use Rattle.gix_ref_packed.specs.PackedFiles.{OpenedFile, packed_file_text, packed_file_kind};
-    ghost use Rattle.gix_ref_packed.specs.PackedSources.{FindsIn};
+    ghost use Rattle.gix_ref_packed.specs.Buffers.{IsRefusedFile};
+    ghost use Rattle.gix_ref_packed.specs.OpenFiles.{OpenedFile, packed_file_text, packed_file_kind};
+    ghost use Rattle.gix_ref_packed.specs.FileSearches.{FindsIn};
 
     /// Opens the file at a path, whose ids are of the kind; `None` where no file is there. Of a file whose header says
     /// sorted only the first 1 KB is read, and more where the header's line is longer; any other file is read as a whole,
@@ -107,7 +107,7 @@ impl<R: ReadAt + Drop> PackedFile<R> {
     }
 
     /// The ids of the record of a full name, by halving; `None` where there is no such record. In a file a name among a
-    /// million records costs some seventeen reads of 1 KB. `Source` where the file cannot be read, `Parse` where a line
+    /// million records costs some seventeen reads of 1 KB. `Read` where the file cannot be read, `Parse` where a line
     /// is malformed and nothing was found, or the record that was found cannot be read.
     pub fn find(&mut self, name: FullNameRef<'_>) -> Result<Option<Found>, FindError>
         ensures same { packed_file_text self.new ≡ packed_file_text self.old }

@@ -1,9 +1,9 @@
 //! The search for a reference in a `packed-refs` in memory, by halving.
 ghost use Rattle.std.specs.Prelude.{◌≡◌, ◌≤◌, ◌<◌, ◌++◌, true, false, length};
 ghost use Rattle.gix_ref_base.specs.NameGrammar.{IsPartialName};
-ghost use Rattle.gix_ref_packed.specs.PackedKeys.{is_rooted as rooted};
-ghost use Rattle.gix_ref_packed.specs.PackedFound.{Finds, FindsOne, FindsPartial};
-ghost use Rattle.gix_ref_packed.specs.PackedSearches.{CountsProbes};
+ghost use Rattle.gix_ref_packed.specs.AskedNames.{is_rooted as rooted};
+ghost use Rattle.gix_ref_packed.specs.Searches.{Finds, FindsOne, FindsPartial};
+ghost use Rattle.gix_ref_packed.specs.SearchCosts.{CountsProbes};
 
 pub mod existing;
 
@@ -12,7 +12,7 @@ use crate::packed::decode::take_record;
 use crate::packed::probes::Probes;
 use crate::packed::reference::Reference;
 use crate::packed::search::search;
-use crate::packed::text::Whole;
+use crate::packed::searchable::InMemory;
 use gix_ref_base::layout::packed_key;
 use gix_ref_base::name::{self, FullNameRef, PartialNameRef};
 use gix_ref_hash::hash::Kind;
@@ -69,15 +69,15 @@ pub struct ParseError;
 pub(crate) fn find_record<'a, L: Ledger>(
     text: &'a [u8],
     kind: Kind,
-    asked: &[u8],
+    wanted: &[u8],
     probes: &mut Probes<L>,
 ) -> Result<Option<Reference<'a>>, ParseError>
     ensures counts { probes.old ≤ probes.new }
     ensures cost { CountsProbes (length text.now) probes.old probes.new }
-    ensures finds { Finds kind text.now asked.now result }
+    ensures finds { Finds kind text.now wanted.now result }
 {
-    let mut whole = Whole { bytes: text };
-    let start = match search(&mut whole, kind, asked, probes) {
+    let mut whole = InMemory { bytes: text };
+    let start = match search(&mut whole, kind, wanted, probes) {
         Ok(Some(start)) => start,
         Ok(None) => return Ok(None),
         Err(_) => return Err(ParseError),
@@ -92,27 +92,27 @@ pub(crate) fn find_record<'a, L: Ledger>(
 fn find_blank<'a, L: Ledger>(
     text: &'a [u8],
     kind: Kind,
-    asked: &[u8],
+    wanted: &[u8],
     blank: Blank,
 ) -> Result<Option<Reference<'a>>, ParseError>
     requires name { blank.name ≡ L.name }
     requires parts { blank.parts ≡ L.parts }
     requires some { 0 < blank.parts }
-    ensures { Finds kind text.now asked.now result }
+    ensures { Finds kind text.now wanted.now result }
 {
     let mut probes = Probes::<L>::new(blank);
-    find_record(text, kind, asked, &mut probes)
+    find_record(text, kind, wanted, &mut probes)
 }
 
 /// The record of the name in a text of records, where nobody counts.
 fn find_uncounted<'a>(
     text: &'a [u8],
     kind: Kind,
-    asked: &[u8],
+    wanted: &[u8],
 ) -> Result<Option<Reference<'a>>, ParseError>
-    ensures { Finds kind text.now asked.now result }
+    ensures { Finds kind text.now wanted.now result }
 {
-    find_blank::<Brand>(text, kind, asked, Blank::new(1))
+    find_blank::<Brand>(text, kind, wanted, Blank::new(1))
 }
 
 /// Whether a partial name is a full name already.
@@ -185,11 +185,11 @@ fn find_partial<'a>(
 impl Buffer {
     ghost use Rattle.std.specs.Prelude.{◌≤◌, length};
     ghost use Rattle.gix_ref_base.specs.Names.{full_ref_bytes, partial_ref_bytes};
-    ghost use Rattle.gix_ref_packed.specs.PackedFound.{Finds, FindsPartial, as_try_find};
-    ghost use Rattle.gix_ref_packed.specs.PackedSearches.{CountsProbes};
-    ghost use Rattle.gix_ref_packed.specs.PackedBuffer.{buffer_text, buffer_kind};
+    ghost use Rattle.gix_ref_packed.specs.Searches.{Finds, FindsPartial, as_try_find};
+    ghost use Rattle.gix_ref_packed.specs.SearchCosts.{CountsProbes};
+    ghost use Rattle.gix_ref_packed.specs.Buffers.{buffer_text, buffer_kind};
 
-    /// The record of a full name, by halving: each look at a record is counted as a probe, and there are at most as many
+    /// The record of a full name, by halving: each probe at a record is counted as a probe, and there are at most as many
     /// as the number of bytes has binary digits, about twenty among ten thousand records. `None` where the records have
     /// no such name. The error tells of a text that is not well formed. Takes no memory.
     pub fn try_find_full<L: Ledger>(

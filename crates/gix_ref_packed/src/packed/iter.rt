@@ -8,7 +8,7 @@ mod parts;
 use crate::packed::bound::lower_bound;
 use crate::packed::buffer::Buffer;
 use crate::packed::decode::take_record;
-use crate::packed::heading::{first_line_behind, read_heading};
+use crate::packed::header_end::{first_line_behind, read_header_end};
 use crate::packed::reference::Reference;
 use crate::packed::sorting::line_count;
 pub use error::Error;
@@ -32,8 +32,8 @@ impl<'a> Iter<'a> {
     ghost use Rattle.std.specs.Prelude.{◌≡◌, List, Option, None, IfOk, IfErr, true};
     ghost use Rattle.std.specs.Iterator.Runs.{EachRunFrom};
     ghost use Rattle.gix_ref_packed.specs.declared.packed.decode.options.Header.{Header};
-    ghost use Rattle.gix_ref_packed.specs.PackedOpening.{Heads, line_behind};
-    ghost use Rattle.gix_ref_packed.specs.PackedItems.{ItemStep, AreItems, IsHeaderError, unread};
+    ghost use Rattle.gix_ref_packed.specs.OpenedText.{Heads, line_behind};
+    ghost use Rattle.gix_ref_packed.specs.Items.{ItemStep, AreItems, IsHeaderError, unread};
 
     /// The records of a whole text, in the order of its lines; lines are numbered from 1, the header's too. The error,
     /// `Header`, tells the first line where the text begins with `#` and has no header.
@@ -42,7 +42,7 @@ impl<'a> Iter<'a> {
             (λ run. AreItems (run.whole ≡ true) (record { kind = kind; prefix = None; number = line_behind h; text = rest }) run.items)) }
         ensures refused { IfErr result (IsHeaderError text.now) }
     {
-        let Some(heading) = read_heading(text) else {
+        let Some(heading) = read_header_end(text) else {
             return Err(Error::Header {
                 invalid_first_line: first_line(text),
             });
@@ -67,7 +67,7 @@ impl<'a> Iter<'a> {
 }
 
 impl<'a> Iterator for Iter<'a> {
-    ghost use Rattle.gix_ref_packed.specs.PackedItems.{ItemStep};
+    ghost use Rattle.gix_ref_packed.specs.Items.{ItemStep};
 
     type Item = Result<Reference<'a>, Error<'a>>;
 
@@ -107,10 +107,10 @@ impl<'a> Iterator for Iter<'a> {
 impl Buffer {
     ghost use Rattle.std.specs.Prelude.{◌≡◌, ◌+◌, ℕ, List, None, Some, true, take, drop};
     ghost use Rattle.std.specs.Iterator.Runs.{EachRunFrom};
-    ghost use Rattle.gix_ref_packed.specs.PackedText.{Record, Records, Rising};
-    ghost use Rattle.gix_ref_packed.specs.PackedPrefixes.{records_prefixed, IsListStart};
-    ghost use Rattle.gix_ref_packed.specs.PackedBuffer.{buffer_text, buffer_kind, buffer_line};
-    ghost use Rattle.gix_ref_packed.specs.PackedItems.{ItemStep, AreItems, AreRecords, line_feeds};
+    ghost use Rattle.gix_ref_packed.specs.RecordGrammar.{Record, Records, Rising};
+    ghost use Rattle.gix_ref_packed.specs.Prefixes.{records_prefixed, IsListStart};
+    ghost use Rattle.gix_ref_packed.specs.Buffers.{buffer_text, buffer_kind, buffer_line};
+    ghost use Rattle.gix_ref_packed.specs.Items.{ItemStep, AreItems, AreRecords, line_feeds};
 
     /// The records of the buffer, in the order of their names. Lines are numbered as in the file that was opened.
     pub fn iter(&self) -> Iter<'_>

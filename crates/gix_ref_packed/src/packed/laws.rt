@@ -1,6 +1,6 @@
 //! Laws of the text of `packed-refs`: how it is read, written and opened.
-ghost use Rattle.gix_ref_packed.specs.PackedWritten.{WrittenTextReadsBack, PackedTextIsOne};
-ghost use Rattle.gix_ref_packed.specs.PackedBuffer.{OpenedHoldsRecords};
+ghost use Rattle.gix_ref_packed.specs.WrittenText.{WrittenTextReadsBack, PackedTextIsOne};
+ghost use Rattle.gix_ref_packed.specs.Buffers.{OpenedHoldsRecords};
 
 /// What is written of records is read as these records, and a text is that of one header and one list at most.
 pub fn written_text_reads_back()

@@ -1,7 +1,7 @@
 //! Lines that end in LF or CRLF, and where they begin.
 ghost use Rattle.std.specs.Prelude.{◌≡◌, ◌≢◌, ◌++◌, ◌<◌, ◌≤◌, ℕ, List, MatchOption, length};
-ghost use Rattle.gix_ref_packed.specs.PackedText.{Newline, Line};
-ghost use Rattle.gix_ref_packed.specs.PackedLookup.{LineOf, SameLine};
+ghost use Rattle.gix_ref_packed.specs.RecordGrammar.{Newline, Line};
+ghost use Rattle.gix_ref_packed.specs.Positions.{LineOf, SameLine};
 
 use memchr::{memchr, memchr2, memrchr};
 use std::cmp::Ordering;

@@ -1,4 +1,4 @@
-//! A count of the places at which a search looks. It takes no bytes.
+//! A count of the places at which a search probed. It takes no bytes.
 ghost use Rattle.std.specs.Prelude.{◌≡◌, ◌+◌, ◌<◌, ℕ};
 
 use std::marker::Model;

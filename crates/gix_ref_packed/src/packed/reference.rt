@@ -1,7 +1,7 @@
 //! A record of `packed-refs`, lent from the text that it stands in.
 ghost use Rattle.std.specs.Prelude.{◌≡◌, true};
 ghost use Rattle.gix_ref_hash.specs.Ids.{is_id_text};
-ghost use Rattle.gix_ref_packed.specs.PackedIds.{is_id_if_any};
+ghost use Rattle.gix_ref_packed.specs.IdDigits.{is_id_if_any};
 
 use gix_ref_base::name::FullNameRef;
 use gix_ref_hash::hash::{ObjectId, id_of_digits};
@@ -23,7 +23,7 @@ impl<'a> Reference<'a> {
     ghost use Rattle.std.specs.Prelude.{◌≡◌, ◌↔◌, IsTrue};
     ghost use Rattle.gix_ref_hash.specs.Ids.{ReadsId};
     ghost use Rattle.gix_ref_base.specs.Names.{full_ref_bytes};
-    ghost use Rattle.gix_ref_packed.specs.PackedIds.{object_or, ReadsIfAny};
+    ghost use Rattle.gix_ref_packed.specs.IdDigits.{object_or, ReadsIfAny};
 
     /// The id.
     pub fn target(self) -> ObjectId

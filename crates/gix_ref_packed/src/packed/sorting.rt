@@ -4,11 +4,11 @@ ghost use Rattle.std.specs.List.{All, flat_map};
 ghost use Rattle.std.specs.List.Sorted.{IsPermutation, IsSortedByKey, IsStableByKey};
 ghost use Rattle.std.specs.Cmp.Lexicographic.{slice_cmp};
 ghost use Rattle.std.specs.Ordering.{nat_cmp};
-ghost use Rattle.gix_ref_packed.specs.PackedText.{Record, Records, Below, Rising};
-ghost use Rattle.gix_ref_packed.specs.PackedOpening.{lines_of, IsPiece, SortsText};
-ghost use Rattle.gix_ref_packed.specs.PackedViews.{record_of};
-ghost use Rattle.gix_ref_packed.specs.PackedEntries.{entry_record, entry_piece, entry_name, entry_bytes};
-ghost use Rattle.gix_ref_packed.specs.PackedBuffer.{IsStuck};
+ghost use Rattle.gix_ref_packed.specs.RecordGrammar.{Record, Records, Below, Rising};
+ghost use Rattle.gix_ref_packed.specs.OpenedText.{lines_of, IsPiece, SortsText};
+ghost use Rattle.gix_ref_packed.specs.Views.{record_of};
+ghost use Rattle.gix_ref_packed.specs.Entries.{entry_record, entry_piece, entry_name, entry_bytes};
+ghost use Rattle.gix_ref_packed.specs.Buffers.{IsStuck};
 
 use crate::packed::buffer::open::Error;
 use crate::packed::decode::take_record;

@@ -1,13 +1,13 @@
 //! Reading the header of `packed-refs`.
 ghost use Rattle.std.specs.Prelude.{◌≡◌, ℕ, List, MatchOption, IfOk, IfErr, OnErr};
-ghost use Rattle.gix_ref_packed.specs.PackedHeader.{told_by, told, silent, words, TakesHeader};
+ghost use Rattle.gix_ref_packed.specs.HeaderGrammar.{told_by, told, silent, words, TakesHeader};
 
 use crate::packed::decode::options::{Header, Peeled};
 use crate::packed::lines::take_line;
 use gix_ref_hash::bytes::{cut, strip_front};
 
 /// What a word adds.
-#[tactic(auto, unfolding(crate::specs::PackedHeader::told_by))]
+#[tactic(auto, unfolding(crate::specs::HeaderGrammar::told_by))]
 fn with_word(header: Header, word: &[u8]) -> Header
     ensures { result ≡ told_by header word.now }
 {

@@ -22,7 +22,7 @@ pub struct Header {
 /// The header that says nothing: unspecified, and not sorted.
 impl Default for Header {
     ghost use Rattle.std.specs.Prelude.{◌≡◌};
-    ghost use Rattle.gix_ref_packed.specs.PackedHeader.{silent};
+    ghost use Rattle.gix_ref_packed.specs.HeaderGrammar.{silent};
 
     ghost is_default = { λ h. h ≡ silent };
 

@@ -3,9 +3,9 @@ use Rattle.std.proofs.Common.{◌≡◌, Bool, List, ℕ, [], ◌∷◌, arith, 
 use Rattle.gix_ref_hash.specs.declared.hash.Kind.{Kind}
 use Rattle.gix_ref_packed.specs.declared.packed.buffer.open.Error.{Error}
 use Rattle.gix_ref_packed.specs.declared.packed.buffer.open.Error.TheVariants.{Iter, HeaderParsing, Io, Memory}
-use Rattle.gix_ref_packed.specs.PackedOpening.{Keeps, line_behind}
-use Rattle.gix_ref_packed.specs.PackedBuffer.{IsRefused, IsRefusedBytes}
-use Rattle.gix_ref_packed.specs.PackedFiles.{source_text}
+use Rattle.gix_ref_packed.specs.OpenedText.{Keeps, line_behind}
+use Rattle.gix_ref_packed.specs.Buffers.{IsRefused, IsRefusedBytes}
+use Rattle.gix_ref_packed.specs.OpenFiles.{sorted_file_text}
 use Rattle.gix_ref_packed.proofs.packed.file.open_reader.Goals as goal
 
 refused_bytes : (k : Kind) (t : List ℕ) (e : Error) → IsRefused k t e → IsRefusedBytes k t e
@@ -19,7 +19,7 @@ returns-then-says_sorted-clause-opened g c = λ honest.
     let heading = c.in-Ok-Some.heading in
     let bytes = g.R.ReadAt.bytes c.args.reader in
     let heads = rw c.in-Ok-Some.field-0-is at c.in-Ok-Some.ensures.heads honest in
-    let same : g.R.ReadAt.bytes c.new-source.result.reader ≡ bytes = ap g.R.ReadAt.bytes c.new-source.ensures.reader ∙ c.file_heading.ensures.same in
+    let same : g.R.ReadAt.bytes c.new-source.result.reader ≡ bytes = ap g.R.ReadAt.bytes c.new-source.ensures.reader ∙ c.file_header.ensures.same in
     let text : drop c.new-source.result.base (g.R.ReadAt.bytes c.new-source.result.reader) ≡ drop heading.start bytes = λ i. drop (c.new-source.ensures.base i) (same i) in
     record {
       kind_is = refl;
@@ -43,7 +43,7 @@ whole_read w t u is len same = is ∙ take_all (length w) (drop 0 t) (omega (ari
 pub returns-clause-refused : goal.returns-clause-refused
 returns-clause-refused g c = λ honest.
     let bytes = g.R.ReadAt.bytes c.args.reader in
-    let whole : c.read_window.new.window.items ≡ bytes = whole_read c.read_window.new.window.items (g.R.ReadAt.bytes c.file_heading.new.reader) bytes (c.in-Ok.ensures.read honest) (let one = c.in-Ok.ensures.len in let two = c.len-len.ensures.bytes honest in omega arith) c.file_heading.ensures.same in
+    let whole : c.read_window.new.window.items ≡ bytes = whole_read c.read_window.new.window.items (g.R.ReadAt.bytes c.file_header.new.reader) bytes (c.in-Ok.ensures.read honest) (let one = c.in-Ok.ensures.len in let two = c.len-len.ensures.bytes honest in omega arith) c.file_header.ensures.same in
     refused_bytes c.args.kind bytes c.in-Err-from_bytes.error (subst (λ (t : List ℕ). IsRefused c.args.kind t c.in-Err-from_bytes.error) whole c.in-Err-from_bytes.ensures.refused)
 
 pub returns-in-Err-clause-refused : goal.returns-in-Err-clause-refused

@@ -1,8 +1,8 @@
 use Rattle.std.proofs.Common.{◌≡◌, None, Some, [], ap, lit<, refl, sym, ◌∙◌}
 use Rattle.gix_ref_base.specs.Locations.{key_outside}
 use Rattle.gix_ref_packed.specs.declared.packed.find.Error.TheVariants.{Parse}
-use Rattle.gix_ref_packed.specs.PackedFound.{FindsPartial}
-use Rattle.gix_ref_packed.proofs.PackedAsked.{rooted_is_full, asks_key, failed_for, last_for, is_err}
+use Rattle.gix_ref_packed.specs.Searches.{FindsPartial}
+use Rattle.gix_ref_packed.proofs.NamesInTurn.{rooted_is_full, asks_key, failed_for, last_for, is_err}
 use Rattle.gix_ref_packed.proofs.packed.find.find_rooted.Goals as goal
 
 pub unreachable-requires : goal.unreachable-requires

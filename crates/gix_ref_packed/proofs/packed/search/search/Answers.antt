@@ -1,7 +1,7 @@
 use Rattle.std.proofs.Common.{◌+◌, ◌-◌, ◌/◌, ℕ, List, length, refl, ◌∙◌, ap, subst, arith, Some}
-use Rattle.gix_ref_packed.specs.PackedText.{Record}
-use Rattle.gix_ref_packed.specs.PackedLooks.{LooksAt}
-use Rattle.gix_ref_packed.proofs.PackedHalving.{none_yet, step_low, step_high, step_malformed, malformed, found_hit, found_there, counted_now, counted_end, nowhere, cost_counted}
+use Rattle.gix_ref_packed.specs.RecordGrammar.{Record}
+use Rattle.gix_ref_packed.specs.Probed.{IsProbeAt}
+use Rattle.gix_ref_packed.proofs.Halves.{none_yet, step_low, step_high, step_malformed, malformed, found_hit, found_there, counted_now, counted_end, nowhere, cost_counted}
 use Rattle.gix_ref_packed.proofs.packed.search.search.Goals as goal
 
 pub loop-low-init : goal.loop-low-init
@@ -10,7 +10,7 @@ loop-low-init g c = record {
   no_fault = refl;
   bytes = refl;
   frame = refl;
-  halves = λ honest. none_yet c.args.kind (g.T.Text.bytes c.args.text.now) c.args.asked.now c.args.probes.now c.len-high.result (c.len-high.ensures honest);
+  halves = λ honest. none_yet c.args.kind (g.T.SearchableRecords.bytes c.args.text.now) c.args.wanted.now c.args.probes.now c.len-high.result (c.len-high.ensures honest);
   malformed = λ honest yes_it_is. absurd (cc);
 }
 
@@ -18,22 +18,22 @@ pub loop-low-preserved-in_default : goal.loop-low-preserved-in_default
 loop-low-preserved-in_default g c = record {
   counts = let counts = c.loop-low.invariant.counts in let next = c.tick.ensures in omega arith;
   no_fault = c.in-Ok.ensures.no_fault ∙ c.loop-low.invariant.no_fault;
-  bytes = c.look.ensures.kept.0 ∙ c.loop-low.invariant.bytes;
-  frame = c.look.ensures.kept.1 ∙ c.loop-low.invariant.frame;
-  halves = λ honest. step_malformed c.args.kind (g.T.Text.bytes c.args.text.now) c.args.asked.now c.args.probes.now c.loop-low.probes c.tick.new.self c.loop-low.low c.loop-low.high (c.loop-low.low + (c.loop-low.high - c.loop-low.low) / 2) (c.loop-low.invariant.halves honest) c.loop-low-test.true refl c.tick.ensures c.in-Ok.look
-    (subst (λ (t : List ℕ). LooksAt c.args.kind t c.args.asked.now (c.loop-low.low + (c.loop-low.high - c.loop-low.low) / 2) c.in-Ok.look) c.loop-low.invariant.bytes (c.in-Ok.ensures.looks honest)) c.in-Ok.ensures.beyond c.in_default.is;
-  malformed = λ honest. λ yes_it_is. malformed c.args.kind (g.T.Text.bytes c.args.text.now) c.args.asked.now c.args.probes.now c.loop-low.probes c.tick.new.self c.loop-low.low c.loop-low.high (c.loop-low.low + (c.loop-low.high - c.loop-low.low) / 2) (c.loop-low.invariant.halves honest) c.loop-low-test.true refl c.tick.ensures c.in-Ok.look
-    (subst (λ (t : List ℕ). LooksAt c.args.kind t c.args.asked.now (c.loop-low.low + (c.loop-low.high - c.loop-low.low) / 2) c.in-Ok.look) c.loop-low.invariant.bytes (c.in-Ok.ensures.looks honest)) c.in-Ok.ensures.beyond c.in_default.is;
+  bytes = c.probe.ensures.kept.0 ∙ c.loop-low.invariant.bytes;
+  frame = c.probe.ensures.kept.1 ∙ c.loop-low.invariant.frame;
+  halves = λ honest. step_malformed c.args.kind (g.T.SearchableRecords.bytes c.args.text.now) c.args.wanted.now c.args.probes.now c.loop-low.probes c.tick.new.self c.loop-low.low c.loop-low.high (c.loop-low.low + (c.loop-low.high - c.loop-low.low) / 2) (c.loop-low.invariant.halves honest) c.loop-low-test.true refl c.tick.ensures c.in-Ok.probe
+    (subst (λ (t : List ℕ). IsProbeAt c.args.kind t c.args.wanted.now (c.loop-low.low + (c.loop-low.high - c.loop-low.low) / 2) c.in-Ok.probe) c.loop-low.invariant.bytes (c.in-Ok.ensures.probed honest)) c.in-Ok.ensures.beyond c.in_default.is;
+  malformed = λ honest. λ yes_it_is. malformed c.args.kind (g.T.SearchableRecords.bytes c.args.text.now) c.args.wanted.now c.args.probes.now c.loop-low.probes c.tick.new.self c.loop-low.low c.loop-low.high (c.loop-low.low + (c.loop-low.high - c.loop-low.low) / 2) (c.loop-low.invariant.halves honest) c.loop-low-test.true refl c.tick.ensures c.in-Ok.probe
+    (subst (λ (t : List ℕ). IsProbeAt c.args.kind t c.args.wanted.now (c.loop-low.low + (c.loop-low.high - c.loop-low.low) / 2) c.in-Ok.probe) c.loop-low.invariant.bytes (c.in-Ok.ensures.probed honest)) c.in-Ok.ensures.beyond c.in_default.is;
 }
 
 pub loop-low-preserved-in-Greater : goal.loop-low-preserved-in-Greater
 loop-low-preserved-in-Greater g c = record {
   counts = let counts = c.loop-low.invariant.counts in let next = c.tick.ensures in omega arith;
   no_fault = c.in-Ok.ensures.no_fault ∙ c.loop-low.invariant.no_fault;
-  bytes = c.look.ensures.kept.0 ∙ c.loop-low.invariant.bytes;
-  frame = c.look.ensures.kept.1 ∙ c.loop-low.invariant.frame;
-  halves = λ honest. step_high c.args.kind (g.T.Text.bytes c.args.text.now) c.args.asked.now c.args.probes.now c.loop-low.probes c.tick.new.self c.loop-low.low c.loop-low.high (c.loop-low.low + (c.loop-low.high - c.loop-low.low) / 2) (c.loop-low.invariant.halves honest) c.loop-low-test.true refl c.tick.ensures c.in-Ok.look
-    (subst (λ (t : List ℕ). LooksAt c.args.kind t c.args.asked.now (c.loop-low.low + (c.loop-low.high - c.loop-low.low) / 2) c.in-Ok.look) c.loop-low.invariant.bytes (c.in-Ok.ensures.looks honest)) c.in-Ok.ensures.beyond (c.in-Some.is ∙ ap (λ o. Some o) c.in-Greater.is);
+  bytes = c.probe.ensures.kept.0 ∙ c.loop-low.invariant.bytes;
+  frame = c.probe.ensures.kept.1 ∙ c.loop-low.invariant.frame;
+  halves = λ honest. step_high c.args.kind (g.T.SearchableRecords.bytes c.args.text.now) c.args.wanted.now c.args.probes.now c.loop-low.probes c.tick.new.self c.loop-low.low c.loop-low.high (c.loop-low.low + (c.loop-low.high - c.loop-low.low) / 2) (c.loop-low.invariant.halves honest) c.loop-low-test.true refl c.tick.ensures c.in-Ok.probe
+    (subst (λ (t : List ℕ). IsProbeAt c.args.kind t c.args.wanted.now (c.loop-low.low + (c.loop-low.high - c.loop-low.low) / 2) c.in-Ok.probe) c.loop-low.invariant.bytes (c.in-Ok.ensures.probed honest)) c.in-Ok.ensures.beyond (c.in-Some.is ∙ ap (λ o. Some o) c.in-Greater.is);
   malformed = λ honest. c.loop-low.invariant.malformed honest;
 }
 
@@ -41,10 +41,10 @@ pub loop-low-preserved : goal.loop-low-preserved
 loop-low-preserved g c = record {
   counts = let counts = c.loop-low.invariant.counts in let next = c.tick.ensures in omega arith;
   no_fault = c.in-Ok.ensures.no_fault ∙ c.loop-low.invariant.no_fault;
-  bytes = c.look.ensures.kept.0 ∙ c.loop-low.invariant.bytes;
-  frame = c.look.ensures.kept.1 ∙ c.loop-low.invariant.frame;
-  halves = λ honest. step_low c.args.kind (g.T.Text.bytes c.args.text.now) c.args.asked.now c.args.probes.now c.loop-low.probes c.tick.new.self c.loop-low.low c.loop-low.high (c.loop-low.low + (c.loop-low.high - c.loop-low.low) / 2) (c.loop-low.invariant.halves honest) c.loop-low-test.true refl c.tick.ensures c.in-Ok.look
-    (subst (λ (t : List ℕ). LooksAt c.args.kind t c.args.asked.now (c.loop-low.low + (c.loop-low.high - c.loop-low.low) / 2) c.in-Ok.look) c.loop-low.invariant.bytes (c.in-Ok.ensures.looks honest)) c.in-Ok.ensures.beyond (c.in-Some.is ∙ ap (λ o. Some o) c.in-Less.is);
+  bytes = c.probe.ensures.kept.0 ∙ c.loop-low.invariant.bytes;
+  frame = c.probe.ensures.kept.1 ∙ c.loop-low.invariant.frame;
+  halves = λ honest. step_low c.args.kind (g.T.SearchableRecords.bytes c.args.text.now) c.args.wanted.now c.args.probes.now c.loop-low.probes c.tick.new.self c.loop-low.low c.loop-low.high (c.loop-low.low + (c.loop-low.high - c.loop-low.low) / 2) (c.loop-low.invariant.halves honest) c.loop-low-test.true refl c.tick.ensures c.in-Ok.probe
+    (subst (λ (t : List ℕ). IsProbeAt c.args.kind t c.args.wanted.now (c.loop-low.low + (c.loop-low.high - c.loop-low.low) / 2) c.in-Ok.probe) c.loop-low.invariant.bytes (c.in-Ok.ensures.probed honest)) c.in-Ok.ensures.beyond (c.in-Some.is ∙ ap (λ o. Some o) c.in-Less.is);
   malformed = λ honest. c.loop-low.invariant.malformed honest;
 }
 
@@ -53,26 +53,26 @@ returns-in-Err-clause-cost g c honest =
     let was = c.loop-low.invariant.halves honest in
     let counts = was.counts in
     let next = c.tick.ensures in
-    record { some = λ more. omega arith; few = cost_counted c.args.probes.now c.loop-low.probes c.tick.new.self c.loop-low.low c.loop-low.high (length (g.T.Text.bytes c.args.text.now)) was.counts c.tick.ensures was.width c.loop-low-test.true }
+    record { some = λ more. omega arith; few = cost_counted c.args.probes.now c.loop-low.probes c.tick.new.self c.loop-low.low c.loop-low.high (length (g.T.SearchableRecords.bytes c.args.text.now)) was.counts c.tick.ensures was.width c.loop-low-test.true }
 
 pub returns-in-Equal-clause-cost : goal.returns-in-Equal-clause-cost
-returns-in-Equal-clause-cost g c honest = counted_now c.args.kind (g.T.Text.bytes c.args.text.now) c.args.asked.now c.args.probes.now c.loop-low.probes c.tick.new.self c.loop-low.low c.loop-low.high (c.loop-low.low + (c.loop-low.high - c.loop-low.low) / 2) (c.loop-low.invariant.halves honest) c.loop-low-test.true refl c.tick.ensures c.in-Ok.look
-    (subst (λ (t : List ℕ). LooksAt c.args.kind t c.args.asked.now (c.loop-low.low + (c.loop-low.high - c.loop-low.low) / 2) c.in-Ok.look) c.loop-low.invariant.bytes (c.in-Ok.ensures.looks honest)) c.in-Ok.ensures.beyond
+returns-in-Equal-clause-cost g c honest = counted_now c.args.kind (g.T.SearchableRecords.bytes c.args.text.now) c.args.wanted.now c.args.probes.now c.loop-low.probes c.tick.new.self c.loop-low.low c.loop-low.high (c.loop-low.low + (c.loop-low.high - c.loop-low.low) / 2) (c.loop-low.invariant.halves honest) c.loop-low-test.true refl c.tick.ensures c.in-Ok.probe
+    (subst (λ (t : List ℕ). IsProbeAt c.args.kind t c.args.wanted.now (c.loop-low.low + (c.loop-low.high - c.loop-low.low) / 2) c.in-Ok.probe) c.loop-low.invariant.bytes (c.in-Ok.ensures.probed honest)) c.in-Ok.ensures.beyond
 
 pub returns-in-Equal-clause-hit : goal.returns-in-Equal-clause-hit
-returns-in-Equal-clause-hit g c honest = found_hit c.args.kind (g.T.Text.bytes c.args.text.now) c.args.asked.now c.args.probes.now c.loop-low.probes c.tick.new.self c.loop-low.low c.loop-low.high (c.loop-low.low + (c.loop-low.high - c.loop-low.low) / 2) (c.loop-low.invariant.halves honest) c.loop-low-test.true refl c.tick.ensures c.in-Ok.look
-    (subst (λ (t : List ℕ). LooksAt c.args.kind t c.args.asked.now (c.loop-low.low + (c.loop-low.high - c.loop-low.low) / 2) c.in-Ok.look) c.loop-low.invariant.bytes (c.in-Ok.ensures.looks honest)) c.in-Ok.ensures.beyond (c.in-Some.is ∙ ap (λ o. Some o) c.in-Equal.is)
+returns-in-Equal-clause-hit g c honest = found_hit c.args.kind (g.T.SearchableRecords.bytes c.args.text.now) c.args.wanted.now c.args.probes.now c.loop-low.probes c.tick.new.self c.loop-low.low c.loop-low.high (c.loop-low.low + (c.loop-low.high - c.loop-low.low) / 2) (c.loop-low.invariant.halves honest) c.loop-low-test.true refl c.tick.ensures c.in-Ok.probe
+    (subst (λ (t : List ℕ). IsProbeAt c.args.kind t c.args.wanted.now (c.loop-low.low + (c.loop-low.high - c.loop-low.low) / 2) c.in-Ok.probe) c.loop-low.invariant.bytes (c.in-Ok.ensures.probed honest)) c.in-Ok.ensures.beyond (c.in-Some.is ∙ ap (λ o. Some o) c.in-Equal.is)
 
 pub returns-in-Equal-clause-finds : goal.returns-in-Equal-clause-finds
-returns-in-Equal-clause-finds g c honest = found_there c.args.kind (g.T.Text.bytes c.args.text.now) c.args.asked.now c.args.probes.now c.loop-low.probes c.tick.new.self c.loop-low.low c.loop-low.high (c.loop-low.low + (c.loop-low.high - c.loop-low.low) / 2) (c.loop-low.invariant.halves honest) c.loop-low-test.true refl c.tick.ensures c.in-Ok.look
-    (subst (λ (t : List ℕ). LooksAt c.args.kind t c.args.asked.now (c.loop-low.low + (c.loop-low.high - c.loop-low.low) / 2) c.in-Ok.look) c.loop-low.invariant.bytes (c.in-Ok.ensures.looks honest)) c.in-Ok.ensures.beyond (c.in-Some.is ∙ ap (λ o. Some o) c.in-Equal.is)
+returns-in-Equal-clause-finds g c honest = found_there c.args.kind (g.T.SearchableRecords.bytes c.args.text.now) c.args.wanted.now c.args.probes.now c.loop-low.probes c.tick.new.self c.loop-low.low c.loop-low.high (c.loop-low.low + (c.loop-low.high - c.loop-low.low) / 2) (c.loop-low.invariant.halves honest) c.loop-low-test.true refl c.tick.ensures c.in-Ok.probe
+    (subst (λ (t : List ℕ). IsProbeAt c.args.kind t c.args.wanted.now (c.loop-low.low + (c.loop-low.high - c.loop-low.low) / 2) c.in-Ok.probe) c.loop-low.invariant.bytes (c.in-Ok.ensures.probed honest)) c.in-Ok.ensures.beyond (c.in-Some.is ∙ ap (λ o. Some o) c.in-Equal.is)
 
-pub returns-then-shapeless-clause-cost : goal.returns-then-shapeless-clause-cost
-returns-then-shapeless-clause-cost g c honest = counted_end c.args.kind (g.T.Text.bytes c.args.text.now) c.args.asked.now c.args.probes.now c.loop-low.probes c.loop-low.low c.loop-low.high (c.loop-low.invariant.halves honest) c.loop-low-test.false
+pub returns-then-saw_malformed_line-clause-cost : goal.returns-then-saw_malformed_line-clause-cost
+returns-then-saw_malformed_line-clause-cost g c honest = counted_end c.args.kind (g.T.SearchableRecords.bytes c.args.text.now) c.args.wanted.now c.args.probes.now c.loop-low.probes c.loop-low.low c.loop-low.high (c.loop-low.invariant.halves honest) c.loop-low-test.false
 
-pub returns-else-shapeless-clause-cost : goal.returns-else-shapeless-clause-cost
-returns-else-shapeless-clause-cost g c honest = counted_end c.args.kind (g.T.Text.bytes c.args.text.now) c.args.asked.now c.args.probes.now c.loop-low.probes c.loop-low.low c.loop-low.high (c.loop-low.invariant.halves honest) c.loop-low-test.false
+pub returns-else-saw_malformed_line-clause-cost : goal.returns-else-saw_malformed_line-clause-cost
+returns-else-saw_malformed_line-clause-cost g c honest = counted_end c.args.kind (g.T.SearchableRecords.bytes c.args.text.now) c.args.wanted.now c.args.probes.now c.loop-low.probes c.loop-low.low c.loop-low.high (c.loop-low.invariant.halves honest) c.loop-low-test.false
 
-pub returns-else-shapeless-clause-finds : goal.returns-else-shapeless-clause-finds
-returns-else-shapeless-clause-finds g c honest =
-    nowhere c.args.kind (g.T.Text.bytes c.args.text.now) c.args.asked.now c.loop-low.low c.loop-low.high c.loop-low-test.false (c.loop-low.invariant.halves honest).inside
+pub returns-else-saw_malformed_line-clause-finds : goal.returns-else-saw_malformed_line-clause-finds
+returns-else-saw_malformed_line-clause-finds g c honest =
+    nowhere c.args.kind (g.T.SearchableRecords.bytes c.args.text.now) c.args.wanted.now c.loop-low.low c.loop-low.high c.loop-low-test.false (c.loop-low.invariant.halves honest).inside

@@ -1,5 +1,5 @@
 use Rattle.std.proofs.Common.{◌+◌, ◌≤◌, length}
-use Rattle.gix_ref_packed.proofs.PackedSorting.{Reads}
+use Rattle.gix_ref_packed.proofs.SortedPieces.{Reads}
 use Rattle.gix_ref_packed.proofs.packed.sorting.names_rise.Given as goal
 
 abbrev pub invariant-loop-rest : goal.invariant-loop-rest

@@ -1,6 +1,6 @@
 use Rattle.std.proofs.Common.{◌≡◌, ◌≢◌, ◌==◌, List, ℕ, [], ◌∷◌, true, false, length, refl, sym, ◌∙◌, ap, eqb-true, arith}
-use Rattle.gix_ref_packed.proofs.PackedReadings.{same_shape}
-use Rattle.gix_ref_packed.proofs.PackedWindows.{name_wider}
+use Rattle.gix_ref_packed.proofs.OneReading.{same_record_line}
+use Rattle.gix_ref_packed.proofs.WindowLemmas.{name_wider}
 use Rattle.gix_ref_packed.proofs.packed.window.name_in.Goals as goal
 
 empty : (n : List ℕ) → (length n == 0) ≡ true → n ≡ []
@@ -16,7 +16,7 @@ returns-then-lacks_name-clause-tells c = λ text is all n some at. c.lacks_name.
 pub returns-then-is_empty-clause-tells : goal.returns-then-is_empty-clause-tells
 returns-then-is_empty-clause-tells c = λ text is all n some at.
     let here = name_wider c.args.kind text c.args.part.now _ c.in-Some.name.now _ c.in-Some.ensures is in
-    let same = (same_shape c.args.kind text at.0 n at.1 here.0 c.in-Some.name.now here.1 at.2 here.2).1 in
+    let same = (same_record_line c.args.kind text at.0 n at.1 here.0 c.in-Some.name.now here.1 at.2 here.2).1 in
     some (same ∙ empty c.in-Some.name.now (sym c.if-is_empty.ensures))
 
 pub returns-clause-tells : goal.returns-clause-tells

@@ -1,8 +1,8 @@
 use Rattle.std.proofs.Common.{◌≤◌, ℕ, length, drop, arith, sym, subst}
-use Rattle.gix_ref_packed.specs.PackedShown.{IfHere}
+use Rattle.gix_ref_packed.specs.Shown.{IfHere}
 use Rattle.std.proofs.lemmas.List.{take_rest}
-use Rattle.gix_ref_packed.specs.PackedWindows.{FrontIs}
-use Rattle.gix_ref_packed.proofs.PackedWindows.{part_is, whole_part}
+use Rattle.gix_ref_packed.specs.Windows.{FrontIs}
+use Rattle.gix_ref_packed.proofs.WindowLemmas.{part_is, whole_part}
 use Rattle.gix_ref_packed.proofs.packed.window.record_in.Goals as goal
 
 pub returns-clause-front : goal.returns-clause-front

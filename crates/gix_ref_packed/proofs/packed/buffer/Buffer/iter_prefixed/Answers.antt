@@ -1,10 +1,10 @@
 use Rattle.std.proofs.Common.{◌∙◌, ◌+◌, List, ℕ, Some, ap, subst, drop, take}
-use Rattle.gix_ref_packed.specs.PackedPrefixes.{IsListStart}
+use Rattle.gix_ref_packed.specs.Prefixes.{IsListStart}
 use Rattle.std.proofs.lemmas.List.{take_rest}
-use Rattle.gix_ref_packed.specs.PackedItems.{line_feeds}
-use Rattle.gix_ref_packed.specs.PackedBuffer.{buffer_text, buffer_kind, buffer_line}
-use Rattle.gix_ref_packed.proofs.PackedRuns.{each_run}
-use Rattle.gix_ref_packed.proofs.PackedPrefixRuns.{prefix_records}
+use Rattle.gix_ref_packed.specs.Items.{line_feeds}
+use Rattle.gix_ref_packed.specs.Buffers.{buffer_text, buffer_kind, buffer_line}
+use Rattle.gix_ref_packed.proofs.ItemRuns.{each_run}
+use Rattle.gix_ref_packed.proofs.PrefixRuns.{prefix_records}
 use Rattle.gix_ref_packed.proofs.packed.buffer.Buffer.iter_prefixed.Goals as goal
 
 pub returns-clause-items : goal.returns-clause-items

@@ -1,4 +1,0 @@
-use Rattle.gix_ref_packed.proofs.packed.source.Source.find.Given as goal
-
-abbrev pub ghosts-find_blank : goal.ghosts-find_blank
-ghosts-find_blank g a = record { name = a.blank.name; parts = a.blank.parts }
