@@ -4,7 +4,7 @@ use Rattle.std.specs.Cmp.Lexicographic.{pointwise}
 use Rattle.gix_ref_hash.specs.declared.hash.Kind.{Kind}
 use Rattle.gix_ref_packed.specs.declared.packed.window.Found.{Found}
 use Rattle.gix_ref_packed.specs.RecordGrammar.{Record, Takes, NoRecord, TakesForm, Records, Forms, Ascending, Peeled, PeeledForm}
-use Rattle.gix_ref_packed.specs.Positions.{record_named, HitsAt, FindsAt, IsUnreadable, IsReadable, IsObject, IsDamaged, IsMalformed}
+use Rattle.gix_ref_packed.specs.Positions.{record_named, HitsAt, FindsAt, IsUnreadable, IsReadable, IsObject, IsDamaged, IsMalformed, IsNotMalformed}
 use Rattle.gix_ref_packed.specs.declared.packed.sorted_file.FindError.TheVariants.{Parse}
 use Rattle.gix_ref_packed.specs.FileSearches.{FindsIn}
 use Rattle.gix_ref_packed.specs.Windows.{IsFound, AreFound, FrontIs, HitsRecord}
@@ -79,6 +79,7 @@ module _ (k : Kind) (t u wanted n : List ℕ) (s : ℕ) (same : u ≡ t) (named 
   pub found_finds : (f : Found) → HitsAt k t wanted s → ((rs : List Record) → Forms k t rs → Ascending rs → FindsAt k t rs wanted s) → FrontIs k (drop s u) (Some f) → FindsIn k t n (Ok (Some f))
   found_finds f hit finds front = record {
     hit = found_hits f hit front;
+    none = tt;
     refused = tt;
     records = λ rs h up. found_is rs f (finds rs (forms_of k t rs h) up) front;
     forms = λ rs h up. found_is rs f (finds rs h up) front;
@@ -87,14 +88,15 @@ module _ (k : Kind) (t u wanted n : List ℕ) (s : ℕ) (same : u ≡ t) (named 
   pub bad_finds : HitsAt k t wanted s → ((rs : List Record) → Forms k t rs → Ascending rs → FindsAt k t rs wanted s) → FrontIs k (drop s u) None → FindsIn k t n (Err Parse)
   bad_finds hit finds front = record {
     hit = tt;
+    none = tt;
     refused = inr (found_damaged hit front);
     records = λ rs h up. absurd (records_readable k t rs h n (found_bad rs (finds rs (forms_of k t rs h) up) front));
     forms = λ rs h up. found_bad rs (finds rs h up) front;
   }
 
 module _ (k : Kind) (t wanted n : List ℕ) (named : wanted ≡ n) where
-  pub none_finds : ((rs : List Record) → Forms k t rs → Ascending rs → record_named wanted rs ≡ None) → FindsIn k t n (Ok None)
-  none_finds none = record { hit = tt; refused = tt; records = λ rs h up. there rs (forms_of k t rs h) up; forms = there }
+  pub none_finds : IsNotMalformed k t → ((rs : List Record) → Forms k t rs → Ascending rs → record_named wanted rs ≡ None) → FindsIn k t n (Ok None)
+  none_finds line none = record { hit = tt; none = line; refused = tt; records = λ rs h up. there rs (forms_of k t rs h) up; forms = there }
     where
       there : (rs : List Record) → Forms k t rs → Ascending rs → AreFound (record_named n rs) None
       there rs h up =
@@ -104,6 +106,7 @@ module _ (k : Kind) (t wanted n : List ℕ) (named : wanted ≡ n) where
 pub malformed_finds : (k : Kind) (t n : List ℕ) → IsMalformed k t → FindsIn k t n (Err Parse)
 malformed_finds k t n bad = record {
   hit = tt;
+  none = tt;
   refused = inl bad;
   records = λ rs h up. absurd (not_malformed k t rs bad (forms_of k t rs h));
   forms = λ rs h up. absurd (not_malformed k t rs bad h);

@@ -1,5 +1,5 @@
 -- Each probe leaves the record inside.
-use Rattle.std.proofs.Common.{◌≡◌, ◌≢◌, inl, inr, ⊎_elim, ℕ, ◌*◌, ◌+◌, ◌-◌, ◌/◌, ◌^◌, ◌<◌, ◌≤◌, Bool, true, false, cond, List, [], ◌∷◌, length, drop, get_or, refl, sym, ◌∙◌, ap, subst, arith, add-one, Some, None, nat_eq}
+use Rattle.std.proofs.Common.{◌≡◌, ◌≢◌, ◌⊎◌, inl, inr, ⊎_elim, ℕ, ◌*◌, ◌+◌, ◌-◌, ◌/◌, ◌^◌, ◌<◌, ◌≤◌, Bool, true, false, cond, List, [], ◌∷◌, length, drop, get_or, refl, sym, ◌∙◌, ap, subst, arith, add-one, Some, None, nat_eq}
 use Rattle.std.specs.List.{All}
 use Rattle.std.specs.Cmp.Lexicographic.{pointwise, slice_cmp, bytes_decides}
 use Rattle.std.specs.Ordering.{nat_cmp, ordering_reverse}
@@ -11,7 +11,7 @@ use Rattle.std.proofs.lemmas.Map.Lookups.{exact_bytes}
 use Rattle.std.proofs.lemmas.List.Elements.{All-head, All-tail}
 use Rattle.gix_ref_hash.specs.declared.hash.Kind.{Kind}
 use Rattle.gix_ref_packed.specs.RecordGrammar.{Record, RecordLine, Takes, Forms, Below, Ascending}
-use Rattle.gix_ref_packed.specs.Positions.{record_named, LineOf, SameLine, RecordOf, NameAt, Compares, FindsAt, HitsAt, BeginsLine, IsMalformed}
+use Rattle.gix_ref_packed.specs.Positions.{record_named, LineOf, SameLine, RecordOf, NameAt, Compares, FindsAt, HitsAt, BeginsLine, IsMalformed, HasRecordLine, IsNotMalformed}
 use Rattle.gix_ref_packed.specs.Probed.{IsProbeAt}
 use Rattle.gix_ref_packed.specs.SearchCosts.{CountsProbes}
 use Rattle.gix_ref_packed.specs.declared.packed.searchable.Probe.{Probe}
@@ -295,6 +295,11 @@ module _ (k : Kind) (text n : List ℕ) (first p q low high at : ℕ) (was : Hal
     no_name = let order = probed.order in subst (Compares k (drop probe.start text) n) is order;
   }
 
+  pub line_there : (o : Ordering) → probe.order ≡ Some o → HasRecordLine k text
+  line_there o is =
+      let name = name_there o is in
+      record { start = probe.start; offset = at; within = inside_text; begins = probed.record_of; name = name.0; some = name.3; named = name.1 }
+
   pub step_malformed : probe.order ≡ None → Halving k text n first q probe.next high
   step_malformed is =
       let counts = was.counts in
@@ -321,3 +326,8 @@ counted_end k text n first p low high was met = record {
       (λ (same : p ≤ first). let begun = was.begun same in let zero = begun.0 in let all = begun.1 in absurd (omega arith)) (cases_lt first p);
   few = was.few;
 }
+
+-- the search ended and no line was malformed
+pub not_malformed_end : (k : Kind) (text n : List ℕ) (first p low high : ℕ) → Halving k text n first p low high → high ≤ low → (p ≤ first) ⊎ HasRecordLine k text → IsNotMalformed k text
+not_malformed_end k text n first p low high was met (inl early) some = let begun = was.begun early in let zero = begun.0 in let all = begun.1 in absurd (omega arith)
+not_malformed_end k text n first p low high was met (inr there) some = there

@@ -1,10 +1,10 @@
 -- What a search in a file answers.
-use Rattle.std.specs.Prelude.{◌≢◌, ℕ, List, Option, Result, IfOk, IfErr, IfSome, MatchResult}
+use Rattle.std.specs.Prelude.{◌≢◌, ℕ, List, Option, Result, IfOk, IfErr, IfSome, IfNone, MatchResult}
 use Rattle.gix_ref_hash.specs.declared.hash.Kind.{Kind}
 use Rattle.gix_ref_files.specs.Files.{one_more}
 use Rattle.gix_ref_files.specs.declared.files.FileError.TheVariants.{Memory as NoMemory}
 use Rattle.gix_ref_packed.specs.RecordGrammar.{Record, Records, Forms, Ascending}
-use Rattle.gix_ref_packed.specs.Positions.{record_named, CannotRead, IsUnreadable}
+use Rattle.gix_ref_packed.specs.Positions.{record_named, IsNotMalformed, CannotRead, IsUnreadable}
 use Rattle.gix_ref_packed.specs.Windows.{AreFound, HitsRecord}
 use Rattle.gix_ref_packed.specs.declared.packed.window.Found.{Found}
 use Rattle.gix_ref_packed.specs.declared.packed.sorted_file.ReadError.{ReadError}
@@ -37,6 +37,8 @@ IsFaultOr unreadable Parse = unreadable
 pub record FindsIn (kind : Kind) (text name : List ℕ) (result : Result (Option Found) FindError) : Type 0 where
   -- on any text a hit is a record of that name at the start of a line
   pub hit : IfOk result (λ found. IfSome found (HitsRecord kind text name))
+  -- a text of malformed lines alone is never taken for one without the name
+  pub none : IfOk result (λ found. IfNone found (IsNotMalformed kind text))
   -- why it fails on any text
   pub refused : IfErr result (FailsIn kind text name)
   -- among ascending records it is the record of the name, or there is none

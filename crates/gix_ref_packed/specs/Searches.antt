@@ -1,5 +1,5 @@
 -- What a search in memory answers.
-use Rattle.std.specs.Prelude.{◌≡◌, ℕ, List, Contains, false, Option, Some, None, Result, Ok, Err, IfOk, IfErr, IfSome, MatchResult}
+use Rattle.std.specs.Prelude.{◌≡◌, ℕ, List, Contains, false, Option, Some, None, Result, Ok, Err, IfOk, IfErr, IfSome, IfNone, MatchResult}
 use Rattle.std.specs.Option.{option_map}
 use Rattle.gix_ref_hash.specs.declared.hash.Kind.{Kind}
 use Rattle.gix_ref_base.specs.Names.{full_ref_bytes}
@@ -10,7 +10,7 @@ use Rattle.gix_ref_packed.specs.declared.packed.find.ParseError.{ParseError}
 use Rattle.gix_ref_packed.specs.declared.packed.find.existing.Error.{Error as ExistingError}
 use Rattle.gix_ref_packed.specs.declared.packed.find.existing.Error.TheVariants.{Find, NotFound}
 use Rattle.gix_ref_packed.specs.RecordGrammar.{Record, Records, Forms, Ascending}
-use Rattle.gix_ref_packed.specs.Positions.{record_named, StandsIn, CannotRead, IsUnreadable}
+use Rattle.gix_ref_packed.specs.Positions.{record_named, StandsIn, IsNotMalformed, CannotRead, IsUnreadable}
 use Rattle.gix_ref_packed.specs.Views.{record_of}
 use Rattle.gix_ref_packed.specs.AskedNames.{asked_names, first_named, is_rooted}
 
@@ -18,6 +18,8 @@ use Rattle.gix_ref_packed.specs.AskedNames.{asked_names, first_named, is_rooted}
 pub record Finds {E : Type 0} (kind : Kind) (text name : List ℕ) (result : Result (Option Reference) E) : Type 0 where
   -- on any text a hit is a record of that name at the start of a line
   pub hit : IfOk result (λ found. IfSome found (λ r. (full_ref_bytes r.name ≡ name) × StandsIn kind text (record_of r)))
+  -- a text of malformed lines alone is never taken for one without the name
+  pub none : IfOk result (λ found. IfNone found (IsNotMalformed kind text))
   -- on any text an error comes from a malformed line, or from a record of the name that cannot be read
   pub refused : IfErr result (λ _. CannotRead kind text name)
   -- among ascending records it is the record of the name, or there is none

@@ -1,7 +1,7 @@
 //! The search for one full name by halving.
-ghost use Rattle.std.specs.Prelude.{◌≡◌, ◌≤◌, List, length, None, IfOk, IfErr, IfSome, MatchOption};
+ghost use Rattle.std.specs.Prelude.{◌≡◌, ◌≤◌, List, length, None, IfOk, IfErr, IfSome, IfNone, MatchOption};
 ghost use Rattle.gix_ref_packed.specs.RecordGrammar.{Record, Forms, Ascending};
-ghost use Rattle.gix_ref_packed.specs.Positions.{record_named, HitsAt, FindsAt, IsMalformed};
+ghost use Rattle.gix_ref_packed.specs.Positions.{record_named, HitsAt, FindsAt, IsMalformed, IsNotMalformed};
 ghost use Rattle.gix_ref_packed.specs.SearchCosts.{CountsProbes, FailsBy, count_search};
 
 use crate::packed::probes::Probes;
@@ -52,6 +52,9 @@ pub fn search<T: SearchableRecords, L: Ledger>(
     ensures finds { T.honest → (rs : List Record) → Forms kind (T.bytes text.old) rs → Ascending rs →
         IfOk result (λ found. MatchOption found (record_named wanted.now rs ≡ None)
             (FindsAt kind (T.bytes text.old) rs wanted.now)) }
+
+    // A text of malformed lines alone is never taken for one without the name.
+    ensures none { T.honest → IfOk result (λ found. IfNone found (IsNotMalformed kind (T.bytes text.old))) }
 
     // On any text a probe failed by what the text may fail by, or a line is malformed.
     ensures fails { T.honest → IfErr result (FailsBy T.can_fail (IsMalformed kind (T.bytes text.old))) }

@@ -6,7 +6,7 @@ use Rattle.gix_ref_packed.proofs.MemorySearches.{found_in_memory, none_in_memory
 use Rattle.gix_ref_packed.proofs.packed.find.find_record.Goals as goal
 
 pub returns-in-Ok-None-clause-finds : goal.returns-in-Ok-None-clause-finds
-returns-in-Ok-None-clause-finds g c = none_in_memory c.args.kind c.args.text.now c.args.wanted.now (rw c.in-Ok-None.field-0-is at c.in-Ok-None.ensures.finds tt)
+returns-in-Ok-None-clause-finds g c = none_in_memory c.args.kind c.args.text.now c.args.wanted.now (rw c.in-Ok-None.field-0-is at c.in-Ok-None.ensures.none tt) (rw c.in-Ok-None.field-0-is at c.in-Ok-None.ensures.finds tt)
 
 pub returns-in-Err-clause-finds : goal.returns-in-Err-clause-finds
 returns-in-Err-clause-finds g c = malformed_in_memory c.args.kind c.args.text.now c.args.wanted.now c.in-Err.field-0 (c.in-Err.ensures.fails tt)

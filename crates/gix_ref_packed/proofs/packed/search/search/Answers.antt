@@ -1,7 +1,7 @@
-use Rattle.std.proofs.Common.{◌+◌, ◌-◌, ◌/◌, ℕ, List, length, refl, ◌∙◌, ap, subst, arith, Some}
-use Rattle.gix_ref_packed.specs.RecordGrammar.{Record}
+use Rattle.std.proofs.Common.{◌+◌, ◌-◌, ◌/◌, ℕ, List, length, refl, inl, inr, ◌∙◌, ap, subst, arith, Some}
+use Rattle.std.specs.declared.cmp.Ordering.TheVariants.{Less, Greater}
 use Rattle.gix_ref_packed.specs.Probed.{IsProbeAt}
-use Rattle.gix_ref_packed.proofs.Halves.{none_yet, step_low, step_high, step_malformed, malformed, found_hit, found_there, counted_now, counted_end, nowhere, cost_counted}
+use Rattle.gix_ref_packed.proofs.Halves.{none_yet, step_low, step_high, step_malformed, malformed, line_there, not_malformed_end, found_hit, found_there, counted_now, counted_end, nowhere, cost_counted}
 use Rattle.gix_ref_packed.proofs.packed.search.search.Goals as goal
 
 pub loop-low-init : goal.loop-low-init
@@ -11,6 +11,7 @@ loop-low-init g c = record {
   bytes = refl;
   frame = refl;
   halves = λ honest. none_yet c.args.kind (g.T.SearchableRecords.bytes c.args.text.now) c.args.wanted.now c.args.probes.now c.len-high.result (c.len-high.ensures honest);
+  line = λ honest no. inl (omega arith);
   malformed = λ honest yes_it_is. absurd (cc);
 }
 
@@ -22,6 +23,7 @@ loop-low-preserved-in_default g c = record {
   frame = c.probe.ensures.kept.1 ∙ c.loop-low.invariant.frame;
   halves = λ honest. step_malformed c.args.kind (g.T.SearchableRecords.bytes c.args.text.now) c.args.wanted.now c.args.probes.now c.loop-low.probes c.tick.new.self c.loop-low.low c.loop-low.high (c.loop-low.low + (c.loop-low.high - c.loop-low.low) / 2) (c.loop-low.invariant.halves honest) c.loop-low-test.true refl c.tick.ensures c.in-Ok.probe
     (subst (λ (t : List ℕ). IsProbeAt c.args.kind t c.args.wanted.now (c.loop-low.low + (c.loop-low.high - c.loop-low.low) / 2) c.in-Ok.probe) c.loop-low.invariant.bytes (c.in-Ok.ensures.probed honest)) c.in-Ok.ensures.beyond c.in_default.is;
+  line = λ honest no. absurd (cc);
   malformed = λ honest. λ yes_it_is. malformed c.args.kind (g.T.SearchableRecords.bytes c.args.text.now) c.args.wanted.now c.args.probes.now c.loop-low.probes c.tick.new.self c.loop-low.low c.loop-low.high (c.loop-low.low + (c.loop-low.high - c.loop-low.low) / 2) (c.loop-low.invariant.halves honest) c.loop-low-test.true refl c.tick.ensures c.in-Ok.probe
     (subst (λ (t : List ℕ). IsProbeAt c.args.kind t c.args.wanted.now (c.loop-low.low + (c.loop-low.high - c.loop-low.low) / 2) c.in-Ok.probe) c.loop-low.invariant.bytes (c.in-Ok.ensures.probed honest)) c.in-Ok.ensures.beyond c.in_default.is;
 }
@@ -34,6 +36,8 @@ loop-low-preserved-in-Greater g c = record {
   frame = c.probe.ensures.kept.1 ∙ c.loop-low.invariant.frame;
   halves = λ honest. step_high c.args.kind (g.T.SearchableRecords.bytes c.args.text.now) c.args.wanted.now c.args.probes.now c.loop-low.probes c.tick.new.self c.loop-low.low c.loop-low.high (c.loop-low.low + (c.loop-low.high - c.loop-low.low) / 2) (c.loop-low.invariant.halves honest) c.loop-low-test.true refl c.tick.ensures c.in-Ok.probe
     (subst (λ (t : List ℕ). IsProbeAt c.args.kind t c.args.wanted.now (c.loop-low.low + (c.loop-low.high - c.loop-low.low) / 2) c.in-Ok.probe) c.loop-low.invariant.bytes (c.in-Ok.ensures.probed honest)) c.in-Ok.ensures.beyond (c.in-Some.is ∙ ap (λ o. Some o) c.in-Greater.is);
+  line = λ honest no. inr (line_there c.args.kind (g.T.SearchableRecords.bytes c.args.text.now) c.args.wanted.now c.args.probes.now c.loop-low.probes c.tick.new.self c.loop-low.low c.loop-low.high (c.loop-low.low + (c.loop-low.high - c.loop-low.low) / 2) (c.loop-low.invariant.halves honest) c.loop-low-test.true refl c.tick.ensures c.in-Ok.probe
+    (subst (λ (t : List ℕ). IsProbeAt c.args.kind t c.args.wanted.now (c.loop-low.low + (c.loop-low.high - c.loop-low.low) / 2) c.in-Ok.probe) c.loop-low.invariant.bytes (c.in-Ok.ensures.probed honest)) c.in-Ok.ensures.beyond Greater (c.in-Some.is ∙ ap (λ o. Some o) c.in-Greater.is));
   malformed = λ honest. c.loop-low.invariant.malformed honest;
 }
 
@@ -45,6 +49,8 @@ loop-low-preserved g c = record {
   frame = c.probe.ensures.kept.1 ∙ c.loop-low.invariant.frame;
   halves = λ honest. step_low c.args.kind (g.T.SearchableRecords.bytes c.args.text.now) c.args.wanted.now c.args.probes.now c.loop-low.probes c.tick.new.self c.loop-low.low c.loop-low.high (c.loop-low.low + (c.loop-low.high - c.loop-low.low) / 2) (c.loop-low.invariant.halves honest) c.loop-low-test.true refl c.tick.ensures c.in-Ok.probe
     (subst (λ (t : List ℕ). IsProbeAt c.args.kind t c.args.wanted.now (c.loop-low.low + (c.loop-low.high - c.loop-low.low) / 2) c.in-Ok.probe) c.loop-low.invariant.bytes (c.in-Ok.ensures.probed honest)) c.in-Ok.ensures.beyond (c.in-Some.is ∙ ap (λ o. Some o) c.in-Less.is);
+  line = λ honest no. inr (line_there c.args.kind (g.T.SearchableRecords.bytes c.args.text.now) c.args.wanted.now c.args.probes.now c.loop-low.probes c.tick.new.self c.loop-low.low c.loop-low.high (c.loop-low.low + (c.loop-low.high - c.loop-low.low) / 2) (c.loop-low.invariant.halves honest) c.loop-low-test.true refl c.tick.ensures c.in-Ok.probe
+    (subst (λ (t : List ℕ). IsProbeAt c.args.kind t c.args.wanted.now (c.loop-low.low + (c.loop-low.high - c.loop-low.low) / 2) c.in-Ok.probe) c.loop-low.invariant.bytes (c.in-Ok.ensures.probed honest)) c.in-Ok.ensures.beyond Less (c.in-Some.is ∙ ap (λ o. Some o) c.in-Less.is));
   malformed = λ honest. c.loop-low.invariant.malformed honest;
 }
 
@@ -76,3 +82,8 @@ returns-else-saw_malformed_line-clause-cost g c honest = counted_end c.args.kind
 pub returns-else-saw_malformed_line-clause-finds : goal.returns-else-saw_malformed_line-clause-finds
 returns-else-saw_malformed_line-clause-finds g c honest =
     nowhere c.args.kind (g.T.SearchableRecords.bytes c.args.text.now) c.args.wanted.now c.loop-low.low c.loop-low.high c.loop-low-test.false (c.loop-low.invariant.halves honest).inside
+
+pub returns-else-saw_malformed_line-clause-none : goal.returns-else-saw_malformed_line-clause-none
+returns-else-saw_malformed_line-clause-none g c honest =
+    not_malformed_end c.args.kind (g.T.SearchableRecords.bytes c.args.text.now) c.args.wanted.now c.args.probes.now c.loop-low.probes c.loop-low.low c.loop-low.high (c.loop-low.invariant.halves honest) c.loop-low-test.false
+    (c.loop-low.invariant.line honest c.if-saw_malformed_line.false)

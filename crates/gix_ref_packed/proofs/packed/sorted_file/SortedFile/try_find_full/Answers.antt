@@ -22,7 +22,7 @@ returns-in-Err-clause-same g c = c.record_at.ensures.same ∙ ap (λ f. f.0) c.s
 
 pub returns-in-Ok-None-clause-finds : goal.returns-in-Ok-None-clause-finds
 returns-in-Ok-None-clause-finds g c = λ honest.
-    none_finds c.args.kind _ _ _ c.to_path.ensures.bytes (rw c.in-Ok-None.field-0-is at c.in-Ok-None.ensures.finds honest)
+    none_finds c.args.kind _ _ _ c.to_path.ensures.bytes (rw c.in-Ok-None.field-0-is at c.in-Ok-None.ensures.none honest) (rw c.in-Ok-None.field-0-is at c.in-Ok-None.ensures.finds honest)
 
 pub returns-in-Err-Parse-clause-finds : goal.returns-in-Err-Parse-clause-finds
 returns-in-Err-Parse-clause-finds g c = λ honest. malformed_finds c.args.kind _ _ (rw c.in-Err-Parse.field-0-is at c.in-Err-Parse.ensures.fails honest)
