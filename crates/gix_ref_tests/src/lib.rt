@@ -18,8 +18,6 @@ mod names;
 #[cfg(test)]
 mod namespaces;
 #[cfg(test)]
-mod packed;
-#[cfg(test)]
 mod program;
 pub mod publish;
 #[cfg(test)]

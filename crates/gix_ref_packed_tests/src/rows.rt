@@ -1,39 +1,40 @@
 //! Worked cases: headers, records, opened buffers, items and partial names.
-use crate::made::{full, id, partial};
-use crate::packed::made::{CRLF, NAMES, SORTED, TEXT, buffer, copied, sorted};
+use crate::made::{CRLF, SORTED, TEXT, buffer, copied, id, partial, sorted};
 use gix_ref_hash::hash::Kind;
 use gix_ref_packed::packed::buffer::open::Error as OpenError;
 use gix_ref_packed::packed::decode::{
     Header, Peeled, header, name_at_record_start, record_at_offset, record_start_at_offset,
     reference,
 };
+use gix_ref_packed::packed::find::Error as FindError;
 use gix_ref_packed::packed::find::existing::Error as ExistingError;
 use gix_ref_packed::packed::iter::Error as ItemError;
-use gix_ref_packed::packed::written::text_of;
 use gix_ref_packed::packed::{Buffer, Iter};
-use gix_ref_packed::raw;
 
 #[test]
 fn headers(rt: HostRuntime) {
-    let rows: [(&[u8], Option<(Peeled, bool, &[u8])>); 7] = [
+    let rows: [(&[u8], Option<(Peeled, bool, &[u8])>, &str); 7] = [
         (
             b"# pack-refs with: peeled fully-peeled sorted  \nsomething else",
             Some((Peeled::Fully, true, b"something else")),
+            "words parted by spaces, and what follows the line",
         ),
         (
             b"# pack-refs with: \n",
             Some((Peeled::Unspecified, false, b"")),
+            "no words",
         ),
         (
             b"# pack-refs with: fully-peeled peeled\r\n",
             Some((Peeled::Partial, false, b"")),
+            "the last word about peeling decides; CRLF",
         ),
-        (b"# pack-refs: ", None),
-        (b"# pack-refs with: sorted", None),
-        (b"# pack-refs with:\n", None),
-        (b"1111", None),
+        (b"# pack-refs: ", None, "another front"),
+        (b"# pack-refs with: sorted", None, "no newline"),
+        (b"# pack-refs with:\n", None, "no space after the colon"),
+        (b"1111", None, "no header"),
     ];
-    for (text, want) in rows {
+    for (text, want, meaning) in rows {
         let mut input = text;
         match (header(&mut input), want) {
             (Ok(found), Some((peeled, is_sorted, rest))) => {
@@ -43,22 +44,14 @@ fn headers(rt: HostRuntime) {
                             peeled,
                             sorted: is_sorted
                         },
-                    "what it says"
+                    "{meaning}"
                 );
-                assert!(rt; input == rest, "what follows it");
+                assert!(rt; input == rest, "{meaning}");
             }
             (Err(()), None) => assert!(rt; input == text, "a refusal leaves the input"),
-            _ => assert!(rt; false, "accepted or refused"),
+            _ => assert!(rt; false, "{meaning}"),
         }
     }
-    let nothing: Header = Default::default();
-    assert!(rt;
-        nothing
-            == Header {
-                peeled: Peeled::Unspecified,
-                sorted: false
-            }
-    );
     assert!(rt; SORTED.len() == 46);
 }
 
@@ -252,28 +245,28 @@ fn partial_names(rt: HostRuntime) {
     let text =
         b"1111111111111111111111111111111111111111 refs/bisect/x\n2222222222222222222222222222222222222222 refs/heads/a\n3333333333333333333333333333333333333333 refs/remotes/o/b\n4444444444444444444444444444444444444444 refs/tags/a\n";
     let packed = buffer(&rt, alloc, text);
-    let rows: [(&str, Option<&[u8]>); 9] = [
-        ("a", Some(b"refs/tags/a")),
-        ("heads/a", Some(b"refs/heads/a")),
-        ("refs/heads/a", Some(b"refs/heads/a")),
-        ("o/b", Some(b"refs/remotes/o/b")),
-        ("refs/bisect/x", None),
-        ("main-worktree/refs/heads/a", Some(b"refs/heads/a")),
-        ("worktrees/w/refs/heads/a", Some(b"refs/heads/a")),
-        ("worktrees/w/refs/bisect/x", None),
-        ("b", None),
+    let rows: [(&str, Option<&[u8]>, &str); 9] = [
+        ("a", Some(b"refs/tags/a"), "a tag comes before a branch"),
+        ("heads/a", Some(b"refs/heads/a"), "behind refs/"),
+        ("refs/heads/a", Some(b"refs/heads/a"), "a full name"),
+        ("o/b", Some(b"refs/remotes/o/b"), "a remote branch"),
+        ("refs/bisect/x", None, "each worktree has its own"),
+        ("main-worktree/refs/heads/a", Some(b"refs/heads/a"), "shared by the main worktree"),
+        ("worktrees/w/refs/heads/a", Some(b"refs/heads/a"), "shared by a linked worktree"),
+        ("worktrees/w/refs/bisect/x", None, "of a linked worktree alone"),
+        ("b", None, "no record"),
     ];
-    for (name, want) in rows {
+    for (name, want, meaning) in rows {
         let found = packed
             .try_find(alloc, partial(&rt, name))
             .expect(&rt, "an answer");
         match (found, want) {
             (Some(record), Some(bytes)) => assert!(rt;
                 record.eq_bytes(bytes),
-                "the record of {name}"
+                "{meaning}"
             ),
             (None, None) => {}
-            _ => assert!(rt; false, "found or not"),
+            _ => assert!(rt; false, "{meaning}"),
         }
     }
     assert!(rt; packed.find(alloc, partial(&rt, "b")).err() == Some(ExistingError::NotFound));
@@ -282,46 +275,22 @@ fn partial_names(rt: HostRuntime) {
 }
 
 #[test]
-fn values_of_records(rt: HostRuntime) {
-    let alloc = rt.alloc();
-    let packed = buffer(&rt, alloc, TEXT);
-    for name in NAMES {
-        let found = packed
-            .try_find_key(full(&rt, name))
-            .expect(&rt, "an answer");
-        let record = found.expect(&rt, "a record");
-        let value = raw::Reference::from_packed(alloc, record).expect(&rt, "memory");
-        assert!(rt; value.eq_bytes(name.as_bytes()));
-        assert!(rt; value.target.try_id() == Some(record.target()));
-        assert!(rt; value.peeled == record.peeled());
-    }
-    let one = packed
-        .try_find_key(full(&rt, "refs/tags/v1"))
-        .expect(&rt, "an answer")
-        .expect(&rt, "a record");
-    assert!(rt; one.object() == id(&rt, b"3333333333333333333333333333333333333333"));
-    let again = [one];
-    let text = text_of(alloc, &again).expect(&rt, "memory");
-    assert_eq!(rt; text.len(), 46 + 54 + 42);
-}
-
-#[test]
 fn prefixes(rt: HostRuntime) {
     let alloc = rt.alloc();
     let packed = buffer(&rt, alloc, TEXT);
-    let rows: [(&[u8], u64); 8] = [
-        (b"zzz", 0),
-        (b"", 3),
-        (b"refs/", 3),
-        (b"refs/tags/", 2),
-        (b"refs/tags/v1", 1),
-        (b"refs/tags/v10", 0),
-        (b"refs/heads/main", 1),
-        (b"refs/a", 0),
+    let rows: [(&[u8], u64, &str); 8] = [
+        (b"zzz", 0, "behind all names"),
+        (b"", 3, "all names"),
+        (b"refs/", 3, "all names"),
+        (b"refs/tags/", 2, "the tags"),
+        (b"refs/tags/v1", 1, "a whole name"),
+        (b"refs/tags/v10", 0, "longer than a name"),
+        (b"refs/heads/main", 1, "the first name"),
+        (b"refs/a", 0, "before all names"),
     ];
-    for (prefix, want) in rows {
+    for (prefix, want, meaning) in rows {
         let items = packed.iter_prefixed(copied(&rt, alloc, prefix));
-        assert!(rt; tally(items) == (want, 0, 0), "the names of a prefix");
+        assert!(rt; tally(items) == (want, 0, 0), "{meaning}");
     }
     let none = buffer(&rt, alloc, b"");
     assert!(rt; tally(none.iter_prefixed(copied(&rt, alloc, b"refs/"))) == (0, 0, 0));
@@ -334,5 +303,31 @@ fn prefixes(rt: HostRuntime) {
     assert!(rt;
         tally(packed.iter_prefixed(copied(&rt, alloc, b"refs/b"))) == (1, 1, 4),
         "lines of the whole file"
+    );
+    let doubled = buffer(
+        &rt,
+        alloc,
+        b"2222222222222222222222222222222222222222 refs/tags/b\n1111111111111111111111111111111111111111 refs/tags/a\n3333333333333333333333333333333333333333 refs/tags/a\n",
+    );
+    assert!(rt;
+        tally(doubled.iter_prefixed(copied(&rt, alloc, b"refs/tags/a"))) == (2, 0, 0),
+        "both records of a doubled name"
+    );
+}
+
+#[test]
+fn found_in_a_sorted_buffer(rt: HostRuntime) {
+    let alloc = rt.alloc();
+    let text = sorted(&rt, alloc, TEXT);
+    let packed = buffer(&rt, alloc, text.as_slice());
+    let tag = packed.find(alloc, partial(&rt, "refs/tags/v1")).expect(&rt, "a tag");
+    assert!(rt; tag.target() == id(&rt, b"2222222222222222222222222222222222222222"), "its target");
+    assert!(rt; tag.object() == id(&rt, b"3333333333333333333333333333333333333333"), "its object");
+    let bad = sorted(&rt, alloc, b"xyz\n");
+    let packed = buffer(&rt, alloc, bad.as_slice());
+    assert!(rt; packed.try_find(alloc, partial(&rt, "a")).err() == Some(FindError::Parse), "a bad line");
+    assert!(rt;
+        packed.find(alloc, partial(&rt, "a")).err() == Some(ExistingError::Find(FindError::Parse)),
+        "a bad line is not an absent reference"
     );
 }

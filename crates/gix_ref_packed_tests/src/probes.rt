@@ -1,11 +1,11 @@
 //! How many looks a search makes, counted as the program runs.
 ghost use Rattle.std.specs.Prelude.{◌≡◌, ◌<◌};
 
-use crate::packed::made::{NAMES, TEXT};
+use crate::made::{NAMES, TEXT};
 use gix_ref_hash::hash::Kind;
 use gix_ref_packed::packed::Probes;
 use gix_ref_packed::packed::search::search;
-use gix_ref_packed::packed::text::{Look, Text, Whole};
+use gix_ref_packed::packed::searchable::{InMemory, Probe, SearchableRecords};
 use std::convert::Infallible;
 use std::marker::Brand;
 use std::process::Abort;
@@ -14,14 +14,16 @@ use std::sync::ledger::{Blank, Ledger};
 /// A text in memory that counts the looks at it.
 #[derive(Drop)]
 struct Counting<'a> {
-    whole: Whole<'a>,
+    whole: InMemory<'a>,
     looks: u64,
 }
 
-impl<'a> Text for Counting<'a> {
+impl<'a> SearchableRecords for Counting<'a> {
     ghost honest = { Unit {0} };
 
     ghost bytes = { λ text. text.whole.bytes.now };
+
+    ghost frame = { λ text. (text.whole.bytes.now, 0, 0) };
 
     ghost faults = { λ _. 0 };
 
@@ -35,9 +37,9 @@ impl<'a> Text for Counting<'a> {
         self.whole.len()
     }
 
-    fn look(&mut self, kind: Kind, offset: u64, asked: &[u8]) -> Result<Look, Infallible> {
+    fn probe(&mut self, kind: Kind, offset: u64, wanted: &[u8]) -> Result<Probe, Infallible> {
         self.looks = self.looks.saturating_add(1);
-        self.whole.look(kind, offset, asked)
+        self.whole.probe(kind, offset, wanted)
     }
 }
 
@@ -49,7 +51,7 @@ fn looks_for<L: Ledger>(text: &[u8], name: &[u8], blank: Blank) -> (u64, bool)
 {
     let mut probes = Probes::<L>::new(blank);
     let mut counting = Counting {
-        whole: Whole { bytes: text },
+        whole: InMemory { bytes: text },
         looks: 0,
     };
     let found = search(&mut counting, Kind::Sha1, name, &mut probes);
