@@ -1,12 +1,11 @@
 -- What a search in memory answers, by where it ended.
-use Rattle.std.proofs.Common.{◌≡◌, ℕ, List, drop, inl, inr, sym, ◌∙◌, ap, subst, Some, None, Ok, Err}
-use Rattle.std.specs.Option.{option_map}
+use Rattle.std.proofs.Common.{◌≡◌, ℕ, List, drop, inl, inr, sym, subst, Some, None, Ok, Err}
 use Rattle.gix_ref_hash.specs.declared.hash.Kind.{Kind}
 use Rattle.gix_ref_packed.specs.declared.packed.reference.Reference.{Reference}
 use Rattle.gix_ref_packed.specs.declared.packed.find.ParseError.{ParseError}
 use Rattle.gix_ref_packed.specs.declared.packed.search.SearchError.{SearchError}
 use Rattle.gix_ref_packed.specs.declared.packed.search.SearchError.TheVariants.{Read, Parse}
-use Rattle.gix_ref_packed.specs.RecordGrammar.{Record, Takes, NoRecord, Records, Forms, Ascending}
+use Rattle.gix_ref_packed.specs.RecordGrammar.{Record, Takes, NoRecord, Forms, Ascending}
 use Rattle.gix_ref_packed.specs.Positions.{record_named, HitsAt, FindsAt, IsMalformed, IsNotMalformed, IsUnreadable}
 use Rattle.gix_ref_packed.specs.SearchCosts.{FailsBy}
 use Rattle.gix_ref_packed.specs.Views.{record_of}

@@ -145,11 +145,15 @@ newline_stops a rest (inr crlf) = subst (StopsAt in_line) (sym crlf) refl
 
 peeled_form : (k : Kind) (after : List ℕ) (o : Option (List ℕ)) (rest : List ℕ) → Peeled k after o rest → PeeledForm after o rest
 peeled_form k after None rest f = f
-peeled_form k after (Some object) rest f = (object ++ f.after, f.whole, record {
-  after = f.after;
-  cut = record { whole = refl; front_passes = hex_in_line object k f.id; stops = newline_stops f.after rest f.newline };
-  newline = f.newline;
-})
+peeled_form k after (Some object) rest f = (
+  object ++ f.after,
+  f.whole,
+  record {
+    after = f.after;
+    cut = record { whole = refl; front_passes = hex_in_line object k f.id; stops = newline_stops f.after rest f.newline };
+    newline = f.newline;
+  },
+)
 
 digit_first : (k : Kind) (d t : List ℕ) → IsHexOf k d → StopsAt is_caret (d ++ t)
 digit_first k [] t h = let len : 0 ≡ 2 * kind_len k = h.len in let some = some_digits k 0 len in absurd (omega arith)

@@ -1,10 +1,10 @@
 -- Records that were read, each with its bytes, in the order of their names.
-use Rattle.std.proofs.Common.{◌≡◌, ℕ, ◌+◌, ◌-◌, ◌<◌, Bool, true, false, cond, List, [], ◌∷◌, ◌++◌, map, length, get_or, take, refl, sym, ◌∙◌, ap, subst, arith, is_lt, suc, append-nil, append_assoc}
+use Rattle.std.proofs.Common.{◌≡◌, ℕ, ◌+◌, ◌<◌, Bool, true, false, cond, List, [], ◌∷◌, ◌++◌, map, length, get_or, take, refl, sym, ◌∙◌, ap, subst, arith, is_lt, suc, append-nil, append_assoc}
 use Rattle.std.specs.List.{All, filter, flat_map}
 use Rattle.std.specs.List.Sorted.{IsPermutation, IsSortedByKey, IsStableByKey, ties}
 use Rattle.std.specs.Cmp.Lexicographic.{slice_cmp}
 use Rattle.std.specs.Ordering.{nat_cmp}
-use Rattle.std.proofs.lemmas.List.{get_or-map, length-map, get_or_default, map-append}
+use Rattle.std.proofs.lemmas.List.{get_or-map, length-map, map-append}
 use Rattle.std.proofs.lemmas.List.Elements.{All-head, All-tail, All-append, All-cons, All-nil, All-weaker}
 use Rattle.std.proofs.lemmas.List.Sorted.{IsPermutation-map, IsPermutation-refl, All-permutation}
 use Rattle.gix_ref_hash.specs.declared.hash.Kind.{Kind}
@@ -61,9 +61,11 @@ rise (e ∷ f ∷ es) up =
     let next : suc k + 1 ≡ suc (k + 1) = omega arith in
     subst (λ (i : ℕ). is_lt (slice_cmp nat_cmp (entry_name (get_or (e ∷ f ∷ es) i d)) (entry_name (get_or (f ∷ es) k d))) ≡ false) next (up (suc k) d (omega arith) (omega arith))) in
     let here : Below (entry_name f) (entry_name e) → ⊥ = λ below.
-    let no = up 0 e (omega arith) (omega arith) in let bad : false ≡ true = sym no ∙ ap is_lt below in cc in
-    (All-cons (λ s. Below s.name (entry_name e) → ⊥) (entry_record f) (records_in (map entry_piece es)) here
-    (All-weaker (λ (s : Record). Below s.name (entry_name f) → ⊥) (λ (s : Record). Below s.name (entry_name e) → ⊥) (λ s not_below below. not_below (below_or s.name (entry_name e) (entry_name f) below here)) (records_in (map entry_piece es)) more.0), more)
+    let no = up 0 e (omega arith) (omega arith) in let bad : false ≡ true = sym no ∙ ap is_lt below in cc in (
+      All-cons (λ s. Below s.name (entry_name e) → ⊥) (entry_record f) (records_in (map entry_piece es)) here
+          (All-weaker (λ (s : Record). Below s.name (entry_name f) → ⊥) (λ (s : Record). Below s.name (entry_name e) → ⊥) (λ s not_below below. not_below (below_or s.name (entry_name e) (entry_name f) below here)) (records_in (map entry_piece es)) more.0),
+      more,
+    )
 
 pub sorts : (es fs : List Entry) → IsPermutation es fs → IsSortedByKey entry_name (slice_cmp nat_cmp) fs → IsStableByKey entry_name (slice_cmp nat_cmp) es fs → SortsByName (map entry_piece es) (map entry_piece fs)
 sorts es fs moved up stable = record {

@@ -1,6 +1,6 @@
 -- An opened buffer of a well-formed text holds its records.
-use Rattle.std.proofs.Common.{◌≡◌, ◌≢◌, ◌⊎◌, inl, inr, ⊎_elim, ℕ, suc, zero, ◌+◌, ◌<◌, ◌≤◌, Bool, true, false, cond, List, [], ◌∷◌, length, get_or, nat_eq, map, refl, sym, ◌∙◌, ap, subst, arith, Option, Some, None, Contains, count_by, drop}
-use Rattle.std.specs.List.{All, AllPairs, sum_by}
+use Rattle.std.proofs.Common.{◌≡◌, ◌≢◌, ◌⊎◌, inl, inr, ⊎_elim, ℕ, suc, zero, ◌+◌, ◌<◌, ◌≤◌, Bool, true, false, cond, List, [], ◌∷◌, length, get_or, nat_eq, refl, sym, ◌∙◌, ap, subst, arith, Some, None, count_by}
+use Rattle.std.specs.List.{All, AllPairs}
 use Rattle.std.specs.List.Sorted.{IsPermutation}
 use Rattle.std.specs.Cmp.Lexicographic.{pointwise, slice_cmp, bytes_decides}
 use Rattle.std.specs.Ordering.{nat_cmp}
@@ -11,12 +11,11 @@ use Rattle.std.proofs.lemmas.List.{get_or_default}
 use Rattle.std.proofs.lemmas.List.Sums.{sum_by-cons}
 use Rattle.std.proofs.lemmas.List.Sorted.{IsPermutation-map, IsPermutation-refl, Contains-permutation, sum_by-IsPermutation}
 use Rattle.gix_ref_hash.specs.declared.hash.Kind.{Kind}
-use Rattle.gix_ref_packed.specs.declared.packed.decode.options.Header.{Header}
 use Rattle.gix_ref_packed.specs.declared.packed.buffer.Buffer.{Buffer}
 use Rattle.gix_ref_packed.specs.RecordGrammar.{Record, Records, Below, Ascending, Rising}
 use Rattle.gix_ref_packed.specs.Positions.{record_named}
-use Rattle.gix_ref_packed.specs.OpenedText.{Piece, IsWellFormed, Keeps, says_sorted, records_in}
-use Rattle.gix_ref_packed.specs.Buffers.{Opened, HoldsRecords, OpenedHoldsRecords, buffer_text}
+use Rattle.gix_ref_packed.specs.OpenedText.{Piece, Keeps, says_sorted, records_in}
+use Rattle.gix_ref_packed.specs.Buffers.{HoldsRecords, OpenedHoldsRecords, buffer_text}
 use Rattle.gix_ref_packed.proofs.ReadBack.{same_records, same_heading}
 use Rattle.gix_ref_packed.proofs.Halves.{greater_is_below}
 

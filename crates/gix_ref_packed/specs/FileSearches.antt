@@ -45,7 +45,7 @@ pub record FindsIn (kind : Kind) (text name : List ℕ) (result : Result (Option
   pub records : (rs : List Record) → Records kind text rs → Ascending rs → MatchResult result (AreFound (record_named name rs)) IsReadFault
   -- so it is where ids and names are not checked, but for a record of the name that cannot be read
   pub forms : (rs : List Record) → Forms kind text rs → Ascending rs →
-    MatchResult result (AreFound (record_named name rs)) (IsFaultOr (IsUnreadable kind (record_named name rs)))
+      MatchResult result (AreFound (record_named name rs)) (IsFaultOr (IsUnreadable kind (record_named name rs)))
 
 -- the count of a reader's faults after the source could not be looked at: one more where the file could not be read
 abbrev pub count_read : ReadError → ℕ → ℕ

@@ -1,11 +1,11 @@
 -- A `packed-refs` that is searched where it is.
-use Rattle.std.specs.Prelude.{◌≡◌, ℕ, List, drop, Option}
+use Rattle.std.specs.Prelude.{◌≡◌, ℕ, List, drop}
 use Rattle.gix_ref_files.specs.declared.files.ReadAt.{Ghosts}
 use Rattle.gix_ref_hash.specs.declared.hash.Kind.{Kind}
 use Rattle.gix_ref_packed.specs.declared.packed.sorted_file.SortedFile.{SortedFile}
 use Rattle.gix_ref_packed.specs.declared.packed.file.PackedFile.{PackedFile}
 use Rattle.gix_ref_packed.specs.declared.packed.file.PackedFile.TheVariants.{InFile, InMemory}
-use Rattle.gix_ref_packed.specs.OpenedText.{OpensTo, line_behind}
+use Rattle.gix_ref_packed.specs.OpenedText.{OpensTo}
 use Rattle.gix_ref_packed.specs.Buffers.{buffer_text, buffer_kind}
 
 -- the records in a file, without the header

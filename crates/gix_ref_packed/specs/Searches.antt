@@ -24,10 +24,10 @@ pub record Finds {E : Type 0} (kind : Kind) (text name : List ℕ) (result : Res
   pub refused : IfErr result (λ _. CannotRead kind text name)
   -- among ascending records it is the record of the name, or there is none
   pub records : (rs : List Record) → Records kind text rs → Ascending rs →
-    MatchResult result (λ found. option_map record_of found ≡ record_named name rs) (λ _. ⊥)
+      MatchResult result (λ found. option_map record_of found ≡ record_named name rs) (λ _. ⊥)
   -- so it is where ids and names are not checked, but for a record of the name that cannot be read
   pub forms : (rs : List Record) → Forms kind text rs → Ascending rs →
-    MatchResult result (λ found. option_map record_of found ≡ record_named name rs) (λ _. IsUnreadable kind (record_named name rs))
+      MatchResult result (λ found. option_map record_of found ≡ record_named name rs) (λ _. IsUnreadable kind (record_named name rs))
 
 -- what it answers where the name is to be made, too
 abbrev pub FindsOne : Kind → List ℕ → List ℕ → Result (Option Reference) Error → Type 0
@@ -60,10 +60,10 @@ pub record FindsPartial (kind : Kind) (text p : List ℕ) (result : Result (Opti
   pub refused : IfErr result (PartialFails kind text p)
   -- among ascending records it is the record of the first name that has one
   pub records : (rs : List Record) → Records kind text rs → Ascending rs →
-    MatchResult result (λ found. option_map record_of found ≡ first_named (asked_names p) rs) (λ e. e ≡ Memory)
+      MatchResult result (λ found. option_map record_of found ≡ first_named (asked_names p) rs) (λ e. e ≡ Memory)
   -- so it is where ids and names are not checked
   pub forms : (rs : List Record) → Forms kind text rs → Ascending rs →
-    MatchResult result (λ found. option_map record_of found ≡ first_named (asked_names p) rs) (PartialUnreadable kind rs p)
+      MatchResult result (λ found. option_map record_of found ≡ first_named (asked_names p) rs) (PartialUnreadable kind rs p)
 
 -- the answer of `try_find` that an answer of `find` says
 abbrev pub as_try_find : Result Reference ExistingError → Result (Option Reference) Error

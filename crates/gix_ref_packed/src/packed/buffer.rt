@@ -31,7 +31,7 @@ impl Buffer {
     ghost use Rattle.gix_ref_packed.specs.OpenedText.{Keeps};
     ghost use Rattle.gix_ref_packed.specs.Buffers.{buffer_text, buffer_kind, buffer_line, Opened, IsRefused, IsRefusedFile, IsStuck, count_open};
 
-    /// Opens the file at a path, whose ids are of the kind; `None` where no file stands there. `Io` where it cannot be
+    /// Opens the file at a path, whose ids are of the kind; `None` where no file is there. `Io` where it cannot be
     /// read, and else what `from_bytes` answers. The threshold, from which on other stores map the file into memory, has
     /// no effect. The file is read once, into memory.
     pub fn open<F: Files>(
@@ -62,8 +62,9 @@ impl Buffer {
 
     /// Opens a text, which it keeps. `HeaderParsing` where it begins with `#` and has no header. Where its header says
     /// that it is sorted, nothing but that line is looked at. Else each record is read, at a cost of n log n for n
-    /// records: `Iter` tells the first line that is none. Where the names do not ascend, the records are put in their
-    /// order, those of one name in their old order, and `Memory` tells that there was no memory for that.
+    /// records: `Iter` reports the first line that is no record. Where a name is below an earlier one, the records are put in
+    /// the order of their names, those of one name in their old order, and `Memory` reports that there was no memory for
+    /// that (`git pack-refs`).
     pub fn from_bytes(alloc: Global, bytes: Vec<u8>, kind: Kind) -> Result<Buffer, Error>
         ensures opened { IfOk result (Opened kind bytes.items) }
         ensures refused { IfErr result (IsRefused kind bytes.items) }

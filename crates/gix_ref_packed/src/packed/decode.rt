@@ -11,7 +11,7 @@ pub use header_line::header;
 pub(crate) use header_line::take_header;
 pub use options::{Header, Peeled};
 pub use record_line::{name_at_record_start, reference};
-pub(crate) use record_line::{name_order, take_record, split_record_line};
+pub(crate) use record_line::{name_order, split_record_line, take_record};
 
 /// Where the record that the byte is in begins: a line with `^` belongs to the line before it. At the end of a text that
 /// does not end in a newline, where the last record begins; at the end of one that does, 0. The offset is at most the

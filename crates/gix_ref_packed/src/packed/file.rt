@@ -6,10 +6,10 @@ ghost use Rattle.gix_ref_packed.specs.OpenFiles.{OpenedFile};
 
 use crate::packed::buffer::Buffer;
 use crate::packed::buffer::open::Error;
+use crate::packed::file_header::file_header;
 use crate::packed::find::ParseError;
 use crate::packed::header_end::says_sorted;
-use crate::packed::file_header::file_header;
-use crate::packed::sorted_file::{FindError, SortedFile, ReadError, read_window};
+use crate::packed::sorted_file::{FindError, ReadError, SortedFile, read_window};
 use crate::packed::window::{Found, ids_of};
 use gix_ref_base::name::FullNameRef;
 use gix_ref_files::files::{FileError, Files, ReadAt};
@@ -78,7 +78,14 @@ impl<R: ReadAt + Drop> PackedFile<R> {
     ghost use Rattle.gix_ref_packed.specs.OpenFiles.{OpenedFile, packed_file_text, packed_file_kind};
     ghost use Rattle.gix_ref_packed.specs.FileSearches.{FindsIn};
 
-    /// Opens the file at a path, whose ids are of the kind; `None` where no file is there. Of a file whose header says
+    /// Opens the file at a path, whose ids are of the kind; `None` where no file is there.
+    ///
+    /// ```text
+    /// if let Some(mut packed) = PackedFile::open(alloc, &mut files, b".git/packed-refs", Kind::Sha1)? {
+    ///     let found = packed.find(FullNameRef::try_from("refs/tags/v1.0")?)?;
+    /// }
+    /// ```
+    /// Of a file whose header says
     /// sorted only the first 1 KB is read, and more where the header's line is longer; any other file is read as a whole,
     /// as `Buffer::open` reads it. `Io` where the file cannot be read, `HeaderParsing` where it begins with `#` and has no
     /// header, `Iter` at the first line that is no record where the records are to be sorted, and `Memory`.
@@ -90,7 +97,7 @@ impl<R: ReadAt + Drop> PackedFile<R> {
     ) -> Result<Option<PackedFile<R>>, Error>
         ensures opened { F.honest → IfOk result (λ found. MatchOption found (is_file ((F.means files.old).tree path.now) ≡ false)
             (λ p. R.honest × (is_file ((F.means files.old).tree path.now) ≡ true)
-                × OpenedFile kind (bytes_of ((F.means files.old).tree path.now)) p)) }
+            × OpenedFile kind (bytes_of ((F.means files.old).tree path.now)) p)) }
         ensures refused { F.honest → IfErr result (IsRefusedFile kind ((F.means files.old).tree path.now)) }
         ensures leaves { F.honest → Leaves (F.means files.old) (F.means files.new) (Only (F.means files.old).tree) }
         ensures no_fault { IfOk result (λ _. F.faults files.new ≡ F.faults files.old) }

@@ -7,12 +7,12 @@ ghost use Rattle.gix_ref_packed.specs.FileSearches.{IsNoChange, count_read};
 
 pub use crate::packed::header_end::HeaderEnd;
 use crate::packed::header_end::read_header_end;
-use crate::packed::window::InWindow;
 use crate::packed::sorted_file::{MAX_WINDOW_DOUBLINGS, ReadError, read_window, window_size};
+use crate::packed::window::InWindow;
 use gix_ref_files::files::ReadAt;
 use std::alloc::Global;
 
-/// What the header of a beginning of a text says of the text, which it is as a at_eof where `at_eof` holds. `Here(None)` where
+/// What the header of a beginning of a text says of the text, which it is as a whole where `at_eof` holds. `Here(None)` where
 /// the text begins with `#` and has no header.
 fn header_end_in(part: &[u8], at_eof: bool) -> InWindow<Option<HeaderEnd>>
     ensures heads { IfHere result (λ found. (text : List ℕ) → part.now ≡ take (length part.now) text →
@@ -34,13 +34,10 @@ fn header_end_in(part: &[u8], at_eof: bool) -> InWindow<Option<HeaderEnd>>
     InWindow::Here(Some(heading))
 }
 
-/// The header of a file, and where its records begin: a `Read` from there on is searched where the header says sorted.
+/// The header of a file, and where its records begin: a `SortedFile` from there on is searched where the header says sorted.
 /// `None` where the file begins with `#` and has no header. Reads the first 1 KB, and more only where the header's line is
-/// longer. The error tells that the file cannot be read, or that there was no memory for its beginning.
-pub fn file_header<R: ReadAt>(
-    alloc: Global,
-    reader: &mut R,
-) -> Result<Option<HeaderEnd>, ReadError>
+/// longer. The error reports that the file cannot be read, or that there was no memory for its beginning.
+pub fn file_header<R: ReadAt>(alloc: Global, reader: &mut R) -> Result<Option<HeaderEnd>, ReadError>
     ensures same { R.bytes reader.new ≡ R.bytes reader.old }
     ensures no_fault { IfOk result (λ _. R.faults reader.new ≡ R.faults reader.old) }
     ensures fault { IfErr result (λ error. R.faults reader.new ≡ count_read error (R.faults reader.old)) }

@@ -27,10 +27,10 @@ const LONGEST_FRONT: usize = 13;
 /// Why a search for a partial name has no answer.
 #[derive(Clone, Copy, Debug, PartialEq, Eq, Error)]
 pub enum Error {
-    /// The name is none. No call raises this: it is for conversions of callers.
+    /// The name is invalid. No call of this crate returns this: it is for callers that convert by `?`.
     #[error("the reference name is invalid: {0}")]
     RefnameValidation(name::Error),
-    /// A record without shape was met and nothing was found, or the record that was found cannot be read.
+    /// A malformed line was met and nothing was found, or the record that was found cannot be read.
     #[error("a record of packed-refs cannot be read")]
     Parse,
     /// There was no memory for a name that is asked for.
@@ -60,7 +60,7 @@ impl From<ParseError> for Error {
     }
 }
 
-/// A record without shape was met and nothing was found, or the record that was found cannot be read.
+/// A malformed line was met and nothing was found, or the record that was found cannot be read.
 #[derive(Clone, Copy, Debug, PartialEq, Eq, Error)]
 #[error("a record of packed-refs cannot be read")]
 pub struct ParseError;
@@ -125,11 +125,7 @@ fn is_rooted(name: &[u8]) -> bool
 }
 
 /// The record of the key of a partial name that is a full name already.
-fn find_rooted<'a>(
-    text: &'a [u8],
-    kind: Kind,
-    name: &[u8],
-) -> Result<Option<Reference<'a>>, Error>
+fn find_rooted<'a>(text: &'a [u8], kind: Kind, name: &[u8]) -> Result<Option<Reference<'a>>, Error>
     requires valid { IsPartialName name.now }
     requires rooted { rooted name.now ≡ true }
     ensures { FindsPartial kind text.now name.now result }
@@ -189,9 +185,10 @@ impl Buffer {
     ghost use Rattle.gix_ref_packed.specs.SearchCosts.{CountsProbes};
     ghost use Rattle.gix_ref_packed.specs.Buffers.{buffer_text, buffer_kind};
 
-    /// The record of a full name, by halving: each probe at a record is counted as a probe, and there are at most as many
+    /// The record of a full name, by halving: each look at a record is counted as a probe, and there are at most as many
     /// as the number of bytes has binary digits, about twenty among ten thousand records. `None` where the records have
-    /// no such name. The error tells of a text that is not well formed. Takes no memory.
+    /// no such name. The error is returned where a malformed line was met and nothing was found, and where the record that
+    /// was found cannot be read. Takes no memory.
     pub fn try_find_full<L: Ledger>(
         &self,
         name: FullNameRef<'_>,
@@ -211,9 +208,16 @@ impl Buffer {
         find_uncounted(self.as_bytes(), self.kind(), name.to_path())
     }
 
-    /// The record of a partial name. One that begins with `refs/`, `main-worktree/` or `worktrees/` is asked for by its
-    /// key: what each worktree has of its own has none. Another is asked for behind `refs/`, `refs/tags/`, `refs/heads/`
-    /// and `refs/remotes/`, in this order. `Parse` tells of a text that is not well formed, `Memory` that there was no
+    /// The record of a partial name.
+    ///
+    /// ```text
+    /// let packed = Buffer::open(alloc, &mut files, b".git/packed-refs", 32_768, Kind::Sha1)?;
+    /// let tag = packed.try_find(alloc, PartialNameRef::try_from("v1.0")?)?;
+    /// ```
+    ///
+    /// A name that begins with `refs/`, `main-worktree/` or `worktrees/` is asked for by its
+    /// key: a reference that each worktree has for itself has none. Another is asked for behind `refs/`, `refs/tags/`, `refs/heads/`
+    /// and `refs/remotes/`, in this order (`gitrevisions`). `Parse` as for `try_find_full`; `Memory` where there was no
     /// memory for a name that is asked for.
     pub fn try_find(
         &self,

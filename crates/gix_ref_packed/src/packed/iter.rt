@@ -15,7 +15,7 @@ pub use error::Error;
 use gix_ref_hash::hash::Kind;
 use parts::{begins_with_prefix, count_line_feeds, cut_line, first_line};
 
-/// The records of a text, and a fault for each line that is none. A record whose line with `^` is bad is two faults.
+/// The records of a text, and a fault for each line that is no record. A record whose line with `^` is bad is two faults.
 #[derive(Debug, Drop)]
 pub struct Iter<'a> {
     rest: &'a [u8],
@@ -36,7 +36,7 @@ impl<'a> Iter<'a> {
     ghost use Rattle.gix_ref_packed.specs.Items.{ItemStep, AreItems, IsHeaderError, unread};
 
     /// The records of a whole text, in the order of its lines; lines are numbered from 1, the header's too. The error,
-    /// `Header`, tells the first line where the text begins with `#` and has no header.
+    /// `Header`, has the first line of a text that begins with `#` and has no header.
     pub fn new(text: &'a [u8], kind: Kind) -> Result<Iter<'a>, Error<'a>>
         ensures items { IfOk result (λ it. (h : Option Header) × (rest : List _) × Heads text.now h rest × EachRunFrom ItemStep it
             (λ run. AreItems (run.whole ≡ true) (record { kind = kind; prefix = None; number = line_behind h; text = rest }) run.items)) }
@@ -124,6 +124,7 @@ impl Buffer {
     {
         Iter::from(self.as_bytes(), self.kind(), self.first_line())
     }
+
     /// The records whose names begin with the prefix, in the order of their names: the first is found by halving, and
     /// the first other name ends them.
     pub fn iter_prefixed(&self, prefix: Vec<u8>) -> Iter<'_>

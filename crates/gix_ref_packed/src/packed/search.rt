@@ -12,7 +12,6 @@ use std::error::Error;
 use std::fmt::{self, Debug, Display, Formatter, Write};
 use std::sync::ledger::Ledger;
 
-
 /// Why a search has no answer.
 #[derive(Debug, Drop)]
 pub enum SearchError<E> {
@@ -51,7 +50,7 @@ pub fn search<T: SearchableRecords, L: Ledger>(
     // Where each line has the form of a record and names ascend: the line of the name, or that there is none.
     ensures finds { T.honest → (rs : List Record) → Forms kind (T.bytes text.old) rs → Ascending rs →
         IfOk result (λ found. MatchOption found (record_named wanted.now rs ≡ None)
-            (FindsAt kind (T.bytes text.old) rs wanted.now)) }
+        (FindsAt kind (T.bytes text.old) rs wanted.now)) }
 
     // A text of malformed lines alone is never taken for one without the name.
     ensures none { T.honest → IfOk result (λ found. IfNone found (IsNotMalformed kind (T.bytes text.old))) }

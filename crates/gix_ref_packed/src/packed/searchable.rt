@@ -13,7 +13,7 @@ use std::convert::Infallible;
 pub struct Probe {
     /// Where the record that the byte is in begins.
     pub start: u64,
-    /// How its name compares with the one that is wanted; `None` where no name stands in the name's place.
+    /// How its name compares with the one that is wanted; `None` where no name is in the name's place.
     pub order: Option<Ordering>,
     /// A place behind the byte: no line begins between the two.
     pub next: u64,
@@ -21,7 +21,7 @@ pub struct Probe {
 
 /// A text of records at which one can probe near a place. What is said of its bytes holds where it is honest.
 pub trait SearchableRecords {
-    /// Looks tell the bytes.
+    /// Probes show the bytes.
     ghost honest: { Type 0 };
 
     /// The text: records, without a header.

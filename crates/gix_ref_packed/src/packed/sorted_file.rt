@@ -25,7 +25,7 @@ pub enum ReadError {
     /// There was no memory for a window.
     #[error("there was no memory for a window of packed-refs")]
     Memory,
-    /// The reader told other bytes than its length and its earlier reads say.
+    /// The reader gave other bytes than its length and its earlier reads say.
     #[error("packed-refs changed while it was read")]
     Changed,
 }
@@ -67,7 +67,7 @@ pub enum FindError {
     /// The source cannot be looked at.
     #[error("{0}")]
     Read(ReadError),
-    /// A record without shape was met and nothing was found, or the record that was found cannot be read.
+    /// A malformed line was met and nothing was found, or the record that was found cannot be read.
     #[error("a record of packed-refs cannot be read")]
     Parse,
 }
@@ -174,7 +174,7 @@ impl<R: ReadAt + Drop> SortedFile<R> {
         }
     }
 
-    /// What a probe at the place sees, if the window tells it.
+    /// What a probe at the place sees, if the window shows it.
     fn probe_in_window(&self, kind: Kind, offset: u64, wanted: &[u8]) -> Option<Probe>
         ensures below { IfSome result (λ probe. probe.start ≤ offset) }
         ensures beyond { IfSome result (λ probe. offset < probe.next) }
@@ -204,7 +204,7 @@ impl<R: ReadAt + Drop> SortedFile<R> {
         record_in(self.window.as_slice(), self.from, at, at_eof, kind)
     }
 
-    /// The record that begins at the place, or none where none stands there.
+    /// The record that begins at the place, if one does.
     fn record_at(&mut self, kind: Kind, start: u64) -> Result<Option<Found>, ReadError>
         ensures same { R.bytes self.new.reader ≡ R.bytes self.old.reader }
         ensures place { (self.new.base ≡ self.old.base) × (R.size self.new.reader ≡ R.size self.old.reader) }
@@ -228,7 +228,8 @@ impl<R: ReadAt + Drop> SortedFile<R> {
     /// The record of a full name, by halving, for a file whose header says that it is sorted. Each probe is counted as a
     /// probe; a probe reads a window of 1 KB, or none where the last window has the place, and grows it for a longer
     /// line. So a name among a million costs some seventeen reads. `None` where the records have no such name. `Read`
-    /// tells that the file could not be read, `Parse` that its text is not well formed.
+    /// is returned where the file could not be read, `Parse` where a malformed line was met and nothing was found, or the
+    /// record that was found cannot be read.
     pub fn try_find_full<L: Ledger>(
         &mut self,
         kind: Kind,
@@ -284,11 +285,7 @@ impl<R: ReadAt + Drop> SortedFile<R> {
     ghost use Rattle.gix_ref_packed.specs.FileSearches.{FindsIn};
 
     /// The ids of the record of a full name, as `try_find_full` finds it, for a caller who does not count.
-    pub fn find(
-        &mut self,
-        kind: Kind,
-        name: FullNameRef<'_>,
-    ) -> Result<Option<Found>, FindError>
+    pub fn find(&mut self, kind: Kind, name: FullNameRef<'_>) -> Result<Option<Found>, FindError>
         ensures same { R.bytes self.new.reader ≡ R.bytes self.old.reader }
         ensures base { self.new.base ≡ self.old.base }
         ensures finds { R.honest →

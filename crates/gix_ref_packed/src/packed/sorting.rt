@@ -130,8 +130,8 @@ fn joined(alloc: Global, entries: &[Entry<'_>], len: usize) -> Result<Vec<u8>, A
 }
 
 /// The text of the records in the order of their names; `None` where no name is below the one before it, which takes no
-/// memory. The error tells the line of the first that is no record, the first line having the number `first`, or that
-/// there was no memory.
+/// memory. The error reports the first line that is no record, the first line having the number `first`, or that there
+/// was no memory.
 pub fn sorted_text(
     alloc: Global,
     text: &[u8],

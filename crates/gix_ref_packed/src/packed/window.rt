@@ -10,7 +10,7 @@ ghost use Rattle.gix_ref_packed.specs.Windows.{TellsLine, TellsRecord, TellsName
 ghost use Rattle.gix_ref_packed.specs.Probed.{IsProbeAt};
 ghost use Rattle.gix_ref_packed.specs.Views.{record_of};
 
-use crate::packed::decode::{take_record, split_record_line};
+use crate::packed::decode::{split_record_line, take_record};
 use crate::packed::lines::next_place;
 use crate::packed::reference::Reference;
 use crate::packed::searchable::Probe;
@@ -32,7 +32,7 @@ pub enum InWindow<T> {
 pub struct Found {
     /// The id.
     pub target: ObjectId,
-    /// The id of the object that a tag ends at, where the record tells it.
+    /// The id of the object that a tag ends at, if the record has it.
     pub object: Option<ObjectId>,
 }
 
@@ -70,7 +70,7 @@ pub fn record_start_in(window: &[u8], at: usize, at_start: bool) -> Option<usize
     if at_start { Some(0) } else { None }
 }
 
-/// Whether a part of a text, in which no record's at_start line stands, tells that none stands at the front of the text.
+/// Whether a part of a text without a record's line at its front shows that the text has none there either.
 fn lacks_name(part: &[u8], kind: Kind, at_eof: bool) -> bool
     requires { (digits name rest : List ℕ) → RecordLine kind part.now digits name rest → ⊥ }
     ensures lacks { result ≡ true → (text : List ℕ) → part.now ≡ take (length part.now) text → (at_eof ≡ true → part.now ≡ text) → (n : List ℕ) → NameAt kind text n → ⊥ }
@@ -93,7 +93,7 @@ fn lacks_name(part: &[u8], kind: Kind, at_eof: bool) -> bool
     }
 }
 
-/// The name at the front of a record, of which the part may be a beginning; it is the at_eof text where `at_eof` holds.
+/// The name at the front of a record, of which the part may be a beginning; it is the whole text where `at_eof` holds.
 /// An
 /// empty name is no name.
 pub fn name_in(part: &[u8], kind: Kind, at_eof: bool) -> InWindow<Option<&[u8]>>
@@ -123,7 +123,7 @@ fn order_of(name: Option<&[u8]>, wanted: &[u8]) -> Option<Ordering>
     }
 }
 
-/// What a probe at a byte of the window sees, if the window tells it. The window begins at the place `from` of the text,
+/// What a probe at a byte of the window sees, if the window shows it. The window begins at the place `from` of the text,
 /// and the text ends with it where `at_eof` holds.
 #[inline(always)]
 pub fn probe_in(
@@ -164,7 +164,7 @@ pub fn ids_of(reference: Reference<'_>) -> Found
     }
 }
 
-/// The ids of the record at the front of a text, of which the part may be a beginning; it is the at_eof text where `at_eof`
+/// The ids of the record at the front of a text, of which the part may be a beginning; it is the whole text where `at_eof`
 /// holds. `Here(None)` where no record is there.
 fn found_in(part: &[u8], kind: Kind, at_eof: bool) -> InWindow<Option<Found>>
     ensures front { (text : List ℕ) → part.now ≡ take (length part.now) text → (at_eof ≡ true → part.now ≡ text) →

@@ -52,7 +52,7 @@ fn is_id(text: &[u8], kind: Kind) -> bool
     }
 }
 
-/// The object that a line with `^` tells, where one follows a record, and what follows it.
+/// The object of a line with `^`, if one follows a record, and what follows it.
 fn take_peeled(text: &[u8], kind: Kind) -> Option<(Option<&[u8]>, &[u8])>
     ensures { MatchOption result ((object : Option (List ℕ)) (rest : List ℕ) → Peeled kind text.now object rest → ⊥)
         (λ p. Peeled kind text.now (option_map (λ o. o.now) p.0) p.1.now) }
@@ -96,7 +96,7 @@ pub fn take_record<'a>(text: &'a [u8], kind: Kind) -> Option<(Reference<'a>, &'a
 
 /// Reads the record at the front of the input, which then begins after it: an id of the kind in hex digits, a space, a
 /// valid full name, and LF or CRLF; where a `^` follows, that, an id of the kind, and LF or CRLF. The error, where no
-/// record stands there, leaves the input where it was.
+/// record is there, leaves the input where it was.
 pub fn reference<'a>(input: &mut &'a [u8], kind: Kind) -> Result<Reference<'a>, ()>
     ensures taken { IfOk result (λ r. Takes kind input.old.now (record_of r) input.new.now) }
     ensures refused { IfErr result (λ _. (r : Record) (rest : List ℕ) → Takes kind input.old.now r rest → ⊥) }
@@ -111,7 +111,7 @@ pub fn reference<'a>(input: &mut &'a [u8], kind: Kind) -> Result<Reference<'a>, 
     }
 }
 
-/// The bytes in the place of the name, where a record begins; `None` where no line of a record's form stands there, or
+/// The bytes in the place of the name, where a record begins; `None` where no line of a record's form is there, or
 /// the name is empty. Neither id nor name is checked.
 pub fn name_at_record_start(text: &[u8], kind: Kind) -> Option<&[u8]>
     ensures { MatchOption result ((name : List ℕ) → name ≢ [] → NameAt kind text.now name → ⊥)

@@ -1,11 +1,10 @@
 use Rattle.std.proofs.lemmas.List.{take_all, length-drop}
-use Rattle.std.proofs.Common.{◌≡◌, Bool, List, ℕ, [], ◌∷◌, arith, drop, take, length, refl, sym, ◌∙◌, ap, subst, Some}
+use Rattle.std.proofs.Common.{◌≡◌, Bool, List, ℕ, [], ◌∷◌, arith, drop, take, length, refl, sym, ◌∙◌, ap, subst}
 use Rattle.gix_ref_hash.specs.declared.hash.Kind.{Kind}
 use Rattle.gix_ref_packed.specs.declared.packed.buffer.open.Error.{Error}
 use Rattle.gix_ref_packed.specs.declared.packed.buffer.open.Error.TheVariants.{Iter, HeaderParsing, Io, Memory}
 use Rattle.gix_ref_packed.specs.OpenedText.{Keeps, line_behind}
 use Rattle.gix_ref_packed.specs.Buffers.{IsRefused, IsRefusedBytes}
-use Rattle.gix_ref_packed.specs.OpenFiles.{sorted_file_text}
 use Rattle.gix_ref_packed.proofs.packed.file.open_reader.Goals as goal
 
 refused_bytes : (k : Kind) (t : List ℕ) (e : Error) → IsRefused k t e → IsRefusedBytes k t e

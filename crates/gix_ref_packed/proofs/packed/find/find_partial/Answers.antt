@@ -1,4 +1,4 @@
-use Rattle.std.proofs.Common.{[], ◌∷◌, ◌++◌, codes, lit<, refl, List, ℕ}
+use Rattle.std.proofs.Common.{[], ◌∷◌, ◌++◌, codes, lit<, refl}
 use Rattle.gix_ref_packed.specs.Searches.{FindsPartial}
 use Rattle.gix_ref_packed.proofs.NamesInTurn.{asks_four, missed, found_for, fails_for, last_answer, is_err}
 use Rattle.gix_ref_packed.proofs.packed.find.find_partial.Goals as goal

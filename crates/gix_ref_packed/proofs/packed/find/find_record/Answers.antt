@@ -1,7 +1,4 @@
-use Rattle.std.proofs.Common.{drop, inl, inr, sym}
 use Rattle.std.proofs.lemmas.List.{take_rest}
-use Rattle.gix_ref_packed.specs.RecordGrammar.{Takes}
-use Rattle.gix_ref_packed.specs.Views.{record_of}
 use Rattle.gix_ref_packed.proofs.MemorySearches.{found_in_memory, none_in_memory, bad_in_memory, malformed_in_memory}
 use Rattle.gix_ref_packed.proofs.packed.find.find_record.Goals as goal
 

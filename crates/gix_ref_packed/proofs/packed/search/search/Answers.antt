@@ -22,10 +22,10 @@ loop-low-preserved-in_default g c = record {
   bytes = c.probe.ensures.kept.0 ∙ c.loop-low.invariant.bytes;
   frame = c.probe.ensures.kept.1 ∙ c.loop-low.invariant.frame;
   halves = λ honest. step_malformed c.args.kind (g.T.SearchableRecords.bytes c.args.text.now) c.args.wanted.now c.args.probes.now c.loop-low.probes c.tick.new.self c.loop-low.low c.loop-low.high (c.loop-low.low + (c.loop-low.high - c.loop-low.low) / 2) (c.loop-low.invariant.halves honest) c.loop-low-test.true refl c.tick.ensures c.in-Ok.probe
-    (subst (λ (t : List ℕ). IsProbeAt c.args.kind t c.args.wanted.now (c.loop-low.low + (c.loop-low.high - c.loop-low.low) / 2) c.in-Ok.probe) c.loop-low.invariant.bytes (c.in-Ok.ensures.probed honest)) c.in-Ok.ensures.beyond c.in_default.is;
+      (subst (λ (t : List ℕ). IsProbeAt c.args.kind t c.args.wanted.now (c.loop-low.low + (c.loop-low.high - c.loop-low.low) / 2) c.in-Ok.probe) c.loop-low.invariant.bytes (c.in-Ok.ensures.probed honest)) c.in-Ok.ensures.beyond c.in_default.is;
   line = λ honest no. absurd (cc);
   malformed = λ honest. λ yes_it_is. malformed c.args.kind (g.T.SearchableRecords.bytes c.args.text.now) c.args.wanted.now c.args.probes.now c.loop-low.probes c.tick.new.self c.loop-low.low c.loop-low.high (c.loop-low.low + (c.loop-low.high - c.loop-low.low) / 2) (c.loop-low.invariant.halves honest) c.loop-low-test.true refl c.tick.ensures c.in-Ok.probe
-    (subst (λ (t : List ℕ). IsProbeAt c.args.kind t c.args.wanted.now (c.loop-low.low + (c.loop-low.high - c.loop-low.low) / 2) c.in-Ok.probe) c.loop-low.invariant.bytes (c.in-Ok.ensures.probed honest)) c.in-Ok.ensures.beyond c.in_default.is;
+      (subst (λ (t : List ℕ). IsProbeAt c.args.kind t c.args.wanted.now (c.loop-low.low + (c.loop-low.high - c.loop-low.low) / 2) c.in-Ok.probe) c.loop-low.invariant.bytes (c.in-Ok.ensures.probed honest)) c.in-Ok.ensures.beyond c.in_default.is;
 }
 
 pub loop-low-preserved-in-Greater : goal.loop-low-preserved-in-Greater
@@ -35,9 +35,9 @@ loop-low-preserved-in-Greater g c = record {
   bytes = c.probe.ensures.kept.0 ∙ c.loop-low.invariant.bytes;
   frame = c.probe.ensures.kept.1 ∙ c.loop-low.invariant.frame;
   halves = λ honest. step_high c.args.kind (g.T.SearchableRecords.bytes c.args.text.now) c.args.wanted.now c.args.probes.now c.loop-low.probes c.tick.new.self c.loop-low.low c.loop-low.high (c.loop-low.low + (c.loop-low.high - c.loop-low.low) / 2) (c.loop-low.invariant.halves honest) c.loop-low-test.true refl c.tick.ensures c.in-Ok.probe
-    (subst (λ (t : List ℕ). IsProbeAt c.args.kind t c.args.wanted.now (c.loop-low.low + (c.loop-low.high - c.loop-low.low) / 2) c.in-Ok.probe) c.loop-low.invariant.bytes (c.in-Ok.ensures.probed honest)) c.in-Ok.ensures.beyond (c.in-Some.is ∙ ap (λ o. Some o) c.in-Greater.is);
+      (subst (λ (t : List ℕ). IsProbeAt c.args.kind t c.args.wanted.now (c.loop-low.low + (c.loop-low.high - c.loop-low.low) / 2) c.in-Ok.probe) c.loop-low.invariant.bytes (c.in-Ok.ensures.probed honest)) c.in-Ok.ensures.beyond (c.in-Some.is ∙ ap (λ o. Some o) c.in-Greater.is);
   line = λ honest no. inr (line_there c.args.kind (g.T.SearchableRecords.bytes c.args.text.now) c.args.wanted.now c.args.probes.now c.loop-low.probes c.tick.new.self c.loop-low.low c.loop-low.high (c.loop-low.low + (c.loop-low.high - c.loop-low.low) / 2) (c.loop-low.invariant.halves honest) c.loop-low-test.true refl c.tick.ensures c.in-Ok.probe
-    (subst (λ (t : List ℕ). IsProbeAt c.args.kind t c.args.wanted.now (c.loop-low.low + (c.loop-low.high - c.loop-low.low) / 2) c.in-Ok.probe) c.loop-low.invariant.bytes (c.in-Ok.ensures.probed honest)) c.in-Ok.ensures.beyond Greater (c.in-Some.is ∙ ap (λ o. Some o) c.in-Greater.is));
+      (subst (λ (t : List ℕ). IsProbeAt c.args.kind t c.args.wanted.now (c.loop-low.low + (c.loop-low.high - c.loop-low.low) / 2) c.in-Ok.probe) c.loop-low.invariant.bytes (c.in-Ok.ensures.probed honest)) c.in-Ok.ensures.beyond Greater (c.in-Some.is ∙ ap (λ o. Some o) c.in-Greater.is));
   malformed = λ honest. c.loop-low.invariant.malformed honest;
 }
 
@@ -48,9 +48,9 @@ loop-low-preserved g c = record {
   bytes = c.probe.ensures.kept.0 ∙ c.loop-low.invariant.bytes;
   frame = c.probe.ensures.kept.1 ∙ c.loop-low.invariant.frame;
   halves = λ honest. step_low c.args.kind (g.T.SearchableRecords.bytes c.args.text.now) c.args.wanted.now c.args.probes.now c.loop-low.probes c.tick.new.self c.loop-low.low c.loop-low.high (c.loop-low.low + (c.loop-low.high - c.loop-low.low) / 2) (c.loop-low.invariant.halves honest) c.loop-low-test.true refl c.tick.ensures c.in-Ok.probe
-    (subst (λ (t : List ℕ). IsProbeAt c.args.kind t c.args.wanted.now (c.loop-low.low + (c.loop-low.high - c.loop-low.low) / 2) c.in-Ok.probe) c.loop-low.invariant.bytes (c.in-Ok.ensures.probed honest)) c.in-Ok.ensures.beyond (c.in-Some.is ∙ ap (λ o. Some o) c.in-Less.is);
+      (subst (λ (t : List ℕ). IsProbeAt c.args.kind t c.args.wanted.now (c.loop-low.low + (c.loop-low.high - c.loop-low.low) / 2) c.in-Ok.probe) c.loop-low.invariant.bytes (c.in-Ok.ensures.probed honest)) c.in-Ok.ensures.beyond (c.in-Some.is ∙ ap (λ o. Some o) c.in-Less.is);
   line = λ honest no. inr (line_there c.args.kind (g.T.SearchableRecords.bytes c.args.text.now) c.args.wanted.now c.args.probes.now c.loop-low.probes c.tick.new.self c.loop-low.low c.loop-low.high (c.loop-low.low + (c.loop-low.high - c.loop-low.low) / 2) (c.loop-low.invariant.halves honest) c.loop-low-test.true refl c.tick.ensures c.in-Ok.probe
-    (subst (λ (t : List ℕ). IsProbeAt c.args.kind t c.args.wanted.now (c.loop-low.low + (c.loop-low.high - c.loop-low.low) / 2) c.in-Ok.probe) c.loop-low.invariant.bytes (c.in-Ok.ensures.probed honest)) c.in-Ok.ensures.beyond Less (c.in-Some.is ∙ ap (λ o. Some o) c.in-Less.is));
+      (subst (λ (t : List ℕ). IsProbeAt c.args.kind t c.args.wanted.now (c.loop-low.low + (c.loop-low.high - c.loop-low.low) / 2) c.in-Ok.probe) c.loop-low.invariant.bytes (c.in-Ok.ensures.probed honest)) c.in-Ok.ensures.beyond Less (c.in-Some.is ∙ ap (λ o. Some o) c.in-Less.is));
   malformed = λ honest. c.loop-low.invariant.malformed honest;
 }
 

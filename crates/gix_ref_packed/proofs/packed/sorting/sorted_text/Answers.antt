@@ -1,4 +1,4 @@
-use Rattle.std.proofs.Common.{◌≡◌, Bool, subst}
+use Rattle.std.proofs.Common.{Bool, subst}
 use Rattle.std.specs.Bool.{MatchBool}
 use Rattle.gix_ref_packed.specs.RecordGrammar.{Rising}
 use Rattle.gix_ref_packed.proofs.SortedPieces.{keeps_text, keeps_sorted}

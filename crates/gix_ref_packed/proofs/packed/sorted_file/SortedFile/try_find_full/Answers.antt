@@ -1,4 +1,4 @@
-use Rattle.std.proofs.Common.{◌∙◌, ap, drop}
+use Rattle.std.proofs.Common.{◌∙◌, ap}
 use Rattle.gix_ref_packed.proofs.FileSearchLemmas.{found_finds, bad_finds, none_finds, malformed_finds}
 use Rattle.gix_ref_packed.proofs.packed.sorted_file.SortedFile.try_find_full.Goals as goal
 
