@@ -1,14 +1,13 @@
 //! The search in memory and the search in a file give the same answer on every front of a text, and with every byte of it
 //! replaced.
 use crate::made::{CRLF, NAMES, TEXT, buffer, full, sorted, stored};
+use gix_ref_base::name::FullNameRef;
 use gix_ref_files::files::Files;
-use gix_ref_hash::hash::ObjectId;
+use gix_ref_hash::hash::{Kind, ObjectId};
+use gix_ref_memory::memory::Memory;
 use gix_ref_packed::packed::find::ParseError;
 use gix_ref_packed::packed::sorted_file::{FindError, SortedFile};
 use gix_ref_packed::packed::{Buffer, Found, Reference};
-use gix_ref_base::name::FullNameRef;
-use gix_ref_hash::hash::Kind;
-use gix_ref_memory::memory::Memory;
 use std::alloc::Global;
 use std::process::Abort;
 
@@ -90,7 +89,11 @@ fn every_byte_replaced(rt: HostRuntime) {
 fn damaged_texts(rt: HostRuntime) {
     let alloc = rt.alloc();
     let rows: [(&[u8], &str, &str); 4] = [
-        (b"xyz\n", "refs/heads/a", "a line without the form of a record, and nothing found"),
+        (
+            b"xyz\n",
+            "refs/heads/a",
+            "a line without the form of a record, and nothing found",
+        ),
         (
             b"zzzzzzzzzzzzzzzzzzzzzzzzzzzzzzzzzzzzzzzz refs/heads/a\n",
             "refs/heads/a",
@@ -112,6 +115,9 @@ fn damaged_texts(rt: HostRuntime) {
         let packed = buffer(&rt, alloc, whole.as_slice());
         let name = full(&rt, name);
         assert!(rt; packed.try_find_key(name) == Err(ParseError), "{meaning}");
-        assert!(rt; in_file(&rt, alloc, whole.as_slice(), name) == Answer::Malformed, "{meaning}");
+        assert!(rt;
+            in_file(&rt, alloc, whole.as_slice(), name) == Answer::Malformed,
+            "{meaning}"
+        );
     }
 }

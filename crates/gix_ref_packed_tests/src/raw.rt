@@ -28,13 +28,19 @@ fn of_records(rt: HostRuntime) {
         assert!(rt; value.kind() == Kind::Object, "{name}");
         assert!(rt; value.target.try_id() == Some(record.target()), "{name}");
         assert!(rt; value.peeled == record.peeled(), "{name}");
-        assert!(rt; value.clone().expect(&rt, "memory") == value, "a copy of {name}");
+        assert!(rt;
+            value.clone().expect(&rt, "memory") == value,
+            "a copy of {name}"
+        );
     }
     let tag = packed
         .try_find_key(full(&rt, "refs/tags/v1"))
         .expect(&rt, "an answer")
         .expect(&rt, "a record");
-    assert!(rt; tag.object() == id(&rt, b"3333333333333333333333333333333333333333"), "peeled");
+    assert!(rt;
+        tag.object() == id(&rt, b"3333333333333333333333333333333333333333"),
+        "peeled"
+    );
 }
 
 #[test]
@@ -42,7 +48,11 @@ fn in_a_namespace(rt: HostRuntime) {
     let alloc = rt.alloc();
     let foo = expand(alloc, partial(&rt, "foo")).expect(&rt, "memory");
     let rows: [(&str, Option<&[u8]>, &str); 3] = [
-        ("refs/namespaces/foo/refs/heads/a", Some(b"refs/heads/a"), "a name inside"),
+        (
+            "refs/namespaces/foo/refs/heads/a",
+            Some(b"refs/heads/a"),
+            "a name inside",
+        ),
         ("refs/namespaces/foo/@", None, "the rest is no valid name"),
         ("refs/heads/a", None, "a name outside"),
     ];

@@ -251,9 +251,21 @@ fn partial_names(rt: HostRuntime) {
         ("refs/heads/a", Some(b"refs/heads/a"), "a full name"),
         ("o/b", Some(b"refs/remotes/o/b"), "a remote branch"),
         ("refs/bisect/x", None, "each worktree has its own"),
-        ("main-worktree/refs/heads/a", Some(b"refs/heads/a"), "shared by the main worktree"),
-        ("worktrees/w/refs/heads/a", Some(b"refs/heads/a"), "shared by a linked worktree"),
-        ("worktrees/w/refs/bisect/x", None, "of a linked worktree alone"),
+        (
+            "main-worktree/refs/heads/a",
+            Some(b"refs/heads/a"),
+            "shared by the main worktree",
+        ),
+        (
+            "worktrees/w/refs/heads/a",
+            Some(b"refs/heads/a"),
+            "shared by a linked worktree",
+        ),
+        (
+            "worktrees/w/refs/bisect/x",
+            None,
+            "of a linked worktree alone",
+        ),
         ("b", None, "no record"),
     ];
     for (name, want, meaning) in rows {
@@ -261,10 +273,7 @@ fn partial_names(rt: HostRuntime) {
             .try_find(alloc, partial(&rt, name))
             .expect(&rt, "an answer");
         match (found, want) {
-            (Some(record), Some(bytes)) => assert!(rt;
-                record.eq_bytes(bytes),
-                "{meaning}"
-            ),
+            (Some(record), Some(bytes)) => assert!(rt; record.eq_bytes(bytes), "{meaning}"),
             (None, None) => {}
             _ => assert!(rt; false, "{meaning}"),
         }
@@ -320,12 +329,23 @@ fn found_in_a_sorted_buffer(rt: HostRuntime) {
     let alloc = rt.alloc();
     let text = sorted(&rt, alloc, TEXT);
     let packed = buffer(&rt, alloc, text.as_slice());
-    let tag = packed.find(alloc, partial(&rt, "refs/tags/v1")).expect(&rt, "a tag");
-    assert!(rt; tag.target() == id(&rt, b"2222222222222222222222222222222222222222"), "its target");
-    assert!(rt; tag.object() == id(&rt, b"3333333333333333333333333333333333333333"), "its object");
+    let tag = packed
+        .find(alloc, partial(&rt, "refs/tags/v1"))
+        .expect(&rt, "a tag");
+    assert!(rt;
+        tag.target() == id(&rt, b"2222222222222222222222222222222222222222"),
+        "its target"
+    );
+    assert!(rt;
+        tag.object() == id(&rt, b"3333333333333333333333333333333333333333"),
+        "its object"
+    );
     let bad = sorted(&rt, alloc, b"xyz\n");
     let packed = buffer(&rt, alloc, bad.as_slice());
-    assert!(rt; packed.try_find(alloc, partial(&rt, "a")).err() == Some(FindError::Parse), "a bad line");
+    assert!(rt;
+        packed.try_find(alloc, partial(&rt, "a")).err() == Some(FindError::Parse),
+        "a bad line"
+    );
     assert!(rt;
         packed.find(alloc, partial(&rt, "a")).err() == Some(ExistingError::Find(FindError::Parse)),
         "a bad line is not an absent reference"
