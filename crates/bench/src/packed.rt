@@ -1,15 +1,11 @@
 //! The modes that measure packed references. A record is a line of 70 bytes.
-ghost use Rattle.std.specs.Prelude.{◌≡◌, ◌<◌};
-
 use gix_ref_base::name::{self, FullName, FullNameRef};
 use gix_ref_files::files::{Files, ReadAt};
 use gix_ref_hash::hash::Kind;
-use gix_ref_packed::packed::source::Source;
+use gix_ref_packed::packed::Buffer;
+use gix_ref_packed::packed::sorted_file::SortedFile;
 use gix_ref_packed::packed::written::{push_header, push_record};
-use gix_ref_packed::packed::{Buffer, Probes};
 use std::alloc::{AllocError, Global};
-use std::marker::Brand;
-use std::sync::ledger::{Blank, Ledger};
 
 const ID: &[u8] = b"0123456789abcdef0123456789abcdef01234567";
 
@@ -122,27 +118,6 @@ fn find<F: Files>(alloc: Global, files: &mut F, path: &[u8], turns: u64) -> u64 
     hits
 }
 
-/// Whether a source has the name.
-fn is_found<R: ReadAt + Drop, L: Ledger>(
-    source: &mut Source<R>,
-    name: FullNameRef<'_>,
-    blank: Blank,
-) -> bool
-    requires name { blank.name ≡ L.name }
-    requires parts { blank.parts ≡ L.parts }
-    requires some { 0 < blank.parts }
-{
-    let mut probes = Probes::<L>::new(blank);
-    matches!(
-        source.try_find_full(Kind::Sha1, name, &mut probes),
-        Ok(Some(_))
-    )
-}
-
-fn found<R: ReadAt + Drop>(source: &mut Source<R>, name: FullNameRef<'_>) -> bool {
-    is_found::<R, Brand>(source, name, Blank::new(1))
-}
-
 /// How many records the file has.
 fn count_in_file<F: Files>(alloc: Global, files: &mut F, path: &[u8]) -> u64 {
     match files.open(alloc, path) {
@@ -164,8 +139,8 @@ fn find_in_file<F: Files>(alloc: Global, files: &mut F, path: &[u8], turns: u64)
         let Ok(Some(reader)) = files.open(alloc, path) else {
             continue;
         };
-        let mut source = Source::new(alloc, reader, HEADER);
-        if found(&mut source, name) {
+        let mut records = SortedFile::new(alloc, reader, HEADER);
+        if let Ok(Some(_)) = records.find(Kind::Sha1, name) {
             hits = hits.saturating_add(1);
         }
     }

@@ -8,7 +8,7 @@ use Rattle.gix_ref_base.specs.Targets.{TargetValue, target_value}
 use Rattle.gix_ref_base.specs.Targets.TargetValue.{object_id, symbolic_name}
 use Rattle.gix_ref_packed.specs.declared.packed.reference.Reference.{Reference as Packed}
 use Rattle.gix_ref_packed.specs.declared.raw.Reference.{Reference}
-use Rattle.gix_ref_packed.specs.PackedIds.{ReadsIfAny}
+use Rattle.gix_ref_packed.specs.IdDigits.{ReadsIfAny}
 
 -- the name and the ids of a record
 pub record IsOfRecord (r : Reference) (p : Packed) : Type 0 where

@@ -6,14 +6,14 @@ use gix_ref_base::target::{Kind, Target};
 use gix_ref_hash::hash::ObjectId;
 use std::alloc::{AllocError, Global};
 
-/// A reference with a name and a target of its own.
+/// A reference that owns its name and its target, as `gix_ref::Reference` does.
 #[derive(Debug, PartialEq, Eq, PartialOrd, Ord, Hash, Drop)]
 pub struct Reference {
     /// The name of the reference in its store.
     pub name: FullName,
     /// An object, or another reference.
     pub target: Target,
-    /// The object that is reached in the end, where a record or peeling told it.
+    /// The object that is reached in the end, if a record or peeling reported it.
     pub peeled: Option<ObjectId>,
 }
 
@@ -25,7 +25,7 @@ impl Reference {
     ghost use Rattle.gix_ref_base.specs.Targets.{target_value, target_kind};
     ghost use Rattle.gix_ref_packed.specs.RawReference.{IsOfRecord, stripped_target};
 
-    /// The reference that a record of `packed-refs` says. The error says that there was no memory for its name.
+    /// The reference of a record of `packed-refs`. The error reports that there was no memory for its name.
     pub fn from_packed(
         alloc: Global,
         packed: packed::Reference<'_>,

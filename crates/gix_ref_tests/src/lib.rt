@@ -1,7 +1,4 @@
-//! Tests of packed references.
+//! The library as its users meet it: the public paths of `gix_ref`, each used once.
 #![tactic(auto)]
-
 #[cfg(test)]
-mod made;
-#[cfg(test)]
-mod packed;
+mod surface;

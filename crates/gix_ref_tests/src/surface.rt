@@ -1,1 +1,101 @@
-//! Every public path of the library, named once.
+//! Every public type of the library under its path, and a call of each module.
+use gix_ref::hash::{hex_hash, hex_hash_any, newline};
+use gix_ref::namespace::expand;
+use gix_ref::{
+    actor, file, files, hash, layout, lock, log, name, namespace, packed, raw, steps, store, target,
+    transaction,
+};
+
+/// Names a type.
+fn named<T>() {}
+
+#[test]
+fn types_of_names_and_values() {
+    named::<hash::Kind>();
+    named::<hash::ObjectId>();
+    named::<name::Error>();
+    named::<name::FullName>();
+    named::<name::PartialName>();
+    named::<name::FullNameRef<'_>>();
+    named::<name::PartialNameRef<'_>>();
+    named::<name::Category<'_>>();
+    named::<namespace::Namespace>();
+    named::<layout::RefLayout<'_>>();
+    named::<layout::Location<'_>>();
+    named::<target::Kind>();
+    named::<target::Target>();
+    named::<target::TargetRef<'_>>();
+    named::<raw::Reference>();
+    named::<actor::Time>();
+    named::<actor::Signature>();
+    named::<actor::SignatureRef<'_>>();
+}
+
+#[test]
+fn types_of_formats() {
+    named::<packed::Buffer>();
+    named::<packed::Reference<'_>>();
+    named::<packed::Iter<'_>>();
+    named::<packed::decode::Header>();
+    named::<packed::decode::Peeled>();
+    named::<packed::buffer::open::Error>();
+    named::<packed::iter::Error<'_>>();
+    named::<packed::find::Error>();
+    named::<packed::find::existing::Error>();
+    named::<log::Line>();
+    named::<log::LineRef<'_>>();
+    named::<log::iter::Forward<'_>>();
+    named::<log::iter::ReverseError>();
+    named::<log::iter::EmptyBuffer>();
+    named::<log::iter::decode::Error>();
+    named::<log::iter::decode::LineNumber>();
+}
+
+#[test]
+fn types_of_files_and_the_store() {
+    named::<files::FileError>();
+    named::<files::Node>();
+    named::<files::Create>();
+    named::<files::Rename>();
+    named::<files::Memory>();
+    named::<files::Disk>();
+    named::<lock::Lock>();
+    named::<steps::Action>();
+    named::<store::Options>();
+    named::<store::WriteReflog>();
+    named::<file::Store<files::Memory>>();
+    named::<file::store::Error<files::Memory>>();
+    named::<file::loose::Reference>();
+    named::<file::loose::Error>();
+    named::<file::find::Error>();
+    named::<file::find::existing::Error>();
+    named::<file::transaction::PackedRefs>();
+    named::<file::transaction::Refused>();
+    named::<file::transaction::Done>();
+    named::<file::transaction::Failed>();
+    named::<file::transaction::RolledBack>();
+    named::<file::transaction::prepare::Error>();
+    named::<file::transaction::commit::Error>();
+    named::<transaction::LogChange>();
+    named::<transaction::PreviousValue>();
+    named::<transaction::Change>();
+    named::<transaction::RefEdit>();
+    named::<transaction::RefLog>();
+}
+
+#[test]
+fn calls(rt: HostRuntime) {
+    let alloc = rt.alloc();
+    let digits = b"1111111111111111111111111111111111111111\n".as_slice();
+    let mut input = digits;
+    assert!(rt; hex_hash(&mut input, hash::Kind::Sha1).is_some());
+    assert!(rt; newline(&mut input).is_some() && input.is_empty());
+    let mut input = digits;
+    assert!(rt; hex_hash_any(&mut input).is_some());
+    let partial = name::PartialNameRef::try_from("foo").expect(&rt, "a name");
+    let space = expand(alloc, partial).expect(&rt, "memory");
+    assert!(rt; space.to_path() == b"refs/namespaces/foo/".as_slice());
+    let files = files::Memory::new(alloc);
+    let folder = b"/r".to_vec(alloc).expect(&rt, "memory");
+    assert!(rt; file::Store::at(files, folder, hash::Kind::Sha1).is_ok());
+}

@@ -3,8 +3,7 @@ ghost use Rattle.std.specs.Prelude.{◌≤◌, ◌<◌, vec_len};
 
 pub mod open;
 
-use crate::packed::decode::Header;
-use crate::packed::heading::{Heading, read_heading};
+use crate::packed::header_end::{HeaderEnd, first_line_behind, read_header_end, says_sorted};
 use crate::packed::sorting::sorted_text;
 use gix_ref_files::files::{FileError, Files, Node};
 use gix_ref_hash::hash::Kind;
@@ -28,11 +27,11 @@ impl Buffer {
     ghost use Rattle.std.specs.Prelude.{◌≡◌, ◌≤◌, ◌<◌, IfOk, IfErr, MatchOption, true, false, vec_len, drop};
     ghost use Rattle.gix_ref_files.specs.Tree.{is_file, bytes_of};
     ghost use Rattle.gix_ref_files.specs.Files.{Leaves};
-    ghost use Rattle.gix_ref_files.specs.Calls.{Unchanged};
-    ghost use Rattle.gix_ref_packed.specs.PackedOpening.{Keeps};
-    ghost use Rattle.gix_ref_packed.specs.PackedBuffer.{buffer_text, buffer_kind, buffer_line, Opened, IsRefused, IsRefusedFile, IsStuck, count_open};
+    ghost use Rattle.gix_ref_files.specs.Calls.{Only};
+    ghost use Rattle.gix_ref_packed.specs.OpenedText.{Keeps};
+    ghost use Rattle.gix_ref_packed.specs.Buffers.{buffer_text, buffer_kind, buffer_line, Opened, IsRefused, IsRefusedFile, IsStuck, count_open};
 
-    /// Opens the file at a path, whose ids are of the kind; `None` where no file stands there. `Io` where it cannot be
+    /// Opens the file at a path, whose ids are of the kind; `None` where no file is there. `Io` where it cannot be
     /// read, and else what `from_bytes` answers. The threshold, from which on other stores map the file into memory, has
     /// no effect. The file is read once, into memory.
     pub fn open<F: Files>(
@@ -45,7 +44,7 @@ impl Buffer {
         ensures opened { F.honest → IfOk result (λ found. MatchOption found (is_file ((F.means files.old).tree path.now) ≡ false)
             (λ b. (is_file ((F.means files.old).tree path.now) ≡ true) × Opened kind (bytes_of ((F.means files.old).tree path.now)) b)) }
         ensures refused { F.honest → IfErr result (IsRefusedFile kind ((F.means files.old).tree path.now)) }
-        ensures leaves { F.honest → Leaves (F.means files.old) (F.means files.new) (Unchanged (F.means files.old).tree) }
+        ensures leaves { F.honest → Leaves (F.means files.old) (F.means files.new) (Only (F.means files.old).tree) }
         ensures count { F.faults files.new ≡ count_open result (F.faults files.old) }
     {
         let mut bytes = Vec::new(alloc);
@@ -63,30 +62,26 @@ impl Buffer {
 
     /// Opens a text, which it keeps. `HeaderParsing` where it begins with `#` and has no header. Where its header says
     /// that it is sorted, nothing but that line is looked at. Else each record is read, at a cost of n log n for n
-    /// records: `Iter` tells the first line that is none. Where the names do not ascend, the records are put in their
-    /// order, those of one name in their old order, and `Memory` tells that there was no memory for that.
+    /// records: `Iter` reports the first line that is no record. Where a name is below an earlier one, the records are put in
+    /// the order of their names, those of one name in their old order, and `Memory` reports that there was no memory for
+    /// that (`git pack-refs`).
     pub fn from_bytes(alloc: Global, bytes: Vec<u8>, kind: Kind) -> Result<Buffer, Error>
         ensures opened { IfOk result (Opened kind bytes.items) }
         ensures refused { IfErr result (IsRefused kind bytes.items) }
     {
-        let Some(Heading { header, start }) = read_heading(&bytes) else {
+        let Some(HeaderEnd { header, start }) = read_header_end(&bytes) else {
             return Err(Error::HeaderParsing);
         };
-        match header {
-            Some(
-                Header {
-                    peeled: _,
-                    sorted: true,
-                },
-            ) => Ok(Buffer {
+        let first_line = first_line_behind(header);
+        if says_sorted(header) {
+            return Ok(Buffer {
                 bytes,
                 start,
                 kind,
-                first_line: 2,
-            }),
-            Some(_) => Buffer::sorted(alloc, bytes, start, kind, 2),
-            None => Buffer::sorted(alloc, bytes, start, kind, 1),
+                first_line,
+            });
         }
+        Buffer::sorted(alloc, bytes, start, kind, first_line)
     }
 
     /// The buffer of a text whose records are to be sorted.

@@ -1,6 +1,6 @@
 //! Reading the text of `packed-refs`: its header, its records, and where records begin.
-ghost use Rattle.std.specs.Prelude.{◌≡◌, ◌≤◌, ◌<◌, length, drop};
-ghost use Rattle.gix_ref_packed.specs.PackedLookup.{LineOf, RecordOf};
+ghost use Rattle.std.specs.Prelude.{◌≡◌, ◌≤◌, length, drop};
+ghost use Rattle.gix_ref_packed.specs.Positions.{StartsRecord};
 
 mod header_line;
 mod options;
@@ -11,15 +11,14 @@ pub use header_line::header;
 pub(crate) use header_line::take_header;
 pub use options::{Header, Peeled};
 pub use record_line::{name_at_record_start, reference};
-pub(crate) use record_line::{name_order, take_record, take_shape};
+pub(crate) use record_line::{name_order, split_record_line, take_record};
 
-/// Where the record that the byte is in begins: a line with `^` belongs to the line before it. At the end of a text
-/// that ends in a newline, 0. The offset is at most the text's length.
+/// Where the record that the byte is in begins: a line with `^` belongs to the line before it. At the end of a text that
+/// does not end in a newline, where the last record begins; at the end of one that does, 0. The offset is at most the
+/// text's length.
 pub fn record_start_at_offset(text: &[u8], offset: usize) -> usize
     requires { offset ≤ length text.now }
-    ensures below { result ≤ offset }
-    ensures record { offset < length text.now → RecordOf text.now result offset }
-    ensures end { LineOf text.now (length text.now) offset → result ≡ 0 }
+    ensures { StartsRecord text.now result offset }
 {
     let line = line_start(text, offset);
     match text.get(line) {
@@ -29,11 +28,11 @@ pub fn record_start_at_offset(text: &[u8], offset: usize) -> usize
     }
 }
 
-/// The text from the beginning of the record that the byte is in. The offset is at most the text's length.
+/// The text from the beginning of the record that the byte is in, as `record_start_at_offset` finds it. The offset is at
+/// most the text's length.
 pub fn record_at_offset(text: &[u8], offset: usize) -> &[u8]
     requires { offset ≤ length text.now }
-    ensures record { offset < length text.now → (start : _) × RecordOf text.now start offset × (result.now ≡ drop start text.now) }
-    ensures end { LineOf text.now (length text.now) offset → result.now ≡ text.now }
+    ensures { (start : _) × StartsRecord text.now start offset × (result.now ≡ drop start text.now) }
 {
     &text[record_start_at_offset(text, offset)..]
 }

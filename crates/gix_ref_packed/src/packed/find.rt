@@ -1,22 +1,19 @@
 //! The search for a reference in a `packed-refs` in memory, by halving.
-ghost use Rattle.std.specs.Prelude.{◌≡◌, ◌≤◌, ◌+◌, ◌-◌, ◌*◌, ◌^◌, ◌<◌, ◌++◌, ℕ, List, true, false, length, IfOk, IfSome, MatchResult};
-ghost use Rattle.std.specs.Option.{option_map};
-ghost use Rattle.gix_ref_base.specs.Names.{full_ref_bytes};
+ghost use Rattle.std.specs.Prelude.{◌≡◌, ◌≤◌, ◌<◌, ◌++◌, true, false, length};
 ghost use Rattle.gix_ref_base.specs.NameGrammar.{IsPartialName};
-ghost use Rattle.gix_ref_packed.specs.PackedKeys.{HitsPartial, FindsPartial, is_whole as whole};
-ghost use Rattle.gix_ref_packed.specs.PackedText.{Record, Records, Ascending};
-ghost use Rattle.gix_ref_packed.specs.PackedLookup.{record_named, StandsIn};
-ghost use Rattle.gix_ref_packed.specs.PackedViews.{record_of};
+ghost use Rattle.gix_ref_packed.specs.AskedNames.{is_rooted as rooted};
+ghost use Rattle.gix_ref_packed.specs.Searches.{Finds, FindsOne, FindsPartial};
+ghost use Rattle.gix_ref_packed.specs.SearchCosts.{CountsProbes};
 
 pub mod existing;
 
 use crate::packed::buffer::Buffer;
 use crate::packed::decode::take_record;
-use crate::packed::keys::{is_whole, key_of};
 use crate::packed::probes::Probes;
 use crate::packed::reference::Reference;
 use crate::packed::search::search;
-use crate::packed::text::Whole;
+use crate::packed::searchable::InMemory;
+use gix_ref_base::layout::packed_key;
 use gix_ref_base::name::{self, FullNameRef, PartialNameRef};
 use gix_ref_hash::hash::Kind;
 use std::alloc::{AllocError, Global};
@@ -24,13 +21,16 @@ use std::marker::Brand;
 use std::sync::ledger::{Blank, Ledger};
 use thiserror::Error;
 
+/// How many bytes the longest of the four fronts has, `refs/remotes/`.
+const LONGEST_FRONT: usize = 13;
+
 /// Why a search for a partial name has no answer.
 #[derive(Clone, Copy, Debug, PartialEq, Eq, Error)]
 pub enum Error {
-    /// The name is none. No call raises this: it is for conversions of callers.
+    /// The name is invalid. No call of this crate returns this: it is for callers that convert by `?`.
     #[error("the reference name is invalid: {0}")]
     RefnameValidation(name::Error),
-    /// A record without shape was met and nothing was found, or the record that was found cannot be read.
+    /// A malformed line was met and nothing was found, or the record that was found cannot be read.
     #[error("a record of packed-refs cannot be read")]
     Parse,
     /// There was no memory for a name that is asked for.
@@ -60,7 +60,7 @@ impl From<ParseError> for Error {
     }
 }
 
-/// A record without shape was met and nothing was found, or the record that was found cannot be read.
+/// A malformed line was met and nothing was found, or the record that was found cannot be read.
 #[derive(Clone, Copy, Debug, PartialEq, Eq, Error)]
 #[error("a record of packed-refs cannot be read")]
 pub struct ParseError;
@@ -69,17 +69,15 @@ pub struct ParseError;
 pub(crate) fn find_record<'a, L: Ledger>(
     text: &'a [u8],
     kind: Kind,
-    asked: &[u8],
+    wanted: &[u8],
     probes: &mut Probes<L>,
 ) -> Result<Option<Reference<'a>>, ParseError>
     ensures counts { probes.old ≤ probes.new }
-    ensures cost { 2 ^ (probes.new - probes.old) ≤ 2 * length text.now + 1 }
-    ensures hit { IfOk result (λ found. IfSome found (λ r. (full_ref_bytes r.name ≡ asked.now) × StandsIn kind text.now (record_of r))) }
-    ensures finds { (rs : List Record) → Records kind text.now rs → Ascending rs →
-        MatchResult result (λ found. option_map record_of found ≡ record_named asked.now rs) (λ _. ⊥) }
+    ensures cost { CountsProbes (length text.now) probes.old probes.new }
+    ensures finds { Finds kind text.now wanted.now result }
 {
-    let mut whole = Whole { bytes: text };
-    let start = match search(&mut whole, kind, asked, probes) {
+    let mut whole = InMemory { bytes: text };
+    let start = match search(&mut whole, kind, wanted, probes) {
         Ok(Some(start)) => start,
         Ok(None) => return Ok(None),
         Err(_) => return Err(ParseError),
@@ -90,179 +88,160 @@ pub(crate) fn find_record<'a, L: Ledger>(
     }
 }
 
-/// The same, where the ledger of the count is new.
+/// The record of the name, where the ledger of the count is new.
 fn find_blank<'a, L: Ledger>(
     text: &'a [u8],
     kind: Kind,
-    asked: &[u8],
+    wanted: &[u8],
     blank: Blank,
 ) -> Result<Option<Reference<'a>>, ParseError>
     requires name { blank.name ≡ L.name }
     requires parts { blank.parts ≡ L.parts }
     requires some { 0 < blank.parts }
-    ensures hit { IfOk result (λ found. IfSome found (λ r. (full_ref_bytes r.name ≡ asked.now) × StandsIn kind text.now (record_of r))) }
-    ensures finds { (rs : List Record) → Records kind text.now rs → Ascending rs →
-        MatchResult result (λ found. option_map record_of found ≡ record_named asked.now rs) (λ _. ⊥) }
+    ensures { Finds kind text.now wanted.now result }
 {
     let mut probes = Probes::<L>::new(blank);
-    find_record(text, kind, asked, &mut probes)
+    find_record(text, kind, wanted, &mut probes)
 }
 
 /// The record of the name in a text of records, where nobody counts.
 fn find_uncounted<'a>(
     text: &'a [u8],
     kind: Kind,
-    asked: &[u8],
+    wanted: &[u8],
 ) -> Result<Option<Reference<'a>>, ParseError>
-    ensures hit { IfOk result (λ found. IfSome found (λ r. (full_ref_bytes r.name ≡ asked.now) × StandsIn kind text.now (record_of r))) }
-    ensures finds { (rs : List Record) → Records kind text.now rs → Ascending rs →
-        MatchResult result (λ found. option_map record_of found ≡ record_named asked.now rs) (λ _. ⊥) }
+    ensures { Finds kind text.now wanted.now result }
 {
-    find_blank::<Brand>(text, kind, asked, Blank::new(1))
+    find_blank::<Brand>(text, kind, wanted, Blank::new(1))
 }
 
-/// The record of the key of a partial name that is a full one as it stands.
-fn find_whole<'a>(
-    text: &'a [u8],
-    kind: Kind,
-    name: &[u8],
-) -> Result<Option<Reference<'a>>, ParseError>
+/// Whether a partial name is a full name already.
+fn is_rooted(name: &[u8]) -> bool
+    ensures { result ≡ rooted name.now }
+{
+    name.starts_with(b"refs/")
+        || name.starts_with(b"main-worktree/")
+        || name.starts_with(b"worktrees/")
+}
+
+/// The record of the key of a partial name that is a full name already.
+fn find_rooted<'a>(text: &'a [u8], kind: Kind, name: &[u8]) -> Result<Option<Reference<'a>>, Error>
     requires valid { IsPartialName name.now }
-    requires whole { whole name.now ≡ true }
-    ensures hit { IfOk result (λ found. IfSome found (λ r. HitsPartial kind text.now name.now (record_of r))) }
-    ensures finds { (rs : List Record) → Records kind text.now rs → Ascending rs →
-        MatchResult result (λ found. FindsPartial rs name.now (option_map record_of found)) (λ _. ⊥) }
+    requires rooted { rooted name.now ≡ true }
+    ensures { FindsPartial kind text.now name.now result }
 {
     let Ok(full) = FullNameRef::try_from(name) else {
         unreachable!();
     };
-    match key_of(full) {
-        Some(key) => find_uncounted(text, kind, key),
+    match packed_key(full) {
+        Some(key) => Ok(find_uncounted(text, kind, key)?),
         None => Ok(None),
     }
 }
 
-/// The record of the name behind a front.
+/// The record of the name behind a front. The buffer gets the full name, in place of what was in it.
 fn find_behind<'a>(
-    alloc: Global,
     text: &'a [u8],
     kind: Kind,
+    full: &mut Vec<u8>,
     front: &[u8],
     name: &[u8],
 ) -> Result<Option<Reference<'a>>, Error>
-    ensures hit { IfOk result (λ found. IfSome found (λ r. (full_ref_bytes r.name ≡ front.now ++ name.now) × StandsIn kind text.now (record_of r))) }
-    ensures finds { (rs : List Record) → Records kind text.now rs → Ascending rs →
-        MatchResult result (λ found. option_map record_of found ≡ record_named (front.now ++ name.now) rs) (λ e. e ≡ Error.Memory) }
+    ensures { FindsOne kind text.now (front.now ++ name.now) result }
 {
-    let mut asked = front.to_vec(alloc)?;
-    asked.extend_from_slice(name)?;
-    match find_uncounted(text, kind, &asked) {
-        Ok(found) => Ok(found),
-        Err(_) => Err(Error::Parse),
-    }
+    full.clear();
+    full.extend_from_slice(front)?;
+    full.extend_from_slice(name)?;
+    Ok(find_uncounted(text, kind, full)?)
 }
 
-/// The record of a partial name that is no full one: behind `refs/`, `refs/tags/`, `refs/heads/` or `refs/remotes/`.
+/// The record of a partial name that is no full name: behind `refs/`, `refs/tags/`, `refs/heads/` or `refs/remotes/`.
 fn find_partial<'a>(
     alloc: Global,
     text: &'a [u8],
     kind: Kind,
     name: &[u8],
 ) -> Result<Option<Reference<'a>>, Error>
-    requires { whole name.now ≡ false }
-    ensures hit { IfOk result (λ found. IfSome found (λ r. HitsPartial kind text.now name.now (record_of r))) }
-    ensures finds { (rs : List Record) → Records kind text.now rs → Ascending rs →
-        MatchResult result (λ found. FindsPartial rs name.now (option_map record_of found)) (λ e. e ≡ Error.Memory) }
+    requires { rooted name.now ≡ false }
+    ensures { FindsPartial kind text.now name.now result }
 {
-    if let Some(reference) = find_behind(alloc, text, kind, b"refs/", name)? {
+    let mut full = Vec::with_capacity(alloc, name.len().saturating_add(LONGEST_FRONT))?;
+    if let Some(reference) = find_behind(text, kind, &mut full, b"refs/", name)? {
         return Ok(Some(reference));
     }
-    if let Some(reference) = find_behind(alloc, text, kind, b"refs/tags/", name)? {
+    if let Some(reference) = find_behind(text, kind, &mut full, b"refs/tags/", name)? {
         return Ok(Some(reference));
     }
-    if let Some(reference) = find_behind(alloc, text, kind, b"refs/heads/", name)? {
+    if let Some(reference) = find_behind(text, kind, &mut full, b"refs/heads/", name)? {
         return Ok(Some(reference));
     }
-    find_behind(alloc, text, kind, b"refs/remotes/", name)
+    find_behind(text, kind, &mut full, b"refs/remotes/", name)
 }
 
 impl Buffer {
-    ghost use Rattle.std.specs.Prelude.{Some, ◌≡◌, ◌≤◌, ◌+◌, ◌-◌, ◌*◌, ◌^◌, List, length, IfOk, IfSome, MatchResult};
-    ghost use Rattle.std.specs.Option.{option_map};
+    ghost use Rattle.std.specs.Prelude.{◌≤◌, length};
     ghost use Rattle.gix_ref_base.specs.Names.{full_ref_bytes, partial_ref_bytes};
-    ghost use Rattle.gix_ref_packed.specs.PackedKeys.{HitsPartial, FindsPartial};
-    ghost use Rattle.gix_ref_packed.specs.PackedFound.{IsMissing};
-    ghost use Rattle.gix_ref_packed.specs.PackedText.{Record, Records, Ascending};
-    ghost use Rattle.gix_ref_packed.specs.PackedLookup.{record_named, StandsIn};
-    ghost use Rattle.gix_ref_packed.specs.PackedViews.{record_of};
-    ghost use Rattle.gix_ref_packed.specs.PackedBuffer.{buffer_text, buffer_kind};
+    ghost use Rattle.gix_ref_packed.specs.Searches.{Finds, FindsPartial, as_try_find};
+    ghost use Rattle.gix_ref_packed.specs.SearchCosts.{CountsProbes};
+    ghost use Rattle.gix_ref_packed.specs.Buffers.{buffer_text, buffer_kind};
 
     /// The record of a full name, by halving: each look at a record is counted as a probe, and there are at most as many
     /// as the number of bytes has binary digits, about twenty among ten thousand records. `None` where the records have
-    /// no such name. The error tells of a text that is not well formed. Takes no memory.
+    /// no such name. The error is returned where a malformed line was met and nothing was found, and where the record that
+    /// was found cannot be read. Takes no memory.
     pub fn try_find_full<L: Ledger>(
         &self,
         name: FullNameRef<'_>,
         probes: &mut Probes<L>,
     ) -> Result<Option<Reference<'_>>, ParseError>
         ensures counts { probes.old ≤ probes.new }
-        ensures cost { 2 ^ (probes.new - probes.old) ≤ 2 * length (buffer_text self.now) + 1 }
-
-        // On any text a hit is a record of the asked name at the start of a line.
-        ensures hit { IfOk result (λ found. IfSome found (λ r.
-            (full_ref_bytes r.name ≡ full_ref_bytes name.entry) × StandsIn (buffer_kind self.now) (buffer_text self.now) (record_of r))) }
-
-        // On ascending records it is the record of the name, or there is none.
-        ensures finds { (rs : List Record) → Records (buffer_kind self.now) (buffer_text self.now) rs → Ascending rs →
-            MatchResult result (λ found. option_map record_of found ≡ record_named (full_ref_bytes name.entry) rs) (λ _. ⊥) }
+        ensures cost { CountsProbes (length (buffer_text self.now)) probes.old probes.new }
+        ensures finds { Finds (buffer_kind self.now) (buffer_text self.now) (full_ref_bytes name.entry) result }
     {
         find_record(self.as_bytes(), self.kind(), name.to_path(), probes)
     }
 
     /// As `try_find_full`, for a caller who does not count.
     pub fn try_find_key(&self, name: FullNameRef<'_>) -> Result<Option<Reference<'_>>, ParseError>
-        ensures hit { IfOk result (λ found. IfSome found (λ r.
-            (full_ref_bytes r.name ≡ full_ref_bytes name.entry) × StandsIn (buffer_kind self.now) (buffer_text self.now) (record_of r))) }
-        ensures finds { (rs : List Record) → Records (buffer_kind self.now) (buffer_text self.now) rs → Ascending rs →
-            MatchResult result (λ found. option_map record_of found ≡ record_named (full_ref_bytes name.entry) rs) (λ _. ⊥) }
+        ensures { Finds (buffer_kind self.now) (buffer_text self.now) (full_ref_bytes name.entry) result }
     {
         find_uncounted(self.as_bytes(), self.kind(), name.to_path())
     }
 
-    /// The record of a partial name. One that begins with `refs/`, `main-worktree/` or `worktrees/` is asked for by its
-    /// key: what each worktree has of its own has none. Another is asked for behind `refs/`, `refs/tags/`, `refs/heads/`
-    /// and `refs/remotes/`, in this order. `Parse` tells of a text that is not well formed, `Memory` that there was no
+    /// The record of a partial name.
+    ///
+    /// ```text
+    /// let packed = Buffer::open(alloc, &mut files, b".git/packed-refs", 32_768, Kind::Sha1)?;
+    /// let tag = packed.try_find(alloc, PartialNameRef::try_from("v1.0")?)?;
+    /// ```
+    ///
+    /// A name that begins with `refs/`, `main-worktree/` or `worktrees/` is asked for by its
+    /// key: a reference that each worktree has for itself has none. Another is asked for behind `refs/`, `refs/tags/`, `refs/heads/`
+    /// and `refs/remotes/`, in this order (`gitrevisions`). `Parse` as for `try_find_full`; `Memory` where there was no
     /// memory for a name that is asked for.
     pub fn try_find(
         &self,
         alloc: Global,
         name: PartialNameRef<'_>,
     ) -> Result<Option<Reference<'_>>, Error>
-        ensures hit { IfOk result (λ found. IfSome found (λ r.
-            HitsPartial (buffer_kind self.now) (buffer_text self.now) (partial_ref_bytes name.entry) (record_of r))) }
-        ensures finds { (rs : List Record) → Records (buffer_kind self.now) (buffer_text self.now) rs → Ascending rs →
-            MatchResult result (λ found. FindsPartial rs (partial_ref_bytes name.entry) (option_map record_of found)) (λ e. e ≡ Error.Memory) }
+        ensures { FindsPartial (buffer_kind self.now) (buffer_text self.now) (partial_ref_bytes name.entry) result }
     {
         let path = name.to_partial_path();
-        if !is_whole(path) {
-            return find_partial(alloc, self.as_bytes(), self.kind(), path);
-        }
-        match find_whole(self.as_bytes(), self.kind(), path) {
-            Ok(found) => Ok(found),
-            Err(_) => Err(Error::Parse),
+        if is_rooted(path) {
+            find_rooted(self.as_bytes(), self.kind(), path)
+        } else {
+            find_partial(alloc, self.as_bytes(), self.kind(), path)
         }
     }
 
-    /// The same, where the reference must be there: `NotFound` where there is no record of it.
+    /// The record of a partial name that must be there, as `try_find` finds it: `NotFound` where it finds none, and `Find`
+    /// where it fails.
     pub fn find(
         &self,
         alloc: Global,
         name: PartialNameRef<'_>,
     ) -> Result<Reference<'_>, existing::Error>
-        ensures hit { IfOk result (λ r. HitsPartial (buffer_kind self.now) (buffer_text self.now) (partial_ref_bytes name.entry) (record_of r)) }
-        ensures finds { (rs : List Record) → Records (buffer_kind self.now) (buffer_text self.now) rs → Ascending rs →
-            MatchResult result (λ r. FindsPartial rs (partial_ref_bytes name.entry) (Some (record_of r)))
-            (IsMissing rs (partial_ref_bytes name.entry)) }
+        ensures { FindsPartial (buffer_kind self.now) (buffer_text self.now) (partial_ref_bytes name.entry) (as_try_find result) }
     {
         match self.try_find(alloc, name) {
             Ok(Some(reference)) => Ok(reference),

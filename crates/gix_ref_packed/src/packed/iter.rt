@@ -8,14 +8,14 @@ mod parts;
 use crate::packed::bound::lower_bound;
 use crate::packed::buffer::Buffer;
 use crate::packed::decode::take_record;
-use crate::packed::heading::{first_line_behind, read_heading};
+use crate::packed::header_end::{first_line_behind, read_header_end};
 use crate::packed::reference::Reference;
 use crate::packed::sorting::line_count;
 pub use error::Error;
 use gix_ref_hash::hash::Kind;
 use parts::{begins_with_prefix, count_line_feeds, cut_line, first_line};
 
-/// The records of a text, and a fault for each line that is none. A record whose line with `^` is bad is two faults.
+/// The records of a text, and a fault for each line that is no record. A record whose line with `^` is bad is two faults.
 #[derive(Debug, Drop)]
 pub struct Iter<'a> {
     rest: &'a [u8],
@@ -32,17 +32,17 @@ impl<'a> Iter<'a> {
     ghost use Rattle.std.specs.Prelude.{◌≡◌, List, Option, None, IfOk, IfErr, true};
     ghost use Rattle.std.specs.Iterator.Runs.{EachRunFrom};
     ghost use Rattle.gix_ref_packed.specs.declared.packed.decode.options.Header.{Header};
-    ghost use Rattle.gix_ref_packed.specs.PackedOpening.{Heads, line_behind};
-    ghost use Rattle.gix_ref_packed.specs.PackedItems.{ItemStep, AreItems, IsHeaderError, unread};
+    ghost use Rattle.gix_ref_packed.specs.OpenedText.{Heads, line_behind};
+    ghost use Rattle.gix_ref_packed.specs.Items.{ItemStep, AreItems, IsHeaderError, unread};
 
     /// The records of a whole text, in the order of its lines; lines are numbered from 1, the header's too. The error,
-    /// `Header`, tells the first line where the text begins with `#` and has no header.
+    /// `Header`, has the first line of a text that begins with `#` and has no header.
     pub fn new(text: &'a [u8], kind: Kind) -> Result<Iter<'a>, Error<'a>>
         ensures items { IfOk result (λ it. (h : Option Header) × (rest : List _) × Heads text.now h rest × EachRunFrom ItemStep it
             (λ run. AreItems (run.whole ≡ true) (record { kind = kind; prefix = None; number = line_behind h; text = rest }) run.items)) }
         ensures refused { IfErr result (IsHeaderError text.now) }
     {
-        let Some(heading) = read_heading(text) else {
+        let Some(heading) = read_header_end(text) else {
             return Err(Error::Header {
                 invalid_first_line: first_line(text),
             });
@@ -67,7 +67,7 @@ impl<'a> Iter<'a> {
 }
 
 impl<'a> Iterator for Iter<'a> {
-    ghost use Rattle.gix_ref_packed.specs.PackedItems.{ItemStep};
+    ghost use Rattle.gix_ref_packed.specs.Items.{ItemStep};
 
     type Item = Result<Reference<'a>, Error<'a>>;
 
@@ -107,10 +107,10 @@ impl<'a> Iterator for Iter<'a> {
 impl Buffer {
     ghost use Rattle.std.specs.Prelude.{◌≡◌, ◌+◌, ℕ, List, None, Some, true, take, drop};
     ghost use Rattle.std.specs.Iterator.Runs.{EachRunFrom};
-    ghost use Rattle.gix_ref_packed.specs.PackedText.{Record, Records, Ascending};
-    ghost use Rattle.gix_ref_packed.specs.PackedPrefixes.{records_prefixed};
-    ghost use Rattle.gix_ref_packed.specs.PackedBuffer.{buffer_text, buffer_kind, buffer_line};
-    ghost use Rattle.gix_ref_packed.specs.PackedItems.{ItemStep, AreItems, AreRecords, line_feeds};
+    ghost use Rattle.gix_ref_packed.specs.RecordGrammar.{Record, Records, Rising};
+    ghost use Rattle.gix_ref_packed.specs.Prefixes.{records_prefixed, IsListStart};
+    ghost use Rattle.gix_ref_packed.specs.Buffers.{buffer_text, buffer_kind, buffer_line};
+    ghost use Rattle.gix_ref_packed.specs.Items.{ItemStep, AreItems, AreRecords, line_feeds};
 
     /// The records of the buffer, in the order of their names. Lines are numbered as in the file that was opened.
     pub fn iter(&self) -> Iter<'_>
@@ -124,16 +124,17 @@ impl Buffer {
     {
         Iter::from(self.as_bytes(), self.kind(), self.first_line())
     }
+
     /// The records whose names begin with the prefix, in the order of their names: the first is found by halving, and
     /// the first other name ends them.
     pub fn iter_prefixed(&self, prefix: Vec<u8>) -> Iter<'_>
-        // Whatever calls of `next` follow, they give the records and faults from some place of the text on, up to the
-        // first other name.
-        ensures items { (start : ℕ) × EachRunFrom ItemStep result (λ run. AreItems (run.whole ≡ true)
+        // Whatever calls of `next` follow, they give the records and faults from the start of a line on, up to the first
+        // other name.
+        ensures items { (start : ℕ) × IsListStart (buffer_text self.now) start × EachRunFrom ItemStep result (λ run. AreItems (run.whole ≡ true)
             (record { kind = buffer_kind self.now; prefix = Some prefix.items; number = buffer_line self.now + line_feeds (take start (buffer_text self.now)); text = drop start (buffer_text self.now) }) run.items) }
 
-        // Where the text is ascending records, they give those of the prefix.
-        ensures records { (rs : List Record) → Records (buffer_kind self.now) (buffer_text self.now) rs → Ascending rs →
+        // Where the text is records whose names do not descend, they give those of the prefix.
+        ensures records { (rs : List Record) → Records (buffer_kind self.now) (buffer_text self.now) rs → Rising rs →
             EachRunFrom ItemStep result (λ run. AreRecords (run.whole ≡ true) (records_prefixed prefix.items rs) run.items) }
     {
         let text = self.as_bytes();

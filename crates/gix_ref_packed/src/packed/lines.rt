@@ -1,7 +1,7 @@
 //! Lines that end in LF or CRLF, and where they begin.
 ghost use Rattle.std.specs.Prelude.{◌≡◌, ◌≢◌, ◌++◌, ◌<◌, ◌≤◌, ℕ, List, MatchOption, length};
-ghost use Rattle.gix_ref_packed.specs.PackedText.{Newline, Line};
-ghost use Rattle.gix_ref_packed.specs.PackedLookup.{LineOf, SameLine};
+ghost use Rattle.gix_ref_packed.specs.RecordGrammar.{Newline, Line};
+ghost use Rattle.gix_ref_packed.specs.Positions.{LineOf, SameLine};
 
 use memchr::{memchr, memchr2, memrchr};
 use std::cmp::Ordering;
@@ -55,7 +55,7 @@ pub fn line_end(text: &[u8], offset: usize) -> usize
 }
 
 /// Where a search may go on behind the byte, once it has compared the name there: no line begins between. It goes on there
-/// only where the name is too low or none stands there; else this is the next byte, which costs nothing.
+/// only where the name is too low or absent; else this is the next byte, which costs nothing.
 #[inline(always)]
 pub fn next_place(text: &[u8], offset: usize, order: Option<Ordering>) -> usize
     requires { offset < length text.now }

@@ -1,4 +1,4 @@
-//! A count of the places at which a search looks. It takes no bytes.
+//! A count of the places at which a search probed. It takes no bytes.
 ghost use Rattle.std.specs.Prelude.{◌≡◌, ◌+◌, ◌<◌, ℕ};
 
 use std::marker::Model;
@@ -7,7 +7,7 @@ use std::sync::ledger::{Blank, Book, Ledger, Share};
 /// How many probes were made: a count that contracts see and that needs no place when the program runs. Only `tick`
 /// changes it.
 ///
-/// A caller who counts picks a ledger where it passes `Brand`: it calls a function of its own that is generic over the
+/// A caller who counts picks a ledger where it passes `Brand`: it calls an own function that is generic over the
 /// ledger with `Blank::new(1)`, and that makes the count by `Probes::new` (`std::sync::ledger`). A caller who does not
 /// count asks a call that takes no count, as `Buffer::try_find_key`.
 #[derive(Drop)]

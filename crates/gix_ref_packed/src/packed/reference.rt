@@ -1,7 +1,7 @@
-//! A record of `packed-refs`, lent from the text that it stands in.
+//! A record of `packed-refs`, lent from its text.
 ghost use Rattle.std.specs.Prelude.{◌≡◌, true};
 ghost use Rattle.gix_ref_hash.specs.Ids.{is_id_text};
-ghost use Rattle.gix_ref_packed.specs.PackedIds.{is_id_if_any};
+ghost use Rattle.gix_ref_packed.specs.IdDigits.{is_id_if_any};
 
 use gix_ref_base::name::FullNameRef;
 use gix_ref_hash::hash::{ObjectId, id_of_digits};
@@ -13,7 +13,7 @@ pub struct Reference<'a> {
     pub name: FullNameRef<'a>,
     /// The hex digits of the id, as spelled.
     pub target: &'a [u8],
-    /// The hex digits of the object that a tag ends at, as spelled, where the record tells it.
+    /// The hex digits of the object that a tag ends at, as spelled, if the record has it.
     pub object: Option<&'a [u8]>,
     pub ghost target_reads: { is_id_text target.now ≡ true },
     pub ghost object_reads: { is_id_if_any object ≡ true },
@@ -23,7 +23,7 @@ impl<'a> Reference<'a> {
     ghost use Rattle.std.specs.Prelude.{◌≡◌, ◌↔◌, IsTrue};
     ghost use Rattle.gix_ref_hash.specs.Ids.{ReadsId};
     ghost use Rattle.gix_ref_base.specs.Names.{full_ref_bytes};
-    ghost use Rattle.gix_ref_packed.specs.PackedIds.{object_or, ReadsIfAny};
+    ghost use Rattle.gix_ref_packed.specs.IdDigits.{object_or, ReadsIfAny};
 
     /// The id.
     pub fn target(self) -> ObjectId
@@ -32,7 +32,7 @@ impl<'a> Reference<'a> {
         id_of_digits(self.target)
     }
 
-    /// The id of the object that a tag ends at, and the id itself where the record tells none.
+    /// The id of the object that a tag ends at, and the id itself if the record has none.
     pub fn object(self) -> ObjectId
         ensures { ReadsId (object_or self.entry.object self.entry.target.now) result }
     {
@@ -42,7 +42,7 @@ impl<'a> Reference<'a> {
         }
     }
 
-    /// The id of the object that a tag ends at, where the record tells it.
+    /// The id of the object that a tag ends at, if the record has it.
     pub fn peeled(self) -> Option<ObjectId>
         ensures { ReadsIfAny self.entry.object result }
     {

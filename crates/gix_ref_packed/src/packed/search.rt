@@ -1,76 +1,89 @@
 //! The search for one full name by halving.
-ghost use Rattle.std.specs.Prelude.{◌≡◌, ◌≤◌, ◌<◌, ◌+◌, ◌-◌, ◌*◌, ◌^◌, ℕ, List, length, IfOk, IfErr, IfSome, MatchOption};
-ghost use Rattle.gix_ref_packed.specs.PackedText.{Record, Records, Ascending};
-ghost use Rattle.gix_ref_packed.specs.PackedLookup.{record_named, HitsAt, FindsAt};
-ghost use Rattle.gix_ref_packed.specs.PackedSearches.{LooksFailBy, IsLookError, count_search};
+ghost use Rattle.std.specs.Prelude.{◌≡◌, ◌≤◌, List, length, None, IfOk, IfErr, IfSome, IfNone, MatchOption};
+ghost use Rattle.gix_ref_packed.specs.RecordGrammar.{Record, Forms, Ascending};
+ghost use Rattle.gix_ref_packed.specs.Positions.{record_named, HitsAt, FindsAt, IsMalformed, IsNotMalformed};
+ghost use Rattle.gix_ref_packed.specs.SearchCosts.{CountsProbes, FailsBy, count_search};
 
 use crate::packed::probes::Probes;
-use crate::packed::text::Text;
+use crate::packed::searchable::SearchableRecords;
 use gix_ref_hash::hash::Kind;
 use std::cmp::Ordering;
+use std::error::Error;
+use std::fmt::{self, Debug, Display, Formatter, Write};
 use std::sync::ledger::Ledger;
 
 /// Why a search has no answer.
 #[derive(Debug, Drop)]
 pub enum SearchError<E> {
     /// The text could not be looked at.
-    Text(E),
-    /// A record had no shape, and nothing was found.
+    Read(E),
+    /// A line has not the form of a record, and nothing was found.
     Parse,
 }
 
-/// Where the record of the name begins. Each turn of the loop looks at one record, and counts that as a probe. Behind
+impl<E: Display> Display for SearchError<E> {
+    fn fmt<W: Write>(&self, f: &mut Formatter<W>) -> fmt::Result {
+        match self {
+            SearchError::Read(error) => error.fmt(f),
+            SearchError::Parse => f.write_str("a line of packed-refs is malformed"),
+        }
+    }
+}
+
+impl<E: Debug + Display + Drop> Error for SearchError<E> {}
+
+/// Where the record of the name begins. Each turn of the loop probed at one record, and counts that as a probe. Behind
 /// a name that is too low the search goes on at the next line.
-pub fn search<T: Text, L: Ledger>(
+pub fn search<T: SearchableRecords, L: Ledger>(
     text: &mut T,
     kind: Kind,
-    asked: &[u8],
+    wanted: &[u8],
     probes: &mut Probes<L>,
 ) -> Result<Option<u64>, SearchError<T::Error>>
-    ensures kept { T.honest → T.bytes text.new ≡ T.bytes text.old }
+    ensures kept { (T.bytes text.new ≡ T.bytes text.old) × (T.frame text.new ≡ T.frame text.old) }
     ensures counts { probes.old ≤ probes.new }
+    ensures cost { T.honest → CountsProbes (length (T.bytes text.old)) probes.old probes.new }
 
-    // At most as many probes as the number of bytes has binary digits.
-    ensures cost { T.honest → 2 ^ (probes.new - probes.old) ≤ 2 * length (T.bytes text.old) + 1 }
+    // On any text what is found is the wanted name, where a line begins.
+    ensures hit { T.honest → IfOk result (λ found. IfSome found (HitsAt kind (T.bytes text.old) wanted.now)) }
 
-    // On any text what is found is the asked name, where a line begins.
-    ensures hit { T.honest → IfOk result (λ found. IfSome found (HitsAt kind (T.bytes text.old) asked.now)) }
+    // Where each line has the form of a record and names ascend: the line of the name, or that there is none.
+    ensures finds { T.honest → (rs : List Record) → Forms kind (T.bytes text.old) rs → Ascending rs →
+        IfOk result (λ found. MatchOption found (record_named wanted.now rs ≡ None)
+        (FindsAt kind (T.bytes text.old) rs wanted.now)) }
 
-    // On ascending records: the record of the name, or that there is none.
-    ensures finds { T.honest → (rs : List Record) → Records kind (T.bytes text.old) rs → Ascending rs →
-        IfOk result (λ found. MatchOption found (record_named asked.now rs ≡ None) (FindsAt kind (T.bytes text.old) rs asked.now)) }
-    ensures fails { T.honest → (rs : List Record) → Records kind (T.bytes text.old) rs → Ascending rs →
-        IfErr result (IsLookError T.can_fail) }
+    // A text of malformed lines alone is never taken for one without the name.
+    ensures none { T.honest → IfOk result (λ found. IfNone found (IsNotMalformed kind (T.bytes text.old))) }
 
-    // On any text a look fails by what the text may fail by.
-    ensures looks { T.honest → IfErr result (LooksFailBy T.can_fail) }
+    // On any text a probe failed by what the text may fail by, or a line is malformed.
+    ensures fails { T.honest → IfErr result (FailsBy T.can_fail (IsMalformed kind (T.bytes text.old))) }
 
-    // A fault is counted where a look failed by one, and nowhere else.
+    // A fault is counted where a probe failed by one, and nowhere else.
     ensures no_fault { IfOk result (λ _. T.faults text.new ≡ T.faults text.old) }
     ensures fault { IfErr result (λ error. T.faults text.new ≡ count_search T.count error (T.faults text.old)) }
 {
     let mut low = 0;
     let mut high = text.len();
-    let mut shapeless = false;
+    let mut saw_malformed_line = false;
     while low < high {
         let middle = low + (high - low) / 2;
         probes.tick();
-        let look = match text.look(kind, middle, asked) {
-            Ok(look) => look,
-            Err(error) => return Err(SearchError::Text(error)),
+        let probe = match text.probe(kind, middle, wanted) {
+            Ok(probe) => probe,
+            Err(error) => return Err(SearchError::Read(error)),
         };
-        let Some(order) = look.order else {
-            shapeless = true;
-            low = look.next;
+        let Some(order) = probe.order else {
+            saw_malformed_line = true;
+            low = probe.next;
             continue;
         };
         match order {
-            Ordering::Equal => return Ok(Some(look.start)),
-            Ordering::Greater => high = look.start,
-            Ordering::Less => low = look.next,
+            Ordering::Equal => return Ok(Some(probe.start)),
+            Ordering::Greater => high = probe.start,
+            Ordering::Less => low = probe.next,
         }
     }
-    if shapeless {
+    if saw_malformed_line {
         Err(SearchError::Parse)
     } else {
         Ok(None)

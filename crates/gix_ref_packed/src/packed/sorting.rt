@@ -1,14 +1,14 @@
 //! Records in the order of their names: what opening makes of a text whose header does not say that it is sorted.
-ghost use Rattle.std.specs.Prelude.{◌≡◌, ◌≤◌, ◌<◌, ◌+◌, ◌^◌, ℕ, List, true, false, length, map, MatchOption, IfOk, IfErr, OnOk};
+ghost use Rattle.std.specs.Prelude.{◌≡◌, ◌≤◌, List, true, map, MatchOption, MatchBool, IfOk, IfErr, OnOk};
 ghost use Rattle.std.specs.List.{All, flat_map};
 ghost use Rattle.std.specs.List.Sorted.{IsPermutation, IsSortedByKey, IsStableByKey};
 ghost use Rattle.std.specs.Cmp.Lexicographic.{slice_cmp};
-ghost use Rattle.std.specs.Ordering.{nat_cmp, is_lt};
-ghost use Rattle.gix_ref_packed.specs.PackedText.{Record, Records};
-ghost use Rattle.gix_ref_packed.specs.PackedOpening.{lines_of, SortsByName, StuckAt, Keeps};
-ghost use Rattle.gix_ref_packed.specs.PackedViews.{record_of};
-ghost use Rattle.gix_ref_packed.specs.PackedEntries.{entry_record, entry_name, entry_bytes, Stands};
-ghost use Rattle.gix_ref_packed.specs.PackedBuffer.{IsStuck};
+ghost use Rattle.std.specs.Ordering.{nat_cmp};
+ghost use Rattle.gix_ref_packed.specs.RecordGrammar.{Record, Records, Below, Rising};
+ghost use Rattle.gix_ref_packed.specs.OpenedText.{lines_of, IsPiece, SortsText};
+ghost use Rattle.gix_ref_packed.specs.Views.{record_of};
+ghost use Rattle.gix_ref_packed.specs.Entries.{entry_record, entry_piece, entry_name, entry_bytes};
+ghost use Rattle.gix_ref_packed.specs.Buffers.{IsStuck};
 
 use crate::packed::buffer::open::Error;
 use crate::packed::decode::take_record;
@@ -36,6 +36,39 @@ pub fn line_count(reference: &Reference<'_>) -> u64
     }
 }
 
+/// Whether names rise that did, or did not, before this one.
+fn still_rises(rises: bool, name: &[u8], last: &[u8]) -> bool
+    ensures { MatchBool result ((rises ≡ true) × (Below name.now last.now → ⊥))
+        ((rises ≡ true) × (Below name.now last.now → ⊥) → ⊥) }
+{
+    rises && !is_below(name, last)
+}
+
+/// Whether no name in a text of records is below the one before it. The first line has the number `first`; the error is
+/// `Iter` at the first line that is no record.
+fn names_rise(text: &[u8], kind: Kind, first: u64) -> Result<bool, Error>
+    requires { first ≤ 2 }
+    ensures answer { IfOk result (λ rises. (rs : List Record) × Records kind text.now rs
+        × MatchBool rises (Rising rs) (Rising rs → ⊥)) }
+    ensures refused { IfErr result (IsStuck kind first text.now) }
+{
+    let mut rest = text;
+    let mut line = first;
+    let mut last: &[u8] = b"";
+    let mut rises = true;
+    while !rest.is_empty() {
+        let Some((reference, after)) = take_record(rest, kind) else {
+            return Err(Error::Iter { line_number: line });
+        };
+        let name = reference.name.to_path();
+        rises = still_rises(rises, name, last);
+        last = name;
+        line += line_count(&reference);
+        rest = after;
+    }
+    Ok(rises)
+}
+
 /// The records of the text, in their order. The first line has the number `first`.
 fn read_entries<'a>(
     alloc: Global,
@@ -45,7 +78,8 @@ fn read_entries<'a>(
 ) -> Result<Vec<Entry<'a>>, Error>
     requires { first ≤ 2 }
     ensures records { IfOk result (λ entries. Records kind text.now (map entry_record entries.items)) }
-    ensures stand { IfOk result (λ entries. All (Stands kind) entries.items) }
+    ensures pieces { IfOk result (λ entries. All (IsPiece kind) (map entry_piece entries.items)) }
+    ensures cut { IfOk result (λ entries. text.now ≡ flat_map entry_bytes entries.items) }
     ensures refused { IfErr result (IsStuck kind first text.now) }
 {
     let mut entries = Vec::new(alloc);
@@ -65,27 +99,13 @@ fn read_entries<'a>(
 
 /// Whether the name is below the other.
 fn is_below(name: &[u8], other: &[u8]) -> bool
-    ensures { result ≡ is_lt (slice_cmp nat_cmp name.now other.now) }
+    ensures { MatchBool result (Below name.now other.now) (Below name.now other.now → ⊥) }
 {
     match name.cmp(other) {
         Ordering::Less => true,
         Ordering::Equal => false,
         Ordering::Greater => false,
     }
-}
-
-/// Whether no name is below the one before it.
-fn ascend(entries: &[Entry<'_>]) -> bool
-    ensures { result ≡ true → IsSortedByKey entry_name (slice_cmp nat_cmp) entries.now }
-{
-    for i in 1..entries.len() {
-        let before = entries[i - 1].reference.name.to_path();
-        let name = entries[i].reference.name.to_path();
-        if is_below(name, before) {
-            return false;
-        }
-    }
-    true
 }
 
 /// Sorts records by name; those of one name stay in their order.
@@ -109,8 +129,9 @@ fn joined(alloc: Global, entries: &[Entry<'_>], len: usize) -> Result<Vec<u8>, A
     Ok(text)
 }
 
-/// The text of the records in the order of their names; `None` where they stand in it already. The error tells the
-/// line of the first that is no record, the first line having the number `first`, or that there was no memory.
+/// The text of the records in the order of their names; `None` where no name is below the one before it, which takes no
+/// memory. The error reports the first line that is no record, the first line having the number `first`, or that there
+/// was no memory.
 pub fn sorted_text(
     alloc: Global,
     text: &[u8],
@@ -118,13 +139,15 @@ pub fn sorted_text(
     first: u64,
 ) -> Result<Option<Vec<u8>>, Error>
     requires { first ≤ 2 }
-    ensures keeps { IfOk result (λ found. MatchOption found (Keeps kind false text.now text.now) (λ kept. Keeps kind false text.now kept.items)) }
+    ensures keeps { IfOk result (λ found. MatchOption found (SortsText kind text.now text.now)
+        (λ kept. SortsText kind text.now kept.items)) }
     ensures refused { IfErr result (IsStuck kind first text.now) }
 {
-    let mut entries = read_entries(alloc, text, kind, first)?;
-    if ascend(&entries) {
+    let rises = names_rise(text, kind, first)?;
+    if rises {
         return Ok(None);
     }
+    let mut entries = read_entries(alloc, text, kind, first)?;
     sort_by_name(&mut entries)?;
     Ok(Some(joined(alloc, &entries, text.len())?))
 }

@@ -1,71 +1,82 @@
 //! Looking at a record in a window of a text, where the window has enough of it.
 ghost use Rattle.std.specs.Prelude.{◌≡◌, ◌≤◌, ◌<◌, ◌+◌, ◌^◌, ℕ, List, true, length, take, drop, IfSome, IsSome};
+ghost use Rattle.gix_ref_packed.specs.Shown.{IfHere, IsHere};
 ghost use Rattle.std.specs.Option.{option_map};
 ghost use Rattle.std.specs.Cmp.Lexicographic.{slice_cmp};
 ghost use Rattle.std.specs.Ordering.{nat_cmp};
-ghost use Rattle.gix_ref_packed.specs.PackedText.{Shape};
-ghost use Rattle.gix_ref_packed.specs.PackedLookup.{NameAt};
-ghost use Rattle.gix_ref_packed.specs.PackedWindows.{TellsLine, TellsRecord, TellsName, IsWindow, LooksAt, IsFound, FrontIs};
-ghost use Rattle.gix_ref_packed.specs.PackedViews.{record_of};
+ghost use Rattle.gix_ref_packed.specs.RecordGrammar.{RecordLine};
+ghost use Rattle.gix_ref_packed.specs.Positions.{NameAt};
+ghost use Rattle.gix_ref_packed.specs.Windows.{TellsLine, TellsRecord, TellsName, IsWindow, IsFound, FrontIs};
+ghost use Rattle.gix_ref_packed.specs.Probed.{IsProbeAt};
+ghost use Rattle.gix_ref_packed.specs.Views.{record_of};
 
-use crate::packed::decode::{take_record, take_shape};
+use crate::packed::decode::{split_record_line, take_record};
 use crate::packed::lines::next_place;
 use crate::packed::reference::Reference;
-use crate::packed::text::Look;
+use crate::packed::searchable::Probe;
 use gix_ref_hash::hash::{Kind, ObjectId};
 use memchr::{memchr2, memrchr};
 use std::cmp::Ordering;
+
+/// What a window shows of a text.
+#[derive(Clone, Copy, Debug)]
+pub enum InWindow<T> {
+    /// It ends, or begins, too early.
+    NeedMore,
+    /// This.
+    Here(T),
+}
 
 /// The ids of a record that was found.
 #[derive(Clone, Copy, Debug, PartialEq, Eq)]
 pub struct Found {
     /// The id.
     pub target: ObjectId,
-    /// The id of the object that a tag ends at, where the record tells it.
+    /// The id of the object that a tag ends at, if the record has it.
     pub object: Option<ObjectId>,
 }
 
-/// Where the line that the byte is in begins, if that is in the window, which begins with the text where `first` holds.
+/// Where the line that the byte is in begins, if that is in the window, which begins with the text where `at_start` holds.
 #[inline(always)]
-fn line_start_in(window: &[u8], at: usize, first: bool) -> Option<usize>
+fn line_start_in(window: &[u8], at: usize, at_start: bool) -> Option<usize>
     requires { at ≤ length window.now }
     ensures below { IfSome result (λ start. start ≤ at) }
-    ensures tells { TellsLine first window.now at result }
-    ensures sure { first ≡ true → IsSome result }
+    ensures tells { TellsLine at_start window.now at result }
+    ensures sure { at_start ≡ true → IsSome result }
 {
     match memrchr(b'\n', &window[..at]) {
         Some(last) => Some(last + 1),
-        None => { if first { Some(0) } else { None } }
+        None => { if at_start { Some(0) } else { None } }
     }
 }
 
 /// Where the record that the byte is in begins, if that is in the window.
 #[inline(always)]
-pub fn record_start_in(window: &[u8], at: usize, first: bool) -> Option<usize>
+pub fn record_start_in(window: &[u8], at: usize, at_start: bool) -> Option<usize>
     requires { at < length window.now }
     ensures below { IfSome result (λ start. start ≤ at) }
-    ensures tells { TellsRecord first window.now at result }
-    ensures sure { first ≡ true → IsSome result }
+    ensures tells { TellsRecord at_start window.now at result }
+    ensures sure { at_start ≡ true → IsSome result }
 {
-    let Some(line) = line_start_in(window, at, first) else {
+    let Some(line) = line_start_in(window, at, at_start) else {
         return None;
     };
     if window[line] != b'^' {
         return Some(line);
     }
     if line > 0 {
-        return line_start_in(window, line - 1, first);
+        return line_start_in(window, line - 1, at_start);
     }
-    if first { Some(0) } else { None }
+    if at_start { Some(0) } else { None }
 }
 
-/// Whether a part of a text, in which no record's first line stands, tells that none stands at the front of the text.
-fn lacks_name(part: &[u8], kind: Kind, whole: bool) -> bool
-    requires { (digits name rest : List ℕ) → Shape kind part.now digits name rest → ⊥ }
-    ensures lacks { result ≡ true → (text : List ℕ) → part.now ≡ take (length part.now) text → (whole ≡ true → part.now ≡ text) → (n : List ℕ) → NameAt kind text n → ⊥ }
-    ensures sure { whole ≡ true → result ≡ true }
+/// Whether a part of a text without a record's line at its front shows that the text has none there either.
+fn lacks_name(part: &[u8], kind: Kind, at_eof: bool) -> bool
+    requires { (digits name rest : List ℕ) → RecordLine kind part.now digits name rest → ⊥ }
+    ensures lacks { result ≡ true → (text : List ℕ) → part.now ≡ take (length part.now) text → (at_eof ≡ true → part.now ≡ text) → (n : List ℕ) → NameAt kind text n → ⊥ }
+    ensures sure { at_eof ≡ true → result ≡ true }
 {
-    if whole {
+    if at_eof {
         return true;
     }
     let len = kind.len_in_hex();
@@ -82,68 +93,69 @@ fn lacks_name(part: &[u8], kind: Kind, whole: bool) -> bool
     }
 }
 
-/// The name at the front of a record, of which the part may be a beginning; it is the whole text where `whole` holds.
-/// `None` where the part is too short to tell.
-pub fn name_in(part: &[u8], kind: Kind, whole: bool) -> Option<Option<&[u8]>>
-    ensures tells { TellsName kind whole part.now (option_map (λ name. option_map (λ n. n.now) name) result) }
-    ensures sure { whole ≡ true → IsSome result }
+/// The name at the front of a record, of which the part may be a beginning; it is the whole text where `at_eof` holds.
+/// An
+/// empty name is no name.
+pub fn name_in(part: &[u8], kind: Kind, at_eof: bool) -> InWindow<Option<&[u8]>>
+    ensures tells { TellsName kind at_eof part.now result }
+    ensures sure { at_eof ≡ true → IsHere result }
 {
-    match take_shape(part, kind) {
-        Some((_, name, _)) => Some(Some(name)),
-        None => {
-            if lacks_name(part, kind, whole) {
-                Some(None)
-            } else {
-                None
-            }
+    let Some((_, name, _)) = split_record_line(part, kind) else {
+        if lacks_name(part, kind, at_eof) {
+            return InWindow::Here(None);
         }
+        return InWindow::NeedMore;
+    };
+    if name.is_empty() {
+        return InWindow::Here(None);
     }
+    InWindow::Here(Some(name))
 }
 
-/// How a name compares with the one that is asked.
+/// How a name compares with the one that is wanted.
 #[inline(always)]
-fn order_of(name: Option<&[u8]>, asked: &[u8]) -> Option<Ordering>
-    ensures { result ≡ option_map (λ n. slice_cmp nat_cmp n.now asked.now) name.entry }
+fn order_of(name: Option<&[u8]>, wanted: &[u8]) -> Option<Ordering>
+    ensures { result ≡ option_map (λ n. slice_cmp nat_cmp n.now wanted.now) name.entry }
 {
     match name {
-        Some(name) => Some(name.cmp(asked)),
+        Some(name) => Some(name.cmp(wanted)),
         None => None,
     }
 }
 
-/// What a look at a byte of the window sees, if the window tells it. The window begins at the place `from` of the text,
-/// and the text ends with it where `last` holds.
+/// What a probe at a byte of the window sees, if the window shows it. The window begins at the place `from` of the text,
+/// and the text ends with it where `at_eof` holds.
 #[inline(always)]
-pub fn look_in(
+pub fn probe_in(
     window: &[u8],
     from: u64,
     at: usize,
-    last: bool,
+    at_eof: bool,
     kind: Kind,
-    asked: &[u8],
-) -> Option<Look>
+    wanted: &[u8],
+) -> Option<Probe>
     requires inside { at < length window.now }
     requires fits { from + length window.now < 2 ^ 64 }
-    ensures below { IfSome result (λ look. look.start ≤ from + at) }
-    ensures beyond { IfSome result (λ look. from + at < look.next) }
-    ensures looks { (text : List ℕ) → IsWindow text from window.now → (last ≡ true → from + length window.now ≡ length text) →
-        IfSome result (LooksAt kind text asked.now (from + at)) }
-    ensures sure { from ≡ 0 → last ≡ true → IsSome result }
+    ensures below { IfSome result (λ probe. probe.start ≤ from + at) }
+    ensures beyond { IfSome result (λ probe. from + at < probe.next) }
+    ensures probed { (text : List ℕ) → IsWindow text from window.now → (at_eof ≡ true → from + length window.now ≡ length text) →
+        IfSome result (IsProbeAt kind text wanted.now (from + at)) }
+    ensures sure { from ≡ 0 → at_eof ≡ true → IsSome result }
 {
     let Some(start) = record_start_in(window, at, from == 0) else {
         return None;
     };
-    let Some(name) = name_in(&window[start..], kind, last) else {
+    let InWindow::Here(name) = name_in(&window[start..], kind, at_eof) else {
         return None;
     };
-    let order = order_of(name, asked);
+    let order = order_of(name, wanted);
     let next = from + next_place(window, at, order) as u64;
     let start = from + start as u64;
-    Some(Look { start, order, next })
+    Some(Probe { start, order, next })
 }
 
 /// The ids of a record.
-fn ids_of(reference: Reference<'_>) -> Found
+pub fn ids_of(reference: Reference<'_>) -> Found
     ensures { IsFound (record_of reference.entry) result }
 {
     Found {
@@ -152,38 +164,43 @@ fn ids_of(reference: Reference<'_>) -> Found
     }
 }
 
-/// The record at the front of a text, of which the part may be a beginning; it is the whole text where `whole` holds.
-/// `None` where the part is too short to tell; `Some(None)` where no record stands there.
-fn found_in(part: &[u8], kind: Kind, whole: bool) -> Option<Option<Found>>
-    ensures front { (text : List ℕ) → part.now ≡ take (length part.now) text → (whole ≡ true → part.now ≡ text) → IfSome result (FrontIs kind text) }
-    ensures sure { whole ≡ true → IsSome result }
+/// The ids of the record at the front of a text, of which the part may be a beginning; it is the whole text where `at_eof`
+/// holds. `Here(None)` where no record is there.
+fn found_in(part: &[u8], kind: Kind, at_eof: bool) -> InWindow<Option<Found>>
+    ensures front { (text : List ℕ) → part.now ≡ take (length part.now) text → (at_eof ≡ true → part.now ≡ text) →
+        IfHere result (FrontIs kind text) }
+    ensures sure { at_eof ≡ true → IsHere result }
 {
     let Some((reference, rest)) = take_record(part, kind) else {
-        return if whole { Some(None) } else { None };
+        if at_eof {
+            return InWindow::Here(None);
+        }
+        return InWindow::NeedMore;
     };
-    if whole {
-        return Some(Some(ids_of(reference)));
+    if at_eof {
+        return InWindow::Here(Some(ids_of(reference)));
     }
     if rest.is_empty() {
-        return None;
+        return InWindow::NeedMore;
     }
-    Some(Some(ids_of(reference)))
+    InWindow::Here(Some(ids_of(reference)))
 }
 
-/// The record that begins at a byte of the window, if the window tells it; `Some(None)` where none stands there. The
-/// window begins at the place `from` of the text, and the text ends with it where `last` holds.
+/// The ids of the record that begins at a byte of the window; `Here(None)` where no record is there. The window begins at
+/// the place `from` of the text, and the text ends with it where `at_eof` holds.
 pub fn record_in(
     window: &[u8],
     from: u64,
     at: usize,
-    last: bool,
+    at_eof: bool,
     kind: Kind,
-) -> Option<Option<Found>>
+) -> InWindow<Option<Found>>
     requires inside { at < length window.now }
     requires fits { from + length window.now < 2 ^ 64 }
-    ensures front { (text : List ℕ) (start : ℕ) → IsWindow text from window.now → (last ≡ true → from + length window.now ≡ length text) → start ≡ from + at →
-        IfSome result (FrontIs kind (drop start text)) }
-    ensures sure { last ≡ true → IsSome result }
+    ensures front { (text : List ℕ) (start : ℕ) → IsWindow text from window.now →
+        (at_eof ≡ true → from + length window.now ≡ length text) → start ≡ from + at →
+        IfHere result (FrontIs kind (drop start text)) }
+    ensures sure { at_eof ≡ true → IsHere result }
 {
-    found_in(&window[at..], kind, last)
+    found_in(&window[at..], kind, at_eof)
 }

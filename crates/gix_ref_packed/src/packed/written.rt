@@ -1,23 +1,27 @@
 //! The text of `packed-refs` as it is written (`git pack-refs`).
-ghost use Rattle.std.specs.Prelude.{◌≡◌, ◌++◌, ◌∷◌, [], Some, map, IfOk, OnOk};
+ghost use Rattle.std.specs.Prelude.{◌≡◌, ◌++◌, ◌∷◌, [], Some, map, IfOk, OnOk, OnErr};
+ghost use Rattle.gix_ref_hash.specs.Bytes.{BeginsWith};
 ghost use Rattle.std.specs.Option.{option_map};
-ghost use Rattle.gix_ref_packed.specs.PackedViews.{record_of};
-ghost use Rattle.gix_ref_packed.specs.PackedWritten.{written_text, header_text, object_line, record_text, WrittenTextReadsBack, PackedTextIsOne};
+ghost use Rattle.gix_ref_packed.specs.Views.{record_of};
+ghost use Rattle.gix_ref_packed.specs.WrittenText.{written_text, header_text, object_line, record_text};
 
 use crate::packed::reference::Reference;
 use std::alloc::{AllocError, Global};
 
-/// Adds the header that is written to a text, with its last space, and LF: 46 bytes.
+/// Adds the header that is written to a text, with its last space, and LF: 46 bytes. After an error, which says that there
+/// was no memory, the text is as before.
 pub fn push_header(text: &mut Vec<u8>) -> Result<(), AllocError>
-    ensures { OnOk result (text.new.items ≡ text.old.items ++ header_text) }
+    ensures ok { OnOk result (text.new.items ≡ text.old.items ++ header_text) }
+    ensures err { OnErr result (text.new.items ≡ text.old.items) }
 {
     text.extend_from_slice(b"# pack-refs with: peeled fully-peeled sorted \n")?;
     Ok(())
 }
 
-/// Adds the line of a peeled id to a text.
+/// Adds the line of a peeled id to a text, which only grows.
 fn push_object(text: &mut Vec<u8>, object: &[u8]) -> Result<(), AllocError>
-    ensures { OnOk result (text.new.items ≡ text.old.items ++ object_line (Some object.now)) }
+    ensures ok { OnOk result (text.new.items ≡ text.old.items ++ object_line (Some object.now)) }
+    ensures grows { BeginsWith text.new.items text.old.items }
 {
     text.extend_from_slice(b"^")?;
     text.extend_from_slice(object)?;
@@ -25,9 +29,10 @@ fn push_object(text: &mut Vec<u8>, object: &[u8]) -> Result<(), AllocError>
     Ok(())
 }
 
-/// Adds the first line of a record to a text.
+/// Adds the first line of a record to a text, which only grows.
 fn push_line(text: &mut Vec<u8>, name: &[u8], target: &[u8]) -> Result<(), AllocError>
-    ensures { OnOk result (text.new.items ≡ text.old.items ++ (target.now ++ 32 ∷ (name.now ++ 10 ∷ []))) }
+    ensures ok { OnOk result (text.new.items ≡ text.old.items ++ (target.now ++ 32 ∷ (name.now ++ 10 ∷ []))) }
+    ensures grows { BeginsWith text.new.items text.old.items }
 {
     text.extend_from_slice(target)?;
     text.extend_from_slice(b" ")?;
@@ -36,21 +41,40 @@ fn push_line(text: &mut Vec<u8>, name: &[u8], target: &[u8]) -> Result<(), Alloc
     Ok(())
 }
 
-/// Adds a record to a text: the digits of its id as they are, its name, and on a line of its own the digits of the
-/// object that a tag ends at. The caller sees to it that they are digits and a name.
+/// Adds the lines of a record to a text, which only grows.
+fn push_lines(
+    text: &mut Vec<u8>,
+    name: &[u8],
+    target: &[u8],
+    object: Option<&[u8]>,
+) -> Result<(), AllocError>
+    ensures ok { OnOk result (text.new.items ≡ text.old.items
+        ++ record_text (record { name = name.now; target = target.now; object = option_map (λ o. o.now) object.entry })) }
+    ensures grows { BeginsWith text.new.items text.old.items }
+{
+    push_line(text, name, target)?;
+    if let Some(object) = object {
+        push_object(text, object)?;
+    }
+    Ok(())
+}
+
+/// Adds a record to a text: the digits of its id as they are, its name, and on a second line the digits of the object that
+/// a tag ends at. They are not checked. After an error, which says that there was no memory, the text is as before.
 pub fn push_record(
     text: &mut Vec<u8>,
     name: &[u8],
     target: &[u8],
     object: Option<&[u8]>,
 ) -> Result<(), AllocError>
-    ensures { OnOk result (text.new.items ≡ text.old.items
+    ensures ok { OnOk result (text.new.items ≡ text.old.items
         ++ record_text (record { name = name.now; target = target.now; object = option_map (λ o. o.now) object.entry })) }
+    ensures err { OnErr result (text.new.items ≡ text.old.items) }
 {
-    push_line(text, name, target)?;
-    match object {
-        Some(object) => push_object(text, object)?,
-        None => {}
+    let len = text.len();
+    if let Err(error) = push_lines(text, name, target, object) {
+        text.truncate(len);
+        return Err(error);
     }
     Ok(())
 }
@@ -71,9 +95,3 @@ pub fn text_of(alloc: Global, records: &[Reference<'_>]) -> Result<Vec<u8>, Allo
     }
     Ok(text)
 }
-
-/// What is written of records is read as these records, and a text is that of one header and one list at most.
-pub fn written_text_reads_back()
-    ensures back { WrittenTextReadsBack }
-    ensures one { PackedTextIsOne }
-{}

@@ -6,7 +6,7 @@ use thiserror::Error;
 /// Why a `packed-refs` cannot be opened.
 #[derive(Clone, Copy, Debug, PartialEq, Eq, Error)]
 pub enum Error {
-    /// Its records are to be sorted, and in this line of the file, from 1, none stands.
+    /// Its records are to be sorted, and this line of the file, from 1, is no record.
     #[error("line {line_number} of packed-refs is no record")]
     Iter { line_number: u64 },
     /// It begins with `#` and has no header.

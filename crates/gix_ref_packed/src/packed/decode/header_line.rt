@@ -1,13 +1,13 @@
 //! Reading the header of `packed-refs`.
 ghost use Rattle.std.specs.Prelude.{◌≡◌, ℕ, List, MatchOption, IfOk, IfErr, OnErr};
-ghost use Rattle.gix_ref_packed.specs.PackedHeader.{told_by, told, silent, words, TakesHeader};
+ghost use Rattle.gix_ref_packed.specs.HeaderGrammar.{told_by, told, silent, words, TakesHeader};
 
 use crate::packed::decode::options::{Header, Peeled};
 use crate::packed::lines::take_line;
 use gix_ref_hash::bytes::{cut, strip_front};
 
 /// What a word adds.
-#[tactic(auto, unfolding(crate::specs::PackedHeader::told_by))]
+#[tactic(auto, unfolding(crate::specs::HeaderGrammar::told_by))]
 fn with_word(header: Header, word: &[u8]) -> Header
     ensures { result ≡ told_by header word.now }
 {
@@ -63,7 +63,7 @@ pub fn take_header(text: &[u8]) -> Option<(Header, &[u8])>
 
 /// Reads the header at the front of the input, which then begins after it: `# pack-refs with: `, words parted by spaces,
 /// and LF or CRLF. Of `fully-peeled` and `peeled` the last one decides, `sorted` says that the records are sorted, and
-/// other words are ignored. The error, where no header stands there, leaves the input where it was.
+/// other words are ignored. The error, where no header is there, leaves the input where it was.
 pub fn header(input: &mut &[u8]) -> Result<Header, ()>
     ensures taken { IfOk result (λ h. TakesHeader input.old.now h input.new.now) }
     ensures refused { IfErr result (λ _. (h : Header) (rest : List ℕ) → TakesHeader input.old.now h rest → ⊥) }

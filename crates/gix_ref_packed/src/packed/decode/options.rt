@@ -1,6 +1,4 @@
 //! What the header of `packed-refs` says (`git pack-refs`).
-ghost use Rattle.std.specs.Prelude.{◌≡◌, false};
-
 /// Which records tell the object that a tag ends at.
 #[derive(Clone, Copy, Debug, PartialEq, Eq)]
 pub enum Peeled {
@@ -23,6 +21,11 @@ pub struct Header {
 
 /// The header that says nothing: unspecified, and not sorted.
 impl Default for Header {
+    ghost use Rattle.std.specs.Prelude.{◌≡◌};
+    ghost use Rattle.gix_ref_packed.specs.HeaderGrammar.{silent};
+
+    ghost is_default = { λ h. h ≡ silent };
+
     fn default() -> Header {
         Header {
             peeled: Peeled::Unspecified,

@@ -2,9 +2,9 @@
 ghost use Rattle.std.specs.Prelude.{◌≡◌, ◌≢◌, ◌++◌, ◌*◌, ℕ, List, [], length, Option, MatchOption, MatchBool, IfOk, IfErr, OnErr};
 ghost use Rattle.std.specs.Option.{option_map};
 ghost use Rattle.gix_ref_hash.specs.Ids.{IsHexOf, kind_len};
-ghost use Rattle.gix_ref_packed.specs.PackedText.{Shape, Takes, Peeled, PeeledLine, Record};
-ghost use Rattle.gix_ref_packed.specs.PackedLookup.{NameAt, Compares};
-ghost use Rattle.gix_ref_packed.specs.PackedViews.{record_of};
+ghost use Rattle.gix_ref_packed.specs.RecordGrammar.{RecordLine, Takes, Peeled, PeeledLine, Record};
+ghost use Rattle.gix_ref_packed.specs.Positions.{NameAt, Compares};
+ghost use Rattle.gix_ref_packed.specs.Views.{record_of};
 
 use crate::packed::lines::{after_newline, take_line};
 use crate::packed::reference::Reference;
@@ -14,9 +14,9 @@ use gix_ref_hash::hash::{Kind, hex_hash};
 use std::cmp::Ordering;
 
 /// The bytes in the places of id and name, and what follows their line. Neither is checked.
-pub fn take_shape(text: &[u8], kind: Kind) -> Option<(&[u8], &[u8], &[u8])>
-    ensures { MatchOption result ((digits name rest : List ℕ) → Shape kind text.now digits name rest → ⊥)
-        (λ p. Shape kind text.now p.0.now p.1.now p.2.now) }
+pub fn split_record_line(text: &[u8], kind: Kind) -> Option<(&[u8], &[u8], &[u8])>
+    ensures { MatchOption result ((digits name rest : List ℕ) → RecordLine kind text.now digits name rest → ⊥)
+        (λ p. RecordLine kind text.now p.0.now p.1.now p.2.now) }
 {
     let len = kind.len_in_hex();
     match text.get(len) {
@@ -52,7 +52,7 @@ fn is_id(text: &[u8], kind: Kind) -> bool
     }
 }
 
-/// The object that a line with `^` tells, where one follows a record, and what follows it.
+/// The object of a line with `^`, if one follows a record, and what follows it.
 fn take_peeled(text: &[u8], kind: Kind) -> Option<(Option<&[u8]>, &[u8])>
     ensures { MatchOption result ((object : Option (List ℕ)) (rest : List ℕ) → Peeled kind text.now object rest → ⊥)
         (λ p. Peeled kind text.now (option_map (λ o. o.now) p.0) p.1.now) }
@@ -74,7 +74,7 @@ pub fn take_record<'a>(text: &'a [u8], kind: Kind) -> Option<(Reference<'a>, &'a
     ensures { MatchOption result ((r : Record) (rest : List ℕ) → Takes kind text.now r rest → ⊥)
         (λ p. Takes kind text.now (record_of p.0) p.1.now) }
 {
-    let Some((target, name, after)) = take_shape(text, kind) else {
+    let Some((target, name, after)) = split_record_line(text, kind) else {
         return None;
     };
     if !is_id(target, kind) {
@@ -96,7 +96,7 @@ pub fn take_record<'a>(text: &'a [u8], kind: Kind) -> Option<(Reference<'a>, &'a
 
 /// Reads the record at the front of the input, which then begins after it: an id of the kind in hex digits, a space, a
 /// valid full name, and LF or CRLF; where a `^` follows, that, an id of the kind, and LF or CRLF. The error, where no
-/// record stands there, leaves the input where it was.
+/// record is there, leaves the input where it was.
 pub fn reference<'a>(input: &mut &'a [u8], kind: Kind) -> Result<Reference<'a>, ()>
     ensures taken { IfOk result (λ r. Takes kind input.old.now (record_of r) input.new.now) }
     ensures refused { IfErr result (λ _. (r : Record) (rest : List ℕ) → Takes kind input.old.now r rest → ⊥) }
@@ -111,13 +111,13 @@ pub fn reference<'a>(input: &mut &'a [u8], kind: Kind) -> Result<Reference<'a>, 
     }
 }
 
-/// The bytes in the place of the name, where a record begins; `None` where no line of a record's form stands there, or
+/// The bytes in the place of the name, where a record begins; `None` where no line of a record's form is there, or
 /// the name is empty. Neither id nor name is checked.
 pub fn name_at_record_start(text: &[u8], kind: Kind) -> Option<&[u8]>
     ensures { MatchOption result ((name : List ℕ) → name ≢ [] → NameAt kind text.now name → ⊥)
         (λ name. (name.now ≢ []) × NameAt kind text.now name.now) }
 {
-    let Some((_, name, _)) = take_shape(text, kind) else {
+    let Some((_, name, _)) = split_record_line(text, kind) else {
         return None;
     };
     if name.is_empty() {
@@ -126,12 +126,12 @@ pub fn name_at_record_start(text: &[u8], kind: Kind) -> Option<&[u8]>
     Some(name)
 }
 
-/// How the name at the front of a record compares with the one that is asked.
-pub fn name_order(text: &[u8], kind: Kind, asked: &[u8]) -> Option<Ordering>
-    ensures { Compares kind text.now asked.now result }
+/// How the name at the front of a record compares with the one that is wanted.
+pub fn name_order(text: &[u8], kind: Kind, wanted: &[u8]) -> Option<Ordering>
+    ensures { Compares kind text.now wanted.now result }
 {
     let Some(name) = name_at_record_start(text, kind) else {
         return None;
     };
-    Some(name.cmp(asked))
+    Some(name.cmp(wanted))
 }

@@ -1,7 +1,7 @@
 //! What an iterator over packed references asks of lines and names.
 ghost use Rattle.std.specs.Prelude.{◌≡◌, ◌<◌, ◌≤◌, length, ℕ, List};
 ghost use Rattle.std.specs.Option.{option_map};
-ghost use Rattle.gix_ref_packed.specs.PackedItems.{CutsLine, FirstLine, has_prefix, line_feeds, without_cr};
+ghost use Rattle.gix_ref_packed.specs.Items.{CutsLine, FirstLine, has_prefix, line_feeds, without_cr};
 
 use gix_ref_hash::bytes::cut;
 use memchr::memchr_iter;

@@ -1,6 +1,6 @@
 use Rattle.std.proofs.Common.{arith, length-drop, length, ap}
 use Rattle.std.proofs.lemmas.List.{take_rest}
-use Rattle.gix_ref_packed.proofs.PackedLines.{none_behind}
+use Rattle.gix_ref_packed.proofs.LineLemmas.{none_behind}
 use Rattle.gix_ref_packed.proofs.packed.lines.line_end.Goals as goal
 
 pub returns-in-Some-clause-line : goal.returns-in-Some-clause-line

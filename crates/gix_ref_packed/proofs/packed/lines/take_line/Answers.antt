@@ -1,7 +1,7 @@
 use Rattle.std.proofs.lemmas.List.{take_rest}
 use Rattle.std.proofs.Common.{drop}
-use Rattle.gix_ref_packed.proofs.PackedReadings.{no_line}
-use Rattle.gix_ref_packed.proofs.PackedLines.{cut_at, unended}
+use Rattle.gix_ref_packed.proofs.OneReading.{no_line}
+use Rattle.gix_ref_packed.proofs.LineLemmas.{cut_at, unended}
 use Rattle.gix_ref_packed.proofs.packed.lines.take_line.Goals as goal
 
 pub returns-in_default : goal.returns-in_default

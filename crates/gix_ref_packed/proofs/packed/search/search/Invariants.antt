@@ -1,20 +1,17 @@
-use Rattle.std.proofs.Common.{◌≡◌, ◌-◌, ◌+◌, ◌*◌, ◌^◌, ◌≤◌, List, length, true}
-use Rattle.gix_ref_packed.specs.PackedText.{Record, Records}
-use Rattle.gix_ref_packed.proofs.PackedHalving.{Inside}
+use Rattle.std.proofs.Common.{◌≡◌, ◌⊎◌, ◌-◌, ◌≤◌, true, false}
+use Rattle.gix_ref_packed.specs.Positions.{IsMalformed, HasRecordLine}
+use Rattle.gix_ref_packed.proofs.Halves.{Halving}
 use Rattle.gix_ref_packed.proofs.packed.search.search.Given as goal
 
 abbrev pub invariant-loop-low : goal.invariant-loop-low
 invariant-loop-low g l = record {
   counts : l.fn.probes ≤ l.probes;
-  no_fault : g.T.Text.faults l.text ≡ g.T.Text.faults l.fn.text;
-  facts : g.T.Text.honest → record {
-    kept : g.T.Text.bytes l.text ≡ g.T.Text.bytes l.fn.text;
-    within : l.high ≤ length (g.T.Text.bytes l.fn.text);
-    width : 2 ^ (l.probes - l.fn.probes) * (l.high - l.low) ≤ length (g.T.Text.bytes l.fn.text);
-    cost : 2 ^ (l.probes - l.fn.probes) ≤ 2 * length (g.T.Text.bytes l.fn.text) + 1;
-    inside : Inside l.kind (g.T.Text.bytes l.fn.text) l.asked l.low l.high;
-    shapes : l.shapeless ≡ true → (rs : List Record) → Records l.kind (g.T.Text.bytes l.fn.text) rs → ⊥;
-  };
+  no_fault : g.T.SearchableRecords.faults l.text ≡ g.T.SearchableRecords.faults l.fn.text;
+  bytes : g.T.SearchableRecords.bytes l.text ≡ g.T.SearchableRecords.bytes l.fn.text;
+  frame : g.T.SearchableRecords.frame l.text ≡ g.T.SearchableRecords.frame l.fn.text;
+  halves : g.T.SearchableRecords.honest → Halving l.kind (g.T.SearchableRecords.bytes l.fn.text) l.wanted l.fn.probes l.probes l.low l.high;
+  line : g.T.SearchableRecords.honest → l.saw_malformed_line ≡ false → (l.probes ≤ l.fn.probes) ⊎ HasRecordLine l.kind (g.T.SearchableRecords.bytes l.fn.text);
+  malformed : g.T.SearchableRecords.honest → l.saw_malformed_line ≡ true → IsMalformed l.kind (g.T.SearchableRecords.bytes l.fn.text);
 }
 
 abbrev pub decreases-loop-low : goal.decreases-loop-low

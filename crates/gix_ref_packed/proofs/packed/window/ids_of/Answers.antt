@@ -1,4 +1,4 @@
-use Rattle.gix_ref_packed.proofs.PackedWindows.{reads_option}
+use Rattle.gix_ref_packed.proofs.WindowLemmas.{reads_option}
 use Rattle.gix_ref_packed.proofs.packed.window.ids_of.Goals as goal
 
 pub returns : goal.returns

@@ -1,9 +1,9 @@
 use Rattle.std.proofs.Common.{◌≡◌, ◌∙◌, None, true, List, subst}
 use Rattle.std.specs.Iterator.Runs.{EachRunFrom}
-use Rattle.gix_ref_packed.specs.PackedText.{Record}
-use Rattle.gix_ref_packed.specs.PackedItems.{ItemStep, AreRecords}
-use Rattle.gix_ref_packed.specs.PackedBuffer.{buffer_text, buffer_kind, buffer_line}
-use Rattle.gix_ref_packed.proofs.PackedRuns.{each_run, each_records, all_asked}
+use Rattle.gix_ref_packed.specs.RecordGrammar.{Record}
+use Rattle.gix_ref_packed.specs.Items.{ItemStep, AreRecords}
+use Rattle.gix_ref_packed.specs.Buffers.{buffer_text, buffer_kind, buffer_line}
+use Rattle.gix_ref_packed.proofs.ItemRuns.{each_run, each_records, all_asked}
 use Rattle.gix_ref_packed.proofs.packed.buffer.Buffer.iter.Goals as goal
 
 pub returns-clause-items : goal.returns-clause-items

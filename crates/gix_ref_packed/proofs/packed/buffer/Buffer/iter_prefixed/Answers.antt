@@ -1,9 +1,10 @@
-use Rattle.std.proofs.Common.{◌∙◌, ◌+◌, Some, ap, drop, take}
+use Rattle.std.proofs.Common.{◌∙◌, ◌+◌, List, ℕ, Some, ap, subst, drop, take}
+use Rattle.gix_ref_packed.specs.Prefixes.{IsListStart}
 use Rattle.std.proofs.lemmas.List.{take_rest}
-use Rattle.gix_ref_packed.specs.PackedItems.{line_feeds}
-use Rattle.gix_ref_packed.specs.PackedBuffer.{buffer_text, buffer_kind, buffer_line}
-use Rattle.gix_ref_packed.proofs.PackedRuns.{each_run}
-use Rattle.gix_ref_packed.proofs.PackedPrefixRuns.{prefix_records}
+use Rattle.gix_ref_packed.specs.Items.{line_feeds}
+use Rattle.gix_ref_packed.specs.Buffers.{buffer_text, buffer_kind, buffer_line}
+use Rattle.gix_ref_packed.proofs.ItemRuns.{each_run}
+use Rattle.gix_ref_packed.proofs.PrefixRuns.{prefix_records}
 use Rattle.gix_ref_packed.proofs.packed.buffer.Buffer.iter_prefixed.Goals as goal
 
 pub returns-clause-items : goal.returns-clause-items
@@ -11,6 +12,7 @@ returns-clause-items c =
     let text = buffer_text c.args.self.now in
     let start = c.lower_bound-start.result in (
       start,
+      subst (λ (t : List ℕ). IsListStart t start) c.as_bytes-text.ensures c.lower_bound-start.ensures.starts,
       each_run _ (record { kind = buffer_kind c.args.self.now; prefix = Some c.args.prefix.items; number = buffer_line c.args.self.now + line_feeds (take start text); text = drop start text })
           (λ i. record { kind = c.kind-2.ensures i; prefix = Some c.args.prefix.items; number = c.first_line.ensures.line i + line_feeds (take start (c.as_bytes-text.ensures i)); text = (take_rest c.as_bytes-text.result.now start ∙ ap (drop start) c.as_bytes-text.ensures) i }),
     )

@@ -1,7 +1,7 @@
 use Rattle.std.proofs.Common.{◌≡◌, ◌==◌, [], ◌∷◌, ap, sym, ◌∙◌, refl}
 use Rattle.std.proofs.lemmas.List.Splits.{slice_split_at, slice_split_none}
 use Rattle.gix_ref_hash.proofs.ByteLemmas.{apart}
-use Rattle.gix_ref_packed.specs.PackedHeader.{told, words}
+use Rattle.gix_ref_packed.specs.HeaderGrammar.{told, words}
 use Rattle.gix_ref_packed.proofs.packed.decode.header_line.header_of.Goals as goal
 
 pub loop-word-preserved : goal.loop-word-preserved

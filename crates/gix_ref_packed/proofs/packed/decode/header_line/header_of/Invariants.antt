@@ -1,5 +1,5 @@
 use Rattle.std.proofs.Common.{◌≡◌, length}
-use Rattle.gix_ref_packed.specs.PackedHeader.{told, silent, words}
+use Rattle.gix_ref_packed.specs.HeaderGrammar.{told, silent, words}
 use Rattle.gix_ref_packed.proofs.packed.decode.header_line.header_of.Given as goal
 
 abbrev pub invariant-loop-word : goal.invariant-loop-word

@@ -1,6 +1,6 @@
 use Rattle.std.proofs.Common.{◌≡◌, ℕ, List, codes, sym, ◌∙◌, subst}
 use Rattle.std.proofs.lemmas.List.{append_cancel_left}
-use Rattle.gix_ref_packed.specs.PackedText.{Line}
+use Rattle.gix_ref_packed.specs.RecordGrammar.{Line}
 use Rattle.gix_ref_packed.proofs.packed.decode.header_line.take_header.Goals as goal
 
 pub returns-in_default : goal.returns-in_default

@@ -1,6 +1,6 @@
 use Rattle.std.proofs.Common.{[], sym}
 use Rattle.std.proofs.lemmas.List.{append-nil}
-use Rattle.gix_ref_packed.proofs.PackedDigits.{whole_id}
+use Rattle.gix_ref_packed.proofs.DigitLemmas.{whole_id}
 use Rattle.gix_ref_packed.proofs.packed.decode.record_line.is_id.Goals as goal
 
 pub returns-in-Some : goal.returns-in-Some

@@ -1,5 +1,5 @@
 use Rattle.std.proofs.Common.{List, ℕ, [], ◌∷◌, ◌≡◌, ◌==◌, ◌∙◌, sym, refl, true, length, arith, eqb-true}
-use Rattle.gix_ref_packed.proofs.PackedReadings.{same_shape}
+use Rattle.gix_ref_packed.proofs.OneReading.{same_record_line}
 use Rattle.gix_ref_packed.proofs.packed.decode.record_line.name_at_record_start.Goals as goal
 
 pub returns-in_default : goal.returns-in_default
@@ -7,7 +7,7 @@ returns-in_default c = λ name some at. c.in_default.ensures at.0 name at.1 at.2
 
 pub returns-then-is_empty : goal.returns-then-is_empty
 returns-then-is_empty c = λ name some at.
-    let same = same_shape c.args.kind c.args.text.now at.0 name at.1 _ _ _ at.2 c.in-Some.ensures in
+    let same = same_record_line c.args.kind c.args.text.now at.0 name at.1 _ _ _ at.2 c.in-Some.ensures in
     some (same.1 ∙ empty c.in-Some.name.now (sym c.if-is_empty.ensures))
   where
     empty : (n : List ℕ) → (length n == 0) ≡ true → n ≡ []

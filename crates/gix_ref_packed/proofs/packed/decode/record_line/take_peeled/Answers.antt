@@ -1,4 +1,4 @@
-use Rattle.gix_ref_packed.proofs.PackedReadings.{no_end, no_id}
+use Rattle.gix_ref_packed.proofs.OneReading.{no_end, no_id}
 use Rattle.gix_ref_packed.proofs.packed.decode.record_line.take_peeled.Goals as goal
 
 pub returns-in_default-after_newline : goal.returns-in_default-after_newline

@@ -1,7 +1,7 @@
 use Rattle.gix_ref_base.specs.NameGrammar.{IsFullName}
 use Rattle.gix_ref_hash.specs.Ids.{IsHexOf}
-use Rattle.gix_ref_packed.proofs.PackedReadings.{no_record}
-use Rattle.gix_ref_packed.proofs.PackedDigits.{id_text, peeled_text}
+use Rattle.gix_ref_packed.proofs.OneReading.{no_record}
+use Rattle.gix_ref_packed.proofs.DigitLemmas.{id_text, peeled_text}
 use Rattle.gix_ref_packed.proofs.packed.decode.record_line.take_record.Goals as goal
 
 pub returns-in_default : goal.returns-in_default

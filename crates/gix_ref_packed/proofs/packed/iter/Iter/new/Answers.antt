@@ -1,6 +1,6 @@
 use Rattle.std.proofs.Common.{drop, ◌∙◌, None}
 use Rattle.std.proofs.lemmas.List.{take_rest}
-use Rattle.gix_ref_packed.proofs.PackedRuns.{each_run}
+use Rattle.gix_ref_packed.proofs.ItemRuns.{each_run}
 use Rattle.gix_ref_packed.proofs.packed.iter.Iter.new.Goals as goal
 
 pub returns-clause-items : goal.returns-clause-items

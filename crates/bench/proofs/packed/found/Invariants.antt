@@ -1,4 +1,0 @@
-use Rattle.bench.proofs.packed.found.Given as goal
-
-abbrev pub ghosts-is_found : goal.ghosts-is_found
-ghosts-is_found g a = record { name = a.blank.name; parts = a.blank.parts }

@@ -1,0 +1,28 @@
+-- A `packed-refs` that is searched where it is.
+use Rattle.std.specs.Prelude.{◌≡◌, ℕ, List, drop}
+use Rattle.gix_ref_files.specs.declared.files.ReadAt.{Ghosts}
+use Rattle.gix_ref_hash.specs.declared.hash.Kind.{Kind}
+use Rattle.gix_ref_packed.specs.declared.packed.sorted_file.SortedFile.{SortedFile}
+use Rattle.gix_ref_packed.specs.declared.packed.file.PackedFile.{PackedFile}
+use Rattle.gix_ref_packed.specs.declared.packed.file.PackedFile.TheVariants.{InFile, InMemory}
+use Rattle.gix_ref_packed.specs.OpenedText.{OpensTo}
+use Rattle.gix_ref_packed.specs.Buffers.{buffer_text, buffer_kind}
+
+-- the records in a file, without the header
+abbrev pub sorted_file_text : {R : Type 0} {G : Ghosts R} → SortedFile R G → List ℕ
+sorted_file_text {R} {G} s = drop s.base (G.bytes s.reader)
+
+-- the records that are searched
+abbrev pub packed_file_text : {R : Type 0} {G : Ghosts R} → PackedFile R G → List ℕ
+packed_file_text (InFile source kind) = sorted_file_text source
+packed_file_text (InMemory buffer) = buffer_text buffer
+
+abbrev pub packed_file_kind : {R : Type 0} {G : Ghosts R} → PackedFile R G → Kind
+packed_file_kind (InFile source kind) = kind
+packed_file_kind (InMemory buffer) = buffer_kind buffer
+
+-- the file with these bytes is open for searches: of all its records where the header says sorted, else of the sorted ones
+pub record OpenedFile {R : Type 0} {G : Ghosts R} (kind : Kind) (bytes : List ℕ) (p : PackedFile R G) : Type 0 where
+  pub kind_is : packed_file_kind p ≡ kind
+  pub line : ℕ
+  pub opens : OpensTo kind bytes (packed_file_text p) line

@@ -1,0 +1,134 @@
+//! A `packed-refs` that is searched where it is: opening it, and the search for a full name.
+ghost use Rattle.std.specs.Prelude.{◌≡◌, ◌≢◌, IfOk, IfErr};
+ghost use Rattle.gix_ref_packed.specs.Buffers.{IsRefusedBytes};
+ghost use Rattle.gix_ref_packed.specs.FileSearches.{IsNoChange};
+ghost use Rattle.gix_ref_packed.specs.OpenFiles.{OpenedFile};
+
+use crate::packed::buffer::Buffer;
+use crate::packed::buffer::open::Error;
+use crate::packed::file_header::file_header;
+use crate::packed::find::ParseError;
+use crate::packed::header_end::says_sorted;
+use crate::packed::sorted_file::{FindError, ReadError, SortedFile, read_window};
+use crate::packed::window::{Found, ids_of};
+use gix_ref_base::name::FullNameRef;
+use gix_ref_files::files::{FileError, Files, ReadAt};
+use gix_ref_hash::hash::Kind;
+use std::alloc::Global;
+
+/// A `packed-refs` that is open for searches: the file itself where its header says that it is sorted, and else its
+/// records in memory.
+#[derive(Drop)]
+pub enum PackedFile<R: ReadAt + Drop> {
+    /// The file is sorted: a search reads the parts of it that it needs.
+    InFile { source: SortedFile<R>, kind: Kind },
+    /// The file was read as a whole, and its records were sorted.
+    InMemory(Buffer),
+}
+
+/// The error of opening for one of reading; a file that is opened has no earlier reads from which it could differ.
+fn refusal(error: ReadError) -> Error
+    requires { IsNoChange error }
+    ensures { (kind : _) (bytes : _) → IsRefusedBytes kind bytes result }
+{
+    match error {
+        ReadError::Io(error) => Error::Io(error),
+        ReadError::Memory => Error::Memory,
+        ReadError::Changed => unreachable!(),
+    }
+}
+
+/// Opens the file of a reader.
+fn open_reader<R: ReadAt + Drop>(
+    alloc: Global,
+    mut reader: R,
+    kind: Kind,
+) -> Result<PackedFile<R>, Error>
+    ensures opened { R.honest → IfOk result (OpenedFile kind (R.bytes reader)) }
+    ensures refused { R.honest → IfErr result (IsRefusedBytes kind (R.bytes reader)) }
+{
+    let heading = match file_header(alloc, &mut reader) {
+        Ok(Some(heading)) => heading,
+        Ok(None) => return Err(Error::HeaderParsing),
+        Err(error) => return Err(refusal(error)),
+    };
+    if says_sorted(heading.header) {
+        let source = SortedFile::new(alloc, reader, heading.start as u64);
+        return Ok(PackedFile::InFile { source, kind });
+    }
+    let mut bytes = Vec::new(alloc);
+    let len = reader.len() as usize;
+    match read_window(&mut reader, &mut bytes, 0, len) {
+        Ok(()) => {}
+        Err(error) => return Err(refusal(error)),
+    }
+    match Buffer::from_bytes(alloc, bytes, kind) {
+        Ok(buffer) => Ok(PackedFile::InMemory(buffer)),
+        Err(error) => Err(error),
+    }
+}
+
+impl<R: ReadAt + Drop> PackedFile<R> {
+    ghost use Rattle.std.specs.Prelude.{◌≡◌, IfOk, IfErr, MatchOption, true, false};
+    ghost use Rattle.gix_ref_base.specs.Names.{full_ref_bytes};
+    ghost use Rattle.gix_ref_files.specs.Tree.{is_file, bytes_of};
+    ghost use Rattle.gix_ref_files.specs.Files.{Leaves};
+    ghost use Rattle.gix_ref_files.specs.Calls.{Only};
+    ghost use Rattle.gix_ref_packed.specs.Buffers.{IsRefusedFile};
+    ghost use Rattle.gix_ref_packed.specs.OpenFiles.{OpenedFile, packed_file_text, packed_file_kind};
+    ghost use Rattle.gix_ref_packed.specs.FileSearches.{FindsIn};
+
+    /// Opens the file at a path, whose ids are of the kind; `None` where no file is there.
+    ///
+    /// ```text
+    /// if let Some(mut packed) = PackedFile::open(alloc, &mut files, b".git/packed-refs", Kind::Sha1)? {
+    ///     let found = packed.find(FullNameRef::try_from("refs/tags/v1.0")?)?;
+    /// }
+    /// ```
+    /// Of a file whose header says
+    /// sorted only the first 1 KB is read, and more where the header's line is longer; any other file is read as a whole,
+    /// as `Buffer::open` reads it. `Io` where the file cannot be read, `HeaderParsing` where it begins with `#` and has no
+    /// header, `Iter` at the first line that is no record where the records are to be sorted, and `Memory`.
+    pub fn open<F: Files<Reader = R>>(
+        alloc: Global,
+        files: &mut F,
+        path: &[u8],
+        kind: Kind,
+    ) -> Result<Option<PackedFile<R>>, Error>
+        ensures opened { F.honest → IfOk result (λ found. MatchOption found (is_file ((F.means files.old).tree path.now) ≡ false)
+            (λ p. R.honest × (is_file ((F.means files.old).tree path.now) ≡ true)
+            × OpenedFile kind (bytes_of ((F.means files.old).tree path.now)) p)) }
+        ensures refused { F.honest → IfErr result (IsRefusedFile kind ((F.means files.old).tree path.now)) }
+        ensures leaves { F.honest → Leaves (F.means files.old) (F.means files.new) (Only (F.means files.old).tree) }
+        ensures no_fault { IfOk result (λ _. F.faults files.new ≡ F.faults files.old) }
+    {
+        match files.open(alloc, path) {
+            Ok(Some(reader)) => match open_reader(alloc, reader, kind) {
+                Ok(file) => Ok(Some(file)),
+                Err(error) => Err(error),
+            },
+            Ok(None) => Ok(None),
+            Err(FileError::Memory) => Err(Error::Memory),
+            Err(error) => Err(Error::Io(error)),
+        }
+    }
+
+    /// The ids of the record of a full name, by halving; `None` where there is no such record. In a file a name among a
+    /// million records costs some seventeen reads of 1 KB. `Read` where the file cannot be read, `Parse` where a line
+    /// is malformed and nothing was found, or the record that was found cannot be read.
+    pub fn find(&mut self, name: FullNameRef<'_>) -> Result<Option<Found>, FindError>
+        ensures same { packed_file_text self.new ≡ packed_file_text self.old }
+        ensures kind { packed_file_kind self.new ≡ packed_file_kind self.old }
+        ensures finds { R.honest →
+            FindsIn (packed_file_kind self.old) (packed_file_text self.old) (full_ref_bytes name.entry) result }
+    {
+        match self {
+            PackedFile::InFile { source, kind } => source.find(*kind, name),
+            PackedFile::InMemory(buffer) => match buffer.try_find_key(name) {
+                Ok(Some(reference)) => Ok(Some(ids_of(reference))),
+                Ok(None) => Ok(None),
+                Err(ParseError) => Err(FindError::Parse),
+            },
+        }
+    }
+}

@@ -1,0 +1,15 @@
+//! Laws of the text of `packed-refs`: how it is read, written and opened.
+ghost use Rattle.gix_ref_packed.specs.WrittenText.{WrittenTextReadsBack, PackedTextIsOne};
+ghost use Rattle.gix_ref_packed.specs.Buffers.{OpenedHoldsRecords};
+
+/// What is written of records is read as these records, and a text is that of one header and one list at most.
+pub fn written_text_reads_back()
+    ensures back { WrittenTextReadsBack }
+    ensures one { PackedTextIsOne }
+{}
+
+/// An opened buffer of a well-formed text holds its records in the order of their names, and each name has the same
+/// record.
+pub fn opened_holds_records()
+    ensures { OpenedHoldsRecords }
+{}

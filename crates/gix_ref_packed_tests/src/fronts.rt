@@ -1,0 +1,123 @@
+//! The search in memory and the search in a file give the same answer on every front of a text, and with every byte of it
+//! replaced.
+use crate::made::{CRLF, NAMES, TEXT, buffer, full, sorted, stored};
+use gix_ref_base::name::FullNameRef;
+use gix_ref_files::files::Files;
+use gix_ref_hash::hash::{Kind, ObjectId};
+use gix_ref_memory::memory::Memory;
+use gix_ref_packed::packed::find::ParseError;
+use gix_ref_packed::packed::sorted_file::{FindError, SortedFile};
+use gix_ref_packed::packed::{Buffer, Found, Reference};
+use std::alloc::Global;
+use std::process::Abort;
+
+/// What a search answers, wherever it looks.
+#[derive(Clone, Copy, Debug, PartialEq, Eq)]
+enum Answer {
+    Ids(ObjectId, Option<ObjectId>),
+    Nothing,
+    Malformed,
+    Fault,
+}
+
+fn of_buffer(answer: Result<Option<Reference<'_>>, ParseError>) -> Answer {
+    match answer {
+        Ok(Some(record)) => Answer::Ids(record.target(), record.peeled()),
+        Ok(None) => Answer::Nothing,
+        Err(_) => Answer::Malformed,
+    }
+}
+
+fn of_file(answer: Result<Option<Found>, FindError>) -> Answer {
+    match answer {
+        Ok(Some(found)) => Answer::Ids(found.target, found.object),
+        Ok(None) => Answer::Nothing,
+        Err(FindError::Parse) => Answer::Malformed,
+        Err(_) => Answer::Fault,
+    }
+}
+
+/// Asks the file of 46 bytes of header and these records.
+fn in_file(rt: &impl Abort, alloc: Global, text: &[u8], name: FullNameRef<'_>) -> Answer {
+    let mut memory: Memory = stored(rt, alloc, text);
+    match memory.open(alloc, b"r/packed-refs") {
+        Ok(Some(reader)) => of_file(SortedFile::new(alloc, reader, 46).find(Kind::Sha1, name)),
+        _ => Answer::Fault,
+    }
+}
+
+/// Asks for each name, and for one that no text has.
+fn compare(rt: &impl Abort, alloc: Global, text: &[u8]) {
+    let packed: Buffer = buffer(rt, alloc, text);
+    for name in NAMES {
+        let name = full(rt, name);
+        let want = of_buffer(packed.try_find_key(name));
+        assert!(rt; in_file(rt, alloc, text, name) == want, "the same answer");
+    }
+    let name = full(rt, "refs/tags/v");
+    let want = of_buffer(packed.try_find_key(name));
+    assert!(rt; in_file(rt, alloc, text, name) == want, "the same answer");
+}
+
+#[test]
+fn every_front(rt: HostRuntime) {
+    let alloc = rt.alloc();
+    for text in [TEXT, CRLF] {
+        for len in 0..=text.len() {
+            let whole = sorted(&rt, alloc, &text[..len]);
+            compare(&rt, alloc, whole.as_slice());
+        }
+    }
+}
+
+#[test]
+fn every_byte_replaced(rt: HostRuntime) {
+    let alloc = rt.alloc();
+    for place in 0..TEXT.len() {
+        for byte in [0, b'\n', b'\r', b' ', b'^', b'#', b'g'] {
+            let mut text = sorted(&rt, alloc, TEXT);
+            let at = text.len().saturating_sub(TEXT.len()).saturating_add(place);
+            if let Some(old) = text.get_mut(at) {
+                *old = byte;
+            }
+            compare(&rt, alloc, text.as_slice());
+        }
+    }
+}
+
+#[test]
+fn damaged_texts(rt: HostRuntime) {
+    let alloc = rt.alloc();
+    let rows: [(&[u8], &str, &str); 4] = [
+        (
+            b"xyz\n",
+            "refs/heads/a",
+            "a line without the form of a record, and nothing found",
+        ),
+        (
+            b"zzzzzzzzzzzzzzzzzzzzzzzzzzzzzzzzzzzzzzzz refs/heads/a\n",
+            "refs/heads/a",
+            "the record of the name has no hex digits",
+        ),
+        (
+            b"1111111111111111111111111111111111111111 \n",
+            "refs/heads/a",
+            "an empty name in a record's place is no name",
+        ),
+        (
+            b"1111111111111111111111111111111111111111 refs/heads/a\n^2222\n",
+            "refs/heads/a",
+            "the peeled line of the record is too short",
+        ),
+    ];
+    for (text, name, meaning) in rows {
+        let whole = sorted(&rt, alloc, text);
+        let packed = buffer(&rt, alloc, whole.as_slice());
+        let name = full(&rt, name);
+        assert!(rt; packed.try_find_key(name) == Err(ParseError), "{meaning}");
+        assert!(rt;
+            in_file(&rt, alloc, whole.as_slice(), name) == Answer::Malformed,
+            "{meaning}"
+        );
+    }
+}

@@ -1,0 +1,19 @@
+//! Tests of packed references and of references as values: worked cases, and what no contract says.
+#![tactic(auto)]
+
+#[cfg(test)]
+mod files;
+#[cfg(test)]
+mod fronts;
+#[cfg(test)]
+mod made;
+#[cfg(test)]
+mod many;
+#[cfg(test)]
+mod opened;
+#[cfg(test)]
+mod probes;
+#[cfg(test)]
+mod raw;
+#[cfg(test)]
+mod rows;

@@ -1,0 +1,60 @@
+//! Values for tests of packed references: a text that is not what the test means it to be ends the test.
+use gix_ref_base::name::{FullNameRef, PartialNameRef};
+use gix_ref_hash::hash::{Kind, ObjectId};
+use gix_ref_memory::memory::Memory;
+use gix_ref_packed::packed::Buffer;
+use std::alloc::Global;
+use std::process::Abort;
+
+/// Two branches and tags, one of them with a peeled line: 207 bytes.
+pub const TEXT: &[u8] = b"1111111111111111111111111111111111111111 refs/heads/main\n\
+2222222222222222222222222222222222222222 refs/tags/v1\n\
+^3333333333333333333333333333333333333333\n\
+4444444444444444444444444444444444444444 refs/tags/v2\n";
+
+/// The same with CRLF.
+pub const CRLF: &[u8] = b"1111111111111111111111111111111111111111 refs/heads/main\r\n\
+2222222222222222222222222222222222222222 refs/tags/v1\r\n\
+^3333333333333333333333333333333333333333\r\n\
+4444444444444444444444444444444444444444 refs/tags/v2\r\n";
+
+/// The names in them.
+pub const NAMES: [&str; 3] = ["refs/heads/main", "refs/tags/v1", "refs/tags/v2"];
+
+/// The header that says sorted.
+pub const SORTED: &[u8] = b"# pack-refs with: peeled fully-peeled sorted \n";
+
+pub fn copied(rt: &impl Abort, alloc: Global, text: &[u8]) -> Vec<u8> {
+    text.to_vec(alloc).expect(rt, "memory")
+}
+
+/// The text behind the header that says sorted.
+pub fn sorted(rt: &impl Abort, alloc: Global, text: &[u8]) -> Vec<u8> {
+    let mut whole = copied(rt, alloc, SORTED);
+    whole.extend_from_slice(text).expect(rt, "memory");
+    whole
+}
+
+pub fn buffer(rt: &impl Abort, alloc: Global, text: &[u8]) -> Buffer {
+    Buffer::from_bytes(alloc, copied(rt, alloc, text), Kind::Sha1).expect(rt, "a buffer")
+}
+
+pub fn full<'a>(rt: &impl Abort, text: &'a str) -> FullNameRef<'a> {
+    FullNameRef::try_from(text).expect(rt, "a full name")
+}
+
+pub fn partial<'a>(rt: &impl Abort, text: &'a str) -> PartialNameRef<'a> {
+    PartialNameRef::try_from(text).expect(rt, "a partial name")
+}
+
+pub fn id(rt: &impl Abort, digits: &[u8]) -> ObjectId {
+    ObjectId::from_hex(digits).expect(rt, "an id")
+}
+
+/// Files with one `packed-refs` in them, below the folder `r`.
+pub fn stored(rt: &impl Abort, alloc: Global, text: &[u8]) -> Memory {
+    let mut memory = Memory::new(alloc);
+    let done = memory.put(b"r/packed-refs", text).expect(rt, "memory");
+    assert!(rt; done, "it is put");
+    memory
+}
