@@ -3,8 +3,9 @@ use Rattle.std.proofs.Common.{◌≡◌, ℕ, List, [], ◌∷◌, Bool, true, f
 use Rattle.std.specs.Cmp.Lexicographic.{pointwise}
 use Rattle.gix_ref_hash.specs.declared.hash.Kind.{Kind}
 use Rattle.gix_ref_packed.specs.declared.packed.window.Found.{Found}
-use Rattle.gix_ref_packed.specs.RecordGrammar.{Record, Takes, NoRecord, TakesForm, Records, Forms, Ascending, Peeled, PeeledForm}
-use Rattle.gix_ref_packed.specs.Positions.{record_named, HitsAt, FindsAt, IsUnreadable, IsReadable, IsObject, IsDamaged, IsMalformed, IsNotMalformed}
+use Rattle.gix_ref_base.specs.PackedRecords.{Record, record_named}
+use Rattle.gix_ref_packed.specs.RecordGrammar.{Takes, NoRecord, TakesForm, Records, Forms, Ascending, Peeled, PeeledForm}
+use Rattle.gix_ref_packed.specs.Positions.{HitsAt, FindsAt, IsUnreadable, IsReadable, IsObject, IsDamaged, IsMalformed, IsNotMalformed}
 use Rattle.gix_ref_packed.specs.declared.packed.sorted_file.FindError.TheVariants.{Parse}
 use Rattle.gix_ref_packed.specs.FileSearches.{FindsIn}
 use Rattle.gix_ref_packed.specs.Windows.{IsFound, AreFound, FrontIs, HitsRecord}

@@ -10,8 +10,9 @@ use Rattle.std.proofs.lemmas.Cmp.{nat_list_cmp_total, tied_itself}
 use Rattle.std.proofs.lemmas.Map.Lookups.{exact_bytes}
 use Rattle.std.proofs.lemmas.List.Elements.{All-head, All-tail}
 use Rattle.gix_ref_hash.specs.declared.hash.Kind.{Kind}
-use Rattle.gix_ref_packed.specs.RecordGrammar.{Record, RecordLine, Takes, Forms, Below, Ascending}
-use Rattle.gix_ref_packed.specs.Positions.{record_named, LineOf, SameLine, RecordOf, NameAt, Compares, FindsAt, HitsAt, BeginsLine, IsMalformed, HasRecordLine, IsNotMalformed}
+use Rattle.gix_ref_base.specs.PackedRecords.{Record, record_named}
+use Rattle.gix_ref_packed.specs.RecordGrammar.{RecordLine, Takes, Forms, Below, Ascending}
+use Rattle.gix_ref_packed.specs.Positions.{LineOf, SameLine, RecordOf, NameAt, Compares, FindsAt, HitsAt, BeginsLine, IsMalformed, HasRecordLine, IsNotMalformed}
 use Rattle.gix_ref_packed.specs.Probed.{IsProbeAt}
 use Rattle.gix_ref_packed.specs.SearchCosts.{CountsProbes}
 use Rattle.gix_ref_packed.specs.declared.packed.searchable.Probe.{Probe}

@@ -17,7 +17,8 @@ use Rattle.std.proofs.lemmas.Slice.Eq.{starts_is}
 use Rattle.std.proofs.lemmas.Bool.Decides.{Decides-eqb}
 use Rattle.gix_ref_hash.specs.declared.hash.Kind.{Kind}
 use Rattle.gix_ref_base.proofs.FrontLemmas.{begins_true}
-use Rattle.gix_ref_packed.specs.RecordGrammar.{Record, Records, Forms, Below, Rising}
+use Rattle.gix_ref_base.specs.PackedRecords.{Record}
+use Rattle.gix_ref_packed.specs.RecordGrammar.{Records, Forms, Below, Rising}
 use Rattle.gix_ref_packed.specs.Positions.{LineOf, RecordOf, SameLine, NameAt}
 use Rattle.gix_ref_packed.specs.Prefixes.{SplitsAt, records_prefixed}
 use Rattle.gix_ref_packed.proofs.OneReading.{same_record_line}

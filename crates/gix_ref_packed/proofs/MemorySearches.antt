@@ -5,8 +5,9 @@ use Rattle.gix_ref_packed.specs.declared.packed.reference.Reference.{Reference}
 use Rattle.gix_ref_packed.specs.declared.packed.find.ParseError.{ParseError}
 use Rattle.gix_ref_packed.specs.declared.packed.search.SearchError.{SearchError}
 use Rattle.gix_ref_packed.specs.declared.packed.search.SearchError.TheVariants.{Read, Parse}
-use Rattle.gix_ref_packed.specs.RecordGrammar.{Record, Takes, NoRecord, Forms, Ascending}
-use Rattle.gix_ref_packed.specs.Positions.{record_named, HitsAt, FindsAt, IsMalformed, IsNotMalformed, IsUnreadable}
+use Rattle.gix_ref_base.specs.PackedRecords.{Record, record_named}
+use Rattle.gix_ref_packed.specs.RecordGrammar.{Takes, NoRecord, Forms, Ascending}
+use Rattle.gix_ref_packed.specs.Positions.{HitsAt, FindsAt, IsMalformed, IsNotMalformed, IsUnreadable}
 use Rattle.gix_ref_packed.specs.SearchCosts.{FailsBy}
 use Rattle.gix_ref_packed.specs.Views.{record_of}
 use Rattle.gix_ref_packed.specs.Searches.{Finds}

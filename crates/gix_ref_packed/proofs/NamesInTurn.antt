@@ -13,8 +13,8 @@ use Rattle.gix_ref_packed.specs.declared.packed.reference.Reference.{Reference}
 use Rattle.gix_ref_packed.specs.declared.packed.find.ParseError.{ParseError}
 use Rattle.gix_ref_packed.specs.declared.packed.find.Error.{Error}
 use Rattle.gix_ref_packed.specs.declared.packed.find.Error.TheVariants.{RefnameValidation, Parse, Memory}
-use Rattle.gix_ref_packed.specs.RecordGrammar.{Record, Forms, Ascending}
-use Rattle.gix_ref_packed.specs.Positions.{record_named}
+use Rattle.gix_ref_base.specs.PackedRecords.{Record, record_named}
+use Rattle.gix_ref_packed.specs.RecordGrammar.{Forms, Ascending}
 use Rattle.gix_ref_packed.specs.Views.{record_of}
 use Rattle.gix_ref_packed.specs.AskedNames.{is_rooted, key_alone, four_names, asked_names, or_else, first_named}
 use Rattle.gix_ref_packed.specs.Searches.{Finds, FindsOne, FindsPartial}

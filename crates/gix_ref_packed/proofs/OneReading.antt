@@ -7,7 +7,8 @@ use Rattle.gix_ref_hash.specs.Ids.{kind_len, IsHexOf}
 use Rattle.gix_ref_hash.specs.Bytes.{StopsAt, Spans}
 use Rattle.gix_ref_base.specs.NameGrammar.{IsFullName, full_error, partial_error}
 use Rattle.gix_ref_hash.proofs.ByteLemmas.{same_span}
-use Rattle.gix_ref_packed.specs.RecordGrammar.{Record, Newline, Line, RecordLine, Peeled, PeeledForm, Takes, TakesForm, in_line, is_caret}
+use Rattle.gix_ref_base.specs.PackedRecords.{Record}
+use Rattle.gix_ref_packed.specs.RecordGrammar.{Newline, Line, RecordLine, Peeled, PeeledForm, Takes, TakesForm, in_line, is_caret}
 
 abbrev is_lf : List ℕ → Bool
 is_lf [] = false

@@ -3,7 +3,8 @@ use Rattle.std.proofs.Common.{◌≡◌, ℕ, true, List, drop, subst, Some}
 use Rattle.std.specs.Iterator.Runs.{EachRunFrom}
 use Rattle.gix_ref_hash.specs.declared.hash.Kind.{Kind}
 use Rattle.gix_ref_packed.specs.declared.packed.iter.Iter.{Iter}
-use Rattle.gix_ref_packed.specs.RecordGrammar.{Record, Records, Rising}
+use Rattle.gix_ref_base.specs.PackedRecords.{Record}
+use Rattle.gix_ref_packed.specs.RecordGrammar.{Records, Rising}
 use Rattle.gix_ref_packed.specs.Items.{AreRecords, ItemStep, unread}
 use Rattle.gix_ref_packed.specs.Prefixes.{SplitsAt, records_prefixed}
 use Rattle.gix_ref_packed.proofs.ItemRuns.{each_records}

@@ -11,11 +11,12 @@ use Rattle.gix_ref_hash.specs.Bytes.{StopsAt}
 use Rattle.gix_ref_base.specs.NameGrammar.{IsFullName, IsPartialName, is_invalid, first_told, full_error}
 use Rattle.gix_ref_base.proofs.PartialNames.{rules_of}
 use Rattle.gix_ref_packed.specs.declared.packed.decode.options.Header.{Header}
-use Rattle.gix_ref_packed.specs.RecordGrammar.{Record, Line, Peeled, Takes, Records, in_line, is_caret}
+use Rattle.gix_ref_base.specs.PackedRecords.{Record, object_line, record_text, header_text}
+use Rattle.gix_ref_packed.specs.RecordGrammar.{Line, Peeled, Takes, Records, in_line, is_caret}
 use Rattle.gix_ref_packed.specs.HeaderGrammar.{TakesHeader, told_by, told, silent, words}
 use Rattle.gix_ref_packed.specs.OpenedText.{Heads, is_hash}
 use Rattle.gix_ref_packed.specs.Positions.{IsObject, IsReadable}
-use Rattle.gix_ref_packed.specs.WrittenText.{object_line, record_text, header_text, written_header, WrittenTextReadsBack, PackedTextIsOne}
+use Rattle.gix_ref_packed.specs.WrittenText.{written_header, WrittenTextReadsBack, PackedTextIsOne}
 use Rattle.gix_ref_packed.proofs.OneReading.{same_record, same_line}
 use Rattle.gix_ref_packed.proofs.RecordPlaces.{shorter_record as shorter}
 use Rattle.gix_ref_packed.proofs.RecordBytes.{records_stop}

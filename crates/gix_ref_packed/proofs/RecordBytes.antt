@@ -6,7 +6,8 @@ use Rattle.gix_ref_hash.specs.declared.hash.Kind.{Kind}
 use Rattle.gix_ref_hash.specs.declared.hash.Kind.TheVariants as kinds
 use Rattle.gix_ref_hash.specs.Ids.{kind_len}
 use Rattle.gix_ref_hash.specs.Bytes.{StopsAt}
-use Rattle.gix_ref_packed.specs.RecordGrammar.{Record, Newline, Line, Peeled, Takes, NoRecord, Records, in_line, is_caret}
+use Rattle.gix_ref_base.specs.PackedRecords.{Record}
+use Rattle.gix_ref_packed.specs.RecordGrammar.{Newline, Line, Peeled, Takes, NoRecord, Records, in_line, is_caret}
 use Rattle.gix_ref_packed.specs.declared.packed.decode.options.Header.{Header}
 use Rattle.gix_ref_packed.specs.HeaderGrammar.{TakesHeader}
 use Rattle.gix_ref_packed.specs.OpenedText.{Fronts, lines_with, lines_of, line_count}

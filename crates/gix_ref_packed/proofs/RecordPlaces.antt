@@ -10,7 +10,8 @@ use Rattle.gix_ref_hash.specs.declared.hash.Kind.{Kind}
 use Rattle.gix_ref_hash.specs.declared.hash.Kind.TheVariants as kinds
 use Rattle.gix_ref_hash.specs.Ids.{kind_len, IsHexOf}
 use Rattle.gix_ref_hash.specs.Bytes.{StopsAt}
-use Rattle.gix_ref_packed.specs.RecordGrammar.{Record, Newline, Line, Peeled, PeeledForm, Takes, TakesForm, Records, Forms, in_line, is_caret}
+use Rattle.gix_ref_base.specs.PackedRecords.{Record}
+use Rattle.gix_ref_packed.specs.RecordGrammar.{Newline, Line, Peeled, PeeledForm, Takes, TakesForm, Records, Forms, in_line, is_caret}
 use Rattle.gix_ref_packed.specs.Positions.{LineOf, RecordOf, BeginsLine}
 use Rattle.gix_ref_packed.proofs.OneReading.{some_name as some_full_name}
 

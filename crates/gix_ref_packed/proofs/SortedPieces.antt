@@ -11,7 +11,8 @@ use Rattle.gix_ref_hash.specs.declared.hash.Kind.{Kind}
 use Rattle.gix_ref_packed.specs.declared.packed.sorting.Entry.{Entry}
 use Rattle.std.proofs.lemmas.Grind.{flat_map-append}
 use Rattle.std.specs.Bool.{MatchBool}
-use Rattle.gix_ref_packed.specs.RecordGrammar.{Record, Takes, Records, Below, Rising}
+use Rattle.gix_ref_base.specs.PackedRecords.{Record}
+use Rattle.gix_ref_packed.specs.RecordGrammar.{Takes, Records, Below, Rising}
 use Rattle.gix_ref_packed.specs.OpenedText.{Piece, IsPiece, SortsByName, SortsText, is_lower, records_in, bytes_in, Fronts, lines_of, line_count}
 use Rattle.gix_ref_packed.specs.Entries.{entry_record, entry_piece, entry_name, entry_bytes}
 use Rattle.gix_ref_packed.proofs.RecordBytes.{lines_taken, front_is, records_stop, fronts_more, fronts_all, lines_more}

@@ -12,8 +12,8 @@ use Rattle.std.proofs.lemmas.List.Sums.{sum_by-cons}
 use Rattle.std.proofs.lemmas.List.Sorted.{IsPermutation-map, IsPermutation-refl, Contains-permutation, sum_by-IsPermutation}
 use Rattle.gix_ref_hash.specs.declared.hash.Kind.{Kind}
 use Rattle.gix_ref_packed.specs.declared.packed.buffer.Buffer.{Buffer}
-use Rattle.gix_ref_packed.specs.RecordGrammar.{Record, Records, Below, Ascending, Rising}
-use Rattle.gix_ref_packed.specs.Positions.{record_named}
+use Rattle.gix_ref_base.specs.PackedRecords.{Record, record_named}
+use Rattle.gix_ref_packed.specs.RecordGrammar.{Records, Below, Ascending, Rising}
 use Rattle.gix_ref_packed.specs.OpenedText.{Piece, Keeps, says_sorted, records_in}
 use Rattle.gix_ref_packed.specs.Buffers.{HoldsRecords, OpenedHoldsRecords, buffer_text}
 use Rattle.gix_ref_packed.proofs.ReadBack.{same_records, same_heading}

@@ -10,7 +10,8 @@ use Rattle.std.specs.Option.{option_map}
 use denote.Ref.{Bor}
 use Rattle.gix_ref_hash.specs.declared.hash.ObjectId.{ObjectId}
 use Rattle.gix_ref_packed.specs.IdDigits.{ReadsIfAny}
-use Rattle.gix_ref_packed.specs.RecordGrammar.{Record, RecordLine, Peeled, Takes, in_line, is_caret}
+use Rattle.gix_ref_base.specs.PackedRecords.{Record}
+use Rattle.gix_ref_packed.specs.RecordGrammar.{RecordLine, Peeled, Takes, in_line, is_caret}
 use Rattle.gix_ref_packed.specs.Positions.{LineOf, SameLine, NameAt}
 use Rattle.gix_ref_packed.specs.Windows.{IsWindow, ReadsOption}
 use Rattle.gix_ref_packed.proofs.RecordBytes.{line_front, lines_taken}

@@ -3,8 +3,7 @@
 use Rattle.std.specs.Prelude.{ℕ, List, [], ◌∷◌, ◌++◌, Option, Some, None, Bool, ◌||◌, if◌then◌else◌, codes, nat_eq}
 use Rattle.std.specs.List.{starts_with}
 use Rattle.gix_ref_base.specs.Locations.{key_outside}
-use Rattle.gix_ref_packed.specs.RecordGrammar.{Record}
-use Rattle.gix_ref_packed.specs.Positions.{record_named}
+use Rattle.gix_ref_base.specs.PackedRecords.{Record, record_named}
 
 -- the partial name is a full name already
 abbrev pub is_rooted : List ℕ → Bool

@@ -8,8 +8,8 @@ use Rattle.gix_ref_packed.specs.declared.packed.buffer.Buffer.{Buffer}
 use Rattle.gix_ref_packed.specs.declared.packed.buffer.open.Error.{Error}
 use Rattle.gix_ref_packed.specs.declared.packed.buffer.open.Error.TheVariants.{Iter, HeaderParsing, Io, Memory}
 use Rattle.gix_ref_packed.specs.OpenedText.{OpensTo, NoHeader, HasBadLine, StuckAt, IsWellFormed}
-use Rattle.gix_ref_packed.specs.RecordGrammar.{Record, Records, Ascending}
-use Rattle.gix_ref_packed.specs.Positions.{record_named}
+use Rattle.gix_ref_base.specs.PackedRecords.{Record, record_named}
+use Rattle.gix_ref_packed.specs.RecordGrammar.{Records, Ascending}
 use Rattle.gix_ref_packed.specs.declared.packed.decode.options.Header.{Header}
 use Rattle.std.specs.List.Sorted.{IsPermutation}
 

@@ -2,7 +2,7 @@
 use Rattle.std.specs.Prelude.{ℕ, List}
 use Rattle.gix_ref_base.specs.Names.{full_ref_bytes}
 use Rattle.gix_ref_packed.specs.declared.packed.sorting.Entry.{Entry}
-use Rattle.gix_ref_packed.specs.RecordGrammar.{Record}
+use Rattle.gix_ref_base.specs.PackedRecords.{Record}
 use Rattle.gix_ref_packed.specs.OpenedText.{Piece}
 use Rattle.gix_ref_packed.specs.Views.{record_of}
 

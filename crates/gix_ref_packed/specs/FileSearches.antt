@@ -3,8 +3,9 @@ use Rattle.std.specs.Prelude.{◌≢◌, ℕ, List, Option, Result, IfOk, IfErr,
 use Rattle.gix_ref_hash.specs.declared.hash.Kind.{Kind}
 use Rattle.gix_ref_files.specs.Files.{one_more}
 use Rattle.gix_ref_files.specs.declared.files.FileError.TheVariants.{Memory as NoMemory}
-use Rattle.gix_ref_packed.specs.RecordGrammar.{Record, Records, Forms, Ascending}
-use Rattle.gix_ref_packed.specs.Positions.{record_named, IsNotMalformed, CannotRead, IsUnreadable}
+use Rattle.gix_ref_base.specs.PackedRecords.{Record, record_named}
+use Rattle.gix_ref_packed.specs.RecordGrammar.{Records, Forms, Ascending}
+use Rattle.gix_ref_packed.specs.Positions.{IsNotMalformed, CannotRead, IsUnreadable}
 use Rattle.gix_ref_packed.specs.Windows.{AreFound, HitsRecord}
 use Rattle.gix_ref_packed.specs.declared.packed.window.Found.{Found}
 use Rattle.gix_ref_packed.specs.declared.packed.sorted_file.ReadError.{ReadError}

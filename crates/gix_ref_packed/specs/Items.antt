@@ -8,7 +8,8 @@ use Rattle.gix_ref_packed.specs.declared.packed.reference.Reference.{Reference}
 use Rattle.gix_ref_packed.specs.declared.packed.iter.Iter.{Iter}
 use Rattle.gix_ref_packed.specs.declared.packed.iter.error.Error.{Error}
 use Rattle.gix_ref_packed.specs.declared.packed.iter.error.Error.TheVariants.{Header as bad_header, Reference as bad_line}
-use Rattle.gix_ref_packed.specs.RecordGrammar.{Record, Takes, NoRecord}
+use Rattle.gix_ref_base.specs.PackedRecords.{Record}
+use Rattle.gix_ref_packed.specs.RecordGrammar.{Takes, NoRecord}
 use Rattle.gix_ref_packed.specs.OpenedText.{NoHeader, lines_of}
 use Rattle.gix_ref_packed.specs.Views.{record_of}
 

@@ -7,7 +7,8 @@ use Rattle.std.specs.Ordering.{nat_cmp, is_lt}
 use Rattle.gix_ref_hash.specs.declared.hash.Kind.{Kind}
 use Rattle.gix_ref_hash.specs.Bytes.{StopsAt}
 use Rattle.gix_ref_packed.specs.declared.packed.decode.options.Header.{Header}
-use Rattle.gix_ref_packed.specs.RecordGrammar.{Record, Takes, NoRecord, Records, Ascending, Rising, is_caret}
+use Rattle.gix_ref_base.specs.PackedRecords.{Record}
+use Rattle.gix_ref_packed.specs.RecordGrammar.{Takes, NoRecord, Records, Ascending, Rising, is_caret}
 use Rattle.gix_ref_packed.specs.HeaderGrammar.{TakesHeader}
 
 abbrev pub is_hash : ℕ → Bool

@@ -1,17 +1,13 @@
 -- Where records lie in a text, and the filter of a list of records by a name.
 use Rattle.std.specs.Prelude.{◌≡◌, ◌≢◌, ◌<◌, ◌≤◌, ◌-◌, ◌+◌, ◌⊎◌, ℕ, List, [], nat_eq, slice_index, length, drop, Option, Some, None, MatchOption}
-use Rattle.std.specs.List.{find}
-use Rattle.std.specs.Cmp.Lexicographic.{pointwise, slice_cmp}
+use Rattle.std.specs.Cmp.Lexicographic.{slice_cmp}
 use Rattle.std.specs.Ordering.{nat_cmp}
 use Rattle.std.specs.declared.cmp.Ordering.{Ordering}
 use Rattle.gix_ref_hash.specs.declared.hash.Kind.{Kind}
 use Rattle.gix_ref_hash.specs.Ids.{IsHexOf}
 use Rattle.gix_ref_base.specs.NameGrammar.{IsFullName}
-use Rattle.gix_ref_packed.specs.RecordGrammar.{Record, RecordLine, Takes, TakesForm, NoRecord}
-
--- the record of that name
-abbrev pub record_named : List ℕ → List Record → Option Record
-record_named n rs = find (λ r. pointwise nat_eq r.name n) rs
+use Rattle.gix_ref_base.specs.PackedRecords.{record_named, Record}
+use Rattle.gix_ref_packed.specs.RecordGrammar.{RecordLine, Takes, TakesForm, NoRecord}
 
 -- a line begins there
 abbrev pub BeginsLine : List ℕ → ℕ → Type 0

@@ -2,7 +2,8 @@
 use Rattle.std.specs.Prelude.{◌≡◌, ◌≤◌, ◌⊎◌, ℕ, List, ◌++◌, nat_eq, length, drop}
 use Rattle.std.specs.List.{All, filter, starts_with}
 use Rattle.gix_ref_hash.specs.declared.hash.Kind.{Kind}
-use Rattle.gix_ref_packed.specs.RecordGrammar.{Record, Records, Below}
+use Rattle.gix_ref_base.specs.PackedRecords.{Record}
+use Rattle.gix_ref_packed.specs.RecordGrammar.{Records, Below}
 use Rattle.gix_ref_packed.specs.Positions.{BeginsLine}
 
 -- the records whose names begin with the prefix

@@ -3,7 +3,6 @@ use Rattle.std.specs.Prelude.{◌≡◌, ℕ, List}
 use Rattle.gix_ref_hash.specs.declared.hash.ObjectId.{ObjectId}
 use Rattle.gix_ref_hash.specs.Ids.{ReadsId}
 use Rattle.gix_ref_base.specs.Names.{full_bytes, full_ref_bytes}
-use Rattle.gix_ref_base.specs.Namespaces.{stripped}
 use Rattle.gix_ref_base.specs.Targets.{TargetValue, target_value}
 use Rattle.gix_ref_base.specs.Targets.TargetValue.{object_id, symbolic_name}
 use Rattle.gix_ref_packed.specs.declared.packed.reference.Reference.{Reference as Packed}
@@ -23,8 +22,3 @@ pub record IsCopy (r copy : Reference) : Type 0 where
   pub name : full_bytes copy.name ≡ full_bytes r.name
   pub target : target_value copy.target ≡ target_value r.target
   pub peeled : copy.peeled ≡ r.peeled
-
--- a symbolic target loses the namespace
-abbrev pub stripped_target : List ℕ → TargetValue → TargetValue
-stripped_target namespace (object_id id) = object_id id
-stripped_target namespace (symbolic_name name) = symbolic_name (stripped namespace name)

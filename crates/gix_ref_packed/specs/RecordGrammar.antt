@@ -8,12 +8,7 @@ use Rattle.gix_ref_hash.specs.declared.hash.Kind.{Kind}
 use Rattle.gix_ref_hash.specs.Ids.{kind_len, IsHexOf}
 use Rattle.gix_ref_hash.specs.Bytes.{StopsAt, Spans}
 use Rattle.gix_ref_base.specs.NameGrammar.{IsFullName}
-
--- A record: a name, the digits of its target, and those of the object that a tag ends at.
-pub record Record : Type 0 where
-  pub name : List ℕ
-  pub target : List ℕ
-  pub object : Option (List ℕ)
+use Rattle.gix_ref_base.specs.PackedRecords.{Record}
 
 -- LF or CRLF, and a rest
 abbrev pub Newline : List ℕ → List ℕ → Type 0

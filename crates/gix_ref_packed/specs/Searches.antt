@@ -9,8 +9,9 @@ use Rattle.gix_ref_packed.specs.declared.packed.find.Error.TheVariants.{RefnameV
 use Rattle.gix_ref_packed.specs.declared.packed.find.ParseError.{ParseError}
 use Rattle.gix_ref_packed.specs.declared.packed.find.existing.Error.{Error as ExistingError}
 use Rattle.gix_ref_packed.specs.declared.packed.find.existing.Error.TheVariants.{Find, NotFound}
-use Rattle.gix_ref_packed.specs.RecordGrammar.{Record, Records, Forms, Ascending}
-use Rattle.gix_ref_packed.specs.Positions.{record_named, StandsIn, IsNotMalformed, CannotRead, IsUnreadable}
+use Rattle.gix_ref_base.specs.PackedRecords.{Record, record_named}
+use Rattle.gix_ref_packed.specs.RecordGrammar.{Records, Forms, Ascending}
+use Rattle.gix_ref_packed.specs.Positions.{StandsIn, IsNotMalformed, CannotRead, IsUnreadable}
 use Rattle.gix_ref_packed.specs.Views.{record_of}
 use Rattle.gix_ref_packed.specs.AskedNames.{asked_names, first_named, is_rooted}
 

@@ -2,7 +2,7 @@
 use Rattle.std.specs.Option.{option_map}
 use Rattle.gix_ref_base.specs.Names.{full_ref_bytes}
 use Rattle.gix_ref_packed.specs.declared.packed.reference.Reference.{Reference}
-use Rattle.gix_ref_packed.specs.RecordGrammar.{Record}
+use Rattle.gix_ref_base.specs.PackedRecords.{Record}
 
 abbrev pub record_of : Reference → Record
 record_of r = record { name = full_ref_bytes r.name; target = r.target.now; object = option_map (λ o. o.now) r.object }

@@ -7,7 +7,8 @@ use denote.Ref.{Bor}
 use Rattle.gix_ref_packed.specs.declared.packed.window.Found.{Found}
 use Rattle.gix_ref_packed.specs.declared.packed.window.InWindow.{InWindow}
 use Rattle.gix_ref_packed.specs.Shown.{IfHere}
-use Rattle.gix_ref_packed.specs.RecordGrammar.{Record, Takes, NoRecord}
+use Rattle.gix_ref_base.specs.PackedRecords.{Record}
+use Rattle.gix_ref_packed.specs.RecordGrammar.{Takes, NoRecord}
 use Rattle.gix_ref_packed.specs.Positions.{LineOf, RecordOf, NameAt, StandsIn}
 
 -- the window holds the bytes of the text from a place on

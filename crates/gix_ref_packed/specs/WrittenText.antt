@@ -1,29 +1,13 @@
 -- The text of packed references as it is written (`git pack-refs`): the header with its last space, LF everywhere, and ids
 -- as they are spelled.
-use Rattle.std.specs.Prelude.{◌≡◌, ℕ, true, List, [], ◌∷◌, ◌++◌, codes, Option, Some, None}
-use Rattle.std.specs.List.{All, flat_map}
+use Rattle.std.specs.Prelude.{◌≡◌, ℕ, true, List, Option, Some}
+use Rattle.std.specs.List.{All}
 use Rattle.gix_ref_hash.specs.declared.hash.Kind.{Kind}
 use Rattle.gix_ref_packed.specs.declared.packed.decode.options.Header.{Header}
 use Rattle.gix_ref_packed.specs.declared.packed.decode.options.Peeled.TheVariants.{Fully}
-use Rattle.gix_ref_packed.specs.RecordGrammar.{Record}
+use Rattle.gix_ref_base.specs.PackedRecords.{Record, written_text}
 use Rattle.gix_ref_packed.specs.Positions.{IsReadable}
 use Rattle.gix_ref_packed.specs.OpenedText.{PackedText}
-
--- `^`, the digits of a peeled id and LF
-abbrev pub object_line : Option (List ℕ) → List ℕ
-object_line None = []
-object_line (Some object) = 94 ∷ (object ++ 10 ∷ [])
-
--- the digits of the id, a space, the name and LF; and the line of the peeled id
-abbrev pub record_text : Record → List ℕ
-record_text r = r.target ++ 32 ∷ (r.name ++ 10 ∷ object_line r.object)
-
-abbrev pub header_text : List ℕ
-header_text = codes "# pack-refs with: peeled fully-peeled sorted " ++ 10 ∷ []
-
--- the header and the records
-abbrev pub written_text : List Record → List ℕ
-written_text rs = header_text ++ flat_map record_text rs
 
 -- what that header says
 abbrev pub written_header : Header

@@ -23,7 +23,8 @@ impl Reference {
     ghost use Rattle.gix_ref_base.specs.Names.{full_bytes, full_ref_bytes};
     ghost use Rattle.gix_ref_base.specs.Namespaces.{namespace_bytes, stripped};
     ghost use Rattle.gix_ref_base.specs.Targets.{target_value, target_kind};
-    ghost use Rattle.gix_ref_packed.specs.RawReference.{IsOfRecord, stripped_target};
+    ghost use Rattle.gix_ref_packed.specs.RawReference.{IsOfRecord};
+    ghost use Rattle.gix_ref_base.specs.Targets.{stripped_target};
 
     /// The reference of a record of `packed-refs`. The error reports that there was no memory for its name.
     pub fn from_packed(
@@ -64,10 +65,7 @@ impl Reference {
         ensures peeled { self.new.peeled ≡ self.old.peeled }
     {
         self.name.strip_namespace(namespace);
-        match &mut self.target {
-            Target::Symbolic(name) => name.strip_namespace(namespace),
-            Target::Object(_) => {}
-        }
+        self.target.strip_namespace(namespace);
     }
 
     /// Whether these are the bytes of the name.

@@ -1,6 +1,7 @@
 //! Where the names of a prefix begin, by halving.
 ghost use Rattle.std.specs.Prelude.{List};
-ghost use Rattle.gix_ref_packed.specs.RecordGrammar.{Record, Records, Rising};
+ghost use Rattle.gix_ref_base.specs.PackedRecords.{Record};
+ghost use Rattle.gix_ref_packed.specs.RecordGrammar.{Records, Rising};
 ghost use Rattle.gix_ref_packed.specs.Prefixes.{SplitsAt, IsListStart};
 
 use crate::packed::decode::{name_order, record_start_at_offset};

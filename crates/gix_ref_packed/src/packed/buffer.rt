@@ -27,7 +27,7 @@ impl Buffer {
     ghost use Rattle.std.specs.Prelude.{◌≡◌, ◌≤◌, ◌<◌, IfOk, IfErr, MatchOption, true, false, vec_len, drop};
     ghost use Rattle.gix_ref_files.specs.Tree.{is_file, bytes_of};
     ghost use Rattle.gix_ref_files.specs.Files.{Leaves};
-    ghost use Rattle.gix_ref_files.specs.Calls.{Only};
+    ghost use Rattle.gix_ref_files.specs.Calls.{Unchanged};
     ghost use Rattle.gix_ref_packed.specs.OpenedText.{Keeps};
     ghost use Rattle.gix_ref_packed.specs.Buffers.{buffer_text, buffer_kind, buffer_line, Opened, IsRefused, IsRefusedFile, IsStuck, count_open};
 
@@ -44,7 +44,7 @@ impl Buffer {
         ensures opened { F.honest → IfOk result (λ found. MatchOption found (is_file ((F.means files.old).tree path.now) ≡ false)
             (λ b. (is_file ((F.means files.old).tree path.now) ≡ true) × Opened kind (bytes_of ((F.means files.old).tree path.now)) b)) }
         ensures refused { F.honest → IfErr result (IsRefusedFile kind ((F.means files.old).tree path.now)) }
-        ensures leaves { F.honest → Leaves (F.means files.old) (F.means files.new) (Only (F.means files.old).tree) }
+        ensures leaves { F.honest → Leaves (F.means files.old) (F.means files.new) (Unchanged (F.means files.old).tree) }
         ensures count { F.faults files.new ≡ count_open result (F.faults files.old) }
     {
         let mut bytes = Vec::new(alloc);

@@ -73,7 +73,7 @@ impl<R: ReadAt + Drop> PackedFile<R> {
     ghost use Rattle.gix_ref_base.specs.Names.{full_ref_bytes};
     ghost use Rattle.gix_ref_files.specs.Tree.{is_file, bytes_of};
     ghost use Rattle.gix_ref_files.specs.Files.{Leaves};
-    ghost use Rattle.gix_ref_files.specs.Calls.{Only};
+    ghost use Rattle.gix_ref_files.specs.Calls.{Unchanged};
     ghost use Rattle.gix_ref_packed.specs.Buffers.{IsRefusedFile};
     ghost use Rattle.gix_ref_packed.specs.OpenFiles.{OpenedFile, packed_file_text, packed_file_kind};
     ghost use Rattle.gix_ref_packed.specs.FileSearches.{FindsIn};
@@ -99,7 +99,7 @@ impl<R: ReadAt + Drop> PackedFile<R> {
             (λ p. R.honest × (is_file ((F.means files.old).tree path.now) ≡ true)
             × OpenedFile kind (bytes_of ((F.means files.old).tree path.now)) p)) }
         ensures refused { F.honest → IfErr result (IsRefusedFile kind ((F.means files.old).tree path.now)) }
-        ensures leaves { F.honest → Leaves (F.means files.old) (F.means files.new) (Only (F.means files.old).tree) }
+        ensures leaves { F.honest → Leaves (F.means files.old) (F.means files.new) (Unchanged (F.means files.old).tree) }
         ensures no_fault { IfOk result (λ _. F.faults files.new ≡ F.faults files.old) }
     {
         match files.open(alloc, path) {

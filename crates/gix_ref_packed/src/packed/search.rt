@@ -1,7 +1,8 @@
 //! The search for one full name by halving.
 ghost use Rattle.std.specs.Prelude.{◌≡◌, ◌≤◌, List, length, None, IfOk, IfErr, IfSome, IfNone, MatchOption};
-ghost use Rattle.gix_ref_packed.specs.RecordGrammar.{Record, Forms, Ascending};
-ghost use Rattle.gix_ref_packed.specs.Positions.{record_named, HitsAt, FindsAt, IsMalformed, IsNotMalformed};
+ghost use Rattle.gix_ref_base.specs.PackedRecords.{Record, record_named};
+ghost use Rattle.gix_ref_packed.specs.RecordGrammar.{Forms, Ascending};
+ghost use Rattle.gix_ref_packed.specs.Positions.{HitsAt, FindsAt, IsMalformed, IsNotMalformed};
 ghost use Rattle.gix_ref_packed.specs.SearchCosts.{CountsProbes, FailsBy, count_search};
 
 use crate::packed::probes::Probes;

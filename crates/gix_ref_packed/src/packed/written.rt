@@ -3,7 +3,7 @@ ghost use Rattle.std.specs.Prelude.{◌≡◌, ◌++◌, ◌∷◌, [], Some, ma
 ghost use Rattle.gix_ref_hash.specs.Bytes.{BeginsWith};
 ghost use Rattle.std.specs.Option.{option_map};
 ghost use Rattle.gix_ref_packed.specs.Views.{record_of};
-ghost use Rattle.gix_ref_packed.specs.WrittenText.{written_text, header_text, object_line, record_text};
+ghost use Rattle.gix_ref_base.specs.PackedRecords.{written_text, header_text, object_line, record_text};
 
 use crate::packed::reference::Reference;
 use std::alloc::{AllocError, Global};

@@ -2,7 +2,8 @@
 ghost use Rattle.std.specs.Prelude.{◌≡◌, ◌≢◌, ◌++◌, ◌*◌, ℕ, List, [], length, Option, MatchOption, MatchBool, IfOk, IfErr, OnErr};
 ghost use Rattle.std.specs.Option.{option_map};
 ghost use Rattle.gix_ref_hash.specs.Ids.{IsHexOf, kind_len};
-ghost use Rattle.gix_ref_packed.specs.RecordGrammar.{RecordLine, Takes, Peeled, PeeledLine, Record};
+ghost use Rattle.gix_ref_base.specs.PackedRecords.{Record};
+ghost use Rattle.gix_ref_packed.specs.RecordGrammar.{RecordLine, Takes, Peeled, PeeledLine};
 ghost use Rattle.gix_ref_packed.specs.Positions.{NameAt, Compares};
 ghost use Rattle.gix_ref_packed.specs.Views.{record_of};
 
