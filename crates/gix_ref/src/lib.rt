@@ -11,9 +11,9 @@ pub mod files;
 pub mod theorems;
 
 pub use gix_ref_base::{layout, name, namespace, target};
+pub use gix_ref_edits::transaction;
 pub use gix_ref_files::{lock, steps};
 pub use gix_ref_hash::hash;
 pub use gix_ref_log::{actor, log};
 pub use gix_ref_packed::{packed, raw};
-pub use gix_ref_edits::transaction;
 pub use gix_ref_store::{file, store};

@@ -153,7 +153,8 @@ impl Files for Memory {
 
     fn kind(&mut self, path: &[u8]) -> Result<Node, FileError>
         ensures answer { IfOk result (λ node. node ≡ node_at (tree_of self.old) path.now) }
-        ensures leaves { Leaves (meaning self.old) (meaning self.new) (Unchanged (tree_of self.old)) }
+        ensures leaves { Leaves (meaning self.old) (meaning self.new)
+            (Unchanged (tree_of self.old)) }
         ensures count { faults_of self.new ≡ count_after result (faults_of self.old) }
         ensures memory { IsErrOf result FileError.Memory → ⊥ }
         ensures turn { KeepsTurn NeverFails NeverFails (next_turn self.old) result
@@ -176,7 +177,8 @@ impl Files for Memory {
         ensures bytes { IfOk result (λ node. node ≡ Node.File →
             buf.new.items ≡ bytes_of (tree_of self.old path.now)) }
         ensures emptied { emptied result buf.new.items }
-        ensures leaves { Leaves (meaning self.old) (meaning self.new) (Unchanged (tree_of self.old)) }
+        ensures leaves { Leaves (meaning self.old) (meaning self.new)
+            (Unchanged (tree_of self.old)) }
         ensures count { faults_of self.new ≡ count_after result (faults_of self.old) }
         ensures turn { KeepsTurn LacksMemory NeverFails (next_turn self.old) result
             (tree_of self.old) (tree_of self.new) (AsBefore (tree_of self.old)) }
@@ -200,7 +202,8 @@ impl Files for Memory {
     fn open(&mut self, alloc: Global, path: &[u8]) -> Result<Option<MemoryReader>, FileError>
         ensures answer { IfOk result (λ reader. Opens (Unit {0}) bytes_in (tree_of self.old)
             path.now reader) }
-        ensures leaves { Leaves (meaning self.old) (meaning self.new) (Unchanged (tree_of self.old)) }
+        ensures leaves { Leaves (meaning self.old) (meaning self.new)
+            (Unchanged (tree_of self.old)) }
         ensures count { faults_of self.new ≡ count_after result (faults_of self.old) }
         ensures turn { KeepsTurn LacksMemory NeverFails (next_turn self.old) result
             (tree_of self.old) (tree_of self.new) (AsBefore (tree_of self.old)) }
@@ -231,7 +234,8 @@ impl Files for Memory {
 
     fn list(&mut self, alloc: Global, path: &[u8]) -> Result<Option<Vec<Entry>>, FileError>
         ensures answer { IfOk result (Lists (tree_of self.old) path.now) }
-        ensures leaves { Leaves (meaning self.old) (meaning self.new) (Unchanged (tree_of self.old)) }
+        ensures leaves { Leaves (meaning self.old) (meaning self.new)
+            (Unchanged (tree_of self.old)) }
         ensures count { faults_of self.new ≡ count_after result (faults_of self.old) }
         ensures turn { KeepsTurn LacksMemory NeverFails (next_turn self.old) result
             (tree_of self.old) (tree_of self.new) (AsBefore (tree_of self.old)) }

@@ -51,7 +51,8 @@ impl Reference {
     /// partial name.
     pub fn name_without_namespace(&self, namespace: &Namespace) -> Option<FullNameRef<'_>>
         ensures { MatchOption result
-            ((rest : List ℕ) → IsPartialName rest → full_bytes self.now.name ≢ namespace_bytes namespace.now ++ rest)
+            ((rest : List ℕ) → IsPartialName rest
+            → full_bytes self.now.name ≢ namespace_bytes namespace.now ++ rest)
             (λ n. full_bytes self.now.name ≡ namespace_bytes namespace.now ++ full_ref_bytes n) }
     {
         self.name.as_ref().without_namespace(namespace)
@@ -60,8 +61,10 @@ impl Reference {
     /// Takes the namespace off the name, and off a symbolic target. Each keeps it where it does not begin with it, and
     /// where the rest is no valid partial name.
     pub fn strip_namespace(&mut self, namespace: &Namespace)
-        ensures name { full_bytes self.new.name ≡ stripped (namespace_bytes namespace.now) (full_bytes self.old.name) }
-        ensures target { target_value self.new.target ≡ stripped_target (namespace_bytes namespace.now) (target_value self.old.target) }
+        ensures name { full_bytes self.new.name
+            ≡ stripped (namespace_bytes namespace.now) (full_bytes self.old.name) }
+        ensures target { target_value self.new.target
+            ≡ stripped_target (namespace_bytes namespace.now) (target_value self.old.target) }
         ensures peeled { self.new.peeled ≡ self.old.peeled }
     {
         self.name.strip_namespace(namespace);

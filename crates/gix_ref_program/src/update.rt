@@ -7,11 +7,11 @@ ghost use Rattle.gix_ref_store.specs.Prepared.{IsOneUpdate, tree_of};
 ghost use Rattle.gix_ref_store.specs.Store.{files_of, meaning_of, IsSameStore};
 ghost use Rattle.gix_ref_program.specs.Updates.{IsStopOf, IsUpdateError, AreNamed, error_of};
 
+use gix_ref_edits::transaction::RefEdit;
 use gix_ref_files::files::Files;
 use gix_ref_store::file::Store;
 use gix_ref_store::file::transaction::{Done, Failed, PackedRefs, Refused, commit, prepare};
 use gix_ref_store::store::WriteReflog;
-use gix_ref_edits::transaction::RefEdit;
 use std::alloc::Global;
 
 /// Why an update was not made.

@@ -4,12 +4,12 @@ ghost use Rattle.gix_ref_store.specs.Prepared.{IsOneUpdate};
 use crate::made::{Id, digits, files, full_name, object, partial, store};
 use gix_ref_base::namespace::expand;
 use gix_ref_base::target::Target;
+use gix_ref_edits::transaction::{Change, LogChange, PreviousValue, RefEdit};
 use gix_ref_memory::memory::Memory;
 use gix_ref_store::file::Store;
 use gix_ref_store::file::transaction::prepare::Error;
 use gix_ref_store::file::transaction::{PackedRefs, commit};
 use gix_ref_store::store::WriteReflog;
-use gix_ref_edits::transaction::{Change, LogChange, PreviousValue, RefEdit};
 use std::alloc::Global;
 use std::process::Abort;
 

@@ -2,8 +2,8 @@
 use gix_ref::hash::{hex_hash, hex_hash_any, newline};
 use gix_ref::namespace::expand;
 use gix_ref::{
-    actor, file, files, hash, layout, lock, log, name, namespace, packed, raw, steps, store, target,
-    transaction,
+    actor, file, files, hash, layout, lock, log, name, namespace, packed, raw, steps, store,
+    target, transaction,
 };
 
 /// Names a type.

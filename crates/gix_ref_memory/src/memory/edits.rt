@@ -28,7 +28,8 @@ pub fn append_now(
     ensures shape { IsShaped (tree_after changes.old) → IsShaped (tree_after changes.new) }
     ensures leaves { Leaves (meaning_after changes.old.items) (meaning_after changes.new.items)
         (Appending (tree_after changes.old) path.now bytes.now) }
-    ensures adds { OnOk result (Adds (meaning_after changes.old.items) (meaning_after changes.new.items)
+    ensures adds { OnOk result (Adds (meaning_after changes.old.items)
+        (meaning_after changes.new.items)
         (Appending (tree_after changes.old) path.now bytes.now)) }
 {
     match find(changes, path) {
@@ -128,7 +129,8 @@ pub fn create_now(
     path: &[u8],
 ) -> Result<Option<Create>, AllocError>
     ensures answer { IfOk result
-        (λ answer. IfSome answer (Creates (tree_after changes.old) path.now (tree_after changes.new))) }
+        (λ answer. IfSome answer (Creates (tree_after changes.old) path.now
+        (tree_after changes.new))) }
     ensures none { IfOk result (λ answer. IfNone answer (changes.new.items ≡ changes.old.items)) }
     ensures no_way { IfOk result
         (λ answer. IfNone answer (HasNoWay (tree_after changes.old) path.now)) }
@@ -181,7 +183,8 @@ fn place_file(
     bytes: &[u8],
 ) -> Result<(), AllocError>
     ensures placed { OnOk result (after changes.new.items no_tree ≡ put
-        (with_folders (tree_after changes.old) (fronts path.now)) path.now (Some (File bytes.now))) }
+        (with_folders (tree_after changes.old) (fronts path.now)) path.now
+        (Some (File bytes.now))) }
     ensures kept { OnErr result (take (length changes.old.items) changes.new.items
         ≡ changes.old.items) }
     ensures shape { is_folder (after changes.old.items no_tree path.now) ≡ false →

@@ -12,7 +12,8 @@ use std::alloc::{AllocError, Global};
 
 /// Makes a folder, where it does not stand.
 fn make_folder(alloc: Global, changes: &mut Vec<Change>, path: &[u8]) -> Result<(), AllocError>
-    ensures made { OnOk result (after changes.new.items no_tree ≡ put (tree_after changes.old) path.now
+    ensures made { OnOk result (after changes.new.items no_tree
+        ≡ put (tree_after changes.old) path.now
         (Some Folder)) }
     ensures failed { OnErr result (changes.new.items ≡ changes.old.items) }
     ensures kept { take (length changes.old.items) changes.new.items ≡ changes.old.items }
@@ -38,7 +39,8 @@ pub fn make_fronts(
     path: &[u8],
     most: usize,
 ) -> Result<(), AllocError>
-    ensures made { OnOk result (after changes.new.items no_tree ≡ with_folders (tree_after changes.old)
+    ensures made { OnOk result (after changes.new.items no_tree
+        ≡ with_folders (tree_after changes.old)
         (take most (fronts path.now))) }
     ensures kept { take (length changes.old.items) changes.new.items ≡ changes.old.items }
     ensures shape { IsShaped (tree_after changes.old) → IsShaped (tree_after changes.new) }
@@ -90,7 +92,8 @@ pub fn make_folders_now(
     ensures shape { IsShaped (tree_after changes.old) → IsShaped (tree_after changes.new) }
     ensures leaves { Leaves (meaning_after changes.old.items) (meaning_after changes.new.items)
         (MakingFolders (tree_after changes.old) path.now) }
-    ensures adds { OnOk result (Adds (meaning_after changes.old.items) (meaning_after changes.new.items)
+    ensures adds { OnOk result (Adds (meaning_after changes.old.items)
+        (meaning_after changes.new.items)
         (MakingFolders (tree_after changes.old) path.now)) }
 {
     if stands_in_the_way(changes, path) {

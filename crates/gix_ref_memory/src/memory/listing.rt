@@ -69,7 +69,8 @@ fn add_entry(
 ) -> Result<(), AllocError>
     requires name { IsName name.now }
     requires path { path.now ≡ folder.now ++ 47 ∷ name.now }
-    ensures { OnOk result (AddsEntries (after changes.now no_tree) folder.now name.now entries.old.items
+    ensures { OnOk result
+        (AddsEntries (after changes.now no_tree) folder.now name.now entries.old.items
         entries.new.items) }
 {
     if is_listed(entries, name) {

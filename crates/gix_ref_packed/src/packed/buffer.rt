@@ -41,10 +41,14 @@ impl Buffer {
         _threshold: u64,
         kind: Kind,
     ) -> Result<Option<Buffer>, Error>
-        ensures opened { F.honest → IfOk result (λ found. MatchOption found (is_file ((F.means files.old).tree path.now) ≡ false)
-            (λ b. (is_file ((F.means files.old).tree path.now) ≡ true) × Opened kind (bytes_of ((F.means files.old).tree path.now)) b)) }
-        ensures refused { F.honest → IfErr result (IsRefusedFile kind ((F.means files.old).tree path.now)) }
-        ensures leaves { F.honest → Leaves (F.means files.old) (F.means files.new) (Unchanged (F.means files.old).tree) }
+        ensures opened { F.honest → IfOk result
+            (λ found. MatchOption found (is_file ((F.means files.old).tree path.now) ≡ false)
+            (λ b. (is_file ((F.means files.old).tree path.now) ≡ true)
+            × Opened kind (bytes_of ((F.means files.old).tree path.now)) b)) }
+        ensures refused { F.honest → IfErr result
+            (IsRefusedFile kind ((F.means files.old).tree path.now)) }
+        ensures leaves { F.honest → Leaves (F.means files.old) (F.means files.new)
+            (Unchanged (F.means files.old).tree) }
         ensures count { F.faults files.new ≡ count_open result (F.faults files.old) }
     {
         let mut bytes = Vec::new(alloc);
@@ -94,7 +98,8 @@ impl Buffer {
     ) -> Result<Buffer, Error>
         requires inside { start ≤ vec_len bytes }
         requires line { first_line ≤ 2 }
-        ensures keeps { IfOk result (λ b. Keeps kind false (drop start bytes.items) (buffer_text b)) }
+        ensures keeps { IfOk result (λ b. Keeps kind false (drop start bytes.items)
+            (buffer_text b)) }
         ensures kind { IfOk result (λ b. buffer_kind b ≡ kind) }
         ensures line { IfOk result (λ b. buffer_line b ≡ first_line) }
         ensures refused { IfErr result (IsStuck kind first_line (drop start bytes.items)) }

@@ -32,7 +32,8 @@ pub fn record_start_at_offset(text: &[u8], offset: usize) -> usize
 /// most the text's length.
 pub fn record_at_offset(text: &[u8], offset: usize) -> &[u8]
     requires { offset ≤ length text.now }
-    ensures { (start : _) × StartsRecord text.now start offset × (result.now ≡ drop start text.now) }
+    ensures { (start : _) × StartsRecord text.now start offset
+        × (result.now ≡ drop start text.now) }
 {
     &text[record_start_at_offset(text, offset)..]
 }

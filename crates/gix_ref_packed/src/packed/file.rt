@@ -95,11 +95,14 @@ impl<R: ReadAt + Drop> PackedFile<R> {
         path: &[u8],
         kind: Kind,
     ) -> Result<Option<PackedFile<R>>, Error>
-        ensures opened { F.honest → IfOk result (λ found. MatchOption found (is_file ((F.means files.old).tree path.now) ≡ false)
+        ensures opened { F.honest → IfOk result
+            (λ found. MatchOption found (is_file ((F.means files.old).tree path.now) ≡ false)
             (λ p. R.honest × (is_file ((F.means files.old).tree path.now) ≡ true)
             × OpenedFile kind (bytes_of ((F.means files.old).tree path.now)) p)) }
-        ensures refused { F.honest → IfErr result (IsRefusedFile kind ((F.means files.old).tree path.now)) }
-        ensures leaves { F.honest → Leaves (F.means files.old) (F.means files.new) (Unchanged (F.means files.old).tree) }
+        ensures refused { F.honest → IfErr result
+            (IsRefusedFile kind ((F.means files.old).tree path.now)) }
+        ensures leaves { F.honest → Leaves (F.means files.old) (F.means files.new)
+            (Unchanged (F.means files.old).tree) }
         ensures no_fault { IfOk result (λ _. F.faults files.new ≡ F.faults files.old) }
     {
         match files.open(alloc, path) {

@@ -15,7 +15,8 @@ use std::alloc::Global;
 /// What the header of a beginning of a text says of the text, which it is as a whole where `at_eof` holds. `Here(None)` where
 /// the text begins with `#` and has no header.
 fn header_end_in(part: &[u8], at_eof: bool) -> InWindow<Option<HeaderEnd>>
-    ensures heads { IfHere result (λ found. (text : List ℕ) → part.now ≡ take (length part.now) text →
+    ensures heads { IfHere result (λ found. (text : List ℕ)
+        → part.now ≡ take (length part.now) text →
         (at_eof ≡ true → part.now ≡ text) → MatchOption found (NoHeader text) (HeadsAt text)) }
     ensures sure { at_eof ≡ true → IsHere result }
 {
@@ -40,9 +41,12 @@ fn header_end_in(part: &[u8], at_eof: bool) -> InWindow<Option<HeaderEnd>>
 pub fn file_header<R: ReadAt>(alloc: Global, reader: &mut R) -> Result<Option<HeaderEnd>, ReadError>
     ensures same { R.bytes reader.new ≡ R.bytes reader.old }
     ensures no_fault { IfOk result (λ _. R.faults reader.new ≡ R.faults reader.old) }
-    ensures fault { IfErr result (λ error. R.faults reader.new ≡ count_read error (R.faults reader.old)) }
+    ensures fault { IfErr result (λ error. R.faults reader.new
+        ≡ count_read error (R.faults reader.old)) }
     ensures stays { IfErr result IsNoChange }
-    ensures heads { R.honest → IfOk result (λ found. MatchOption found (NoHeader (R.bytes reader.old)) (HeadsAt (R.bytes reader.old))) }
+    ensures heads { R.honest → IfOk result
+        (λ found. MatchOption found (NoHeader (R.bytes reader.old))
+        (HeadsAt (R.bytes reader.old))) }
 {
     let mut window = Vec::new(alloc);
     for turn in 0..MAX_WINDOW_DOUBLINGS {

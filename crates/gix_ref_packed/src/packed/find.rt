@@ -196,14 +196,16 @@ impl Buffer {
     ) -> Result<Option<Reference<'_>>, ParseError>
         ensures counts { probes.old ≤ probes.new }
         ensures cost { CountsProbes (length (buffer_text self.now)) probes.old probes.new }
-        ensures finds { Finds (buffer_kind self.now) (buffer_text self.now) (full_ref_bytes name.entry) result }
+        ensures finds { Finds (buffer_kind self.now) (buffer_text self.now)
+            (full_ref_bytes name.entry) result }
     {
         find_record(self.as_bytes(), self.kind(), name.to_path(), probes)
     }
 
     /// As `try_find_full`, for a caller who does not count.
     pub fn try_find_key(&self, name: FullNameRef<'_>) -> Result<Option<Reference<'_>>, ParseError>
-        ensures { Finds (buffer_kind self.now) (buffer_text self.now) (full_ref_bytes name.entry) result }
+        ensures { Finds (buffer_kind self.now) (buffer_text self.now)
+            (full_ref_bytes name.entry) result }
     {
         find_uncounted(self.as_bytes(), self.kind(), name.to_path())
     }
@@ -224,7 +226,8 @@ impl Buffer {
         alloc: Global,
         name: PartialNameRef<'_>,
     ) -> Result<Option<Reference<'_>>, Error>
-        ensures { FindsPartial (buffer_kind self.now) (buffer_text self.now) (partial_ref_bytes name.entry) result }
+        ensures { FindsPartial (buffer_kind self.now) (buffer_text self.now)
+            (partial_ref_bytes name.entry) result }
     {
         let path = name.to_partial_path();
         if is_rooted(path) {
@@ -241,7 +244,8 @@ impl Buffer {
         alloc: Global,
         name: PartialNameRef<'_>,
     ) -> Result<Reference<'_>, existing::Error>
-        ensures { FindsPartial (buffer_kind self.now) (buffer_text self.now) (partial_ref_bytes name.entry) (as_try_find result) }
+        ensures { FindsPartial (buffer_kind self.now) (buffer_text self.now)
+            (partial_ref_bytes name.entry) (as_try_find result) }
     {
         match self.try_find(alloc, name) {
             Ok(Some(reference)) => Ok(reference),

@@ -38,8 +38,10 @@ impl<'a> Iter<'a> {
     /// The records of a whole text, in the order of its lines; lines are numbered from 1, the header's too. The error,
     /// `Header`, has the first line of a text that begins with `#` and has no header.
     pub fn new(text: &'a [u8], kind: Kind) -> Result<Iter<'a>, Error<'a>>
-        ensures items { IfOk result (λ it. (h : Option Header) × (rest : List _) × Heads text.now h rest × EachRunFrom ItemStep it
-            (λ run. AreItems (run.whole ≡ true) (record { kind = kind; prefix = None; number = line_behind h; text = rest }) run.items)) }
+        ensures items { IfOk result (λ it. (h : Option Header) × (rest : List _)
+            × Heads text.now h rest × EachRunFrom ItemStep it
+            (λ run. AreItems (run.whole ≡ true)
+            (record { kind = kind; prefix = None; number = line_behind h; text = rest }) run.items)) }
         ensures refused { IfErr result (IsHeaderError text.now) }
     {
         let Some(heading) = read_header_end(text) else {
@@ -54,7 +56,8 @@ impl<'a> Iter<'a> {
     /// The records of a text whose first line has that number.
     fn from(text: &'a [u8], kind: Kind, line: u64) -> Iter<'a>
         requires { line < 3 }
-        ensures { unread result ≡ record { kind = kind; prefix = None; number = line; text = text.now } }
+        ensures { unread result
+            ≡ record { kind = kind; prefix = None; number = line; text = text.now } }
     {
         Iter {
             rest: text,
@@ -120,7 +123,8 @@ impl Buffer {
             (record { kind = buffer_kind self.now; prefix = None; number = buffer_line self.now; text = buffer_text self.now }) run.items) }
 
         // Where the text is records, they give these.
-        ensures records { (rs : List Record) → Records (buffer_kind self.now) (buffer_text self.now) rs →
+        ensures records { (rs : List Record)
+            → Records (buffer_kind self.now) (buffer_text self.now) rs →
             EachRunFrom ItemStep result (λ run. AreRecords (run.whole ≡ true) rs run.items) }
     {
         Iter::from(self.as_bytes(), self.kind(), self.first_line())
@@ -131,11 +135,13 @@ impl Buffer {
     pub fn iter_prefixed(&self, prefix: Vec<u8>) -> Iter<'_>
         // Whatever calls of `next` follow, they give the records and faults from the start of a line on, up to the first
         // other name.
-        ensures items { (start : ℕ) × IsListStart (buffer_text self.now) start × EachRunFrom ItemStep result (λ run. AreItems (run.whole ≡ true)
+        ensures items { (start : ℕ) × IsListStart (buffer_text self.now) start
+            × EachRunFrom ItemStep result (λ run. AreItems (run.whole ≡ true)
             (record { kind = buffer_kind self.now; prefix = Some prefix.items; number = buffer_line self.now + line_feeds (take start (buffer_text self.now)); text = drop start (buffer_text self.now) }) run.items) }
 
         // Where the text is records whose names do not descend, they give those of the prefix.
-        ensures records { (rs : List Record) → Records (buffer_kind self.now) (buffer_text self.now) rs → Rising rs →
+        ensures records { (rs : List Record)
+            → Records (buffer_kind self.now) (buffer_text self.now) rs → Rising rs →
             EachRunFrom ItemStep result (λ run. AreRecords (run.whole ≡ true) (records_prefixed prefix.items rs) run.items) }
     {
         let text = self.as_bytes();

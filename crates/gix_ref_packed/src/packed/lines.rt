@@ -8,7 +8,8 @@ use std::cmp::Ordering;
 
 /// What follows a newline at the front of the text.
 pub fn after_newline(text: &[u8]) -> Option<&[u8]>
-    ensures { MatchOption result ((rest : List ℕ) → Newline text.now rest → ⊥) (λ rest. Newline text.now rest.now) }
+    ensures { MatchOption result ((rest : List ℕ) → Newline text.now rest → ⊥)
+        (λ rest. Newline text.now rest.now) }
 {
     match text {
         [b'\n', rest @ ..] => Some(rest),
@@ -19,7 +20,8 @@ pub fn after_newline(text: &[u8]) -> Option<&[u8]>
 
 /// The line at the front of the text, without its newline, and what follows it.
 pub fn take_line(text: &[u8]) -> Option<(&[u8], &[u8])>
-    ensures { MatchOption result ((line rest : List ℕ) → Line text.now line rest → ⊥) (λ p. Line text.now p.0.now p.1.now) }
+    ensures { MatchOption result ((line rest : List ℕ) → Line text.now line rest → ⊥)
+        (λ p. Line text.now p.0.now p.1.now) }
 {
     let Some(end) = memchr2(b'\n', b'\r', text) else {
         return None;

@@ -108,10 +108,12 @@ pub(crate) fn read_window<R: ReadAt>(
     ensures same { R.bytes reader.new ≡ R.bytes reader.old }
     ensures size { R.size reader.new ≡ R.size reader.old }
     ensures no_fault { OnOk result (R.faults reader.new ≡ R.faults reader.old) }
-    ensures fault { IfErr result (λ error. R.faults reader.new ≡ count_read error (R.faults reader.old)) }
+    ensures fault { IfErr result (λ error. R.faults reader.new
+        ≡ count_read error (R.faults reader.old)) }
     ensures stays { IfErr result IsNoChange }
     ensures len { OnOk result (length window.new.items ≡ len) }
-    ensures read { R.honest → OnOk result (window.new.items ≡ take (length window.new.items) (drop place (R.bytes reader.old))) }
+    ensures read { R.honest → OnOk result
+        (window.new.items ≡ take (length window.new.items) (drop place (R.bytes reader.old))) }
 {
     window.resize(len, 0)?;
     match reader.read_exact_at(place, window.as_mut_slice()) {
@@ -153,11 +155,17 @@ impl<R: ReadAt + Drop> SortedFile<R> {
     /// Reads a window of that size around the place; all where the size holds any file.
     fn fill(&mut self, offset: u64, size: u64) -> Result<(), ReadError>
         ensures same { R.bytes self.new.reader ≡ R.bytes self.old.reader }
-        ensures place { (self.new.base ≡ self.old.base) × (R.size self.new.reader ≡ R.size self.old.reader) }
+        ensures place { (self.new.base ≡ self.old.base)
+            × (R.size self.new.reader ≡ R.size self.old.reader) }
         ensures no_fault { IfOk result (λ _. R.faults self.new.reader ≡ R.faults self.old.reader) }
-        ensures fault { IfErr result (λ error. R.faults self.new.reader ≡ count_read error (R.faults self.old.reader)) }
-        ensures whole { R.honest → size ≡ 2 ^ 64 - 1 → IfOk result (λ _. (self.new.from ≡ 0) × (length self.new.window.items ≡ length (drop self.old.base (R.bytes self.old.reader)))) }
-        ensures stays { R.honest → offset < length (drop self.old.base (R.bytes self.old.reader)) → IfErr result IsNoChange }
+        ensures fault { IfErr result (λ error. R.faults self.new.reader
+            ≡ count_read error (R.faults self.old.reader)) }
+        ensures whole { R.honest → size ≡ 2 ^ 64 - 1
+            → IfOk result (λ _. (self.new.from ≡ 0)
+            × (length self.new.window.items
+            ≡ length (drop self.old.base (R.bytes self.old.reader)))) }
+        ensures stays { R.honest → offset < length (drop self.old.base (R.bytes self.old.reader))
+            → IfErr result IsNoChange }
     {
         let from = window_from(offset, size);
         let len = size.min(self.records_len().saturating_sub(from));
@@ -178,8 +186,11 @@ impl<R: ReadAt + Drop> SortedFile<R> {
     fn probe_in_window(&self, kind: Kind, offset: u64, wanted: &[u8]) -> Option<Probe>
         ensures below { IfSome result (λ probe. probe.start ≤ offset) }
         ensures beyond { IfSome result (λ probe. offset < probe.next) }
-        ensures probed { R.honest → IfSome result (IsProbeAt kind (drop self.now.base (R.bytes self.now.reader)) wanted.now offset) }
-        ensures sure { R.honest → self.now.from ≡ 0 → length self.now.window.items ≡ length (drop self.now.base (R.bytes self.now.reader)) → offset < length self.now.window.items → IsSome result }
+        ensures probed { R.honest → IfSome result
+            (IsProbeAt kind (drop self.now.base (R.bytes self.now.reader)) wanted.now offset) }
+        ensures sure { R.honest → self.now.from ≡ 0
+            → length self.now.window.items ≡ length (drop self.now.base (R.bytes self.now.reader))
+            → offset < length self.now.window.items → IsSome result }
     {
         let len = self.window.len() as u64;
         if offset < self.from || offset - self.from >= len {
@@ -192,8 +203,11 @@ impl<R: ReadAt + Drop> SortedFile<R> {
 
     /// The record that begins at the place, if the window shows it; `Here(None)` where none is there.
     fn record_in_window(&self, kind: Kind, start: u64) -> InWindow<Option<Found>>
-        ensures front { R.honest → IfHere result (FrontIs kind (drop start (drop self.now.base (R.bytes self.now.reader)))) }
-        ensures sure { R.honest → self.now.from ≡ 0 → length self.now.window.items ≡ length (drop self.now.base (R.bytes self.now.reader)) → start < length self.now.window.items → IsHere result }
+        ensures front { R.honest → IfHere result
+            (FrontIs kind (drop start (drop self.now.base (R.bytes self.now.reader)))) }
+        ensures sure { R.honest → self.now.from ≡ 0
+            → length self.now.window.items ≡ length (drop self.now.base (R.bytes self.now.reader))
+            → start < length self.now.window.items → IsHere result }
     {
         let len = self.window.len() as u64;
         if start < self.from || start - self.from >= len {
@@ -207,11 +221,15 @@ impl<R: ReadAt + Drop> SortedFile<R> {
     /// The record that begins at the place, if one does.
     fn record_at(&mut self, kind: Kind, start: u64) -> Result<Option<Found>, ReadError>
         ensures same { R.bytes self.new.reader ≡ R.bytes self.old.reader }
-        ensures place { (self.new.base ≡ self.old.base) × (R.size self.new.reader ≡ R.size self.old.reader) }
+        ensures place { (self.new.base ≡ self.old.base)
+            × (R.size self.new.reader ≡ R.size self.old.reader) }
         ensures no_fault { IfOk result (λ _. R.faults self.new.reader ≡ R.faults self.old.reader) }
-        ensures fault { IfErr result (λ error. R.faults self.new.reader ≡ count_read error (R.faults self.old.reader)) }
-        ensures front { R.honest → IfOk result (FrontIs kind (drop start (drop self.old.base (R.bytes self.old.reader)))) }
-        ensures stays { R.honest → start < length (drop self.old.base (R.bytes self.old.reader)) → IfErr result IsNoChange }
+        ensures fault { IfErr result (λ error. R.faults self.new.reader
+            ≡ count_read error (R.faults self.old.reader)) }
+        ensures front { R.honest → IfOk result
+            (FrontIs kind (drop start (drop self.old.base (R.bytes self.old.reader)))) }
+        ensures stays { R.honest → start < length (drop self.old.base (R.bytes self.old.reader))
+            → IfErr result IsNoChange }
     {
         for turn in 0..MAX_WINDOW_DOUBLINGS {
             if let InWindow::Here(found) = self.record_in_window(kind, start) {
@@ -237,14 +255,18 @@ impl<R: ReadAt + Drop> SortedFile<R> {
         probes: &mut Probes<L>,
     ) -> Result<Option<Found>, FindError>
         ensures same { R.bytes self.new.reader ≡ R.bytes self.old.reader }
-        ensures place { (self.new.base ≡ self.old.base) × (R.size self.new.reader ≡ R.size self.old.reader) }
+        ensures place { (self.new.base ≡ self.old.base)
+            × (R.size self.new.reader ≡ R.size self.old.reader) }
         ensures counts { probes.old ≤ probes.new }
-        ensures cost { R.honest → CountsProbes (length (drop self.old.base (R.bytes self.old.reader))) probes.old probes.new }
-        ensures finds { R.honest → FindsIn kind (drop self.old.base (R.bytes self.old.reader)) (full_ref_bytes name.entry) result }
+        ensures cost { R.honest → CountsProbes
+            (length (drop self.old.base (R.bytes self.old.reader))) probes.old probes.new }
+        ensures finds { R.honest → FindsIn kind (drop self.old.base (R.bytes self.old.reader))
+            (full_ref_bytes name.entry) result }
 
         // The reader counts a fault where the file could not be read, and nowhere else.
         ensures no_fault { IfOk result (λ _. R.faults self.new.reader ≡ R.faults self.old.reader) }
-        ensures fault { IfErr result (λ error. R.faults self.new.reader ≡ count_find error (R.faults self.old.reader)) }
+        ensures fault { IfErr result (λ error. R.faults self.new.reader
+            ≡ count_find error (R.faults self.old.reader)) }
     {
         let start = match search(self, kind, name.to_path(), probes) {
             Ok(Some(start)) => start,

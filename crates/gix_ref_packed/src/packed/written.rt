@@ -31,7 +31,8 @@ fn push_object(text: &mut Vec<u8>, object: &[u8]) -> Result<(), AllocError>
 
 /// Adds the first line of a record to a text, which only grows.
 fn push_line(text: &mut Vec<u8>, name: &[u8], target: &[u8]) -> Result<(), AllocError>
-    ensures ok { OnOk result (text.new.items ≡ text.old.items ++ (target.now ++ 32 ∷ (name.now ++ 10 ∷ []))) }
+    ensures ok { OnOk result (text.new.items
+        ≡ text.old.items ++ (target.now ++ 32 ∷ (name.now ++ 10 ∷ []))) }
     ensures grows { BeginsWith text.new.items text.old.items }
 {
     text.extend_from_slice(target)?;

@@ -34,7 +34,8 @@ fn asks_itself(name: &[u8]) -> bool
 /// The name as that of the reference that a lookup of it asks for first, if it does.
 fn own_name(partial: PartialNameRef<'_>) -> Option<FullNameRef<'_>>
     ensures { MatchOption result (is_own_name (partial_ref_bytes partial.entry) ≡ false)
-        (λ name. (is_own_name (partial_ref_bytes partial.entry) ≡ true) × (full_ref_bytes name ≡ partial_ref_bytes partial.entry)) }
+        (λ name. (is_own_name (partial_ref_bytes partial.entry) ≡ true)
+        × (full_ref_bytes name ≡ partial_ref_bytes partial.entry)) }
 {
     match FullNameRef::try_from(partial.to_partial_path()) {
         Ok(name) if asks_itself(name.to_path()) => Some(name),

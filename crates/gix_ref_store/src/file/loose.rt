@@ -123,7 +123,8 @@ fn symbolic_path(text: &[u8]) -> Option<&[u8]>
 
 /// The digits of an id at the front of the text, and what follows them.
 fn digits_of(text: &[u8], kind: Kind) -> Option<(&[u8], &[u8])>
-    ensures { MatchOption result ((digits rest : List ℕ) → IsHexOf kind digits → text.now ≡ digits ++ rest → ⊥)
+    ensures { MatchOption result ((digits rest : List ℕ) → IsHexOf kind digits
+        → text.now ≡ digits ++ rest → ⊥)
         (λ p. IsHexOf kind p.0.now × (text.now ≡ p.0.now ++ p.1.now)) }
 {
     let mut rest = text;

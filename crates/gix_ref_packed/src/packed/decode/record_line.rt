@@ -16,7 +16,8 @@ use std::cmp::Ordering;
 
 /// The bytes in the places of id and name, and what follows their line. Neither is checked.
 pub fn split_record_line(text: &[u8], kind: Kind) -> Option<(&[u8], &[u8], &[u8])>
-    ensures { MatchOption result ((digits name rest : List ℕ) → RecordLine kind text.now digits name rest → ⊥)
+    ensures { MatchOption result ((digits name rest : List ℕ)
+        → RecordLine kind text.now digits name rest → ⊥)
         (λ p. RecordLine kind text.now p.0.now p.1.now p.2.now) }
 {
     let len = kind.len_in_hex();
@@ -32,7 +33,8 @@ pub fn split_record_line(text: &[u8], kind: Kind) -> Option<(&[u8], &[u8], &[u8]
 
 /// The digits of an id at the front of the text, and what follows them.
 fn take_id(text: &[u8], kind: Kind) -> Option<(&[u8], &[u8])>
-    ensures { MatchOption result ((digits rest : List ℕ) → IsHexOf kind digits → text.now ≡ digits ++ rest → ⊥)
+    ensures { MatchOption result ((digits rest : List ℕ) → IsHexOf kind digits
+        → text.now ≡ digits ++ rest → ⊥)
         (λ p. IsHexOf kind p.0.now × (text.now ≡ p.0.now ++ p.1.now)) }
 {
     let mut rest = text;
@@ -55,7 +57,8 @@ fn is_id(text: &[u8], kind: Kind) -> bool
 
 /// The object of a line with `^`, if one follows a record, and what follows it.
 fn take_peeled(text: &[u8], kind: Kind) -> Option<(Option<&[u8]>, &[u8])>
-    ensures { MatchOption result ((object : Option (List ℕ)) (rest : List ℕ) → Peeled kind text.now object rest → ⊥)
+    ensures { MatchOption result ((object : Option (List ℕ)) (rest : List ℕ)
+        → Peeled kind text.now object rest → ⊥)
         (λ p. Peeled kind text.now (option_map (λ o. o.now) p.0) p.1.now) }
 {
     let Some(line) = strip_front(text, b"^") else {
@@ -100,7 +103,8 @@ pub fn take_record<'a>(text: &'a [u8], kind: Kind) -> Option<(Reference<'a>, &'a
 /// record is there, leaves the input where it was.
 pub fn reference<'a>(input: &mut &'a [u8], kind: Kind) -> Result<Reference<'a>, ()>
     ensures taken { IfOk result (λ r. Takes kind input.old.now (record_of r) input.new.now) }
-    ensures refused { IfErr result (λ _. (r : Record) (rest : List ℕ) → Takes kind input.old.now r rest → ⊥) }
+    ensures refused { IfErr result (λ _. (r : Record) (rest : List ℕ)
+        → Takes kind input.old.now r rest → ⊥) }
     ensures left { OnErr result (input.new ≡ input.old) }
 {
     match take_record(input, kind) {

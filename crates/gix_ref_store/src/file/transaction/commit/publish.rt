@@ -9,8 +9,8 @@ ghost use Rattle.gix_ref_store.specs.PrepareSteps.{is_found};
 ghost use Rattle.gix_ref_edits.specs.RefEdits.{matched};
 
 use crate::file::transaction::setting::Paths;
-use gix_ref_edits::transaction::{Change, PreviousValue, RefEdit, RefLog};
 use gix_ref_base::target::Target;
+use gix_ref_edits::transaction::{Change, PreviousValue, RefEdit, RefLog};
 use gix_ref_files::files::{FileError, Files, Rename};
 
 /// Where the renames ended.

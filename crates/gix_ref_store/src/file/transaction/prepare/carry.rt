@@ -3,8 +3,8 @@ ghost use Rattle.std.specs.Prelude.{◌≡◌, map, vec_len};
 ghost use Rattle.gix_ref_store.specs.PrepareSteps.{value_of};
 ghost use Rattle.gix_ref_store.specs.CarriedEdits.{IsCarried, AreCarried};
 
-use gix_ref_edits::transaction::{Change, PreviousValue, RefEdit};
 use gix_ref_base::target::Target;
+use gix_ref_edits::transaction::{Change, PreviousValue, RefEdit};
 
 /// The edit whose reference was found expects just that.
 fn carry_edit(edit: &mut RefEdit, was: Option<Target>)

@@ -8,10 +8,10 @@ ghost use Rattle.gix_ref_base.specs.Locations.{is_safe};
 ghost use Rattle.gix_ref_edits.specs.RefEdits.{name_of, new_of};
 
 use crate::file::transaction::prepare::Error;
-use gix_ref_edits::transaction::RefEdit;
 use gix_ref_base::layout::location_of;
 use gix_ref_base::name::FullNameRef;
 use gix_ref_base::target::TargetRef;
+use gix_ref_edits::transaction::RefEdit;
 use gix_ref_hash::hash::{Kind, ObjectId};
 
 /// Whether the name of a new symbolic target is a full name.
@@ -52,7 +52,8 @@ fn has_kind(edit: &RefEdit, kind: Kind) -> bool
 }
 
 fn check_edit(edit: &RefEdit, kind: Kind) -> Result<(), Error>
-    ensures sound { MatchResult result (λ _. IsValidEdit kind edit.now) (IsInvalidEdit kind edit.now) }
+    ensures sound { MatchResult result (λ _. IsValidEdit kind edit.now)
+        (IsInvalidEdit kind edit.now) }
     ensures inside { IfErr result IsNotIo }
 {
     if location_of(edit.name.as_ref()).is_none() {

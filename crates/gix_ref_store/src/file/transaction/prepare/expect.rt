@@ -7,8 +7,8 @@ ghost use Rattle.gix_ref_store.specs.PrepareSteps.{value_of};
 ghost use Rattle.gix_ref_edits.specs.declared.transaction.PreviousValue.TheVariants.{MustNotExist as must_not_exist};
 
 use crate::file::transaction::prepare::Error;
-use gix_ref_edits::transaction::{Change, PreviousValue, RefEdit};
 use gix_ref_base::target::Target;
+use gix_ref_edits::transaction::{Change, PreviousValue, RefEdit};
 use gix_ref_hash::hash::Kind;
 use std::alloc::Global;
 

@@ -13,8 +13,8 @@ use crate::file::transaction::prepare::lock::paths_of_edits;
 use crate::file::transaction::prepare::take::take_locks;
 use crate::file::transaction::release::remove_locks;
 use crate::file::transaction::setting::{Paths, Setting};
-use gix_ref_edits::transaction::RefEdit;
 use gix_ref_base::target::Target;
+use gix_ref_edits::transaction::RefEdit;
 use gix_ref_files::files::Files;
 use std::alloc::{AllocError, Global};
 

@@ -10,8 +10,8 @@ ghost use Rattle.gix_ref_edits.specs.RefEdits.{AreUpdates};
 use crate::file::transaction::prepare::Error;
 use crate::file::transaction::prepare::lock::{acquire, settle};
 use crate::file::transaction::setting::{Paths, Setting};
-use gix_ref_edits::transaction::RefEdit;
 use gix_ref_base::target::Target;
+use gix_ref_edits::transaction::RefEdit;
 use gix_ref_files::files::Files;
 use std::alloc::{AllocError, Global};
 
