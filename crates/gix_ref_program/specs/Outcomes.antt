@@ -13,8 +13,8 @@ use Rattle.gix_ref_store.specs.declared.file.transaction.prepare.error.Error as 
 use Rattle.gix_ref_store.specs.declared.file.transaction.prepare.error.Error.TheVariants as prepare
 use Rattle.gix_ref_store.specs.declared.file.transaction.commit.error.Error as commits
 use Rattle.gix_ref_store.specs.declared.file.transaction.commit.error.Error.TheVariants as commit
-use Rattle.gix_ref_store.specs.declared.file.find.error.Error as finds
-use Rattle.gix_ref_store.specs.declared.file.find.error.Error.TheVariants as find
+use Rattle.gix_ref_lookup.specs.declared.find.error.Error as finds
+use Rattle.gix_ref_lookup.specs.declared.find.error.Error.TheVariants as find
 use Rattle.gix_ref_program.specs.declared.update.UpdateError.TheVariants as error
 use Rattle.gix_ref_program.specs.declared.refusal.Refusal.{Refusal}
 use Rattle.gix_ref_program.specs.declared.refusal.Refusal.TheVariants as refusals

@@ -10,7 +10,7 @@ use Rattle.gix_ref_hash.specs.declared.hash.ObjectId.{ObjectId}
 use Rattle.gix_ref_files.specs.Tree.{Tree}
 use Rattle.gix_ref_files.specs.Files.{Meaning, Leaves}
 use Rattle.gix_ref_store.specs.OwnLocks.{paths_of}
-use Rattle.gix_ref_store.specs.CleanPaths.{is_clean}
+use Rattle.gix_ref_lookup.specs.CleanPaths.{is_clean}
 use Rattle.gix_ref_store.specs.CommitResult.{AreCommitted}
 use Rattle.gix_ref_store.specs.Lookup.{FindsIn, FailsIn}
 use Rattle.gix_ref_store.specs.Prepared.{tree_of}

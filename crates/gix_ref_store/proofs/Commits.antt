@@ -20,7 +20,7 @@ use Rattle.gix_ref_store.specs.declared.file.transaction.commit.error.Error.{Err
 use Rattle.gix_ref_store.specs.declared.file.transaction.commit.error.Error.TheVariants.{LockCommit, FolderInPlace}
 use Rattle.gix_ref_store.proofs.Adds.{clash, in_at}
 use Rattle.gix_ref_store.proofs.OneUpdate.{IsReady, begins, ends, gone, commits}
-use Rattle.gix_ref_store.proofs.Settings.{folders_laid}
+use Rattle.gix_ref_lookup.proofs.Laying.{folders_laid}
 
 -- a store with other files
 abbrev pub with_files : {F : Type 0} → Store F → F → Store F

@@ -16,10 +16,10 @@ use Rattle.gix_ref_base.specs.PackedRecords.{Record, id_read}
 use Rattle.gix_ref_base.proofs.PackedRecordLemmas.{written_is_read}
 use Rattle.gix_ref_theory.specs.Readings.{Store, reading, reading_of_loose, records_in, as_read}
 use Rattle.gix_ref_theory.specs.Readings.Reading.{Is, Fault, Absent}
-use Rattle.gix_ref_theory.specs.ConcreteStore.{store_of, below_folders, written_id, loose_text, is_composed}
+use Rattle.gix_ref_theory.specs.ConcreteStore.{store_of, below_folders, written_id, loose_text}
 use Rattle.gix_ref_base.specs.Locations.{is_safe, paths_at}
-use Rattle.gix_ref_store.specs.StoreLayout.{loose_alone}
-use Rattle.gix_ref_store.specs.LooseText.{target_in}
+use Rattle.gix_ref_lookup.specs.StoreLayout.{loose_alone}
+use Rattle.gix_ref_lookup.specs.LooseText.{target_in}
 use Rattle.gix_ref_theory.specs.Edits.{Edit, Change, Effect, has_already, effect, alters_change, alters_packed}
 use Rattle.gix_ref_theory.specs.Edits.Change.{Update}
 use Rattle.gix_ref_theory.specs.Edits.Mode.{DeletionsOnly}
@@ -37,7 +37,7 @@ use Rattle.gix_ref_edits.specs.declared.transaction.PreviousValue.{PreviousValue
 use Rattle.gix_ref_edits.specs.declared.transaction.PreviousValue.TheVariants.{Any, MustExist, MustNotExist, MustExistAndMatch, ExistingMustMatch}
 use Rattle.gix_ref_store.proofs.Adds.{clash, false_is_true}
 use Rattle.gix_ref_store.proofs.LookupLemmas.{alone, file_reading, no_device}
-use Rattle.gix_ref_store.proofs.LooseLemmas.{id_reads_back, name_reads_back}
+use Rattle.gix_ref_lookup.proofs.LooseLemmas.{id_reads_back, name_reads_back}
 use Rattle.gix_ref_theory.proofs.Writes.{same_true}
 
 -- an edit of this change, as the plan of a commit has it
@@ -156,14 +156,8 @@ module _ (f : Layout) (kind : Kind) where
   pub id_reads_as_written : (t : TargetValue) → IsWholeTarget (Some t) → (id : ObjectId) → t ≡ object_id id → id_read (written_id id) ≡ Some id
   id_reads_as_written t whole id is = written_is_read id (subst (λ u. IsWholeTarget (Some u)) is whole)
 
-  composes : (key : Option (List ℕ)) → is_composed (loose_alone kind) key ≡ true
-  composes None = refl
-  composes (Some key) = same_true key key refl
-
   pub is_reference : (name : List ℕ) → IsPartialName name → is_safe name ≡ true → s.is_reference name ≡ true
-  is_reference name partial safe =
-      ap (λ e. (is_none e && is_safe name) && is_composed (loose_alone kind) (paths_at f name).key) partial
-      ∙ (ap (λ b. b && is_composed (loose_alone kind) (paths_at f name).key) safe ∙ composes (paths_at f name).key)
+  is_reference name partial safe = ap (λ e. is_none e && is_safe name) partial ∙ safe
 
   pub prepared : (view : View) (name : List ℕ) (r : Bool) (t : TargetValue) → s.is_reference name ≡ true → target_in kind (loose_text t) ≡ Some t → ((id : ObjectId) → t ≡ object_id id → id_read (written_id id) ≡ Some id) →
       IsPrepared s DeletionsOnly view (edit_with name r (Update t) ∷ []) []

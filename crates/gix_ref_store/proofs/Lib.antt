@@ -2,14 +2,11 @@ pub mod Adds
 pub mod Commits
 pub mod Committing
 pub mod Firsts
-pub mod FolderLemmas
 pub mod Locking
 pub mod LookupLemmas
-pub mod LooseLemmas
 pub mod OneEdit
 pub mod OneUpdate
 pub mod Removing
 pub mod Renames
 pub mod Rounds
-pub mod Settings
 pub mod Taking

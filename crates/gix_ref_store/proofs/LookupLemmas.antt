@@ -13,32 +13,16 @@ use Rattle.gix_ref_theory.specs.Views.{View}
 use Rattle.gix_ref_theory.specs.Readings.{Store, Reading, reading, reading_by, reading_of_loose, records_in, as_read}
 use Rattle.gix_ref_theory.specs.Readings.Reading.{Is, Fault, Absent}
 use Rattle.gix_ref_theory.specs.ConcreteStore.{store_of, below_folders}
-use Rattle.gix_ref_store.specs.StoreLayout.{loose_alone}
+use Rattle.gix_ref_lookup.specs.StoreLayout.{loose_alone}
 use Rattle.gix_ref_store.specs.Lookup.{IsDecoded, IsUndecodable, Reads, ReadsBy, FailsBy, RefusesBy}
 use Rattle.gix_ref_packed.specs.declared.raw.Reference.{Reference}
-use Rattle.gix_ref_store.specs.declared.file.find.error.Error.{Error}
-use Rattle.gix_ref_store.specs.declared.file.find.error.Error.TheVariants.{RefnameValidation, ReadFileContents, ReferenceCreation, Memory}
-use Rattle.gix_ref_store.specs.declared.file.find.loose.Loose.{Loose}
-use Rattle.gix_ref_store.specs.declared.file.find.loose.Loose.TheVariants as loose_files
+use Rattle.gix_ref_lookup.specs.declared.find.error.Error.{Error}
+use Rattle.gix_ref_lookup.specs.declared.find.error.Error.TheVariants.{RefnameValidation, ReadFileContents, ReferenceCreation, Memory}
+use Rattle.gix_ref_lookup.specs.declared.find.loose.Loose.{Loose}
+use Rattle.gix_ref_lookup.specs.declared.find.loose.Loose.TheVariants as loose_files
 use Rattle.gix_ref_store.specs.Causes.{found, found_by, decoded}
 use Rattle.gix_ref_store.specs.PrepareSteps.{held_by}
-use Rattle.gix_ref_store.proofs.LooseLemmas.{held_is, refused_none}
-
--- the empty namespace takes nothing off
-pub nothing_less : (target : TargetValue) → target ≡ stripped_target [] target
-unfolding stripped
-nothing_less (object_id id) = refl
-nothing_less (symbolic_name name) = ap symbolic_name (sym (whole name))
-  where
-    same : (n : List ℕ) → without_front [] n ≡ n
-    same n = without-append [] n n refl
-
-    choice : (b : Bool) (n : List ℕ) → (if b then n else n) ≡ n
-    choice true n = refl
-    choice false n = refl
-
-    whole : (n : List ℕ) → stripped [] n ≡ n
-    whole n = ap (λ m. if is_none (partial_error m) then m else n) (same n) ∙ choice (is_none (partial_error n)) n
+use Rattle.gix_ref_lookup.proofs.LooseLemmas.{held_is, refused_none}
 
 -- the reading by a loose file alone
 abbrev pub file_reading : Store → Option (List ℕ) → Reading

@@ -18,7 +18,7 @@ use Rattle.gix_ref_store.specs.CommitResult.{planned, AreCommitted, IsOldOrNew}
 use Rattle.gix_ref_theory.specs.Edits.{Edit}
 use Rattle.gix_ref_theory.specs.Edits.Change.{Update}
 use Rattle.gix_ref_theory.specs.Edits.Mode.{DeletionsOnly}
-use Rattle.gix_ref_store.specs.StoreLayout.{loose_alone}
+use Rattle.gix_ref_lookup.specs.StoreLayout.{loose_alone}
 use Rattle.gix_ref_base.specs.Layout.{Layout, IsLayout}
 use Rattle.gix_ref_theory.specs.Plan.{plan}
 use Rattle.gix_ref_store.specs.Prepared.{IsOneUpdate}

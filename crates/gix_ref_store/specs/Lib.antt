@@ -1,15 +1,12 @@
 pub mod CarriedEdits
 pub mod Causes
-pub mod CleanPaths
 pub mod CommitRenames
 pub mod CommitResult
 pub mod First
 pub mod Lookup
-pub mod LooseText
 pub mod Options
 pub mod OwnLocks
 pub mod PrepareSteps
 pub mod Prepared
 pub mod PreparedFields
 pub mod Store
-pub mod StoreLayout

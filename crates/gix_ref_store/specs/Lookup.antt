@@ -17,16 +17,16 @@ use Rattle.gix_ref_store.specs.declared.file.store.Store.{Store as StoreValue}
 use Rattle.gix_ref_theory.specs.Views.{View}
 use Rattle.gix_ref_theory.specs.Readings.{Store, reading, as_read}
 use Rattle.gix_ref_theory.specs.Readings.Reading.{Is, Fault, Absent}
-use Rattle.gix_ref_store.specs.LooseText.{HoldsTarget, CannotDecode}
+use Rattle.gix_ref_lookup.specs.LooseText.{HoldsTarget, CannotDecode}
 use Rattle.gix_ref_packed.specs.declared.raw.Reference.{Reference}
-use Rattle.gix_ref_store.specs.declared.file.find.error.Error.{Error}
-use Rattle.gix_ref_store.specs.declared.file.find.error.Error.TheVariants.{RefnameValidation, ReadFileContents, ReferenceCreation, Memory}
-use Rattle.gix_ref_store.specs.declared.file.find.existing.Error.{Error as Missing}
-use Rattle.gix_ref_store.specs.declared.file.find.existing.Error.TheVariants.{Find, NotFound}
-use Rattle.gix_ref_store.specs.declared.file.find.loose.Loose.{Loose}
-use Rattle.gix_ref_store.specs.declared.file.find.loose.Loose.TheVariants as loose_files
-use Rattle.gix_ref_store.specs.declared.file.loose.error.Error.{Error as Undecoded}
-use Rattle.gix_ref_store.specs.declared.file.loose.error.Error.TheVariants.{Memory as NoMemory}
+use Rattle.gix_ref_lookup.specs.declared.find.error.Error.{Error}
+use Rattle.gix_ref_lookup.specs.declared.find.error.Error.TheVariants.{RefnameValidation, ReadFileContents, ReferenceCreation, Memory}
+use Rattle.gix_ref_lookup.specs.declared.find.existing.Error.{Error as Missing}
+use Rattle.gix_ref_lookup.specs.declared.find.existing.Error.TheVariants.{Find, NotFound}
+use Rattle.gix_ref_lookup.specs.declared.find.loose.Loose.{Loose}
+use Rattle.gix_ref_lookup.specs.declared.find.loose.Loose.TheVariants as loose_files
+use Rattle.gix_ref_lookup.specs.declared.loose.error.Error.{Error as Undecoded}
+use Rattle.gix_ref_lookup.specs.declared.loose.error.Error.TheVariants.{Memory as NoMemory}
 
 -- a lookup of this name asks for the reference of the same name first: a pseudo name, or one that begins with one of these
 abbrev pub asks_itself : List ℕ → Bool

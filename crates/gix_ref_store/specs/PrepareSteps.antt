@@ -11,14 +11,14 @@ use Rattle.gix_ref_theory.specs.OnRealTrees.{view_of}
 use Rattle.gix_ref_theory.specs.Edits.{is_same_id}
 use Rattle.gix_ref_theory.specs.Readings.{Store}
 use Rattle.gix_ref_theory.specs.ConcreteStore.{store_of, loose_text}
-use Rattle.gix_ref_store.specs.StoreLayout.{folders_of, loose_alone}
+use Rattle.gix_ref_lookup.specs.StoreLayout.{folders_of, loose_alone}
 use Rattle.gix_ref_store.specs.Causes.{found}
 use Rattle.gix_ref_edits.specs.RefEdits.{name_of, new_of, mode_of, is_of_reference}
 use Rattle.gix_ref_base.specs.Targets.TargetValue.{object_id}
 use Rattle.gix_ref_edits.specs.declared.transaction.Change.{Change}
 use Rattle.gix_ref_edits.specs.declared.transaction.RefEdit.{RefEdit}
-use Rattle.gix_ref_store.specs.declared.file.find.loose.Loose.{Loose}
-use Rattle.gix_ref_store.specs.declared.file.find.loose.Loose.TheVariants as loose_files
+use Rattle.gix_ref_lookup.specs.declared.find.loose.Loose.{Loose}
+use Rattle.gix_ref_lookup.specs.declared.find.loose.Loose.TheVariants as loose_files
 use Rattle.gix_ref_store.specs.declared.file.transaction.setting.Setting.{Setting}
 use Rattle.gix_ref_store.specs.declared.file.transaction.setting.Paths.{Paths}
 use Rattle.gix_ref_store.specs.declared.file.transaction.prepare.error.Error.{Error}

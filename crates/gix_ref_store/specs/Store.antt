@@ -4,8 +4,8 @@ use Rattle.std.specs.Option.{option_map}
 use Rattle.std.specs.declared.alloc.Global.{Global}
 use Rattle.gix_ref_hash.specs.declared.hash.Kind.{Kind}
 use Rattle.gix_ref_base.specs.Layout.{Layout, AreCompatible}
-use Rattle.gix_ref_store.specs.CleanPaths.{are_clean, common_of}
-use Rattle.gix_ref_store.specs.StoreLayout.{folders_of, loose_alone}
+use Rattle.gix_ref_lookup.specs.CleanPaths.{are_clean, common_of}
+use Rattle.gix_ref_lookup.specs.StoreLayout.{folders_of, loose_alone}
 use Rattle.gix_ref_theory.specs.Readings as readings
 use Rattle.gix_ref_theory.specs.ConcreteStore.{store_of}
 use Rattle.gix_ref_store.specs.declared.file.store.Store.{Store}

@@ -15,7 +15,7 @@ use Rattle.gix_ref_base.specs.Layout.{IsLayout, Layout, LiesIn, below, is_privat
 use Rattle.gix_ref_theory.specs.Readings.{HasLaws}
 use Rattle.gix_ref_base.specs.Locations.{Location, is_safe, paths_at, paths_of, location}
 use Rattle.gix_ref_base.specs.Locations.Location.{ThisWorktree, LinkedWorktree, MainWorktree, Common}
-use Rattle.gix_ref_theory.specs.ConcreteStore.{Options, is_composed, store_of}
+use Rattle.gix_ref_theory.specs.ConcreteStore.{Options, store_of}
 use Rattle.gix_ref_files.specs.Lock.{lock_of}
 
 -- the first byte of a pseudo name
@@ -471,7 +471,6 @@ laid f (inr (inr a), namespace) = inr (inr (a.differ, a.left_outside, a.right_ou
 pub record Known (f : Layout) (o : Options) (name : List ℕ) : Type 0 where
   pub valid : IsPartialName name
   pub spotted : (x : Location) × (location name ≡ Some x)
-  pub composed : is_composed o (paths_at f name).key ≡ true
 
 none_is : {A : Type 0} (o : Option A) → is_none o ≡ true → o ≡ None
 none_is None h = refl
@@ -479,9 +478,8 @@ none_is (Some x) h = absurd (false≢true h)
 
 pub known : (f : Layout) (o : Options) (name : List ℕ) → (store_of f o).is_reference name ≡ true → Known f o name
 known f o name h =
-    let outer = and_parts (is_none (partial_error name) && is_safe name) (is_composed o (paths_at f name).key) h in
-    let inner = and_parts (is_none (partial_error name)) (is_safe name) outer.0 in
-    record { valid = none_is (partial_error name) inner.0; spotted = is_spot (location name) inner.1; composed = outer.1 }
+    let parts = and_parts (is_none (partial_error name)) (is_safe name) h in
+    record { valid = none_is (partial_error name) parts.0; spotted = is_spot (location name) parts.1 }
 
 -- the row of a name by its location
 pub row_by : (f : Layout) (o : Options) (name : List ℕ) → (k : Known f o name) → paths_at f name ≡ paths_of f k.spotted.0
@@ -490,26 +488,21 @@ row_by f o name k = ap (λ z. paths_of f (unwrap_or z (Common name))) k.spotted.
 pub spot_is : (f : Layout) (o : Options) (name : List ℕ) → (k : Known f o name) → IsSpot k.spotted.0
 spot_is f o name k = sound name k.spotted.0 k.valid (has_spot name k.spotted.0 k.spotted.1)
 
-composed_same : (o : Options) (key : Option (List ℕ)) → is_composed o key ≡ true → option_map o.composed key ≡ key
-composed_same o None h = refl
-composed_same o (Some key) h = ap Some (same (o.composed key) key h)
-
 -- the places of the table keep the laws
 pub laws_hold : (f : Layout) (o : Options) → IsLayout f → HasLaws (store_of f o)
 laws_hold f o folders = record {
   one_key = λ m n hm hn e.
       let x = known f o m hm in
       let y = known f o n hn in
-      ap (option_map o.composed)
-      (ap (λ r. r.key) (row_by f o m x)
+      ap (λ r. r.key) (row_by f o m x)
       ∙ (spot_one_key f (laid f folders) folders.1 x.spotted.0 y.spotted.0 (spot_is f o m x) (spot_is f o n y)
       (sym (ap (λ r. r.place) (row_by f o m x)) ∙ (e ∙ ap (λ r. r.place) (row_by f o n y)))
-      ∙ sym (ap (λ r. r.key) (row_by f o n y))));
+      ∙ sym (ap (λ r. r.key) (row_by f o n y)));
   one_place = λ m n k hm hn em en.
       let x = known f o m hm in
       let y = known f o n hn in
-      let at_m = sym (ap (λ r. r.key) (row_by f o m x)) ∙ (sym (composed_same o (paths_at f m).key x.composed) ∙ em) in
-      let at_n = sym (ap (λ r. r.key) (row_by f o n y)) ∙ (sym (composed_same o (paths_at f n).key y.composed) ∙ en) in
+      let at_m = sym (ap (λ r. r.key) (row_by f o m x)) ∙ em in
+      let at_n = sym (ap (λ r. r.key) (row_by f o n y)) ∙ en in
       ap (λ r. r.place) (row_by f o m x)
       ∙ (place_of_key f x.spotted.0 k at_m ∙ (sym (place_of_key f y.spotted.0 k at_n) ∙ sym (ap (λ r. r.place) (row_by f o n y))));
   place_is_no_log = λ m n hm hn e.

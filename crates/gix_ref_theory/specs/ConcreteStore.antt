@@ -1,7 +1,6 @@
 -- The store of real files: the places of the table, the texts that are written, and the options of its reading.
-use Rattle.std.specs.Prelude.{ℕ, List, [], ◌∷◌, ◌++◌, Option, Some, None, Bool, true, ◌&&◌, is_none, codes, nat_eq, bytes_eq, if◌then◌else◌}
+use Rattle.std.specs.Prelude.{ℕ, List, [], ◌∷◌, ◌++◌, Option, Bool, ◌&&◌, is_none, codes, nat_eq, if◌then◌else◌}
 use Rattle.std.specs.List.{list_any, starts_with}
-use Rattle.std.specs.Option.{option_map}
 use Rattle.hex.specs.Hex.{encode_lower}
 use Rattle.gix_ref_hash.specs.declared.hash.ObjectId.{ObjectId}
 use Rattle.gix_ref_hash.specs.Bytes.{components, without_front}
@@ -32,8 +31,6 @@ pub record Options : Type 0 where
   pub records_of : List ℕ → List Record
   -- a component that is prohibited: none, or a device name
   pub is_device : List ℕ → Bool
-  -- a name as `packed-refs` is asked for it: itself, or composed
-  pub composed : List ℕ → List ℕ
 
 -- the path below C where it lies below C, else below G
 abbrev pub below_folders : Layout → Path → List ℕ
@@ -41,19 +38,14 @@ below_folders f path =
     if starts_with nat_eq path (below f.common []) then without_front (below f.common []) path
     else without_front (below f.git []) path
 
--- the key is composed, if there is one
-abbrev pub is_composed : Options → Option (List ℕ) → Bool
-is_composed o None = true
-is_composed o (Some key) = bytes_eq (o.composed key) key
-
--- A reference is a valid, safe name whose key is composed. A log has the components of its place, and `logs`: where
+-- A reference is a valid, safe name. A log has the components of its place, and `logs`: where
 -- one of them is prohibited, the place says so.
 abbrev pub store_of : Layout → Options → Store
 store_of f o = record {
-  is_reference = λ name. is_none (partial_error name) && is_safe name && is_composed o (paths_at f name).key;
+  is_reference = λ name. is_none (partial_error name) && is_safe name;
   place = λ name. (paths_at f name).place;
   log = λ name. (paths_at f name).log;
-  key = λ name. option_map o.composed (paths_at f name).key;
+  key = λ name. (paths_at f name).key;
   packed_path = packed_refs f;
   is_prohibited = λ path. list_any o.is_device (components (below_folders f path));
   without_namespace = stripped f.namespace;

@@ -1,6 +1,7 @@
 pub mod Between
 pub mod ConcreteStore
 pub mod Edits
+pub mod Lookups
 pub mod OnRealTrees
 pub mod Plan
 pub mod Readings

@@ -72,8 +72,12 @@ reading_by s key (Some bytes) records = reading_of_loose s (s.target_of bytes)
 reading_by s None None records = Absent
 reading_by s (Some key) None records = reading_of_record (record_named key records)
 
--- what a reference reads among these files
-abbrev pub reading : Store → View → List ℕ → Reading
-reading s view name =
+-- what a reference reads among these files and records
+abbrev pub reading_among : Store → View → List Record → List ℕ → Reading
+reading_among s view records name =
     if s.is_prohibited (s.place name) then Fault
-    else reading_by s (s.key name) (view (s.place name)) (records_in s (view s.packed_path))
+    else reading_by s (s.key name) (view (s.place name)) records
+
+-- and among these files, with the records of their `packed-refs`
+abbrev pub reading : Store → View → List ℕ → Reading
+reading s view name = reading_among s view (records_in s (view s.packed_path)) name

@@ -62,11 +62,11 @@ records_of_text text =
     else if bytes_eq text (written_text packed_records) then packed_records
     else []
 
--- a store in the folder `/r`, without linked worktrees and namespace, with no name prohibited and none composed
+-- a store in the folder `/r`, without linked worktrees and namespace, with no name prohibited
 abbrev pub store : Store
 store =
     store_of (record { git = codes "/r"; common = codes "/r"; namespace = [] })
-    (record { target_of = target_in; records_of = records_of_text; is_device = λ name. false; composed = λ name. name })
+    (record { target_of = target_in; records_of = records_of_text; is_device = λ name. false })
 
 -- a and b are loose at ones; t is packed at ones and u at twos
 abbrev pub files : View

@@ -2,7 +2,7 @@
 ghost use Rattle.std.specs.Prelude.{◌≡◌, IfOk, IfErr, OnOk, MatchOption, Some, None, true, false};
 ghost use Rattle.gix_ref_base.specs.Names.{full_ref_bytes, partial_ref_bytes};
 ghost use Rattle.gix_ref_base.specs.Targets.{target_value, stripped_target};
-ghost use Rattle.gix_ref_store.specs.StoreLayout.{namespace_text};
+ghost use Rattle.gix_ref_lookup.specs.StoreLayout.{namespace_text};
 ghost use Rattle.gix_ref_store.specs.Store.{files_of, meaning_of};
 ghost use Rattle.gix_ref_store.specs.Lookup.{asks_itself, is_own_name, view_in, Reads, ReadsBy, FindsIn, FailsIn, RefusesBy, MissesIn, LooksUp};
 

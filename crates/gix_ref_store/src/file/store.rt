@@ -1,6 +1,6 @@
 //! The file store: where it stands, and its options.
 ghost use Rattle.std.specs.Prelude.{◌≡◌};
-ghost use Rattle.gix_ref_store.specs.CleanPaths.{are_clean};
+ghost use Rattle.gix_ref_lookup.specs.CleanPaths.{are_clean};
 
 use crate::file::folders::{Dirs, dirs_are_compatible, is_clean_path, resolved};
 use crate::store::{Options, WriteReflog};

@@ -5,7 +5,7 @@ ghost use Rattle.gix_ref_files.specs.Tree.Content.{File};
 ghost use Rattle.gix_ref_files.specs.Files.{Leaves};
 ghost use Rattle.gix_ref_files.specs.Calls.{Unchanged};
 ghost use Rattle.gix_ref_base.specs.Targets.{target_value};
-ghost use Rattle.gix_ref_store.specs.StoreLayout.{namespace_text};
+ghost use Rattle.gix_ref_lookup.specs.StoreLayout.{namespace_text};
 ghost use Rattle.gix_ref_files.specs.Lock.{lock_of};
 ghost use Rattle.gix_ref_theory.specs.OnRealTrees.{view_of};
 ghost use Rattle.gix_ref_store.specs.OwnLocks.{AddsLocks};

@@ -1,6 +1,6 @@
-use Rattle.gix_ref_store.specs.StoreLayout.{folders_of, loose_alone}
+use Rattle.gix_ref_lookup.specs.StoreLayout.{folders_of, loose_alone}
 use Rattle.gix_ref_store.proofs.OneEdit.{apart_one}
-use Rattle.gix_ref_store.proofs.Settings.{folders_laid}
+use Rattle.gix_ref_lookup.proofs.Laying.{folders_laid}
 use Rattle.gix_ref_store.proofs.file.store.Store.begin.Goals as goal
 
 pub hold-requires-clause-apart : goal.hold-requires-clause-apart

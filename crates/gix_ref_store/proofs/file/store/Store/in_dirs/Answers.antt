@@ -1,6 +1,6 @@
 use Rattle.std.proofs.Common.{subst₂}
 use Rattle.gix_ref_base.specs.Layout.{AreCompatible}
-use Rattle.gix_ref_store.proofs.FolderLemmas.{laid_test}
+use Rattle.gix_ref_lookup.proofs.FolderLemmas.{laid_test}
 use Rattle.gix_ref_store.proofs.file.store.Store.in_dirs.Goals as goal
 
 pub invariant_of-result : goal.invariant_of-result

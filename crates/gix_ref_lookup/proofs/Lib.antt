@@ -1,0 +1,4 @@
+pub mod FolderLemmas
+pub mod LooseLemmas
+pub mod Laying
+pub mod Stripping

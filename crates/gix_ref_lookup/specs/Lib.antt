@@ -1,0 +1,5 @@
+pub mod CleanPaths
+pub mod LooseFiles
+pub mod LooseText
+pub mod Lookups
+pub mod StoreLayout

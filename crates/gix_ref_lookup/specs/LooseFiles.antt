@@ -1,0 +1,19 @@
+-- What the loose file of a reference is decoded to.
+use Rattle.std.specs.Prelude.{◌≡◌, ℕ, List, Option, Some, None}
+use Rattle.gix_ref_base.specs.Targets.{target_value}
+use Rattle.gix_ref_hash.specs.declared.hash.Kind.{Kind}
+use Rattle.gix_ref_lookup.specs.LooseText.{HoldsTarget, CannotDecode}
+use Rattle.gix_ref_lookup.specs.declared.find.loose.Loose.{Loose}
+use Rattle.gix_ref_lookup.specs.declared.find.loose.Loose.TheVariants.{Absent, Holds, Undecodable}
+use Rattle.gix_ref_lookup.specs.declared.loose.error.Error.{Error as Undecoded}
+use Rattle.gix_ref_lookup.specs.declared.loose.error.Error.TheVariants.{Memory as NoMemory}
+
+-- the bytes of a file hold no target, for this reason
+abbrev pub IsUndecodable : Kind → Option (List ℕ) → Undecoded → Type 0
+IsUndecodable kind file error = (bytes : List ℕ) × (file ≡ Some bytes) × CannotDecode kind bytes error × (error ≡ NoMemory → ⊥)
+
+-- what the loose file at a place is decoded to
+abbrev pub IsDecoded : Kind → Option (List ℕ) → Loose → Type 0
+IsDecoded kind file Absent = file ≡ None
+IsDecoded kind file (Holds target) = (bytes : List ℕ) × (file ≡ Some bytes) × HoldsTarget kind bytes (target_value target)
+IsDecoded kind file (Undecodable error) = IsUndecodable kind file error

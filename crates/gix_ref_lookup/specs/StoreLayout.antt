@@ -1,0 +1,31 @@
+-- The layout of a store: its folders and its namespace; and what it reads.
+use Rattle.std.specs.Prelude.{ℕ, List, [], false, Option, Some, None}
+use Rattle.gix_ref_base.specs.Namespaces.{namespace_bytes}
+use Rattle.gix_ref_base.specs.declared.namespace.Namespace.{Namespace}
+use Rattle.gix_ref_hash.specs.declared.hash.Kind.{Kind}
+use Rattle.gix_ref_lookup.specs.CleanPaths.{common_of}
+use Rattle.gix_ref_base.specs.Layout.{Layout}
+use Rattle.gix_ref_lookup.specs.LooseText.{target_in}
+use Rattle.gix_ref_theory.specs.ConcreteStore.{Options}
+use Rattle.gix_ref_lookup.specs.declared.folders.Dirs.{Dirs}
+
+-- the text in front of names: the namespace, or nothing
+abbrev pub namespace_text : Option Namespace → List ℕ
+namespace_text None = []
+namespace_text (Some namespace) = namespace_bytes namespace
+
+-- the folders of a store, with its namespace
+abbrev pub folders_of : Dirs → Option Namespace → Layout
+folders_of dirs namespace = record {
+  git = dirs.git_dir.items;
+  common = common_of dirs.git_dir dirs.common_dir;
+  namespace = namespace_text namespace;
+}
+
+-- what a store of ids of this kind reads: loose files alone, since it does not read `packed-refs` yet
+abbrev pub loose_alone : Kind → Options
+loose_alone kind = record {
+  target_of = target_in kind;
+  records_of = λ text. [];
+  is_device = λ name. false;
+}

@@ -1,0 +1,23 @@
+//! Finding references (`gitrevisions`), over files and the settings of a store.
+ghost use Rattle.std.specs.Prelude.{◌≡◌};
+ghost use Rattle.gix_ref_base.specs.Targets.{target_value, stripped_target};
+ghost use Rattle.gix_ref_lookup.specs.StoreLayout.{namespace_text};
+
+mod error;
+pub mod existing;
+pub mod loose;
+pub mod records;
+
+pub use error::Error;
+use gix_ref_base::namespace::Namespace;
+use gix_ref_base::target::Target;
+
+/// Takes the namespace off a symbolic target.
+pub fn strip(target: &mut Target, namespace: &Option<Namespace>)
+    ensures { target_value target.new ≡ stripped_target (namespace_text namespace.now)
+        (target_value target.old) }
+{
+    if let Some(namespace) = namespace {
+        target.strip_namespace(namespace);
+    }
+}

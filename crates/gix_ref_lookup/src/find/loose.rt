@@ -1,0 +1,55 @@
+//! The loose file at a place, decoded.
+ghost use Rattle.std.specs.Prelude.{◌≡◌, IfOk, IfErr, Some};
+ghost use Rattle.gix_ref_files.specs.Files.{Leaves, count_after};
+ghost use Rattle.gix_ref_files.specs.Calls.{Unchanged};
+ghost use Rattle.gix_ref_theory.specs.OnRealTrees.{view_of};
+ghost use Rattle.gix_ref_lookup.specs.LooseFiles.{IsDecoded};
+
+use crate::loose::{Error, decode};
+use gix_ref_base::target::Target;
+use gix_ref_files::files::{FileError, Files, Node};
+use gix_ref_hash::hash::Kind;
+use std::alloc::Global;
+
+/// What the loose file at a place is decoded to.
+#[derive(Debug, Drop)]
+pub enum Loose {
+    /// There is no file.
+    Absent,
+    /// It holds this target.
+    Holds(Target),
+    /// It holds no target, for this reason.
+    Undecodable(Error),
+}
+
+/// What a text is decoded to.
+fn loose_in(alloc: Global, text: &[u8], kind: Kind) -> Result<Loose, FileError>
+    ensures decoded { IfOk result (IsDecoded kind (Some text.now)) }
+    ensures error { IfErr result (λ error. error ≡ FileError.Memory) }
+{
+    match decode(alloc, text, kind) {
+        Ok(target) => Ok(Loose::Holds(target)),
+        Err(Error::Memory) => Err(FileError::Memory),
+        Err(error) => Ok(Loose::Undecodable(error)),
+    }
+}
+
+/// Reads the loose file at a place: one call of files.
+pub fn loose_at<F: Files>(
+    alloc: Global,
+    files: &mut F,
+    place: &[u8],
+    kind: Kind,
+) -> Result<Loose, FileError>
+    ensures decoded { F.honest →
+        IfOk result (IsDecoded kind (view_of (F.means files.old).tree place.now)) }
+    ensures leaves { F.honest → Leaves (F.means files.old) (F.means files.new)
+        (Unchanged (F.means files.old).tree) }
+    ensures count { F.faults files.new ≡ count_after result (F.faults files.old) }
+{
+    let mut text = Vec::new(alloc);
+    match files.read(alloc, place, &mut text)? {
+        Node::File => loose_in(alloc, &text, kind),
+        Node::Folder | Node::Nothing | Node::Blocked => Ok(Loose::Absent),
+    }
+}

@@ -1,0 +1,116 @@
+//! The folders of a store: the git folder, and the common folder of all worktrees (`git worktree`).
+ghost use Rattle.std.specs.Prelude.{◌≡◌, ◌↔◌, ◌⊎◌, ◌∷◌, ◌++◌, ℕ, List, IsTrue, IfSome, IfNone, IfOk, IfErr, MatchOption, IsTrue, true, false, codes};
+ghost use Rattle.std.specs.Prelude.{◌==◌, not};
+ghost use Rattle.std.specs.List.{list_all};
+ghost use Rattle.gix_ref_hash.specs.Bytes.{NoByte, components, without_front};
+ghost use Rattle.gix_ref_base.specs.Layout.{AreCompatible, LiesIn, below};
+ghost use Rattle.gix_ref_lookup.specs.CleanPaths.{is_clean, is_clean_component, common_of, are_compatible};
+
+use gix_ref_hash::bytes::{split_component, strip_front};
+
+/// The git folder, and the common folder where another one was given.
+#[derive(Debug, Drop)]
+pub struct Dirs {
+    pub git_dir: Vec<u8>,
+    pub common_dir: Option<Vec<u8>>,
+    pub ghost laid: { are_compatible git_dir.items (common_of git_dir common_dir) ≡ true },
+}
+
+impl Dirs {
+    /// The common folder: the one that was given, else the git folder.
+    pub fn common(&self) -> &[u8]
+        ensures { result.now ≡ common_of self.now.git_dir self.now.common_dir }
+    {
+        resolved(&self.git_dir, &self.common_dir)
+    }
+}
+
+/// The common folder: the one that was given, else the git folder.
+pub fn resolved<'a>(git_dir: &'a Vec<u8>, common_dir: &'a Option<Vec<u8>>) -> &'a [u8]
+    ensures { result.now ≡ common_of git_dir.now common_dir.now }
+{
+    match common_dir {
+        Some(common) => common.as_slice(),
+        None => git_dir.as_slice(),
+    }
+}
+
+/// Whether a component may stand in a clean path.
+fn is_clean_part(component: &[u8]) -> bool
+    ensures { result ≡ is_clean_component component.now }
+{
+    !component.is_empty() && component != b".".as_slice() && component != b"..".as_slice()
+}
+
+/// The path behind one leading slash.
+fn relative(path: &[u8]) -> &[u8]
+    ensures { result.now ≡ without_front (codes "/") path.now }
+{
+    match strip_front(path, b"/") {
+        Some(rest) => rest,
+        None => path,
+    }
+}
+
+/// Whether no byte is NUL.
+fn has_no_nul(path: &[u8]) -> bool
+    ensures { result ≡ list_all (λ b. not (b == 0)) path.now }
+{
+    path.iter().all(|byte| *byte != 0)
+}
+
+/// Whether all components may stand in a clean path.
+fn are_clean_parts(path: &[u8]) -> bool
+    ensures { result ≡ list_all is_clean_component (components path.now) }
+{
+    let mut rest = path;
+    while let Some((part, after)) = split_component(rest) {
+        if !is_clean_part(part) {
+            return false;
+        }
+        rest = after;
+    }
+    is_clean_part(rest)
+}
+
+/// Whether a path is clean: not empty, no NUL, no empty component but for one leading slash, no component `.` or `..`,
+/// and no slash at its end.
+pub fn is_clean_path(path: &[u8]) -> bool
+    ensures { result ≡ is_clean path.now }
+{
+    has_no_nul(path) && are_clean_parts(relative(path))
+}
+
+/// What follows the folder in the path, where the path lies in it.
+fn rest_below<'a>(path: &'a [u8], folder: &[u8]) -> Option<&'a [u8]>
+    ensures { MatchOption result (LiesIn path.now folder.now → ⊥)
+        (λ rest. path.now ≡ below folder.now rest.now) }
+{
+    let Some(rest) = strip_front(path, folder) else {
+        return None;
+    };
+    strip_front(rest, b"/")
+}
+
+/// Whether a path below the common folder is the folder of a linked worktree: `worktrees/` and one component.
+fn is_worktree(rest: &[u8]) -> bool
+    ensures { IsTrue result ↔ ((w : List ℕ) × NoByte 47 w × (rest.now ≡ codes "worktrees/" ++ w)) }
+{
+    match strip_front(rest, b"worktrees/") {
+        Some(name) => !name.contains(&b'/'),
+        None => false,
+    }
+}
+
+/// Whether the git folder is the common one, or that of a linked worktree in it, or neither lies in the other.
+pub fn dirs_are_compatible(git_dir: &[u8], common_dir: &[u8]) -> bool
+    ensures { IsTrue result ↔ AreCompatible git_dir.now common_dir.now }
+{
+    if git_dir == common_dir {
+        return true;
+    }
+    match rest_below(git_dir, common_dir) {
+        Some(rest) => is_worktree(rest),
+        None => rest_below(common_dir, git_dir).is_none(),
+    }
+}

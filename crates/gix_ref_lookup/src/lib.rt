@@ -1,0 +1,8 @@
+//! What a name of a store reads: the folders of a store, loose files, records of `packed-refs`, and lookups.
+#![tactic(auto)]
+
+pub mod find;
+pub mod folders;
+pub mod layout;
+pub mod loose;
+pub mod settings;

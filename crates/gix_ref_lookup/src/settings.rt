@@ -1,0 +1,57 @@
+//! The settings of a store: where it keeps names, and what it reads.
+ghost use Rattle.std.specs.Prelude.{◌≡◌};
+
+use crate::folders::Dirs;
+use crate::layout::layout_in;
+use gix_ref_base::name::FullNameRef;
+use gix_ref_base::namespace::Namespace;
+use gix_ref_hash::hash::Kind;
+use std::alloc::{AllocError, Global};
+
+/// A store without its files.
+#[derive(Clone, Copy, Debug)]
+pub struct Settings<'a> {
+    /// Its folders.
+    pub dirs: &'a Dirs,
+    /// The namespace in which all names are read, if there is one (`gitnamespaces`).
+    pub namespace: &'a Option<Namespace>,
+    /// The kind of its ids.
+    pub kind: Kind,
+}
+
+impl Settings<'_> {
+    ghost use Rattle.std.specs.Prelude.{◌≡◌, IfOk, vec_items};
+    ghost use Rattle.std.specs.Option.{option_map};
+    ghost use Rattle.gix_ref_base.specs.Names.{full_ref_bytes};
+    ghost use Rattle.gix_ref_lookup.specs.Lookups.{meaning_in};
+
+    /// The path of the loose file of a name. The error reports that there was no memory for it.
+    pub fn place(self, alloc: Global, name: FullNameRef<'_>) -> Result<Vec<u8>, AllocError>
+        ensures { IfOk result (λ place.
+            place.items ≡ (meaning_in self.entry).place (full_ref_bytes name.entry)) }
+    {
+        layout_in(self.dirs, self.namespace).loose(alloc, name)
+    }
+
+    /// The name of the record of a name in `packed-refs`; `None` where each worktree has its own reference. The error
+    /// reports that there was no memory for it.
+    pub fn packed_key(
+        self,
+        alloc: Global,
+        name: FullNameRef<'_>,
+    ) -> Result<Option<Vec<u8>>, AllocError>
+        ensures { IfOk result (λ key.
+            option_map vec_items key ≡ (meaning_in self.entry).key (full_ref_bytes name.entry)) }
+    {
+        layout_in(self.dirs, self.namespace).packed_key(alloc, name)
+    }
+
+    /// The path of `packed-refs`. The error reports that there was no memory for it.
+    pub fn packed_refs_path(self, alloc: Global) -> Result<Vec<u8>, AllocError>
+        ensures { IfOk result (λ path. path.items ≡ (meaning_in self.entry).packed_path) }
+    {
+        let mut path = self.dirs.common().to_vec(alloc)?;
+        path.extend_from_slice(b"/packed-refs")?;
+        Ok(path)
+    }
+}

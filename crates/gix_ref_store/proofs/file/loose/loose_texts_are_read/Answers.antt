@@ -1,8 +1,0 @@
-use Rattle.gix_ref_store.proofs.LooseLemmas.{held_is, is_held}
-use Rattle.gix_ref_store.proofs.file.loose.loose_texts_are_read.Goals as goal
-
-pub returns-clause-held : goal.returns-clause-held
-returns-clause-held c = held_is
-
-pub returns-clause-computed : goal.returns-clause-computed
-returns-clause-computed c = is_held
