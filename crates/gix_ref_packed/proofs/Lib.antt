@@ -12,6 +12,7 @@ pub mod PrefixRuns
 pub mod ReadBack
 pub mod RecordBytes
 pub mod RecordPlaces
+pub mod RecordsOfText
 pub mod SortedPieces
 pub mod WellFormedLemmas
 pub mod WindowLemmas

@@ -53,7 +53,7 @@ pub record Lines (k : Kind) (t : List ℕ) (r : Record) (rest : List ℕ) : Type
   pub some : 2 ≤ length front
   pub again : (x : List ℕ) → (r.object ≡ None → StopsAt is_caret x) → Takes k (front ++ x) r x
 
-two_digits : (k : Kind) (n : ℕ) → n ≡ 2 * kind_len k → 2 ≤ n
+pub two_digits : (k : Kind) (n : ℕ) → n ≡ 2 * kind_len k → 2 ≤ n
 two_digits kinds.Sha1 n e = omega arith
 two_digits kinds.Sha256 n e = omega arith
 

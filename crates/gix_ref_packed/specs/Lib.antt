@@ -13,6 +13,7 @@ pub mod Prefixes
 pub mod Probed
 pub mod RawReference
 pub mod RecordGrammar
+pub mod RecordsOfText
 pub mod SearchCosts
 pub mod Searches
 pub mod Shown

@@ -1,10 +1,10 @@
 -- References as values, of any store.
-use Rattle.std.specs.Prelude.{◌≡◌, ℕ, List}
+use Rattle.std.specs.Prelude.{◌≡◌}
 use Rattle.gix_ref_hash.specs.declared.hash.ObjectId.{ObjectId}
 use Rattle.gix_ref_hash.specs.Ids.{ReadsId}
 use Rattle.gix_ref_base.specs.Names.{full_bytes, full_ref_bytes}
-use Rattle.gix_ref_base.specs.Targets.{TargetValue, target_value}
-use Rattle.gix_ref_base.specs.Targets.TargetValue.{object_id, symbolic_name}
+use Rattle.gix_ref_base.specs.Targets.{target_value}
+use Rattle.gix_ref_base.specs.Targets.TargetValue.{object_id}
 use Rattle.gix_ref_packed.specs.declared.packed.reference.Reference.{Reference as Packed}
 use Rattle.gix_ref_packed.specs.declared.raw.Reference.{Reference}
 use Rattle.gix_ref_packed.specs.IdDigits.{ReadsIfAny}

@@ -1,6 +1,7 @@
 //! Laws of the text of `packed-refs`: how it is read, written and opened.
 ghost use Rattle.gix_ref_packed.specs.WrittenText.{WrittenTextReadsBack, PackedTextIsOne};
 ghost use Rattle.gix_ref_packed.specs.Buffers.{OpenedHoldsRecords};
+ghost use Rattle.gix_ref_packed.specs.RecordsOfText.{RecordsAreComputed};
 
 /// What is written of records is read as these records, and a text is that of one header and one list at most.
 pub fn written_text_reads_back()
@@ -12,4 +13,9 @@ pub fn written_text_reads_back()
 /// record.
 pub fn opened_holds_records()
     ensures { OpenedHoldsRecords }
+{}
+
+/// The records of a text can be computed, line by line.
+pub fn records_are_computed()
+    ensures { RecordsAreComputed }
 {}
