@@ -16,7 +16,7 @@ use Rattle.gix_ref_base.proofs.PartialNames.{IsComponent, behind_component, cut}
 abbrev pub KeepsNames : List ℕ → Type 0
 KeepsNames bytes = (n : List ℕ) → IsPartialName n → IsPartialName (bytes ++ n)
 
-refs_component : IsComponent (codes "refs")
+pub refs_component : IsComponent (codes "refs")
 refs_component = record {
   some = refl;
   valid = refl;

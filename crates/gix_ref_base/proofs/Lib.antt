@@ -1,4 +1,6 @@
 pub mod Appending
+pub mod CandidateNames
+pub mod CandidateRows
 pub mod CategoryLemmas
 pub mod Expanding
 pub mod FrontLemmas

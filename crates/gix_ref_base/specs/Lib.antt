@@ -1,3 +1,4 @@
+pub mod Candidates
 pub mod Categories
 pub mod Layout
 pub mod Locations

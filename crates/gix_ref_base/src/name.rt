@@ -6,6 +6,7 @@ use bstr::{BStr, ByteSlice};
 use gix_ref_hash::bytes::{cut_last, strip_front};
 use std::alloc::{AllocError, Global};
 
+pub mod candidates;
 mod category;
 mod convert;
 mod error;
