@@ -5,11 +5,12 @@ use Rattle.gix_ref_hash.specs.declared.hash.Kind.{Kind}
 use Rattle.gix_ref_base.specs.Names.{full_bytes}
 use Rattle.gix_ref_base.specs.Targets.{target_value}
 use Rattle.gix_ref_base.specs.PackedRecords.{Record, record_named}
-use Rattle.gix_ref_files.specs.Files.{HasRisen}
+use Rattle.gix_ref_files.specs.Files.{HasRisen, one_more, Meaning}
 use Rattle.gix_ref_files.specs.Tree.{Content}
 use Rattle.gix_ref_files.specs.declared.files.FileError.TheVariants.{Memory as no_memory}
 use Rattle.gix_ref_files.specs.declared.files.ReadAt.{Ghosts}
 use Rattle.gix_ref_theory.specs.Views.{View}
+use Rattle.gix_ref_theory.specs.OnRealTrees.{view_of}
 use Rattle.gix_ref_theory.specs.Readings.{Store, reading_among}
 use Rattle.gix_ref_theory.specs.Readings.Reading.{Is, Absent}
 use Rattle.gix_ref_theory.specs.Lookups.{Hit, hit_name, hit_peeled}
@@ -36,6 +37,10 @@ use Rattle.gix_ref_lookup.specs.declared.find.error.Error.TheVariants.{RefnameVa
 -- where a store with these settings keeps names, and what it reads
 abbrev pub meaning_in : Settings → Store
 meaning_in s = store_of (folders_of s.dirs.now s.namespace.now) (loose_alone s.kind)
+
+-- the bytes of `packed-refs`, if there is such a file
+abbrev pub packed_refs_in : Settings → Meaning → Option (List ℕ)
+packed_refs_in s files = view_of files.tree (meaning_in s).packed_path
 
 -- these are the records of `packed-refs`, which is well formed; where there is no such file, there are none
 abbrev pub ArePackedRecords : Kind → Option (List ℕ) → List Record → Type 0
@@ -82,6 +87,10 @@ abbrev pub IsFaultOrMemory : Error → Type 0
 IsFaultOrMemory (PackedOpen (Io error)) = Unit {0}
 IsFaultOrMemory Memory = Unit {0}
 IsFaultOrMemory other = ⊥
+
+-- a read of a reader failed
+abbrev pub HasReadFault : {R : Type 0} → (R → ℕ) → Type 0
+HasReadFault {R} faults = (before : R) × (now : R) × (faults now ≡ one_more (faults before))
 
 -- Why `packed-refs` is not open, where the count of faults went from `before` to `now`: a fault of files, or of a reader of
 -- the file; a text that is refused; no memory.

@@ -1,6 +1,8 @@
 //! The records that a lookup asks for a name: those of `packed-refs`, which is opened when the first name is asked for.
-ghost use Rattle.std.specs.Prelude.{◌≡◌, ℕ, IfOk, IfErr};
-ghost use Rattle.gix_ref_lookup.specs.Lookups.{IsNotSearched, IsFaultOrMemory};
+ghost use Rattle.std.specs.Prelude.{◌≡◌};
+ghost use Rattle.gix_ref_base.specs.Names.{full_ref_bytes};
+ghost use Rattle.gix_ref_packed.specs.Buffers.{buffer_text, buffer_kind};
+ghost use Rattle.gix_ref_packed.specs.FileSearches.{FindsIn};
 
 use crate::find::Error;
 use crate::settings::Settings;
@@ -65,6 +67,13 @@ fn find_held(buffer: &Buffer, key: FullNameRef<'_>) -> Result<Option<Found>, Fin
 }
 
 impl<R: ReadAt + Drop> Records<'_, R> {
+    ghost use Rattle.std.specs.Prelude.{◌≡◌, ℕ, List, OnOk, IfErr};
+    ghost use Rattle.gix_ref_base.specs.PackedRecords.{Record};
+    ghost use Rattle.gix_ref_hash.specs.declared.hash.Kind.{Kind};
+    ghost use Rattle.gix_ref_files.specs.Files.{Leaves};
+    ghost use Rattle.gix_ref_files.specs.Calls.{Unchanged};
+    ghost use Rattle.gix_ref_lookup.specs.Lookups.{HasReadFault, meaning_in, packed_refs_in, AreAsked, IsSearched, IsReady, IsNotOpened, IsFaultOrMemory};
+
     /// Opens `packed-refs`, if it is asked for the first time.
     pub fn open<F: Files<Reader = R>>(
         &mut self,
@@ -74,15 +83,15 @@ impl<R: ReadAt + Drop> Records<'_, R> {
     ) -> Result<(), Error>
         ensures ready { OnOk result (IsReady self.new) }
         ensures asked { F.honest → (records : List Record) →
-            AreAsked settings.entry.kind (packed_refs_in F.means files.old settings.entry) self.old records →
-            OnOk result (AreAsked settings.entry.kind (packed_refs_in F.means files.old settings.entry) self.new records) }
+            AreAsked settings.entry.kind (packed_refs_in settings.entry (F.means files.old)) self.old records →
+            OnOk result (AreAsked settings.entry.kind (packed_refs_in settings.entry (F.means files.old)) self.new records) }
         ensures searched { F.honest → (kind : Kind) (text : List ℕ) →
-            IsSearched settings.entry.kind (packed_refs_in F.means files.old settings.entry) self.new kind text →
-            OnOk result (IsSearched settings.entry.kind (packed_refs_in F.means files.old settings.entry) self.old kind text) }
+            IsSearched settings.entry.kind (packed_refs_in settings.entry (F.means files.old)) self.new kind text →
+            OnOk result (IsSearched settings.entry.kind (packed_refs_in settings.entry (F.means files.old)) self.old kind text) }
         ensures refused { IfErr result (IsNotOpened F.honest (HasReadFault R.faults) settings.entry.kind
             ((F.means files.old).tree (meaning_in settings.entry).packed_path) (F.faults files.old) (F.faults files.new)) }
         ensures sound { F.honest → (records : List Record) →
-            AreAsked settings.entry.kind (packed_refs_in F.means files.old settings.entry) self.old records →
+            AreAsked settings.entry.kind (packed_refs_in settings.entry (F.means files.old)) self.old records →
             IfErr result IsFaultOrMemory }
         ensures no_fault { OnOk result (F.faults files.new ≡ F.faults files.old) }
         ensures leaves { F.honest → Leaves (F.means files.old) (F.means files.new)
@@ -98,5 +107,35 @@ impl<R: ReadAt + Drop> Records<'_, R> {
             Err(error) => return Err(refused(error)),
         };
         Ok(())
+    }
+
+    /// The ids of the record of a key; `None` where there is no such record. `PackedOpen` where the file could not be
+    /// read, `PackedRef` where a malformed line was met and nothing was found, or the record that was found cannot be read,
+    /// and `Memory`.
+    pub fn find(&mut self, key: FullNameRef<'_>) -> Result<Option<Found>, Error>
+        requires { IsReady self.now }
+        ensures found { (kind : Kind) (file : Option (List ℕ)) (records : List Record) →
+            AreAsked kind file self.old records →
+            MatchResult result (AreFound (record_named (full_ref_bytes key.entry) records)) IsFaultOrMemory }
+        ensures hit { R.honest → (kind : Kind) (file : Option (List ℕ)) →
+            IfOk result (λ found. IfSome found (λ f.
+            OfSearched kind file self.old (λ k text. HitsRecord k text (full_ref_bytes key.entry) f))) }
+        ensures failed { IfErr result (IsNotSearched R.honest (HasReadFault R.faults)
+            (OfSearched Kind.Sha1 None self.old (λ k text. CannotRead k text (full_ref_bytes key.entry)))) }
+        ensures asked { (kind : Kind) (file : Option (List ℕ)) (records : List Record) →
+            AreAsked kind file self.old records → AreAsked kind file self.new records }
+        ensures searched { (kind : Kind) (file : Option (List ℕ)) (k : Kind) (text : List ℕ) →
+            IsSearched kind file self.new k text → IsSearched kind file self.old k text }
+        ensures ready { IsReady self.new }
+    {
+        let found = match self {
+            Records::None | Records::Unopened => Ok(None),
+            Records::Held(buffer) => find_held(buffer, key),
+            Records::Open(file) => file.find(key),
+        };
+        match found {
+            Ok(found) => Ok(found),
+            Err(error) => Err(not_found(error)),
+        }
     }
 }
