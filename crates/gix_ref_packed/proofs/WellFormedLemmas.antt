@@ -1,5 +1,5 @@
--- An opened buffer of a well-formed text holds its records.
-use Rattle.std.proofs.Common.{◌≡◌, ◌≢◌, ◌⊎◌, inl, inr, ⊎_elim, ℕ, suc, zero, ◌+◌, ◌<◌, ◌≤◌, Bool, true, false, cond, List, [], ◌∷◌, length, get_or, nat_eq, refl, sym, ◌∙◌, ap, subst, arith, Some, None, count_by}
+-- What is opened of a well-formed text holds its records.
+use Rattle.std.proofs.Common.{◌≡◌, ◌≢◌, ◌⊎◌, inl, inr, ⊎_elim, ℕ, suc, zero, ◌+◌, ◌<◌, ◌≤◌, Bool, true, false, cond, List, [], ◌∷◌, length, get_or, nat_eq, refl, sym, ◌∙◌, ap, subst, arith, Option, Some, None, count_by}
 use Rattle.std.specs.List.{All, AllPairs}
 use Rattle.std.specs.List.Sorted.{IsPermutation}
 use Rattle.std.specs.Cmp.Lexicographic.{pointwise, slice_cmp, bytes_decides}
@@ -11,11 +11,14 @@ use Rattle.std.proofs.lemmas.List.{get_or_default}
 use Rattle.std.proofs.lemmas.List.Sums.{sum_by-cons}
 use Rattle.std.proofs.lemmas.List.Sorted.{IsPermutation-map, IsPermutation-refl, Contains-permutation, sum_by-IsPermutation}
 use Rattle.gix_ref_hash.specs.declared.hash.Kind.{Kind}
-use Rattle.gix_ref_packed.specs.declared.packed.buffer.Buffer.{Buffer}
+use Rattle.gix_ref_files.specs.declared.files.ReadAt.{Ghosts}
+use Rattle.gix_ref_packed.specs.declared.packed.file.PackedFile.{PackedFile}
+use Rattle.gix_ref_packed.specs.declared.packed.decode.options.Header.{Header}
 use Rattle.gix_ref_base.specs.PackedRecords.{Record, record_named}
 use Rattle.gix_ref_packed.specs.RecordGrammar.{Records, Below, Ascending, Rising}
-use Rattle.gix_ref_packed.specs.OpenedText.{Piece, Keeps, says_sorted, records_in}
-use Rattle.gix_ref_packed.specs.Buffers.{HoldsRecords, OpenedHoldsRecords, buffer_text}
+use Rattle.gix_ref_packed.specs.OpenedText.{Piece, Keeps, OpensTo, IsWellFormed, says_sorted, records_in}
+use Rattle.gix_ref_packed.specs.Buffers.{HoldsRecords, OpenedHoldsRecords, buffer_text, buffer_line}
+use Rattle.gix_ref_packed.specs.OpenFiles.{OpenedFileHoldsRecords, packed_file_text}
 use Rattle.gix_ref_packed.proofs.ReadBack.{same_records, same_heading}
 use Rattle.gix_ref_packed.proofs.Halves.{greater_is_below}
 
@@ -144,16 +147,17 @@ same_named n rs ss moved few =
     (λ (none : count n rs ≡ 0). named_none n ss (omega arith) ∙ sym (named_none n rs none))
     (seek n rs)
 
-module _ (kind : Kind) (rs : List Record) (b : Buffer) (distinct : AllPairs (λ r s. r.name ≢ s.name) rs) where
-  holds : (text : List ℕ) → Records kind text rs → (sorted : Bool) → (sorted ≡ true → Ascending rs) → Keeps kind sorted text (buffer_text b) → HoldsRecords kind rs b
-  holds text h true up kept = record {
+module _ (kind : Kind) (rs : List Record) (distinct : AllPairs (λ r s. r.name ≢ s.name) rs) (text to : List ℕ) (h : Records kind text rs) where
+  -- what is kept of a text of records holds them
+  pub kept_holds : (sorted : Bool) → (sorted ≡ true → Ascending rs) → Keeps kind sorted text to → HoldsRecords kind rs to
+  kept_holds true up kept = record {
     held = rs;
     moved = IsPermutation-refl rs;
     records = subst (λ (t : List ℕ). Records kind t rs) (sym kept) h;
     ascending = up refl;
     named = λ n. refl;
   }
-  holds text h false up kept =
+  kept_holds false up kept =
       let same : records_in kept.old ≡ rs = same_records kind text (records_in kept.old) rs kept.before h in
       let moved : IsPermutation rs (records_in kept.new) = subst (λ (xs : List Record). IsPermutation xs (records_in kept.new)) same (IsPermutation-map (λ (p : Piece). p.said) kept.old kept.new kept.sorts.moved) in
       record {
@@ -166,9 +170,15 @@ module _ (kind : Kind) (rs : List Record) (b : Buffer) (distinct : AllPairs (λ 
         named = λ n. same_named n rs (records_in kept.new) moved (distinct_counts n rs distinct);
       }
 
-pub opened_holds : OpenedHoldsRecords
-opened_holds kind text h rs b formed opened =
-    let o = opened.opens in
+-- what a well-formed text is opened to holds its records
+pub opens_holds : (kind : Kind) (text : List ℕ) (h : Option Header) (rs : List Record) (kept : List ℕ) (line : ℕ) → IsWellFormed kind text h rs → OpensTo kind text kept line → HoldsRecords kind rs kept
+opens_holds kind text h rs kept line formed o =
     let same = same_heading text o.header h o.rest formed.whole.0 o.heads formed.whole.1 in
     let records : Records kind o.rest rs = subst (λ (t : List ℕ). Records kind t rs) (sym same.1) formed.whole.2 in
-    holds kind rs b formed.distinct o.rest records (says_sorted o.header) (λ sorted. formed.ascends (ap says_sorted (sym same.0) ∙ sorted)) o.keeps
+    kept_holds kind rs formed.distinct o.rest kept records (says_sorted o.header) (λ sorted. formed.ascends (ap says_sorted (sym same.0) ∙ sorted)) o.keeps
+
+pub opened_holds : OpenedHoldsRecords
+opened_holds kind text h rs b formed opened = opens_holds kind text h rs (buffer_text b) (buffer_line b) formed opened.opens
+
+pub opened_file_holds : {R : Type 0} {G : Ghosts R} (p : PackedFile R G) → OpenedFileHoldsRecords p
+opened_file_holds p kind text h rs formed opened = opens_holds kind text h rs (packed_file_text p) opened.line formed opened.opens

@@ -62,11 +62,11 @@ count_open (Err HeaderParsing) n = n
 count_open (Err (Iter line)) n = n
 count_open (Err Memory) n = n
 
--- what a buffer holds that was opened from a well-formed text: its records, ascending, each found by its name
-pub record HoldsRecords (kind : Kind) (rs : List Record) (b : Buffer) : Type 0 where
+-- a text holds these records in the order of their names, each found by its name
+pub record HoldsRecords (kind : Kind) (rs : List Record) (text : List ℕ) : Type 0 where
   pub held : List Record
   pub moved : IsPermutation rs held
-  pub records : Records kind (buffer_text b) held
+  pub records : Records kind text held
   pub ascending : Ascending held
   pub named : (n : List ℕ) → record_named n held ≡ record_named n rs
 
@@ -74,4 +74,4 @@ pub record HoldsRecords (kind : Kind) (rs : List Record) (b : Buffer) : Type 0 w
 abbrev pub OpenedHoldsRecords : Type 0
 OpenedHoldsRecords =
     (kind : Kind) (text : List ℕ) (h : Option Header) (rs : List Record) (b : Buffer) → IsWellFormed kind text h rs → Opened kind text b →
-    HoldsRecords kind rs b
+    HoldsRecords kind rs (buffer_text b)

@@ -1,12 +1,14 @@
 -- A `packed-refs` that is searched where it is.
-use Rattle.std.specs.Prelude.{◌≡◌, ℕ, List, drop}
+use Rattle.std.specs.Prelude.{◌≡◌, ℕ, List, drop, Option}
 use Rattle.gix_ref_files.specs.declared.files.ReadAt.{Ghosts}
 use Rattle.gix_ref_hash.specs.declared.hash.Kind.{Kind}
 use Rattle.gix_ref_packed.specs.declared.packed.sorted_file.SortedFile.{SortedFile}
 use Rattle.gix_ref_packed.specs.declared.packed.file.PackedFile.{PackedFile}
 use Rattle.gix_ref_packed.specs.declared.packed.file.PackedFile.TheVariants.{InFile, InMemory}
-use Rattle.gix_ref_packed.specs.OpenedText.{OpensTo}
-use Rattle.gix_ref_packed.specs.Buffers.{buffer_text, buffer_kind}
+use Rattle.gix_ref_base.specs.PackedRecords.{Record}
+use Rattle.gix_ref_packed.specs.declared.packed.decode.options.Header.{Header}
+use Rattle.gix_ref_packed.specs.OpenedText.{OpensTo, IsWellFormed}
+use Rattle.gix_ref_packed.specs.Buffers.{buffer_text, buffer_kind, HoldsRecords}
 
 -- the records in a file, without the header
 abbrev pub sorted_file_text : {R : Type 0} {G : Ghosts R} → SortedFile R G → List ℕ
@@ -26,3 +28,9 @@ pub record OpenedFile {R : Type 0} {G : Ghosts R} (kind : Kind) (bytes : List �
   pub kind_is : packed_file_kind p ≡ kind
   pub line : ℕ
   pub opens : OpensTo kind bytes (packed_file_text p) line
+
+-- where it is open on a well-formed text, it holds the records of that
+abbrev pub OpenedFileHoldsRecords : {R : Type 0} {G : Ghosts R} → PackedFile R G → Type 0
+OpenedFileHoldsRecords p =
+    (kind : Kind) (text : List ℕ) (h : Option Header) (rs : List Record) → IsWellFormed kind text h rs → OpenedFile kind text p →
+    HoldsRecords kind rs (packed_file_text p)

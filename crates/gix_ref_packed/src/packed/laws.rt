@@ -1,7 +1,11 @@
 //! Laws of the text of `packed-refs`: how it is read, written and opened.
 ghost use Rattle.gix_ref_packed.specs.WrittenText.{WrittenTextReadsBack, PackedTextIsOne};
 ghost use Rattle.gix_ref_packed.specs.Buffers.{OpenedHoldsRecords};
+ghost use Rattle.gix_ref_packed.specs.OpenFiles.{OpenedFileHoldsRecords};
 ghost use Rattle.gix_ref_packed.specs.RecordsOfText.{RecordsAreComputed};
+
+use crate::packed::file::PackedFile;
+use gix_ref_files::files::ReadAt;
 
 /// What is written of records is read as these records, and a text is that of one header and one list at most.
 pub fn written_text_reads_back()
@@ -9,10 +13,11 @@ pub fn written_text_reads_back()
     ensures one { PackedTextIsOne }
 {}
 
-/// An opened buffer of a well-formed text holds its records in the order of their names, and each name has the same
-/// record.
-pub fn opened_holds_records()
-    ensures { OpenedHoldsRecords }
+/// A buffer or a file that was opened on a well-formed text holds its records in the order of their names, and each name
+/// has the same record.
+pub fn opened_holds_records<R: ReadAt + Drop>(_file: &PackedFile<R>)
+    ensures buffer { OpenedHoldsRecords }
+    ensures file { OpenedFileHoldsRecords _file.now }
 {}
 
 /// The records of a text can be computed, line by line.
