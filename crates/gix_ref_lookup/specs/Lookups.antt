@@ -18,14 +18,17 @@ use Rattle.gix_ref_theory.specs.ConcreteStore.{store_of}
 use Rattle.gix_ref_packed.specs.declared.packed.decode.options.Header.{Header}
 use Rattle.gix_ref_packed.specs.declared.packed.file.PackedFile.{PackedFile}
 use Rattle.gix_ref_packed.specs.declared.packed.buffer.Buffer.{Buffer}
-use Rattle.gix_ref_packed.specs.declared.packed.buffer.open.Error.TheVariants.{Iter, HeaderParsing, Io}
+use Rattle.gix_ref_packed.specs.declared.packed.buffer.open.Error.{Error as OpenError}
+use Rattle.gix_ref_packed.specs.declared.packed.buffer.open.Error.TheVariants.{Iter, HeaderParsing, Io, Memory as open_memory}
+use Rattle.gix_ref_packed.specs.declared.packed.sorted_file.FindError.{FindError}
+use Rattle.gix_ref_packed.specs.declared.packed.sorted_file.FindError.TheVariants as finding
+use Rattle.gix_ref_packed.specs.declared.packed.sorted_file.ReadError.TheVariants as reading
 use Rattle.gix_ref_packed.specs.declared.packed.find.Error.TheVariants.{Parse}
 use Rattle.gix_ref_packed.specs.declared.raw.Reference.{Reference}
 use Rattle.gix_ref_packed.specs.OpenedText.{IsWellFormed, OpensTo}
 use Rattle.gix_ref_packed.specs.OpenFiles.{packed_file_text, packed_file_kind}
-use Rattle.gix_ref_packed.specs.Buffers.{buffer_text, buffer_kind, IsRefusedFile}
+use Rattle.gix_ref_packed.specs.Buffers.{buffer_text, buffer_kind, HoldsRecords, IsRefusedFile}
 use Rattle.gix_ref_packed.specs.Positions.{CannotRead}
-use Rattle.gix_ref_packed.specs.RecordGrammar.{Records as AreRecords, Ascending}
 use Rattle.gix_ref_lookup.specs.StoreLayout.{folders_of, loose_alone}
 use Rattle.gix_ref_lookup.specs.LooseFiles.{IsUndecodable}
 use Rattle.gix_ref_lookup.specs.declared.settings.Settings.{Settings}
@@ -47,32 +50,28 @@ abbrev pub ArePackedRecords : Kind → Option (List ℕ) → List Record → Typ
 ArePackedRecords kind None records = records ≡ []
 ArePackedRecords kind (Some text) records = (header : Option Header) × IsWellFormed kind text header records
 
--- The text has the same record for each name, in ascending order.
-pub record HasRecords (kind : Kind) (text : List ℕ) (records : List Record) : Type 0 where
-  pub held : List Record
-  pub are : AreRecords kind text held
-  pub ascending : Ascending held
-  pub named : (name : List ℕ) → record_named name held ≡ record_named name records
-
 -- the records that a lookup asks are these, where `packed-refs` is this file
 abbrev pub AreAsked : {R : Type 0} {G : Ghosts R} → Kind → Option (List ℕ) → Records R G → List Record → Type 0
 AreAsked kind file sources.None records = records ≡ []
-AreAsked kind file (sources.Held buffer) records = HasRecords (buffer_kind buffer.now) (buffer_text buffer.now) records
+AreAsked kind file (sources.Held buffer) records = HoldsRecords (buffer_kind buffer.now) records (buffer_text buffer.now)
 AreAsked kind file sources.Unopened records = ArePackedRecords kind file records
 AreAsked {R} {G} kind file (sources.Open packed) records =
-    G.honest × (packed_file_kind packed ≡ kind) × HasRecords kind (packed_file_text packed) records
+    G.honest × (packed_file_kind packed ≡ kind) × HoldsRecords kind records (packed_file_text packed)
 
 -- `packed-refs` is open, if it is asked
 abbrev pub IsReady : {R : Type 0} {G : Ghosts R} → Records R G → Type 0
 IsReady sources.Unopened = ⊥
 IsReady other = Unit {0}
 
+-- the text of records that is kept of this file, and the kind of its ids
+abbrev pub IsOpenedText : Kind → Option (List ℕ) → Kind → List ℕ → Type 0
+IsOpenedText kind file of_kind text = (of_kind ≡ kind) × (bytes : List ℕ) × (line : ℕ) × (file ≡ Some bytes) × OpensTo kind bytes text line
+
 -- the text that is searched for a record, and the kind of its ids
 abbrev pub IsSearched : {R : Type 0} {G : Ghosts R} → Kind → Option (List ℕ) → Records R G → Kind → List ℕ → Type 0
 IsSearched kind file sources.None of_kind text = ⊥
 IsSearched kind file (sources.Held buffer) of_kind text = (of_kind ≡ buffer_kind buffer.now) × (text ≡ buffer_text buffer.now)
-IsSearched kind file sources.Unopened of_kind text =
-    (of_kind ≡ kind) × (bytes : List ℕ) × (line : ℕ) × (file ≡ Some bytes) × OpensTo kind bytes text line
+IsSearched kind file sources.Unopened of_kind text = IsOpenedText kind file of_kind text
 IsSearched kind file (sources.Open packed) of_kind text = (of_kind ≡ packed_file_kind packed) × (text ≡ packed_file_text packed)
 
 -- some text that is searched has this
@@ -81,6 +80,20 @@ pub record OfSearched {R : Type 0} {G : Ghosts R} (kind : Kind) (file : Option (
   pub text : List ℕ
   pub searched : IsSearched kind file records of_kind text
   pub has : P of_kind text
+
+-- the error of a lookup where opening has this one
+abbrev pub IsSaid : OpenError → Error → Type 0
+IsSaid error Memory = error ≡ open_memory
+IsSaid error (PackedOpen other) = (other ≡ error) × (error ≢ open_memory)
+IsSaid error other = ⊥
+
+-- and where a search has this one
+abbrev pub IsSaidOf : FindError → Error → Type 0
+IsSaidOf (finding.Read (reading.Io error)) (PackedOpen (Io said)) = said ≡ error
+IsSaidOf (finding.Read reading.Memory) Memory = Unit {0}
+IsSaidOf (finding.Read reading.Changed) (PackedOpen (Io said)) = said ≢ no_memory
+IsSaidOf finding.Parse (PackedRef Parse) = Unit {0}
+IsSaidOf error other = ⊥
 
 -- a fault of files, or no memory
 abbrev pub IsFaultOrMemory : Error → Type 0

@@ -1,8 +1,13 @@
 //! The records that a lookup asks for a name: those of `packed-refs`, which is opened when the first name is asked for.
-ghost use Rattle.std.specs.Prelude.{◌≡◌};
+ghost use Rattle.std.specs.Prelude.{◌≡◌, ℕ, List, Option, IfOk, IfErr, OnOk};
+ghost use Rattle.gix_ref_hash.specs.declared.hash.Kind.{Kind};
 ghost use Rattle.gix_ref_base.specs.Names.{full_ref_bytes};
+ghost use Rattle.gix_ref_base.specs.PackedRecords.{Record};
+ghost use Rattle.gix_ref_files.specs.Files.{Leaves};
+ghost use Rattle.gix_ref_files.specs.Calls.{Unchanged};
 ghost use Rattle.gix_ref_packed.specs.Buffers.{buffer_text, buffer_kind};
 ghost use Rattle.gix_ref_packed.specs.FileSearches.{FindsIn};
+ghost use Rattle.gix_ref_lookup.specs.Lookups.{HasReadFault, meaning_in, packed_refs_in, ArePackedRecords, AreAsked, IsSearched, IsReady, IsNotOpened, IsOpenedText, IsSaid, IsSaidOf};
 
 use crate::find::Error;
 use crate::settings::Settings;
@@ -32,6 +37,7 @@ pub enum Records<'b, R: ReadAt + Drop> {
 
 /// The error of a lookup for one of opening.
 fn refused(error: open::Error) -> Error
+    ensures { IsSaid error result }
 {
     match error {
         open::Error::Memory => Error::Memory,
@@ -41,6 +47,7 @@ fn refused(error: open::Error) -> Error
 
 /// The error of a lookup for one of a search.
 fn not_found(error: FindError) -> Error
+    ensures { IsSaidOf error result }
 {
     match error {
         FindError::Read(ReadError::Io(error)) => Error::PackedOpen(open::Error::Io(error)),
@@ -54,7 +61,8 @@ fn not_found(error: FindError) -> Error
 
 /// The ids of the record of a key in a buffer.
 fn find_held(buffer: &Buffer, key: FullNameRef<'_>) -> Result<Option<Found>, FindError>
-    ensures { FindsIn (buffer_kind buffer.now) (buffer_text buffer.now) (full_ref_bytes key.entry) result }
+    ensures { FindsIn (buffer_kind buffer.now) (buffer_text buffer.now)
+        (full_ref_bytes key.entry) result }
 {
     match buffer.try_find_key(key) {
         Ok(Some(record)) => Ok(Some(Found {
@@ -66,15 +74,46 @@ fn find_held(buffer: &Buffer, key: FullNameRef<'_>) -> Result<Option<Found>, Fin
     }
 }
 
+/// Opens `packed-refs`.
+fn open_records<'b, F: Files>(
+    alloc: Global,
+    files: &mut F,
+    settings: Settings<'_>,
+) -> Result<Records<'b, F::Reader>, Error>
+    ensures ready { IfOk result IsReady }
+    ensures asked { F.honest → (records : List Record) →
+        ArePackedRecords settings.entry.kind (packed_refs_in settings.entry (F.means files.old)) records →
+        IfOk result (λ r. AreAsked settings.entry.kind None r records) }
+    ensures searched { F.honest → IfOk result (λ r. (kind : Kind) (text : List ℕ) →
+        IsSearched settings.entry.kind None r kind text →
+        IsOpenedText settings.entry.kind (packed_refs_in settings.entry (F.means files.old)) kind text) }
+    ensures refused { IfErr result (IsNotOpened F.honest (HasReadFault F.Reader.faults)
+        settings.entry.kind ((F.means files.old).tree (meaning_in settings.entry).packed_path)
+        (F.faults files.old) (F.faults files.new)) }
+    ensures no_fault { OnOk result (F.faults files.new ≡ F.faults files.old) }
+    ensures leaves { F.honest → Leaves (F.means files.old) (F.means files.new)
+        (Unchanged (F.means files.old).tree) }
+{
+    let path = settings.packed_refs_path(alloc)?;
+    match PackedFile::open(alloc, files, &path, settings.kind) {
+        Ok(Some(file)) => Ok(Records::Open(file)),
+        Ok(None) => Ok(Records::None),
+        Err(error) => Err(refused(error)),
+    }
+}
+
 impl<R: ReadAt + Drop> Records<'_, R> {
-    ghost use Rattle.std.specs.Prelude.{◌≡◌, ℕ, List, OnOk, IfErr};
-    ghost use Rattle.gix_ref_base.specs.PackedRecords.{Record};
+    ghost use Rattle.std.specs.Prelude.{◌≡◌, ℕ, List, Option, OnOk, IfErr, IfOk, IfSome, MatchResult, None};
+    ghost use Rattle.gix_ref_base.specs.Names.{full_ref_bytes};
+    ghost use Rattle.gix_ref_base.specs.PackedRecords.{Record, record_named};
     ghost use Rattle.gix_ref_hash.specs.declared.hash.Kind.{Kind};
     ghost use Rattle.gix_ref_files.specs.Files.{Leaves};
     ghost use Rattle.gix_ref_files.specs.Calls.{Unchanged};
-    ghost use Rattle.gix_ref_lookup.specs.Lookups.{HasReadFault, meaning_in, packed_refs_in, AreAsked, IsSearched, IsReady, IsNotOpened, IsFaultOrMemory};
+    ghost use Rattle.gix_ref_packed.specs.Positions.{CannotRead};
+    ghost use Rattle.gix_ref_packed.specs.Windows.{AreFound, HitsRecord};
+    ghost use Rattle.gix_ref_lookup.specs.Lookups.{HasReadFault, meaning_in, packed_refs_in, AreAsked, IsSearched, IsReady, IsNotOpened, IsNotSearched, IsFaultOrMemory, OfSearched};
 
-    /// Opens `packed-refs`, if it is asked for the first time.
+    /// Opens `packed-refs`, if it is asked for the first time. `PackedOpen` where it cannot be opened, and `Memory`.
     pub fn open<F: Files<Reader = R>>(
         &mut self,
         alloc: Global,
@@ -84,15 +123,13 @@ impl<R: ReadAt + Drop> Records<'_, R> {
         ensures ready { OnOk result (IsReady self.new) }
         ensures asked { F.honest → (records : List Record) →
             AreAsked settings.entry.kind (packed_refs_in settings.entry (F.means files.old)) self.old records →
-            OnOk result (AreAsked settings.entry.kind (packed_refs_in settings.entry (F.means files.old)) self.new records) }
+            OnOk result (AreAsked settings.entry.kind None self.new records) }
         ensures searched { F.honest → (kind : Kind) (text : List ℕ) →
-            IsSearched settings.entry.kind (packed_refs_in settings.entry (F.means files.old)) self.new kind text →
+            IsSearched settings.entry.kind None self.new kind text →
             OnOk result (IsSearched settings.entry.kind (packed_refs_in settings.entry (F.means files.old)) self.old kind text) }
-        ensures refused { IfErr result (IsNotOpened F.honest (HasReadFault R.faults) settings.entry.kind
-            ((F.means files.old).tree (meaning_in settings.entry).packed_path) (F.faults files.old) (F.faults files.new)) }
-        ensures sound { F.honest → (records : List Record) →
-            AreAsked settings.entry.kind (packed_refs_in settings.entry (F.means files.old)) self.old records →
-            IfErr result IsFaultOrMemory }
+        ensures refused { IfErr result (IsNotOpened F.honest (HasReadFault R.faults)
+            settings.entry.kind ((F.means files.old).tree (meaning_in settings.entry).packed_path)
+            (F.faults files.old) (F.faults files.new)) }
         ensures no_fault { OnOk result (F.faults files.new ≡ F.faults files.old) }
         ensures leaves { F.honest → Leaves (F.means files.old) (F.means files.new)
             (Unchanged (F.means files.old).tree) }
@@ -100,32 +137,27 @@ impl<R: ReadAt + Drop> Records<'_, R> {
         let Records::Unopened = self else {
             return Ok(());
         };
-        let path = settings.packed_refs_path(alloc)?;
-        *self = match PackedFile::open(alloc, files, &path, settings.kind) {
-            Ok(Some(file)) => Records::Open(file),
-            Ok(None) => Records::None,
-            Err(error) => return Err(refused(error)),
-        };
+        *self = open_records(alloc, files, settings)?;
         Ok(())
     }
 
-    /// The ids of the record of a key; `None` where there is no such record. `PackedOpen` where the file could not be
-    /// read, `PackedRef` where a malformed line was met and nothing was found, or the record that was found cannot be read,
-    /// and `Memory`.
+    /// The ids of the record of a key, once `packed-refs` is open; `None` where there is no such record. `PackedOpen`
+    /// where the file cannot be read, `PackedRef` where a malformed line was met and nothing was found, or the record that
+    /// was found cannot be read, and `Memory`.
     pub fn find(&mut self, key: FullNameRef<'_>) -> Result<Option<Found>, Error>
         requires { IsReady self.now }
-        ensures found { (kind : Kind) (file : Option (List ℕ)) (records : List Record) →
-            AreAsked kind file self.old records →
+        ensures found { (kind : Kind) (records : List Record) →
+            AreAsked kind None self.old records →
             MatchResult result (AreFound (record_named (full_ref_bytes key.entry) records)) IsFaultOrMemory }
-        ensures hit { R.honest → (kind : Kind) (file : Option (List ℕ)) →
+        ensures hit { R.honest → (kind : Kind) →
             IfOk result (λ found. IfSome found (λ f.
-            OfSearched kind file self.old (λ k text. HitsRecord k text (full_ref_bytes key.entry) f))) }
-        ensures failed { IfErr result (IsNotSearched R.honest (HasReadFault R.faults)
-            (OfSearched Kind.Sha1 None self.old (λ k text. CannotRead k text (full_ref_bytes key.entry)))) }
-        ensures asked { (kind : Kind) (file : Option (List ℕ)) (records : List Record) →
-            AreAsked kind file self.old records → AreAsked kind file self.new records }
-        ensures searched { (kind : Kind) (file : Option (List ℕ)) (k : Kind) (text : List ℕ) →
-            IsSearched kind file self.new k text → IsSearched kind file self.old k text }
+            OfSearched kind None self.old (λ k text. HitsRecord k text (full_ref_bytes key.entry) f))) }
+        ensures failed { (kind : Kind) → IfErr result (IsNotSearched R.honest (HasReadFault R.faults)
+            (OfSearched kind None self.old (λ k text. CannotRead k text (full_ref_bytes key.entry)))) }
+        ensures asked { (kind : Kind) (records : List Record) →
+            AreAsked kind None self.old records → AreAsked kind None self.new records }
+        ensures searched { (kind : Kind) (k : Kind) (text : List ℕ) →
+            IsSearched kind None self.new k text → IsSearched kind None self.old k text }
         ensures ready { IsReady self.new }
     {
         let found = match self {
