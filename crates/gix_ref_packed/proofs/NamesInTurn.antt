@@ -1,5 +1,5 @@
 -- The names that a partial name asks for, one after the other.
-use Rattle.std.proofs.Common.{◌≡◌, ◌⊎◌, inl, inr, ⊎_elim, ℕ, Bool, true, false, not, ◌||◌, ◌&&◌, cond, List, [], ◌∷◌, ◌++◌, codes, nat_eq, length, drop, refl, sym, ◌∙◌, ap, subst, Option, Some, None, Result, Ok, Err, IsErrAnd, Contains, append-nil}
+use Rattle.std.proofs.Common.{◌≡◌, ◌≢◌, ◌⊎◌, inl, inr, ⊎_elim, ℕ, Bool, true, false, not, ◌||◌, ◌&&◌, cond, List, [], ◌∷◌, ◌++◌, codes, nat_eq, length, drop, refl, sym, ◌∙◌, ap, subst, Option, Some, None, Result, Ok, Err, IsErrAnd, Contains, append-nil}
 use Rattle.std.specs.List.{starts_with, list_any, list_all}
 use Rattle.std.specs.Option.{option_map}
 use Rattle.std.proofs.lemmas.Slice.Eq.{starts_is}
@@ -15,6 +15,7 @@ use Rattle.gix_ref_packed.specs.declared.packed.find.Error.{Error}
 use Rattle.gix_ref_packed.specs.declared.packed.find.Error.TheVariants.{RefnameValidation, Parse, Memory}
 use Rattle.gix_ref_base.specs.PackedRecords.{Record, record_named}
 use Rattle.gix_ref_packed.specs.RecordGrammar.{Forms, Ascending}
+use Rattle.gix_ref_packed.specs.Positions.{IsNotMalformed}
 use Rattle.gix_ref_packed.specs.Views.{record_of}
 use Rattle.gix_ref_packed.specs.AskedNames.{is_rooted, key_alone, four_names, asked_names, or_else, first_named}
 use Rattle.gix_ref_packed.specs.Searches.{Finds, FindsOne, FindsPartial}
@@ -57,6 +58,7 @@ module _ (k : Kind) (t p : List ℕ) (pre post : List (List ℕ)) (n : List ℕ)
       let one : Finds {E = ParseError} k t n (Ok (Some r)) = subst (λ (o : Option Reference). Finds {E = ParseError} k t n (Ok o)) is finds in
       record {
         hit = record { wanted = subst (λ (names : List (List ℕ)). Contains names (record_of r).name) (sym wanted) (subst (Contains (pre ++ n ∷ post)) (sym one.hit.0) has); stands = one.hit.1 };
+        none = tt;
         refused = tt;
         records = λ rs h up. first_is rs (forms_of k t rs h) up (record_of r) (one.records rs h up);
         forms = λ rs h up. first_is rs h up (record_of r) (one.forms rs h up);
@@ -65,6 +67,7 @@ module _ (k : Kind) (t p : List ℕ) (pre post : List (List ℕ)) (n : List ℕ)
   pub failed_for : (e : ParseError) → Finds k t n (Err e) → FindsPartial k t p (Err Parse)
   failed_for e finds = record {
     hit = tt;
+    none = tt;
     refused = (n, subst (λ (names : List (List ℕ)). Contains names n) (sym wanted) has, finds.refused);
     records = λ rs h up. absurd (finds.records rs h up);
     forms = λ rs h up. (n, subst (λ (names : List (List ℕ)). Contains names n) (sym wanted) has, finds.forms rs h up);
@@ -72,11 +75,11 @@ module _ (k : Kind) (t p : List ℕ) (pre post : List (List ℕ)) (n : List ℕ)
 
   pub fails_for : (e : Error) → is_rooted p ≡ false → FindsOne k t n (Err e) → FindsPartial k t p (Err e)
   fails_for Parse partial finds = failed_for finds.0 finds.1
-  fails_for Memory partial finds = record { hit = tt; refused = partial; records = λ rs h up. refl; forms = λ rs h up. tt }
+  fails_for Memory partial finds = record { hit = tt; none = tt; refused = partial; records = λ rs h up. refl; forms = λ rs h up. tt }
   fails_for (RefnameValidation x) partial finds = absurd finds
 
-pub none_left : (k : Kind) (t p : List ℕ) (names : List (List ℕ)) → asked_names p ≡ names → MissesAll k t names → FindsPartial k t p (Ok None)
-none_left k t p names wanted before = record { hit = tt; refused = tt; records = λ rs h up. none rs (forms_of k t rs h) up; forms = none }
+pub none_left : (k : Kind) (t p : List ℕ) (names : List (List ℕ)) → asked_names p ≡ names → MissesAll k t names → (names ≢ [] → IsNotMalformed k t) → FindsPartial k t p (Ok None)
+none_left k t p names wanted before line = record { hit = tt; none = λ some. line (λ empty. some (wanted ∙ empty)); refused = tt; records = λ rs h up. none rs (forms_of k t rs h) up; forms = none }
   where
     none : (rs : List Record) → Forms k t rs → Ascending rs → None ≡ first_named (asked_names p) rs
     none rs h up = sym (ap (λ xs. first_named xs rs) (wanted ∙ sym (append-nil names)) ∙ skip k t rs h up names [] before)
@@ -87,7 +90,7 @@ add_last k t (m ∷ pre) n before last = (before.0, add_last k t pre n before.1 
 
 pub last_for : (k : Kind) (t p : List ℕ) (pre : List (List ℕ)) (n : List ℕ) → asked_names p ≡ pre ++ n ∷ [] → MissesAll k t pre → Contains (pre ++ n ∷ []) n → (o : Option Reference) → Finds {E = ParseError} k t n (Ok o) → FindsPartial k t p (Ok o)
 last_for k t p pre n wanted before has (Some r) finds = found_for k t p pre [] n wanted before has (Some r) r refl finds
-last_for k t p pre n wanted before has None finds = none_left k t p (pre ++ n ∷ []) wanted (add_last k t pre n before (missed k t n None refl finds))
+last_for k t p pre n wanted before has None finds = none_left k t p (pre ++ n ∷ []) wanted (add_last k t pre n before (missed k t n None refl finds)) (λ some. finds.none)
 
 pub last_answer : (k : Kind) (t p : List ℕ) (pre : List (List ℕ)) (n : List ℕ) → asked_names p ≡ pre ++ n ∷ [] → MissesAll k t pre → Contains (pre ++ n ∷ []) n → is_rooted p ≡ false → (r : Result (Option Reference) Error) → FindsOne k t n r → FindsPartial k t p r
 last_answer k t p pre n wanted before has partial (Ok o) finds = last_for k t p pre n wanted before has o finds

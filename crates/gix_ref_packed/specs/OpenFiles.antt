@@ -1,12 +1,15 @@
 -- A `packed-refs` that is searched where it is.
-use Rattle.std.specs.Prelude.{◌≡◌, ℕ, List, drop, Option}
+use Rattle.std.specs.Prelude.{◌≡◌, ◌⊎◌, ℕ, List, drop, Option}
 use Rattle.gix_ref_files.specs.declared.files.ReadAt.{Ghosts}
+use Rattle.gix_ref_files.specs.Files.{one_more}
 use Rattle.gix_ref_hash.specs.declared.hash.Kind.{Kind}
 use Rattle.gix_ref_packed.specs.declared.packed.sorted_file.SortedFile.{SortedFile}
 use Rattle.gix_ref_packed.specs.declared.packed.file.PackedFile.{PackedFile}
 use Rattle.gix_ref_packed.specs.declared.packed.file.PackedFile.TheVariants.{InFile, InMemory}
 use Rattle.gix_ref_base.specs.PackedRecords.{Record}
 use Rattle.gix_ref_packed.specs.declared.packed.decode.options.Header.{Header}
+use Rattle.gix_ref_packed.specs.declared.packed.buffer.open.Error.{Error}
+use Rattle.gix_ref_packed.specs.declared.packed.buffer.open.Error.TheVariants.{Iter, HeaderParsing, Io, Memory}
 use Rattle.gix_ref_packed.specs.OpenedText.{OpensTo, IsWellFormed}
 use Rattle.gix_ref_packed.specs.Buffers.{buffer_text, buffer_kind, HoldsRecords}
 
@@ -23,6 +26,11 @@ abbrev pub packed_file_kind : {R : Type 0} {G : Ghosts R} → PackedFile R G →
 packed_file_kind (InFile source kind) = kind
 packed_file_kind (InMemory buffer) = buffer_kind buffer
 
+-- the faults that were met in reading it; what is in memory is not read
+abbrev pub packed_file_faults : {R : Type 0} {G : Ghosts R} → PackedFile R G → ℕ
+packed_file_faults {R} {G} (InFile source kind) = G.faults source.reader
+packed_file_faults (InMemory buffer) = 0
+
 -- the file with these bytes is open for searches: of all its records where the header says sorted, else of the sorted ones
 pub record OpenedFile {R : Type 0} {G : Ghosts R} (kind : Kind) (bytes : List ℕ) (p : PackedFile R G) : Type 0 where
   pub kind_is : packed_file_kind p ≡ kind
@@ -34,3 +42,22 @@ abbrev pub OpenedFileHoldsRecords : {R : Type 0} {G : Ghosts R} → PackedFile R
 OpenedFileHoldsRecords p =
     (kind : Kind) (text : List ℕ) (h : Option Header) (rs : List Record) → IsWellFormed kind text h rs → OpenedFile kind text p →
     HoldsRecords kind rs (packed_file_text p)
+
+-- a read of some reader failed: it counts one fault more
+abbrev pub HasReadFault : {R : Type 0} → (R → ℕ) → Type 0
+HasReadFault {R} faults = (before : R) × (now : R) × (faults now ≡ one_more (faults before))
+
+-- why an opened file is refused: `Io` where a read of it failed
+abbrev pub FailsByRead : {R : Type 0} → (R → ℕ) → Error → Type 0
+FailsByRead faults (Io error) = HasReadFault faults
+FailsByRead faults HeaderParsing = Unit {0}
+FailsByRead faults (Iter line) = Unit {0}
+FailsByRead faults Memory = Unit {0}
+
+-- the count of the files' faults before and after a file was refused: one more, for `Io` alone, or a read of the opened file
+-- failed, and the files count none
+abbrev pub CountsRefusal : {R : Type 0} → (R → ℕ) → ℕ → ℕ → Error → Type 0
+CountsRefusal faults before now (Io error) = (now ≡ one_more before) ⊎ ((now ≡ before) × HasReadFault faults)
+CountsRefusal faults before now HeaderParsing = now ≡ before
+CountsRefusal faults before now (Iter line) = now ≡ before
+CountsRefusal faults before now Memory = now ≡ before

@@ -1,5 +1,5 @@
 -- What a search in memory answers.
-use Rattle.std.specs.Prelude.{◌≡◌, ℕ, List, Contains, false, Option, Some, None, Result, Ok, Err, IfOk, IfErr, IfSome, IfNone, MatchResult}
+use Rattle.std.specs.Prelude.{◌≡◌, ◌≢◌, ℕ, List, [], Contains, false, Option, Some, None, Result, Ok, Err, IfOk, IfErr, IfSome, IfNone, MatchResult}
 use Rattle.std.specs.Option.{option_map}
 use Rattle.gix_ref_hash.specs.declared.hash.Kind.{Kind}
 use Rattle.gix_ref_base.specs.Names.{full_ref_bytes}
@@ -58,6 +58,8 @@ PartialUnreadable kind rs p (RefnameValidation error) = ⊥
 -- What a search for a partial name answers.
 pub record FindsPartial (kind : Kind) (text p : List ℕ) (result : Result (Option Reference) Error) : Type 0 where
   pub hit : IfOk result (λ found. IfSome found (λ r. HitsPartial kind text p (record_of r)))
+  -- where a name is asked for, a text of malformed lines alone is never taken for one without it
+  pub none : IfOk result (λ found. IfNone found (asked_names p ≢ [] → IsNotMalformed kind text))
   pub refused : IfErr result (PartialFails kind text p)
   -- among ascending records it is the record of the first name that has one
   pub records : (rs : List Record) → Records kind text rs → Ascending rs →

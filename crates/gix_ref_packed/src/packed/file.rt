@@ -1,8 +1,8 @@
 //! A `packed-refs` that is searched where it is: opening it, and the search for a full name.
-ghost use Rattle.std.specs.Prelude.{◌≡◌, ◌≢◌, IfOk, IfErr};
-ghost use Rattle.gix_ref_packed.specs.Buffers.{IsRefusedBytes};
-ghost use Rattle.gix_ref_packed.specs.FileSearches.{IsNoChange};
-ghost use Rattle.gix_ref_packed.specs.OpenFiles.{OpenedFile};
+ghost use Rattle.std.specs.Prelude.{◌≡◌, ◌≢◌, ℕ, IfOk, IfErr, Err};
+ghost use Rattle.gix_ref_packed.specs.Buffers.{IsRefusedBytes, count_open};
+ghost use Rattle.gix_ref_packed.specs.FileSearches.{IsNoChange, count_read};
+ghost use Rattle.gix_ref_packed.specs.OpenFiles.{OpenedFile, FailsByRead};
 
 use crate::packed::buffer::Buffer;
 use crate::packed::buffer::open::Error;
@@ -29,7 +29,8 @@ pub enum PackedFile<R: ReadAt + Drop> {
 /// The error of opening for one of reading; a file that is opened has no earlier reads from which it could differ.
 fn refusal(error: ReadError) -> Error
     requires { IsNoChange error }
-    ensures { (kind : _) (bytes : _) → IsRefusedBytes kind bytes result }
+    ensures refused { (kind : _) (bytes : _) → IsRefusedBytes kind bytes result }
+    ensures counts { (n : ℕ) → count_read error n ≡ count_open (Err result) n }
 {
     match error {
         ReadError::Io(error) => Error::Io(error),
@@ -46,6 +47,7 @@ fn open_reader<R: ReadAt + Drop>(
 ) -> Result<PackedFile<R>, Error>
     ensures opened { R.honest → IfOk result (OpenedFile kind (R.bytes reader)) }
     ensures refused { R.honest → IfErr result (IsRefusedBytes kind (R.bytes reader)) }
+    ensures failed { IfErr result (FailsByRead R.faults) }
 {
     let heading = match file_header(alloc, &mut reader) {
         Ok(Some(heading)) => heading,
@@ -75,8 +77,8 @@ impl<R: ReadAt + Drop> PackedFile<R> {
     ghost use Rattle.gix_ref_files.specs.Files.{Leaves};
     ghost use Rattle.gix_ref_files.specs.Calls.{Unchanged};
     ghost use Rattle.gix_ref_packed.specs.Buffers.{IsRefusedFile};
-    ghost use Rattle.gix_ref_packed.specs.OpenFiles.{OpenedFile, packed_file_text, packed_file_kind};
-    ghost use Rattle.gix_ref_packed.specs.FileSearches.{FindsIn};
+    ghost use Rattle.gix_ref_packed.specs.OpenFiles.{OpenedFile, CountsRefusal, packed_file_text, packed_file_kind, packed_file_faults};
+    ghost use Rattle.gix_ref_packed.specs.FileSearches.{FindsIn, count_find};
 
     /// Opens the file at a path, whose ids are of the kind; `None` where no file is there.
     ///
@@ -85,10 +87,11 @@ impl<R: ReadAt + Drop> PackedFile<R> {
     ///     let found = packed.find(FullNameRef::try_from("refs/tags/v1.0")?)?;
     /// }
     /// ```
-    /// Of a file whose header says
-    /// sorted only the first 1 KB is read, and more where the header's line is longer; any other file is read as a whole,
-    /// as `Buffer::open` reads it. `Io` where the file cannot be read, `HeaderParsing` where it begins with `#` and has no
-    /// header, `Iter` at the first line that is no record where the records are to be sorted, and `Memory`.
+    ///
+    /// Of a file whose header says `sorted` only the first 1 KB is read, and more where the header's line is longer; any
+    /// other file is read as a whole, as `Buffer::open` reads it. `Io` where the file cannot be read, `HeaderParsing` where
+    /// it begins with `#` and has no header, `Iter` at the first line that is no record where the records are to be sorted,
+    /// and `Memory` where there was no memory for what is read.
     pub fn open<F: Files<Reader = R>>(
         alloc: Global,
         files: &mut F,
@@ -104,6 +107,8 @@ impl<R: ReadAt + Drop> PackedFile<R> {
         ensures leaves { F.honest → Leaves (F.means files.old) (F.means files.new)
             (Unchanged (F.means files.old).tree) }
         ensures no_fault { IfOk result (λ _. F.faults files.new ≡ F.faults files.old) }
+        ensures failed { IfErr result
+            (CountsRefusal R.faults (F.faults files.old) (F.faults files.new)) }
     {
         match files.open(alloc, path) {
             Ok(Some(reader)) => match open_reader(alloc, reader, kind) {
@@ -122,8 +127,14 @@ impl<R: ReadAt + Drop> PackedFile<R> {
     pub fn find(&mut self, name: FullNameRef<'_>) -> Result<Option<Found>, FindError>
         ensures same { packed_file_text self.new ≡ packed_file_text self.old }
         ensures kind { packed_file_kind self.new ≡ packed_file_kind self.old }
-        ensures finds { R.honest →
-            FindsIn (packed_file_kind self.old) (packed_file_text self.old) (full_ref_bytes name.entry) result }
+        ensures finds { R.honest → FindsIn (packed_file_kind self.old) (packed_file_text self.old)
+            (full_ref_bytes name.entry) result }
+
+        // A fault is counted where the file could not be read, and nowhere else.
+        ensures no_fault { IfOk result
+            (λ _. packed_file_faults self.new ≡ packed_file_faults self.old) }
+        ensures fault { IfErr result (λ error. packed_file_faults self.new
+            ≡ count_find error (packed_file_faults self.old)) }
     {
         match self {
             PackedFile::InFile { source, kind } => source.find(*kind, name),

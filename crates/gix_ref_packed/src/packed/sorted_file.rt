@@ -1,7 +1,7 @@
 //! The records of a `packed-refs` that is not in memory: probed at windows of its file.
-ghost use Rattle.std.specs.Prelude.{◌≡◌, ◌+◌, ◌-◌, ◌<◌, ◌≤◌, ◌^◌, length, take, drop, OnOk, IfErr};
+ghost use Rattle.std.specs.Prelude.{◌≡◌, ◌+◌, ◌-◌, ◌<◌, ◌≤◌, ◌^◌, length, take, drop, OnOk, IfOk, IfErr};
 ghost use Rattle.gix_ref_base.specs.Names.{full_ref_bytes};
-ghost use Rattle.gix_ref_packed.specs.FileSearches.{IsNoChange, FindsIn, count_read};
+ghost use Rattle.gix_ref_packed.specs.FileSearches.{IsNoChange, FindsIn, count_read, count_find};
 ghost use Rattle.gix_ref_packed.specs.declared.packed.sorted_file.TheConstants.{MAX_WINDOW_DOUBLINGS};
 
 use crate::packed::probes::Probes;
@@ -293,25 +293,35 @@ fn find_blank<R: ReadAt + Drop, L: Ledger>(
     requires parts { blank.parts ≡ L.parts }
     requires some { 0 < blank.parts }
     ensures same { R.bytes source.new.reader ≡ R.bytes source.old.reader }
-    ensures base { source.new.base ≡ source.old.base }
-    ensures finds { R.honest →
-        FindsIn kind (drop source.old.base (R.bytes source.old.reader)) (full_ref_bytes name.entry) result }
+    ensures place { (source.new.base ≡ source.old.base)
+        × (R.size source.new.reader ≡ R.size source.old.reader) }
+    ensures finds { R.honest → FindsIn kind (drop source.old.base (R.bytes source.old.reader))
+        (full_ref_bytes name.entry) result }
+    ensures no_fault { IfOk result (λ _. R.faults source.new.reader ≡ R.faults source.old.reader) }
+    ensures fault { IfErr result (λ error. R.faults source.new.reader
+        ≡ count_find error (R.faults source.old.reader)) }
 {
     let mut probes = Probes::<L>::new(blank);
     source.try_find_full(kind, name, &mut probes)
 }
 
 impl<R: ReadAt + Drop> SortedFile<R> {
-    ghost use Rattle.std.specs.Prelude.{◌≡◌, drop};
+    ghost use Rattle.std.specs.Prelude.{◌≡◌, drop, IfOk, IfErr};
     ghost use Rattle.gix_ref_base.specs.Names.{full_ref_bytes};
-    ghost use Rattle.gix_ref_packed.specs.FileSearches.{FindsIn};
+    ghost use Rattle.gix_ref_packed.specs.FileSearches.{FindsIn, count_find};
 
     /// The ids of the record of a full name, as `try_find_full` finds it, for a caller who does not count.
     pub fn find(&mut self, kind: Kind, name: FullNameRef<'_>) -> Result<Option<Found>, FindError>
         ensures same { R.bytes self.new.reader ≡ R.bytes self.old.reader }
-        ensures base { self.new.base ≡ self.old.base }
-        ensures finds { R.honest →
-            FindsIn kind (drop self.old.base (R.bytes self.old.reader)) (full_ref_bytes name.entry) result }
+        ensures place { (self.new.base ≡ self.old.base)
+            × (R.size self.new.reader ≡ R.size self.old.reader) }
+        ensures finds { R.honest → FindsIn kind (drop self.old.base (R.bytes self.old.reader))
+            (full_ref_bytes name.entry) result }
+
+        // The reader counts a fault where the file could not be read, and nowhere else.
+        ensures no_fault { IfOk result (λ _. R.faults self.new.reader ≡ R.faults self.old.reader) }
+        ensures fault { IfErr result (λ error. R.faults self.new.reader
+            ≡ count_find error (R.faults self.old.reader)) }
     {
         find_blank::<R, Brand>(self, kind, name, Blank::new(1))
     }

@@ -46,7 +46,7 @@ returns-clause-refused g c = λ honest.
     refused_bytes c.args.kind bytes c.in-Err-from_bytes.error (subst (λ (t : List ℕ). IsRefused c.args.kind t c.in-Err-from_bytes.error) whole c.in-Err-from_bytes.ensures.refused)
 
 pub returns-in-Err-clause-refused : goal.returns-in-Err-clause-refused
-returns-in-Err-clause-refused g c = λ honest. c.refusal.ensures c.args.kind (g.R.ReadAt.bytes c.args.reader)
+returns-in-Err-clause-refused g c = λ honest. c.refusal.ensures.refused c.args.kind (g.R.ReadAt.bytes c.args.reader)
 
 pub returns-in-Err-read_window-clause-refused : goal.returns-in-Err-read_window-clause-refused
-returns-in-Err-read_window-clause-refused g c = λ honest. c.refusal-in-Err-read_window.ensures c.args.kind (g.R.ReadAt.bytes c.args.reader)
+returns-in-Err-read_window-clause-refused g c = λ honest. c.refusal-in-Err-read_window.ensures.refused c.args.kind (g.R.ReadAt.bytes c.args.reader)
