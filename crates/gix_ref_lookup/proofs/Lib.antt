@@ -1,4 +1,7 @@
+pub mod Answering
 pub mod FolderLemmas
-pub mod LooseLemmas
 pub mod Laying
+pub mod LooseLemmas
+pub mod NamedRecords
+pub mod Opening
 pub mod Stripping

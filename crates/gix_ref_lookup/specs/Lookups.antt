@@ -3,20 +3,24 @@ use Rattle.std.specs.Prelude.{◌≡◌, ◌≢◌, ◌⊎◌, ℕ, List, [], �
 use Rattle.std.specs.Option.{option_map}
 use Rattle.gix_ref_hash.specs.declared.hash.Kind.{Kind}
 use Rattle.gix_ref_base.specs.Names.{full_bytes}
+use Rattle.gix_ref_base.specs.Namespaces.{stripped}
 use Rattle.gix_ref_base.specs.Targets.{target_value}
+use Rattle.gix_ref_base.specs.Targets.TargetValue.{object_id}
+use Rattle.gix_ref_base.specs.declared.target.Target.{Target}
 use Rattle.gix_ref_base.specs.PackedRecords.{Record, record_named}
-use Rattle.gix_ref_files.specs.Files.{HasRisen, one_more, Meaning}
+use Rattle.gix_ref_files.specs.Files.{HasRisen, Meaning}
 use Rattle.gix_ref_files.specs.Tree.{Content}
-use Rattle.gix_ref_files.specs.declared.files.FileError.TheVariants.{Memory as no_memory}
+use Rattle.gix_ref_files.specs.declared.files.FileError.TheVariants.{Device, Memory as no_memory}
+use Rattle.std.specs.declared.io.ErrorKind.TheVariants.{InvalidData}
 use Rattle.gix_ref_files.specs.declared.files.ReadAt.{Ghosts}
 use Rattle.gix_ref_theory.specs.Views.{View}
 use Rattle.gix_ref_theory.specs.OnRealTrees.{view_of}
-use Rattle.gix_ref_theory.specs.Readings.{Store, reading_among}
+use Rattle.gix_ref_theory.specs.Readings.{Store, reading_among, reading_by, reading_of_loose, reading_of_record}
 use Rattle.gix_ref_theory.specs.Readings.Reading.{Is, Absent}
-use Rattle.gix_ref_theory.specs.Lookups.{Hit, hit_name, hit_peeled}
+use Rattle.gix_ref_theory.specs.Lookups.{Hit, hit_name, hit_peeled, peeled_of}
 use Rattle.gix_ref_theory.specs.ConcreteStore.{store_of}
 use Rattle.gix_ref_packed.specs.declared.packed.decode.options.Header.{Header}
-use Rattle.gix_ref_packed.specs.declared.packed.file.PackedFile.{PackedFile}
+use Rattle.gix_ref_packed.specs.declared.packed.window.Found.{Found}
 use Rattle.gix_ref_packed.specs.declared.packed.buffer.Buffer.{Buffer}
 use Rattle.gix_ref_packed.specs.declared.packed.buffer.open.Error.{Error as OpenError}
 use Rattle.gix_ref_packed.specs.declared.packed.buffer.open.Error.TheVariants.{Iter, HeaderParsing, Io, Memory as open_memory}
@@ -28,13 +32,14 @@ use Rattle.gix_ref_packed.specs.declared.raw.Reference.{Reference}
 use Rattle.gix_ref_packed.specs.OpenedText.{IsWellFormed, OpensTo}
 use Rattle.gix_ref_packed.specs.OpenFiles.{packed_file_text, packed_file_kind}
 use Rattle.gix_ref_packed.specs.Buffers.{buffer_text, buffer_kind, HoldsRecords, IsRefusedFile}
-use Rattle.gix_ref_packed.specs.Positions.{CannotRead}
+use Rattle.gix_ref_packed.specs.Windows.{HitsRecord}
 use Rattle.gix_ref_lookup.specs.StoreLayout.{folders_of, loose_alone}
 use Rattle.gix_ref_lookup.specs.LooseFiles.{IsUndecodable}
 use Rattle.gix_ref_lookup.specs.declared.settings.Settings.{Settings}
 use Rattle.gix_ref_lookup.specs.declared.find.records.Records.{Records}
 use Rattle.gix_ref_lookup.specs.declared.find.records.Records.TheVariants as sources
 use Rattle.gix_ref_lookup.specs.declared.find.error.Error.{Error}
+use Rattle.gix_ref_lookup.specs.declared.find.error.ReadError.TheVariants.{File, DeviceName}
 use Rattle.gix_ref_lookup.specs.declared.find.error.Error.TheVariants.{RefnameValidation, ReadFileContents, ReferenceCreation, PackedRef, PackedOpen, Memory}
 
 -- where a store with these settings keeps names, and what it reads
@@ -82,18 +87,23 @@ pub record OfSearched {R : Type 0} {G : Ghosts R} (kind : Kind) (file : Option (
   pub has : P of_kind text
 
 -- the error of a lookup where opening has this one
-abbrev pub IsSaid : OpenError → Error → Type 0
-IsSaid error Memory = error ≡ open_memory
-IsSaid error (PackedOpen other) = (other ≡ error) × (error ≢ open_memory)
-IsSaid error other = ⊥
+abbrev pub of_opening : OpenError → Error
+of_opening open_memory = Memory
+of_opening HeaderParsing = PackedOpen HeaderParsing
+of_opening (Iter line) = PackedOpen (Iter line)
+of_opening (Io error) = PackedOpen (Io error)
 
--- and where a search has this one
-abbrev pub IsSaidOf : FindError → Error → Type 0
-IsSaidOf (finding.Read (reading.Io error)) (PackedOpen (Io said)) = said ≡ error
-IsSaidOf (finding.Read reading.Memory) Memory = Unit {0}
-IsSaidOf (finding.Read reading.Changed) (PackedOpen (Io said)) = said ≢ no_memory
-IsSaidOf finding.Parse (PackedRef Parse) = Unit {0}
-IsSaidOf error other = ⊥
+-- and where a search has this one; a file that changes while it is read is a fault of the device
+abbrev pub of_search : FindError → Error
+of_search (finding.Read (reading.Io error)) = PackedOpen (Io error)
+of_search (finding.Read reading.Memory) = Memory
+of_search (finding.Read reading.Changed) = PackedOpen (Io (Device InvalidData))
+of_search finding.Parse = PackedRef Parse
+
+-- what a search found, with the error of a lookup
+abbrev pub as_found : Result (Option Found) FindError → Result (Option Found) Error
+as_found (Ok found) = Ok found
+as_found (Err error) = Err (of_search error)
 
 -- a fault of files, or no memory
 abbrev pub IsFaultOrMemory : Error → Type 0
@@ -101,25 +111,62 @@ IsFaultOrMemory (PackedOpen (Io error)) = Unit {0}
 IsFaultOrMemory Memory = Unit {0}
 IsFaultOrMemory other = ⊥
 
--- a read of a reader failed
-abbrev pub HasReadFault : {R : Type 0} → (R → ℕ) → Type 0
-HasReadFault {R} faults = (before : R) × (now : R) × (faults now ≡ one_more (faults before))
+-- an open `packed-refs` is read by an honest reader
+abbrev pub AreHonest : {R : Type 0} {G : Ghosts R} → Records R G → Type 0
+AreHonest {R} {G} (sources.Open packed) = G.honest
+AreHonest other = Unit {0}
 
--- Why `packed-refs` is not open, where the count of faults went from `before` to `now`: a fault of files, or of a reader of
--- the file; a text that is refused; no memory.
-abbrev pub IsNotOpened : (honest : Type 0) → (read_failed : Type 0) → Kind → Option Content → (before now : ℕ) → Error → Type 0
-IsNotOpened honest read_failed kind content before now (PackedOpen (Io error)) = (error ≢ no_memory) × (HasRisen before now ⊎ read_failed)
-IsNotOpened honest read_failed kind content before now (PackedOpen HeaderParsing) = honest → IsRefusedFile kind content HeaderParsing
-IsNotOpened honest read_failed kind content before now (PackedOpen (Iter line)) = honest → IsRefusedFile kind content (Iter line)
-IsNotOpened honest read_failed kind content before now Memory = Unit {0}
-IsNotOpened honest read_failed kind content before now other = ⊥
+-- Why no record is found: a fault, only where one came; a text that is refused; a text that cannot be read; no memory.
+abbrev pub IsNotPacked : (honest fault unreadable : Type 0) → (refused : OpenError → Type 0) → Error → Type 0
+IsNotPacked honest fault unreadable refused (PackedOpen (Io error)) = honest → (error ≢ no_memory) × fault
+IsNotPacked honest fault unreadable refused (PackedOpen HeaderParsing) = honest → refused HeaderParsing
+IsNotPacked honest fault unreadable refused (PackedOpen (Iter line)) = honest → refused (Iter line)
+IsNotPacked honest fault unreadable refused (PackedRef Parse) = honest → unreadable
+IsNotPacked honest fault unreadable refused Memory = Unit {0}
+IsNotPacked honest fault unreadable refused other = ⊥
 
--- why a search for a key failed: a fault of the reader, only where a read failed; a text that cannot be read; no memory
-abbrev pub IsNotSearched : (honest : Type 0) → (read_failed : Type 0) → (unreadable : Type 0) → Error → Type 0
-IsNotSearched honest read_failed unreadable (PackedOpen (Io error)) = honest → (error ≢ no_memory) × read_failed
-IsNotSearched honest read_failed unreadable (PackedRef Parse) = honest → unreadable
-IsNotSearched honest read_failed unreadable Memory = Unit {0}
-IsNotSearched honest read_failed unreadable other = ⊥
+-- the target of the file at a place, less the namespace, if there is such a file
+abbrev pub IsLooseTarget : Store → Option (List ℕ) → Option Target → Type 0
+IsLooseTarget s file None = file ≡ None
+IsLooseTarget s file (Some target) = (bytes : List ℕ) × (file ≡ Some bytes) × (reading_of_loose s (s.target_of bytes) ≡ Is (target_value target))
+
+-- Why the loose file of a candidate gives no target: it could not be read, only where the count of faults rose; it holds
+-- none, with the reason; no memory.
+abbrev pub IsNotRead : (honest : Type 0) → Kind → Store → View → (before now : ℕ) → List ℕ → Error → Type 0
+IsNotRead honest kind s view before now name (ReadFileContents (File source) path) =
+    HasRisen before now × (source ≢ no_memory) × (path.items ≡ s.place name)
+IsNotRead honest kind s view before now name (ReferenceCreation source path) =
+    (path.items ≡ name) × (honest → IsUndecodable kind (view (s.place name)) source)
+IsNotRead honest kind s view before now name Memory = Unit {0}
+IsNotRead honest kind s view before now name other = ⊥
+
+-- the reference of a key among these records as an answer, in this namespace
+abbrev pub IsOfKey : (namespace : List ℕ) → List Record → (key : List ℕ) → Option Reference → Type 0
+IsOfKey namespace records key None = record_named key records ≡ None
+IsOfKey namespace records key (Some r) =
+    (full_bytes r.name ≡ stripped namespace key)
+    × (reading_of_record (record_named key records) ≡ Is (target_value r.target))
+    × (r.peeled ≡ peeled_of (record_named key records))
+
+-- on any text: the reference has the ids of a record of the key that begins a line
+pub record IsRecordIn (kind : Kind) (text key : List ℕ) (r : Reference) : Type 0 where
+  pub found : Found
+  pub hits : HitsRecord kind text key found
+  pub target : target_value r.target ≡ object_id found.target
+  pub peeled : r.peeled ≡ found.object
+
+-- and it has the name less the namespace
+pub record IsHitOfKey {R : Type 0} {G : Ghosts R} (kind : Kind) (file : Option (List ℕ)) (records : Records R G) (namespace key : List ℕ) (r : Reference) : Type 0 where
+  pub name : full_bytes r.name ≡ stripped namespace key
+  pub stands : OfSearched kind file records (λ k text. IsRecordIn k text key r)
+
+-- a candidate without a loose file as an answer, by its record
+abbrev pub IsByRecord : Store → List Record → List ℕ → Option Reference → Type 0
+IsByRecord s records name None = reading_by s (s.key name) None records ≡ Absent
+IsByRecord s records name (Some r) =
+    (full_bytes r.name ≡ hit_name s name (s.key name) None)
+    × (reading_by s (s.key name) None records ≡ Is (target_value r.target))
+    × (r.peeled ≡ hit_peeled (s.key name) None records)
 
 -- a candidate as an answer: nothing where it reads nothing, else its name, its target and its peeled id
 abbrev pub IsCandidate : Store → View → List Record → List ℕ → Option Reference → Type 0

@@ -3,12 +3,13 @@ ghost use Rattle.std.specs.Prelude.{◌≡◌};
 ghost use Rattle.gix_ref_base.specs.Targets.{target_value, stripped_target};
 ghost use Rattle.gix_ref_lookup.specs.StoreLayout.{namespace_text};
 
+mod candidate;
 mod error;
 pub mod existing;
 pub mod loose;
 pub mod records;
 
-pub use error::Error;
+pub use error::{Error, ReadError};
 use gix_ref_base::namespace::Namespace;
 use gix_ref_base::target::Target;
 

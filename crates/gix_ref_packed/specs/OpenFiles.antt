@@ -10,6 +10,9 @@ use Rattle.gix_ref_base.specs.PackedRecords.{Record}
 use Rattle.gix_ref_packed.specs.declared.packed.decode.options.Header.{Header}
 use Rattle.gix_ref_packed.specs.declared.packed.buffer.open.Error.{Error}
 use Rattle.gix_ref_packed.specs.declared.packed.buffer.open.Error.TheVariants.{Iter, HeaderParsing, Io, Memory}
+use Rattle.gix_ref_packed.specs.declared.packed.sorted_file.FindError.{FindError}
+use Rattle.gix_ref_packed.specs.declared.packed.sorted_file.FindError.TheVariants.{Read, Parse}
+use Rattle.gix_ref_packed.specs.declared.packed.sorted_file.ReadError.TheVariants as reading
 use Rattle.gix_ref_packed.specs.OpenedText.{OpensTo, IsWellFormed}
 use Rattle.gix_ref_packed.specs.Buffers.{buffer_text, buffer_kind, HoldsRecords}
 
@@ -53,6 +56,13 @@ FailsByRead faults (Io error) = HasReadFault faults
 FailsByRead faults HeaderParsing = Unit {0}
 FailsByRead faults (Iter line) = Unit {0}
 FailsByRead faults Memory = Unit {0}
+
+-- why a record is not found in an opened file: `Read` of `Io` where a read of it failed
+abbrev pub FailsFindByRead : {R : Type 0} → (R → ℕ) → FindError → Type 0
+FailsFindByRead faults (Read (reading.Io error)) = HasReadFault faults
+FailsFindByRead faults (Read reading.Memory) = Unit {0}
+FailsFindByRead faults (Read reading.Changed) = Unit {0}
+FailsFindByRead faults Parse = Unit {0}
 
 -- the count of the files' faults before and after a file was refused: one more, for `Io` alone, or a read of the opened file
 -- failed, and the files count none

@@ -1,13 +1,14 @@
 //! The records that a lookup asks for a name: those of `packed-refs`, which is opened when the first name is asked for.
-ghost use Rattle.std.specs.Prelude.{◌≡◌, ℕ, List, Option, IfOk, IfErr, OnOk};
+ghost use Rattle.std.specs.Prelude.{◌≡◌, ◌⊎◌, ℕ, List, Option, None, IfOk, IfErr, OnOk};
 ghost use Rattle.gix_ref_hash.specs.declared.hash.Kind.{Kind};
 ghost use Rattle.gix_ref_base.specs.Names.{full_ref_bytes};
 ghost use Rattle.gix_ref_base.specs.PackedRecords.{Record};
-ghost use Rattle.gix_ref_files.specs.Files.{Leaves};
+ghost use Rattle.gix_ref_files.specs.Files.{Leaves, HasRisen};
 ghost use Rattle.gix_ref_files.specs.Calls.{Unchanged};
-ghost use Rattle.gix_ref_packed.specs.Buffers.{buffer_text, buffer_kind};
+ghost use Rattle.gix_ref_packed.specs.Buffers.{buffer_text, buffer_kind, IsRefusedFile};
 ghost use Rattle.gix_ref_packed.specs.FileSearches.{FindsIn};
-ghost use Rattle.gix_ref_lookup.specs.Lookups.{HasReadFault, meaning_in, packed_refs_in, ArePackedRecords, AreAsked, IsSearched, IsReady, IsNotOpened, IsOpenedText, IsSaid, IsSaidOf};
+ghost use Rattle.gix_ref_packed.specs.OpenFiles.{HasReadFault};
+ghost use Rattle.gix_ref_lookup.specs.Lookups.{meaning_in, packed_refs_in, ArePackedRecords, AreAsked, IsSearched, IsReady, IsNotPacked, AreHonest, IsOpenedText, of_opening, of_search, as_found};
 
 use crate::find::Error;
 use crate::settings::Settings;
@@ -37,7 +38,7 @@ pub enum Records<'b, R: ReadAt + Drop> {
 
 /// The error of a lookup for one of opening.
 fn refused(error: open::Error) -> Error
-    ensures { IsSaid error result }
+    ensures { result ≡ of_opening error }
 {
     match error {
         open::Error::Memory => Error::Memory,
@@ -47,7 +48,7 @@ fn refused(error: open::Error) -> Error
 
 /// The error of a lookup for one of a search.
 fn not_found(error: FindError) -> Error
-    ensures { IsSaidOf error result }
+    ensures { result ≡ of_search error }
 {
     match error {
         FindError::Read(ReadError::Io(error)) => Error::PackedOpen(open::Error::Io(error)),
@@ -59,9 +60,20 @@ fn not_found(error: FindError) -> Error
     }
 }
 
+/// What a search found, with the error of a lookup.
+fn said(found: Result<Option<Found>, FindError>) -> Result<Option<Found>, Error>
+    ensures { result ≡ as_found found }
+{
+    match found {
+        Ok(found) => Ok(found),
+        Err(error) => Err(not_found(error)),
+    }
+}
+
 /// The ids of the record of a key in a buffer.
 fn find_held(buffer: &Buffer, key: FullNameRef<'_>) -> Result<Option<Found>, FindError>
-    ensures { FindsIn (buffer_kind buffer.now) (buffer_text buffer.now)
+    ensures parse { IfErr result (λ error. error ≡ FindError.Parse) }
+    ensures finds { FindsIn (buffer_kind buffer.now) (buffer_text buffer.now)
         (full_ref_bytes key.entry) result }
 {
     match buffer.try_find_key(key) {
@@ -87,9 +99,10 @@ fn open_records<'b, F: Files>(
     ensures searched { F.honest → IfOk result (λ r. (kind : Kind) (text : List ℕ) →
         IsSearched settings.entry.kind None r kind text →
         IsOpenedText settings.entry.kind (packed_refs_in settings.entry (F.means files.old)) kind text) }
-    ensures refused { IfErr result (IsNotOpened F.honest (HasReadFault F.Reader.faults)
-        settings.entry.kind ((F.means files.old).tree (meaning_in settings.entry).packed_path)
-        (F.faults files.old) (F.faults files.new)) }
+    ensures honest { F.honest → IfOk result AreHonest }
+    ensures refused { IfErr result (IsNotPacked F.honest
+        (HasRisen (F.faults files.old) (F.faults files.new) ⊎ HasReadFault F.Reader.faults) ⊥
+        (IsRefusedFile settings.entry.kind ((F.means files.old).tree (meaning_in settings.entry).packed_path))) }
     ensures no_fault { OnOk result (F.faults files.new ≡ F.faults files.old) }
     ensures leaves { F.honest → Leaves (F.means files.old) (F.means files.new)
         (Unchanged (F.means files.old).tree) }
@@ -103,15 +116,17 @@ fn open_records<'b, F: Files>(
 }
 
 impl<R: ReadAt + Drop> Records<'_, R> {
-    ghost use Rattle.std.specs.Prelude.{◌≡◌, ℕ, List, Option, OnOk, IfErr, IfOk, IfSome, MatchResult, None};
+    ghost use Rattle.std.specs.Prelude.{◌≡◌, ◌⊎◌, ℕ, List, Option, OnOk, IfErr, IfOk, IfSome, MatchResult, None};
     ghost use Rattle.gix_ref_base.specs.Names.{full_ref_bytes};
     ghost use Rattle.gix_ref_base.specs.PackedRecords.{Record, record_named};
     ghost use Rattle.gix_ref_hash.specs.declared.hash.Kind.{Kind};
-    ghost use Rattle.gix_ref_files.specs.Files.{Leaves};
+    ghost use Rattle.gix_ref_files.specs.Files.{Leaves, HasRisen};
     ghost use Rattle.gix_ref_files.specs.Calls.{Unchanged};
     ghost use Rattle.gix_ref_packed.specs.Positions.{CannotRead};
+    ghost use Rattle.gix_ref_packed.specs.Buffers.{IsRefusedFile};
     ghost use Rattle.gix_ref_packed.specs.Windows.{AreFound, HitsRecord};
-    ghost use Rattle.gix_ref_lookup.specs.Lookups.{HasReadFault, meaning_in, packed_refs_in, AreAsked, IsSearched, IsReady, IsNotOpened, IsNotSearched, IsFaultOrMemory, OfSearched};
+    ghost use Rattle.gix_ref_packed.specs.OpenFiles.{HasReadFault};
+    ghost use Rattle.gix_ref_lookup.specs.Lookups.{meaning_in, packed_refs_in, AreAsked, IsSearched, IsReady, IsNotPacked, AreHonest, IsFaultOrMemory, OfSearched};
 
     /// Opens `packed-refs`, if it is asked for the first time. `PackedOpen` where it cannot be opened, and `Memory`.
     pub fn open<F: Files<Reader = R>>(
@@ -127,9 +142,10 @@ impl<R: ReadAt + Drop> Records<'_, R> {
         ensures searched { F.honest → (kind : Kind) (text : List ℕ) →
             IsSearched settings.entry.kind None self.new kind text →
             OnOk result (IsSearched settings.entry.kind (packed_refs_in settings.entry (F.means files.old)) self.old kind text) }
-        ensures refused { IfErr result (IsNotOpened F.honest (HasReadFault R.faults)
-            settings.entry.kind ((F.means files.old).tree (meaning_in settings.entry).packed_path)
-            (F.faults files.old) (F.faults files.new)) }
+        ensures honest { F.honest → AreHonest self.old → OnOk result (AreHonest self.new) }
+        ensures refused { IfErr result (IsNotPacked F.honest
+            (HasRisen (F.faults files.old) (F.faults files.new) ⊎ HasReadFault R.faults) ⊥
+            (IsRefusedFile settings.entry.kind ((F.means files.old).tree (meaning_in settings.entry).packed_path))) }
         ensures no_fault { OnOk result (F.faults files.new ≡ F.faults files.old) }
         ensures leaves { F.honest → Leaves (F.means files.old) (F.means files.new)
             (Unchanged (F.means files.old).tree) }
@@ -149,25 +165,22 @@ impl<R: ReadAt + Drop> Records<'_, R> {
         ensures found { (kind : Kind) (records : List Record) →
             AreAsked kind None self.old records →
             MatchResult result (AreFound (record_named (full_ref_bytes key.entry) records)) IsFaultOrMemory }
-        ensures hit { R.honest → (kind : Kind) →
+        ensures hit { AreHonest self.old → (kind : Kind) →
             IfOk result (λ found. IfSome found (λ f.
             OfSearched kind None self.old (λ k text. HitsRecord k text (full_ref_bytes key.entry) f))) }
-        ensures failed { (kind : Kind) → IfErr result (IsNotSearched R.honest (HasReadFault R.faults)
-            (OfSearched kind None self.old (λ k text. CannotRead k text (full_ref_bytes key.entry)))) }
+        ensures failed { (kind : Kind) → IfErr result (IsNotPacked (AreHonest self.old) (HasReadFault R.faults)
+            (OfSearched kind None self.old (λ k text. CannotRead k text (full_ref_bytes key.entry))) (λ error. ⊥)) }
+        ensures honest { AreHonest self.old → AreHonest self.new }
         ensures asked { (kind : Kind) (records : List Record) →
             AreAsked kind None self.old records → AreAsked kind None self.new records }
         ensures searched { (kind : Kind) (k : Kind) (text : List ℕ) →
             IsSearched kind None self.new k text → IsSearched kind None self.old k text }
         ensures ready { IsReady self.new }
     {
-        let found = match self {
+        match self {
             Records::None | Records::Unopened => Ok(None),
-            Records::Held(buffer) => find_held(buffer, key),
-            Records::Open(file) => file.find(key),
-        };
-        match found {
-            Ok(found) => Ok(found),
-            Err(error) => Err(not_found(error)),
+            Records::Held(buffer) => said(find_held(buffer, key)),
+            Records::Open(file) => said(file.find(key)),
         }
     }
 }

@@ -77,7 +77,7 @@ impl<R: ReadAt + Drop> PackedFile<R> {
     ghost use Rattle.gix_ref_files.specs.Files.{Leaves};
     ghost use Rattle.gix_ref_files.specs.Calls.{Unchanged};
     ghost use Rattle.gix_ref_packed.specs.Buffers.{IsRefusedFile};
-    ghost use Rattle.gix_ref_packed.specs.OpenFiles.{OpenedFile, CountsRefusal, packed_file_text, packed_file_kind, packed_file_faults};
+    ghost use Rattle.gix_ref_packed.specs.OpenFiles.{OpenedFile, CountsRefusal, packed_file_text, packed_file_kind, packed_file_faults, FailsFindByRead};
     ghost use Rattle.gix_ref_packed.specs.FileSearches.{FindsIn, count_find};
 
     /// Opens the file at a path, whose ids are of the kind; `None` where no file is there.
@@ -135,6 +135,7 @@ impl<R: ReadAt + Drop> PackedFile<R> {
             (λ _. packed_file_faults self.new ≡ packed_file_faults self.old) }
         ensures fault { IfErr result (λ error. packed_file_faults self.new
             ≡ count_find error (packed_file_faults self.old)) }
+        ensures failed { IfErr result (FailsFindByRead R.faults) }
     {
         match self {
             PackedFile::InFile { source, kind } => source.find(*kind, name),

@@ -1,0 +1,61 @@
+-- What a loose file and a record say as an answer of a lookup.
+use Rattle.std.proofs.Common.{◌≡◌, ◌≢◌, ℕ, ◌*◌, ◌==◌, List, Option, Some, None, Bool, true, false, if◌then◌else◌, length, refl, sym, ◌∙◌, ap, subst, arith}
+use Rattle.hex.specs.Hex.{decode_of}
+use Rattle.hex.proofs.HexLemmas.{decode_of-ok}
+use Rattle.gix_ref_hash.specs.Ids.{ReadsId, id_bytes, id_kind, kind_len}
+use Rattle.gix_ref_hash.specs.declared.hash.ObjectId.{ObjectId}
+use Rattle.gix_ref_hash.specs.declared.hash.ObjectId.TheVariants as ids
+use Rattle.gix_ref_hash.specs.declared.hash.Kind.{Kind}
+use Rattle.gix_ref_base.specs.PackedRecords.{Record, record_named, id_read, id_in, id_with}
+use Rattle.gix_ref_base.specs.Targets.{TargetValue, stripped_target, target_value}
+use Rattle.gix_ref_base.specs.Targets.TargetValue.{object_id, symbolic_name}
+use Rattle.gix_ref_theory.specs.Readings.{Store, as_read, reading_of_loose, reading_of_record, reading_of_id}
+use Rattle.gix_ref_theory.specs.Readings.Reading.{Is}
+use Rattle.gix_ref_theory.specs.Lookups.{peeled_of, peeled_in}
+use Rattle.gix_ref_packed.specs.Windows.{AreFound, IsFound, ReadsOption}
+use Rattle.gix_ref_packed.specs.declared.packed.window.Found.{Found}
+use Rattle.gix_ref_base.specs.Layout.{Layout}
+use Rattle.gix_ref_lookup.specs.StoreLayout.{loose_alone}
+use Rattle.gix_ref_lookup.specs.LooseText.{HoldsTarget}
+use Rattle.gix_ref_lookup.proofs.LooseLemmas.{held_is}
+use Rattle.gix_ref_theory.specs.ConcreteStore.{store_of}
+
+-- a target as it is read is the one less the namespace
+read_as : (f : Layout) (kind : Kind) (t : TargetValue) → as_read (store_of f (loose_alone kind)) t ≡ stripped_target f.namespace t
+read_as f kind (object_id id) = refl
+read_as f kind (symbolic_name name) = refl
+
+-- the reading by a text that holds a target
+pub holds_reading : (f : Layout) (kind : Kind) (text : List ℕ) (held target : TargetValue) → HoldsTarget kind text held → target ≡ stripped_target f.namespace held →
+    let s = store_of f (loose_alone kind) in reading_of_loose s (s.target_of text) ≡ Is target
+holds_reading f kind text held target holds less =
+    ap (reading_of_loose (store_of f (loose_alone kind))) (held_is kind text held holds) ∙ ap Is (read_as f kind held ∙ sym less)
+
+-- digits that are read as an id
+pub digits_read : (digits : List ℕ) (id : ObjectId) → ReadsId digits id → id_read digits ≡ Some id
+digits_read digits id reads =
+    let parts = decode_of-ok digits (id_bytes id) reads.digits in
+    ap id_in reads.digits ∙ whole id (omega (arith, parts.2, reads.len))
+  where
+    whole : (id : ObjectId) → length (id_bytes id) ≡ kind_len (id_kind id) → id_with (id_bytes id) ≡ Some id
+    whole (ids.Sha1 bytes) len = ap (λ n. if n == 20 then Some (ids.Sha1 bytes) else if n == 32 then Some (ids.Sha256 bytes) else None) len
+    whole (ids.Sha256 bytes) len = ap (λ n. if n == 20 then Some (ids.Sha1 bytes) else if n == 32 then Some (ids.Sha256 bytes) else None) len
+
+-- the ids that are found of a record are its reading and its peeled id
+pub found_reading : (record_there : Option Record) (found : Found) → AreFound record_there (Some found) → reading_of_record record_there ≡ Is (object_id found.target)
+found_reading (Some r) found is = ap reading_of_id (digits_read r.target found.target is.target)
+found_reading None found is = absurd is
+
+pub found_peeled : (record_there : Option Record) (found : Found) → AreFound record_there (Some found) → peeled_of record_there ≡ found.object
+found_peeled (Some r) found is = by r.object found.object is.object
+  where
+    by : (digits : Option (List ℕ)) (id : Option ObjectId) → ReadsOption digits id → peeled_in digits ≡ id
+    by None None reads = refl
+    by (Some digits) (Some id) reads = digits_read digits id reads
+    by None (Some id) reads = absurd reads
+    by (Some digits) None reads = absurd reads
+found_peeled None found is = absurd is
+
+pub found_none : (record_there : Option Record) → AreFound record_there None → record_there ≡ None
+found_none None is = refl
+found_none (Some r) is = absurd is

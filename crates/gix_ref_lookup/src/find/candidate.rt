@@ -1,0 +1,117 @@
+//! One candidate of a lookup: its loose file, or else its record in `packed-refs`.
+ghost use Rattle.std.specs.Prelude.{◌≡◌, ℕ, List, Option, None, IfOk, IfErr, IfSome, OnOk};
+ghost use Rattle.gix_ref_hash.specs.declared.hash.Kind.{Kind};
+ghost use Rattle.gix_ref_base.specs.Names.{full_bytes, full_ref_bytes};
+ghost use Rattle.gix_ref_base.specs.Namespaces.{stripped};
+ghost use Rattle.gix_ref_base.specs.PackedRecords.{Record};
+ghost use Rattle.gix_ref_base.specs.Targets.{target_value};
+ghost use Rattle.gix_ref_base.specs.Targets.TargetValue.{object_id};
+ghost use Rattle.gix_ref_files.specs.Files.{Leaves};
+ghost use Rattle.gix_ref_files.specs.Calls.{Unchanged};
+ghost use Rattle.gix_ref_theory.specs.OnRealTrees.{view_of};
+ghost use Rattle.gix_ref_lookup.specs.StoreLayout.{namespace_text};
+ghost use Rattle.gix_ref_packed.specs.Positions.{CannotRead};
+ghost use Rattle.gix_ref_packed.specs.OpenFiles.{HasReadFault};
+ghost use Rattle.gix_ref_lookup.specs.Lookups.{meaning_in, IsLooseTarget, IsNotRead, IsReady, AreAsked, IsOfKey, IsFaultOrMemory, IsNotPacked, AreHonest, IsSearched, IsHitOfKey, OfSearched};
+
+use crate::find::loose::{Loose, loose_at};
+use crate::find::records::Records;
+use crate::find::{Error, ReadError, strip};
+use crate::settings::Settings;
+use gix_ref_base::name::{FullName, FullNameRef};
+use gix_ref_base::namespace::Namespace;
+use gix_ref_base::target::Target;
+use gix_ref_files::files::{FileError, Files, ReadAt};
+use gix_ref_packed::packed::Found;
+use gix_ref_packed::raw::Reference;
+use std::alloc::Global;
+
+/// The target in the loose file of a name, less the namespace; `None` where there is no such file.
+fn read_loose<F: Files>(
+    alloc: Global,
+    files: &mut F,
+    settings: Settings<'_>,
+    name: FullNameRef<'_>,
+) -> Result<Option<Target>, Error>
+    ensures found { F.honest → IfOk result (IsLooseTarget (meaning_in settings.entry)
+        (view_of (F.means files.old).tree ((meaning_in settings.entry).place (full_ref_bytes name.entry)))) }
+    ensures failed { IfErr result (IsNotRead F.honest settings.entry.kind (meaning_in settings.entry)
+        (view_of (F.means files.old).tree) (F.faults files.old) (F.faults files.new) (full_ref_bytes name.entry)) }
+    ensures no_fault { OnOk result (F.faults files.new ≡ F.faults files.old) }
+    ensures leaves { F.honest → Leaves (F.means files.old) (F.means files.new)
+        (Unchanged (F.means files.old).tree) }
+{
+    let place = settings.place(alloc, name)?;
+    match loose_at(alloc, files, &place, settings.kind) {
+        Ok(Loose::Absent) => Ok(None),
+        Ok(Loose::Holds(mut target)) => {
+            strip(&mut target, settings.namespace);
+            Ok(Some(target))
+        }
+        Ok(Loose::Undecodable(source)) => Err(Error::ReferenceCreation {
+            source,
+            relative_path: name.to_path().to_vec(alloc)?,
+        }),
+        Err(FileError::Memory) => Err(Error::Memory),
+        Err(error) => Err(Error::ReadFileContents {
+            source: ReadError::File(error),
+            path: place,
+        }),
+    }
+}
+
+/// Takes the namespace off a name.
+fn strip_name(name: &mut FullName, namespace: &Option<Namespace>)
+    ensures { full_bytes name.new ≡ stripped (namespace_text namespace.now) (full_bytes name.old) }
+{
+    if let Some(namespace) = namespace {
+        name.strip_namespace(namespace);
+    }
+}
+
+/// The reference of a record: its name less the namespace, and its ids.
+fn packed_reference(namespace: &Option<Namespace>, mut name: FullName, found: Found) -> Reference
+    ensures name { full_bytes result.name ≡ stripped (namespace_text namespace.now) (full_bytes name) }
+    ensures target { target_value result.target ≡ object_id found.target }
+    ensures peeled { result.peeled ≡ found.object }
+{
+    strip_name(&mut name, namespace);
+    Reference {
+        name,
+        target: Target::Object(found.target),
+        peeled: found.object,
+    }
+}
+
+/// The reference of a key among the records, once these are ready.
+fn find_key<R: ReadAt + Drop>(
+    namespace: &Option<Namespace>,
+    records: &mut Records<'_, R>,
+    key: Vec<u8>,
+) -> Result<Option<Reference>, Error>
+    requires { IsReady records.now }
+    ensures found { (kind : Kind) (rs : List Record) → AreAsked kind None records.old rs →
+        IfOk result (IsOfKey (namespace_text namespace.now) rs key.items) }
+    ensures sound { (kind : Kind) (rs : List Record) → AreAsked kind None records.old rs →
+        IfErr result IsFaultOrMemory }
+    ensures hit { AreHonest records.old → (kind : Kind) → IfOk result (λ r. IfSome r
+        (IsHitOfKey kind None records.old (namespace_text namespace.now) key.items)) }
+    ensures failed { (kind : Kind) → IfErr result (IsNotPacked (AreHonest records.old)
+        (HasReadFault R.faults)
+        (OfSearched kind None records.old (λ k text. CannotRead k text key.items)) (λ error. ⊥)) }
+    ensures honest { AreHonest records.old → AreHonest records.new }
+    ensures searched { (kind k : Kind) (text : List ℕ) → IsSearched kind None records.new k text →
+        IsSearched kind None records.old k text }
+    ensures asked { (kind : Kind) (rs : List Record) → AreAsked kind None records.old rs →
+        AreAsked kind None records.new rs }
+    ensures ready { IsReady records.new }
+{
+    let Ok(key) = FullName::try_from(key) else {
+        return Ok(None);
+    };
+    match records.find(key.as_ref()) {
+        Ok(Some(found)) => Ok(Some(packed_reference(namespace, key, found))),
+        Ok(None) => Ok(None),
+        Err(error) => Err(error),
+    }
+}
