@@ -1,4 +1,4 @@
--- What a search in memory answers, by where it ended.
+-- What a search in memory returns, by where it ended.
 use Rattle.std.proofs.Common.{◌≡◌, ℕ, List, drop, inl, inr, sym, subst, Some, None, Ok, Err}
 use Rattle.gix_ref_hash.specs.declared.hash.Kind.{Kind}
 use Rattle.gix_ref_packed.specs.declared.packed.reference.Reference.{Reference}

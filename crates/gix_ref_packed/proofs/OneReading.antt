@@ -85,7 +85,7 @@ same_form k t r a s b f g =
 -- a full name is not empty
 pub some_name : (n : List ℕ) → IsFullName n → n ≢ []
 unfolding full_error partial_error
-some_name n valid empty = let told : full_error [] ≡ None = subst IsFullName empty valid in cc
+some_name n valid empty = let none : full_error [] ≡ None = subst IsFullName empty valid in cc
 
 -- what refuses a part of a record refuses the record
 pub no_line : (t line after : List ℕ) → Spans in_line t line after → ((rest : List ℕ) → Newline after rest → ⊥) → (a r : List ℕ) → Line t a r → ⊥

@@ -13,7 +13,7 @@ use Rattle.gix_ref_base.proofs.PartialNames.{rules_of}
 use Rattle.gix_ref_packed.specs.declared.packed.decode.options.Header.{Header}
 use Rattle.gix_ref_base.specs.PackedRecords.{Record, object_line, record_text, header_text}
 use Rattle.gix_ref_packed.specs.RecordGrammar.{Line, Peeled, Takes, Records, in_line, is_caret}
-use Rattle.gix_ref_packed.specs.HeaderGrammar.{TakesHeader, told_by, told, silent, words}
+use Rattle.gix_ref_packed.specs.HeaderGrammar.{TakesHeader, said_by, said, silent, words}
 use Rattle.gix_ref_packed.specs.OpenedText.{Heads, is_hash}
 use Rattle.gix_ref_packed.specs.Positions.{IsObject, IsReadable}
 use Rattle.gix_ref_packed.specs.WrittenText.{written_header, WrittenTextReadsBack, PackedTextIsOne}
@@ -51,7 +51,7 @@ in_one_line (b ∷ n) h = go (is_invalid b) refl h (in_one_line n)
     go true is k more = absurd (cc)
     go false is k more = All-cons (λ x. in_line x ≡ true) b n (valid_in_line b is) (more k)
 
--- the name of a record stands in one line
+-- the name of a record is in one line
 pub name_in_line : (n : List ℕ) → IsFullName n → AllPass in_line n
 name_in_line n valid = in_one_line n (rules_of n (partial_of_full n valid)).0.valid
 
@@ -94,7 +94,7 @@ records_back k (r ∷ rs) all =
     (flat_map record_text rs, record_back k r (flat_map record_text rs) (All-head (IsReadable k) r rs all) (records_stop k (flat_map record_text rs) rs more), more)
 
 header_back : (rest : List ℕ) → TakesHeader (header_text ++ rest) written_header rest
-unfolding told_by
+unfolding said_by
 header_back rest = record {
   after = codes "peeled fully-peeled sorted " ++ 10 ∷ rest;
   line = codes "peeled fully-peeled sorted ";
@@ -128,7 +128,7 @@ pub same_header : (t : List ℕ) (g : Header) (a : List ℕ) (h : Header) (b : L
 same_header t g a h b f e =
     let after : f.after ≡ e.after = append_cancel_left (codes "# pack-refs with: ") f.after e.after (sym f.whole ∙ e.whole) in
     let line = same_line e.after f.line a e.line b (subst (λ (u : List ℕ). Line u f.line a) after f.is_line) e.is_line in
-    (f.says ∙ ap (λ l. told silent (words l)) line.0 ∙ sym e.says, line.1)
+    (f.says ∙ ap (λ l. said silent (words l)) line.0 ∙ sym e.says, line.1)
 
 no_hash : (t : List ℕ) (h : Header) (rest : List ℕ) → TakesHeader t h rest → StopsAt is_hash t → ⊥
 no_hash t h rest f stops = let stop : true ≡ false = subst (StopsAt is_hash) f.whole stops in absurd (cc)

@@ -79,7 +79,7 @@ lines_taken k t r rest f =
     regroup : (a b c d : List ℕ) → (a ++ 32 ∷ (b ++ c)) ++ d ≡ a ++ 32 ∷ (b ++ (c ++ d))
     regroup a b c d = simp append_assoc
 
--- what stands before the rest
+-- what is before the rest
 pub front_is : (t front rest : List ℕ) (n : ℕ) → t ≡ front ++ rest → n + length rest ≡ length t → take n t ≡ front
 front_is t front rest n whole len =
     let both : length t ≡ length front + length rest = ap length whole ∙ length-append front rest in

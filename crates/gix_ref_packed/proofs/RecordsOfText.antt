@@ -60,7 +60,7 @@ line_cut t l r f = ap text_lines f.cut.whole ∙ go l f.cut.front_passes
 
 -- ---- bytes of a line
 
--- a digit is no byte that is none
+-- a digit is another byte than one that is no digit
 not_digit : (c : ℕ) → is_hex_digit c ≡ false → (b : ℕ) → is_hex_digit b ≡ true → (b == c) ≡ false
 not_digit c none b digit = go (b == c) refl
   where

@@ -44,7 +44,7 @@ line_at_first t w from at n is zero all len none = record {
 
 -- ---- a front of a text
 
--- what stands at the front of a text stands at the front of a part that is long enough
+-- what is at the front of a text is at the front of a part that is long enough
 pub front_in_part : (t part front rest : List ℕ) → t ≡ front ++ rest → part ≡ take (length part) t → length front ≤ length part → part ≡ front ++ take (length part - length front) rest
 front_in_part t part front rest whole is fits =
     let n : length part ≡ length front + (length part - length front) = omega arith in
@@ -92,14 +92,14 @@ newline_far k t part d n r len end f is sized within newline = ⊎_elim
         one_more : 1 + end ≡ suc end
         one_more = omega arith
 
--- no space where it has to stand
+-- no space where it has to be
 pub no_space : (k : Kind) (t part d n r : List ℕ) (len : ℕ) → RecordLine k t d n r → part ≡ take (length part) t → len ≡ 2 * kind_len k → len < length part → get_or part len 0 ≡ 32
 no_space k t part d n r len f is sized within =
     let all : t ≡ d ++ 32 ∷ f.after = f.whole in
     let at : length d ≡ len = f.len ∙ sym sized in
     ap (λ p. get_or p len 0) is ∙ get_or-take (length part) t len 0 within ∙ ap (λ u. get_or u len 0) all ∙ ap (λ i. get_or (d ++ 32 ∷ f.after) i 0) (sym at) ∙ get_or-append_seam d 32 f.after 0
 
--- a name in a part stands in the text
+-- a name in a part is in the text
 pub name_wider : (k : Kind) (t part d n r : List ℕ) → RecordLine k part d n r → part ≡ take (length part) t → NameAt k t n
 name_wider k t part d n r f is =
     let l = line_front f.after n r f.line in
@@ -147,7 +147,7 @@ reads_option None (Some id) h = h
 reads_option (Some d) None h = h
 reads_option (Some d) (Some id) h = h
 
--- a record that ends before the part does stands in the text
+-- a record that ends before the part does is in the text
 pub record_wider : (k : Kind) (t part : List ℕ) (r : Record) (rest : List ℕ) → Takes k part r rest → part ≡ take (length part) t → rest ≢ [] → (x : List ℕ) × Takes k t r x
 record_wider k t part r rest f is some =
     let l = lines_taken k part r rest f in

@@ -1,4 +1,4 @@
--- What a search in a file answers.
+-- What a search in a file returns.
 use Rattle.std.specs.Prelude.{◌≢◌, ℕ, List, Option, Result, IfOk, IfErr, IfSome, IfNone, MatchResult}
 use Rattle.gix_ref_hash.specs.declared.hash.Kind.{Kind}
 use Rattle.gix_ref_files.specs.Files.{one_more}
@@ -34,7 +34,7 @@ abbrev pub IsFaultOr : Type 0 → FindError → Type 0
 IsFaultOr unreadable (Read error) = Unit {0}
 IsFaultOr unreadable Parse = unreadable
 
--- What a search for one full name in a file answers.
+-- What a search for one full name in a file returns.
 pub record FindsIn (kind : Kind) (text name : List ℕ) (result : Result (Option Found) FindError) : Type 0 where
   -- on any text a hit is a record of that name at the start of a line
   pub hit : IfOk result (λ found. IfSome found (HitsRecord kind text name))

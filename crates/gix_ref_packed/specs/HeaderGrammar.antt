@@ -6,7 +6,7 @@ use Rattle.gix_ref_packed.specs.declared.packed.decode.options.Header.{Header}
 use Rattle.gix_ref_packed.specs.declared.packed.decode.options.Peeled.TheVariants.{Unspecified, Partial, Fully}
 use Rattle.gix_ref_packed.specs.RecordGrammar.{Line}
 
--- what stands between the spaces
+-- what is between the spaces
 abbrev pub words : List ℕ → List (List ℕ)
 words = slice_split (λ b. b == 32)
 
@@ -14,17 +14,17 @@ abbrev pub is_word : List ℕ → List ℕ → Bool
 is_word = pointwise nat_eq
 
 -- what a word says; others are ignored
-unfoldable pub told_by : Header → List ℕ → Header
-told_by h word =
+unfoldable pub said_by : Header → List ℕ → Header
+said_by h word =
     if is_word word (codes "fully-peeled") then record h { peeled = Fully }
     else if is_word word (codes "peeled") then record h { peeled = Partial }
     else if is_word word (codes "sorted") then record h { sorted = true }
     else h
 
 -- the last word about it decides
-abbrev pub told : Header → List (List ℕ) → Header
-told h [] = h
-told h (word ∷ more) = told (told_by h word) more
+abbrev pub said : Header → List (List ℕ) → Header
+said h [] = h
+said h (word ∷ more) = said (said_by h word) more
 
 abbrev pub silent : Header
 silent = record { peeled = Unspecified; sorted = false }
@@ -35,4 +35,4 @@ pub record TakesHeader (text : List ℕ) (h : Header) (rest : List ℕ) : Type 0
   pub line : List ℕ
   pub whole : text ≡ codes "# pack-refs with: " ++ after
   pub is_line : Line after line rest
-  pub says : h ≡ told silent (words line)
+  pub says : h ≡ said silent (words line)

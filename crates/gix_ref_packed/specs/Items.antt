@@ -1,9 +1,11 @@
--- The items of packed references: records, and lines that are none with their numbers in the file.
-use Rattle.std.specs.Prelude.{◌≡◌, ◌≢◌, ◌==◌, ◌+◌, ◌-◌, ◌⊎◌, ℕ, Bool, true, false, List, [], ◌∷◌, length, take, nat_eq, Option, Some, None, Result, Ok, Err, count_by, if◌then◌else◌}
+-- The items of packed references: records, and lines that are no record, with their numbers in the file.
+use Rattle.std.specs.Prelude.{◌≡◌, ◌≢◌, ◌==◌, ◌+◌, ◌-◌, ◌⊎◌, ℕ, Bool, true, false, List, [], ◌∷◌, length, take, drop, nat_eq, Option, Some, None, Result, Ok, Err, count_by, if◌then◌else◌}
 use Rattle.std.specs.List.{starts_with, ends_with}
 use Rattle.std.specs.Option.{option_map}
 use Rattle.gix_ref_hash.specs.declared.hash.Kind.{Kind}
 use Rattle.gix_ref_hash.specs.Bytes.{Cuts, NoByte}
+use Rattle.gix_ref_packed.specs.declared.packed.buffer.Buffer.{Buffer}
+use Rattle.gix_ref_packed.specs.Buffers.{buffer_text, buffer_kind, buffer_line}
 use Rattle.gix_ref_packed.specs.declared.packed.reference.Reference.{Reference}
 use Rattle.gix_ref_packed.specs.declared.packed.iter.Iter.{Iter}
 use Rattle.gix_ref_packed.specs.declared.packed.iter.error.Error.{Error}
@@ -38,7 +40,7 @@ pub record Unread : Type 0 where
   pub number : ℕ
   pub text : List ℕ
 
--- nothing is left, or a record of another name stands there
+-- nothing is left, or a record of another name is there
 abbrev pub Ends : Unread → Type 0
 Ends s = (s.text ≡ []) ⊎ ((r : Record) × (rest : List ℕ) × Takes s.kind s.text r rest × (has_prefix s.prefix r.name ≡ false))
 
@@ -72,6 +74,19 @@ line_feeds = count_by (λ b. b == 10)
 
 abbrev pub unread : Iter → Unread
 unread it = record { kind = it.kind; prefix = option_map (λ p. p.items) it.prefix; number = it.line + line_feeds it.before.now; text = it.rest.now }
+
+-- a text whose first line has this number, with records of any name
+abbrev pub unread_text : Kind → ℕ → List ℕ → Unread
+unread_text kind number text = record { kind = kind; prefix = None; number = number; text = text }
+
+-- the records of a buffer
+abbrev pub unread_buffer : Buffer → Unread
+unread_buffer b = unread_text (buffer_kind b) (buffer_line b) (buffer_text b)
+
+-- the records of a buffer from a place on, up to the first name without the prefix
+abbrev pub unread_from : Buffer → List ℕ → ℕ → Unread
+unread_from b prefix start =
+    record { kind = buffer_kind b; prefix = Some prefix; number = buffer_line b + line_feeds (take start (buffer_text b)); text = drop start (buffer_text b) }
 
 -- one call of `next`
 abbrev pub ItemStep : Iter → Option (Result Reference Error) → Iter → Type 0

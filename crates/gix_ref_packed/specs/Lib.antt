@@ -8,6 +8,7 @@ pub mod IdDigits
 pub mod Items
 pub mod OpenFiles
 pub mod OpenedText
+pub mod Orders
 pub mod Positions
 pub mod Prefixes
 pub mod Probed

@@ -49,12 +49,12 @@ lines_of r = lines_with r.object
 abbrev pub line_count : List Record → ℕ
 line_count = sum_by lines_of
 
--- these records stand at the front of the text, and what follows them
+-- these records are at the front of the text, and what follows them
 abbrev pub Fronts : Kind → List ℕ → List Record → List ℕ → Type 0
 Fronts kind text [] rest = text ≡ rest
 Fronts kind text (r ∷ rs) rest = (after : List ℕ) × Takes kind text r after × Fronts kind after rs rest
 
--- behind some records, in the line of that number, no record stands; the first line has the number `first`
+-- behind some records, in the line of that number, no record begins; the first line has the number `first`
 pub record StuckAt (kind : Kind) (first : ℕ) (text : List ℕ) (line : ℕ) : Type 0 where
   pub before : List Record
   pub rest : List ℕ
@@ -114,7 +114,7 @@ pub record OpensTo (kind : Kind) (text kept : List ℕ) (line : ℕ) : Type 0 wh
   pub keeps : Keeps kind (says_sorted header) rest kept
   pub number : line ≡ line_behind header
 
--- a text whose records must be read, and the line of the first that is none
+-- a text whose records must be read, and the line of the first that is no record
 abbrev pub HasBadLine : Kind → List ℕ → ℕ → Type 0
 HasBadLine kind text line =
     (header : Option Header) × (rest : List ℕ) × Heads text header rest × (says_sorted header ≡ false) × StuckAt kind (line_behind header) rest line

@@ -41,7 +41,7 @@ pub record StartsRecord (text : List ℕ) (start offset : ℕ) : Type 0 where
   pub record_there : (LineOf text (length text) offset → ⊥) → RecordOf text start offset
   pub end : LineOf text (length text) offset → start ≡ 0
 
--- a name stands where a record begins
+-- a name is in a record's place at the front of the text
 abbrev pub NameAt : Kind → List ℕ → List ℕ → Type 0
 NameAt kind text name = (digits rest : List ℕ) × RecordLine kind text digits name rest
 
@@ -71,7 +71,7 @@ pub record StandsIn (kind : Kind) (text : List ℕ) (r : Record) : Type 0 where
   pub rest : List ℕ
   pub takes : Takes kind (drop start text) r rest
 
--- a line of the text that has not the form of a record: a record begins there, and no name stands in the name's place
+-- a line of the text that has not the form of a record: a record begins there, and no name is in the name's place
 pub record IsMalformed (kind : Kind) (text : List ℕ) : Type 0 where
   pub start : ℕ
   pub offset : ℕ

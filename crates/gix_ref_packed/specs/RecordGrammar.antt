@@ -18,7 +18,7 @@ Newline text rest = (text ≡ 10 ∷ rest) ⊎ (text ≡ 13 ∷ 10 ∷ rest)
 abbrev pub in_line : ℕ → Bool
 in_line b = not ((b == 10) || (b == 13))
 
--- a line without its newline, and the rest; a CR that stands alone is in no line
+-- a line without its newline, and the rest; a CR alone is in no line
 pub record Line (text line rest : List ℕ) : Type 0 where
   pub after : List ℕ
   pub cut : Spans in_line text line after
@@ -73,7 +73,7 @@ abbrev pub Forms : Kind → List ℕ → List Record → Type 0
 Forms kind text [] = text ≡ []
 Forms kind text (r ∷ rs) = (rest : List ℕ) × TakesForm kind text r rest × Forms kind rest rs
 
--- no record stands at the front of a text
+-- no record is at the front of a text
 abbrev pub NoRecord : Kind → List ℕ → Type 0
 NoRecord kind text = (r : Record) (rest : List ℕ) → Takes kind text r rest → ⊥
 

@@ -1,4 +1,4 @@
--- What a search for one full name costs, and why it has no answer.
+-- What a search for one full name costs, and why it fails.
 use Rattle.std.specs.Prelude.{ℕ, ◌+◌, ◌-◌, ◌*◌, ◌^◌, ◌<◌, ◌≤◌}
 use Rattle.gix_ref_packed.specs.declared.packed.search.SearchError.{SearchError}
 use Rattle.gix_ref_packed.specs.declared.packed.search.SearchError.TheVariants.{Read, Parse}

@@ -1,4 +1,4 @@
--- What a search in memory answers.
+-- What a search in memory returns.
 use Rattle.std.specs.Prelude.{◌≡◌, ◌≢◌, ℕ, List, [], Contains, false, Option, Some, None, Result, Ok, Err, IfOk, IfErr, IfSome, IfNone, MatchResult}
 use Rattle.std.specs.Option.{option_map}
 use Rattle.gix_ref_hash.specs.declared.hash.Kind.{Kind}
@@ -15,7 +15,7 @@ use Rattle.gix_ref_packed.specs.Positions.{StandsIn, IsNotMalformed, CannotRead,
 use Rattle.gix_ref_packed.specs.Views.{record_of}
 use Rattle.gix_ref_packed.specs.AskedNames.{asked_names, first_named, is_rooted}
 
--- What a search for one full name answers.
+-- What a search for one full name returns.
 pub record Finds {E : Type 0} (kind : Kind) (text name : List ℕ) (result : Result (Option Reference) E) : Type 0 where
   -- on any text a hit is a record of that name at the start of a line
   pub hit : IfOk result (λ found. IfSome found (λ r. (full_ref_bytes r.name ≡ name) × StandsIn kind text (record_of r)))
@@ -30,7 +30,7 @@ pub record Finds {E : Type 0} (kind : Kind) (text name : List ℕ) (result : Res
   pub forms : (rs : List Record) → Forms kind text rs → Ascending rs →
       MatchResult result (λ found. option_map record_of found ≡ record_named name rs) (λ _. IsUnreadable kind (record_named name rs))
 
--- what it answers where the name is to be made, too
+-- what it returns where the name is to be made, too
 abbrev pub FindsOne : Kind → List ℕ → List ℕ → Result (Option Reference) Error → Type 0
 FindsOne kind text name (Ok found) = Finds {E = ParseError} kind text name (Ok found)
 FindsOne kind text name (Err Parse) = (e : ParseError) × Finds kind text name (Err e)
@@ -55,7 +55,7 @@ PartialUnreadable kind rs p Parse = (n : List ℕ) × Contains (asked_names p) n
 PartialUnreadable kind rs p Memory = Unit {0}
 PartialUnreadable kind rs p (RefnameValidation error) = ⊥
 
--- What a search for a partial name answers.
+-- What a search for a partial name returns.
 pub record FindsPartial (kind : Kind) (text p : List ℕ) (result : Result (Option Reference) Error) : Type 0 where
   pub hit : IfOk result (λ found. IfSome found (λ r. HitsPartial kind text p (record_of r)))
   -- where a name is asked for, a text of malformed lines alone is never taken for one without it
@@ -68,7 +68,7 @@ pub record FindsPartial (kind : Kind) (text p : List ℕ) (result : Result (Opti
   pub forms : (rs : List Record) → Forms kind text rs → Ascending rs →
       MatchResult result (λ found. option_map record_of found ≡ first_named (asked_names p) rs) (PartialUnreadable kind rs p)
 
--- the answer of `try_find` that an answer of `find` says
+-- the result of `try_find` that a result of `find` says
 abbrev pub as_try_find : Result Reference ExistingError → Result (Option Reference) Error
 as_try_find (Ok r) = Ok (Some r)
 as_try_find (Err NotFound) = Ok None

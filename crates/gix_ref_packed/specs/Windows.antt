@@ -20,17 +20,17 @@ abbrev pub EachText : Bool → List ℕ → (List ℕ → ℕ → Type 0) → Ty
 EachText at_start window P = (text : List ℕ) (from : ℕ) → IsWindow text from window → (at_start ≡ true → from ≡ 0) → P text from
 
 -- the byte's line begins there, if it begins in the window
-abbrev pub TellsLine : Bool → List ℕ → ℕ → Option ℕ → Type 0
-TellsLine at_start window at found = IfSome found (λ start. EachText at_start window (λ text from. LineOf text (from + start) (from + at)))
+abbrev pub ShowsLine : Bool → List ℕ → ℕ → Option ℕ → Type 0
+ShowsLine at_start window at found = IfSome found (λ start. EachText at_start window (λ text from. LineOf text (from + start) (from + at)))
 
 -- the byte's record begins there, if it begins in the window
-abbrev pub TellsRecord : Bool → List ℕ → ℕ → Option ℕ → Type 0
-TellsRecord at_start window at found = IfSome found (λ start. EachText at_start window (λ text from. RecordOf text (from + start) (from + at)))
+abbrev pub ShowsRecord : Bool → List ℕ → ℕ → Option ℕ → Type 0
+ShowsRecord at_start window at found = IfSome found (λ start. EachText at_start window (λ text from. RecordOf text (from + start) (from + at)))
 
--- the name in a record's place at the front of a text, or that none stands there, if the part of it tells that; the
--- part is the at_eof text where `at_eof` holds
-abbrev pub TellsName : Kind → Bool → List ℕ → InWindow (Option (Bor (List ℕ))) → Type 0
-TellsName kind at_eof part found =
+-- the name in a record's place at the front of a text, or that no name is there, if the part of it shows that; the
+-- part is the whole text where `at_eof` holds
+abbrev pub ShowsName : Kind → Bool → List ℕ → InWindow (Option (Bor (List ℕ))) → Type 0
+ShowsName kind at_eof part found =
     IfHere found (λ name. (text : List ℕ) → part ≡ take (length part) text → (at_eof ≡ true → part ≡ text) →
     MatchOption name ((n : List ℕ) → n ≢ [] → NameAt kind text n → ⊥) (λ n. (n.now ≢ []) × NameAt kind text n.now))
 
@@ -53,7 +53,7 @@ AreFound (Some r) (Some found) = IsFound r found
 AreFound None (Some found) = ⊥
 AreFound (Some r) None = ⊥
 
--- the record at the front of a text, or that none stands there
+-- the record at the front of a text, or that no record is there
 abbrev pub FrontIs : Kind → List ℕ → Option Found → Type 0
 FrontIs kind text None = NoRecord kind text
 FrontIs kind text (Some found) = (r : Record) × (rest : List ℕ) × Takes kind text r rest × IsFound r found

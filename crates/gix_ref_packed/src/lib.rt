@@ -1,5 +1,6 @@
 //! Packed references, and references as values.
 #![tactic(auto)]
 
+pub mod laws;
 pub mod packed;
 pub mod raw;

@@ -32,7 +32,7 @@ impl Buffer {
     ghost use Rattle.gix_ref_packed.specs.Buffers.{buffer_text, buffer_kind, buffer_line, Opened, IsRefused, IsRefusedFile, IsStuck, count_open};
 
     /// Opens the file at a path, whose ids are of the kind; `None` where no file is there. `Io` where it cannot be
-    /// read, and else what `from_bytes` answers. The threshold, from which on other stores map the file into memory, has
+    /// read, and else an error of `from_bytes`. The threshold, from which on other stores map the file into memory, has
     /// no effect. The file is read once, into memory.
     pub fn open<F: Files>(
         alloc: Global,

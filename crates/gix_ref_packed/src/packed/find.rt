@@ -24,7 +24,7 @@ use thiserror::Error;
 /// How many bytes the longest of the four fronts has, `refs/remotes/`.
 const LONGEST_FRONT: usize = 13;
 
-/// Why a search for a partial name has no answer.
+/// Why a search for a partial name fails.
 #[derive(Clone, Copy, Debug, PartialEq, Eq, Error)]
 pub enum Error {
     /// The name is invalid. No call of this crate returns this: it is for callers that convert by `?`.

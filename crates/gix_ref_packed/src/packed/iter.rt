@@ -1,4 +1,4 @@
-//! The records of a `packed-refs` in the order of its lines, with the lines that are none.
+//! The records of a `packed-refs` in the order of its lines, with the lines that are no record.
 ghost use Rattle.std.specs.Prelude.{◌+◌, ◌<◌, ◌^◌, length};
 ghost use Rattle.std.specs.Iterator.{at_most};
 
@@ -33,7 +33,7 @@ impl<'a> Iter<'a> {
     ghost use Rattle.std.specs.Iterator.Runs.{EachRunFrom};
     ghost use Rattle.gix_ref_packed.specs.declared.packed.decode.options.Header.{Header};
     ghost use Rattle.gix_ref_packed.specs.OpenedText.{Heads, line_behind};
-    ghost use Rattle.gix_ref_packed.specs.Items.{ItemStep, AreItems, IsHeaderError, unread};
+    ghost use Rattle.gix_ref_packed.specs.Items.{ItemStep, AreItems, IsHeaderError, unread, unread_text};
 
     /// The records of a whole text, in the order of its lines; lines are numbered from 1, the header's too. The error,
     /// `Header`, has the first line of a text that begins with `#` and has no header.
@@ -41,7 +41,7 @@ impl<'a> Iter<'a> {
         ensures items { IfOk result (λ it. (h : Option Header) × (rest : List _)
             × Heads text.now h rest × EachRunFrom ItemStep it
             (λ run. AreItems (run.whole ≡ true)
-            (record { kind = kind; prefix = None; number = line_behind h; text = rest }) run.items)) }
+            (unread_text kind (line_behind h) rest) run.items)) }
         ensures refused { IfErr result (IsHeaderError text.now) }
     {
         let Some(heading) = read_header_end(text) else {
@@ -57,7 +57,7 @@ impl<'a> Iter<'a> {
     fn from(text: &'a [u8], kind: Kind, line: u64) -> Iter<'a>
         requires { line < 3 }
         ensures { unread result
-            ≡ record { kind = kind; prefix = None; number = line; text = text.now } }
+            ≡ unread_text kind line text.now }
     {
         Iter {
             rest: text,
@@ -114,13 +114,13 @@ impl Buffer {
     ghost use Rattle.gix_ref_packed.specs.RecordGrammar.{Records, Rising};
     ghost use Rattle.gix_ref_packed.specs.Prefixes.{records_prefixed, IsListStart};
     ghost use Rattle.gix_ref_packed.specs.Buffers.{buffer_text, buffer_kind, buffer_line};
-    ghost use Rattle.gix_ref_packed.specs.Items.{ItemStep, AreItems, AreRecords, line_feeds};
+    ghost use Rattle.gix_ref_packed.specs.Items.{ItemStep, AreItems, AreRecords, unread_buffer, unread_from};
 
     /// The records of the buffer, in the order of their names. Lines are numbered as in the file that was opened.
     pub fn iter(&self) -> Iter<'_>
         // Whatever calls of `next` follow, they give the records and the faults of the text.
         ensures items { EachRunFrom ItemStep result (λ run. AreItems (run.whole ≡ true)
-            (record { kind = buffer_kind self.now; prefix = None; number = buffer_line self.now; text = buffer_text self.now }) run.items) }
+            (unread_buffer self.now) run.items) }
 
         // Where the text is records, they give these.
         ensures records { (rs : List Record)
@@ -137,12 +137,13 @@ impl Buffer {
         // other name.
         ensures items { (start : ℕ) × IsListStart (buffer_text self.now) start
             × EachRunFrom ItemStep result (λ run. AreItems (run.whole ≡ true)
-            (record { kind = buffer_kind self.now; prefix = Some prefix.items; number = buffer_line self.now + line_feeds (take start (buffer_text self.now)); text = drop start (buffer_text self.now) }) run.items) }
+            (unread_from self.now prefix.items start) run.items) }
 
         // Where the text is records whose names do not descend, they give those of the prefix.
         ensures records { (rs : List Record)
             → Records (buffer_kind self.now) (buffer_text self.now) rs → Rising rs →
-            EachRunFrom ItemStep result (λ run. AreRecords (run.whole ≡ true) (records_prefixed prefix.items rs) run.items) }
+            EachRunFrom ItemStep result
+            (λ run. AreRecords (run.whole ≡ true) (records_prefixed prefix.items rs) run.items) }
     {
         let text = self.as_bytes();
         let start = lower_bound(text, self.kind(), prefix.as_slice());

@@ -13,7 +13,7 @@ use std::error::Error;
 use std::fmt::{self, Debug, Display, Formatter, Write};
 use std::sync::ledger::Ledger;
 
-/// Why a search has no answer.
+/// Why a search fails.
 #[derive(Debug, Drop)]
 pub enum SearchError<E> {
     /// The text could not be looked at.
@@ -33,7 +33,7 @@ impl<E: Display> Display for SearchError<E> {
 
 impl<E: Debug + Display + Drop> Error for SearchError<E> {}
 
-/// Where the record of the name begins. Each turn of the loop probed at one record, and counts that as a probe. Behind
+/// Where the record of the name begins. Each turn of the loop looks at one record, and counts that as a probe. Behind
 /// a name that is too low the search goes on at the next line.
 pub fn search<T: SearchableRecords, L: Ledger>(
     text: &mut T,
@@ -49,7 +49,7 @@ pub fn search<T: SearchableRecords, L: Ledger>(
     ensures hit { T.honest → IfOk result (λ found. IfSome found
         (HitsAt kind (T.bytes text.old) wanted.now)) }
 
-    // Where each line has the form of a record and names ascend: the line of the name, or that there is none.
+    // Where each line has the form of a record and names ascend: the line of the name, or that no line has it.
     ensures finds { T.honest → (rs : List Record) → Forms kind (T.bytes text.old) rs
         → Ascending rs →
         IfOk result (λ found. MatchOption found (record_named wanted.now rs ≡ None)

@@ -1,4 +1,4 @@
-//! Texts in whose records a search probed, wherever they lie.
+//! Texts whose records a search probes, in memory or in a file.
 ghost use Rattle.std.specs.Prelude.{◌≡◌, ◌<◌, ◌≤◌, ℕ, List, length, IfOk, IfErr};
 ghost use Rattle.gix_ref_packed.specs.Probed.{IsProbeAt};
 
@@ -30,7 +30,7 @@ pub trait SearchableRecords {
     /// What else a probe leaves as it is.
     ghost frame: { Self → List ℕ × ℕ × ℕ };
 
-    /// How many faults its probed met.
+    /// How many faults its probes met.
     ghost faults: { Self → ℕ };
 
     /// Why a probe failed.

@@ -2,6 +2,7 @@
 ghost use Rattle.std.specs.Prelude.{◌≡◌, ◌+◌, ◌-◌, ◌<◌, ◌≤◌, ◌^◌, length, take, drop, OnOk, IfOk, IfErr};
 ghost use Rattle.gix_ref_base.specs.Names.{full_ref_bytes};
 ghost use Rattle.gix_ref_packed.specs.FileSearches.{IsNoChange, FindsIn, count_read, count_find};
+ghost use Rattle.gix_ref_packed.specs.Windows.{IsWindow};
 ghost use Rattle.gix_ref_packed.specs.declared.packed.sorted_file.TheConstants.{MAX_WINDOW_DOUBLINGS};
 
 use crate::packed::probes::Probes;
@@ -94,7 +95,7 @@ pub struct SortedFile<R: ReadAt + Drop> {
     window: Vec<u8>,
     /// Where the window begins among the records.
     from: u64,
-    pub ghost window_is: { R.honest → window.items ≡ take (length window.items) (drop from (drop base (R.bytes reader))) },
+    pub ghost window_is: { R.honest → IsWindow (drop base (R.bytes reader)) from window.items },
     pub ghost fits: { from + length window.items < 2 ^ 64 },
 }
 

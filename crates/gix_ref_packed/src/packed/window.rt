@@ -6,7 +6,7 @@ ghost use Rattle.std.specs.Cmp.Lexicographic.{slice_cmp};
 ghost use Rattle.std.specs.Ordering.{nat_cmp};
 ghost use Rattle.gix_ref_packed.specs.RecordGrammar.{RecordLine};
 ghost use Rattle.gix_ref_packed.specs.Positions.{NameAt};
-ghost use Rattle.gix_ref_packed.specs.Windows.{TellsLine, TellsRecord, TellsName, IsWindow, IsFound, FrontIs};
+ghost use Rattle.gix_ref_packed.specs.Windows.{ShowsLine, ShowsRecord, ShowsName, IsWindow, IsFound, FrontIs};
 ghost use Rattle.gix_ref_packed.specs.Probed.{IsProbeAt};
 ghost use Rattle.gix_ref_packed.specs.Views.{record_of};
 
@@ -41,7 +41,7 @@ pub struct Found {
 fn line_start_in(window: &[u8], at: usize, at_start: bool) -> Option<usize>
     requires { at ≤ length window.now }
     ensures below { IfSome result (λ start. start ≤ at) }
-    ensures tells { TellsLine at_start window.now at result }
+    ensures shows { ShowsLine at_start window.now at result }
     ensures sure { at_start ≡ true → IsSome result }
 {
     match memrchr(b'\n', &window[..at]) {
@@ -55,7 +55,7 @@ fn line_start_in(window: &[u8], at: usize, at_start: bool) -> Option<usize>
 pub fn record_start_in(window: &[u8], at: usize, at_start: bool) -> Option<usize>
     requires { at < length window.now }
     ensures below { IfSome result (λ start. start ≤ at) }
-    ensures tells { TellsRecord at_start window.now at result }
+    ensures shows { ShowsRecord at_start window.now at result }
     ensures sure { at_start ≡ true → IsSome result }
 {
     let Some(line) = line_start_in(window, at, at_start) else {
@@ -94,11 +94,10 @@ fn lacks_name(part: &[u8], kind: Kind, at_eof: bool) -> bool
     }
 }
 
-/// The name at the front of a record, of which the part may be a beginning; it is the whole text where `at_eof` holds.
-/// An
+/// The name at the front of a record, of which the part may be a beginning; it is the whole text where `at_eof` holds. An
 /// empty name is no name.
 pub fn name_in(part: &[u8], kind: Kind, at_eof: bool) -> InWindow<Option<&[u8]>>
-    ensures tells { TellsName kind at_eof part.now result }
+    ensures shows { ShowsName kind at_eof part.now result }
     ensures sure { at_eof ≡ true → IsHere result }
 {
     let Some((_, name, _)) = split_record_line(part, kind) else {

@@ -1,8 +1,7 @@
 //! The text of `packed-refs` as it is written (`git pack-refs`).
 ghost use Rattle.std.specs.Prelude.{◌≡◌, ◌++◌, ◌∷◌, [], Some, map, IfOk, OnOk, OnErr};
 ghost use Rattle.gix_ref_hash.specs.Bytes.{BeginsWith};
-ghost use Rattle.std.specs.Option.{option_map};
-ghost use Rattle.gix_ref_packed.specs.Views.{record_of};
+ghost use Rattle.gix_ref_packed.specs.Views.{record_of, record_with};
 ghost use Rattle.gix_ref_base.specs.PackedRecords.{written_text, header_text, object_line, record_text};
 
 use crate::packed::reference::Reference;
@@ -50,7 +49,7 @@ fn push_lines(
     object: Option<&[u8]>,
 ) -> Result<(), AllocError>
     ensures ok { OnOk result (text.new.items ≡ text.old.items
-        ++ record_text (record { name = name.now; target = target.now; object = option_map (λ o. o.now) object.entry })) }
+        ++ record_text (record_with name.now target.now object.entry)) }
     ensures grows { BeginsWith text.new.items text.old.items }
 {
     push_line(text, name, target)?;
@@ -69,7 +68,7 @@ pub fn push_record(
     object: Option<&[u8]>,
 ) -> Result<(), AllocError>
     ensures ok { OnOk result (text.new.items ≡ text.old.items
-        ++ record_text (record { name = name.now; target = target.now; object = option_map (λ o. o.now) object.entry })) }
+        ++ record_text (record_with name.now target.now object.entry)) }
     ensures err { OnErr result (text.new.items ≡ text.old.items) }
 {
     let len = text.len();

@@ -1,15 +1,15 @@
 //! Reading the header of `packed-refs`.
 ghost use Rattle.std.specs.Prelude.{◌≡◌, ℕ, List, MatchOption, IfOk, IfErr, OnErr};
-ghost use Rattle.gix_ref_packed.specs.HeaderGrammar.{told_by, told, silent, words, TakesHeader};
+ghost use Rattle.gix_ref_packed.specs.HeaderGrammar.{said_by, said, silent, words, TakesHeader};
 
 use crate::packed::decode::options::{Header, Peeled};
 use crate::packed::lines::take_line;
 use gix_ref_hash::bytes::{cut, strip_front};
 
 /// What a word adds.
-#[tactic(auto, unfolding(crate::specs::HeaderGrammar::told_by))]
+#[tactic(auto, unfolding(crate::specs::HeaderGrammar::said_by))]
 fn with_word(header: Header, word: &[u8]) -> Header
-    ensures { result ≡ told_by header word.now }
+    ensures { result ≡ said_by header word.now }
 {
     if word == b"fully-peeled".as_slice() {
         Header {
@@ -33,7 +33,7 @@ fn with_word(header: Header, word: &[u8]) -> Header
 
 /// What the words of a line say.
 fn header_of(line: &[u8]) -> Header
-    ensures { result ≡ told silent (words line.now) }
+    ensures { result ≡ said silent (words line.now) }
 {
     let mut header = Header {
         peeled: Peeled::Unspecified,

@@ -1,5 +1,5 @@
 //! What the header of `packed-refs` says (`git pack-refs`).
-/// Which records tell the object that a tag ends at.
+/// Which records name the object that a tag ends at.
 #[derive(Clone, Copy, Debug, PartialEq, Eq)]
 pub enum Peeled {
     /// The header says nothing of it.
@@ -13,7 +13,7 @@ pub enum Peeled {
 /// What the header says.
 #[derive(Clone, Copy, Debug, PartialEq, Eq)]
 pub struct Header {
-    /// Which records tell the object that a tag ends at.
+    /// Which records name the object that a tag ends at.
     pub peeled: Peeled,
     /// Whether the records are sorted by name.
     pub sorted: bool,

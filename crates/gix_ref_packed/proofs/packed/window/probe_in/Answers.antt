@@ -23,10 +23,10 @@ returns-clause-probed c = λ text is last.
     let below = c.in-Some.ensures.below in
     let inside = c.requires.inside in
     let low : start ≤ length w = omega arith in
-    let tells = rw take_rest at c.in-Here.ensures.tells in
-    let name = tells (drop (from + start) text) (part_is text w from start is low) (λ e. whole_part text w from start is low (last e)) in
+    let shows = rw take_rest at c.in-Here.ensures.shows in
+    let name = shows (drop (from + start) text) (part_is text w from start is low) (λ e. whole_part text w from start is low (last e)) in
     record {
-      record_of = c.in-Some.ensures.tells text from is (eqb-true from 0);
+      record_of = c.in-Some.ensures.shows text from is (eqb-true from 0);
       order = subst (Compares c.args.kind (drop (from + start) text) c.args.wanted.now) (sym c.order_of-order.ensures) (ordered c.args.kind (drop (from + start) text) c.args.wanted.now c.in-Here.name name);
       line = same_line_in text w from c.args.at c.next_place.result is c.next_place.ensures.within c.next_place.ensures.line;
     }
