@@ -2,6 +2,8 @@ pub mod Appending
 pub mod CandidateNames
 pub mod CandidateRows
 pub mod CategoryLemmas
+pub mod DeviceLemmas
+pub mod DeviceRows
 pub mod Expanding
 pub mod FrontLemmas
 pub mod LocationLemmas

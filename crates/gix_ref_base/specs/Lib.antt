@@ -1,5 +1,6 @@
 pub mod Candidates
 pub mod Categories
+pub mod DeviceNames
 pub mod Layout
 pub mod Locations
 pub mod NameGrammar

@@ -9,6 +9,7 @@ use std::alloc::{AllocError, Global};
 pub mod candidates;
 mod category;
 mod convert;
+pub mod device;
 mod error;
 mod grammar;
 

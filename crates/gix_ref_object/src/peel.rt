@@ -1,0 +1,166 @@
+//! From a tag to the object that it is of (`gitrevisions`, `<rev>^{}`).
+ghost use Rattle.std.specs.Prelude.{◌≡◌, ◌≤◌, ℕ, suc};
+ghost use Rattle.gix_ref_object.specs.Peeling.{id_of_hex as id_with_digits, tag_target as target_of, peel, step, Peeled, PeelsTo, Continues, TagTo, Chain, IsNoTag};
+ghost use Rattle.gix_ref_object.specs.Peeling.Peeled.{End, TooLong};
+ghost use Rattle.gix_ref_object.specs.Objects.{Stored};
+ghost use Rattle.gix_ref_hash.specs.declared.hash.ObjectId.{ObjectId};
+
+use crate::object::{Find, FindError, Kind};
+use gix_ref_hash::bytes::strip_front;
+use gix_ref_hash::hash::{self, ObjectId};
+use std::alloc::Global;
+use thiserror::Error;
+
+/// Why the object that a tag is of could not be found.
+#[derive(Clone, Copy, Debug, PartialEq, Eq, Error)]
+pub enum PeelError {
+    #[error("an object could not be read")]
+    Find,
+    #[error("there is no object {oid}, or it is a tag that names no object")]
+    NotFound { oid: ObjectId },
+    #[error("there are more than 1000 tags in a row")]
+    TagChainTooLong,
+    #[error("there was no memory for an object")]
+    Memory,
+}
+
+/// The id of the kind with these hex digits, of either case.
+fn id_of_hex(kind: hash::Kind, digits: &[u8]) -> Option<ObjectId>
+    ensures { result ≡ id_with_digits kind digits.now }
+{
+    if digits.len() != kind.len_in_hex() {
+        return None;
+    }
+    ObjectId::from_hex(digits)
+}
+
+/// The id that the front of a tag names: `object `, the hex digits of an id of the kind, and LF (`git mktag`). `None` for
+/// bytes with another front.
+pub fn tag_target(kind: hash::Kind, bytes: &[u8]) -> Option<ObjectId>
+    ensures { result ≡ target_of kind bytes.now }
+{
+    let Some(rest) = strip_front(bytes, b"object ") else {
+        return None;
+    };
+    let len = kind.len_in_hex();
+    if rest.len() <= len || rest[len] != b'\n' {
+        return None;
+    }
+    id_of_hex(kind, &rest[..len])
+}
+
+/// The target of the tag with this id, or `None` where the object is no tag. The errors are those of `peel_to_end`.
+fn next_of<T: Find>(
+    finder: &T,
+    id: ObjectId,
+    buf: &mut Vec<u8>,
+) -> Result<Option<ObjectId>, PeelError>
+    ensures { T.claims finder.now → (more : ObjectId → Peeled)
+        → Continues id more (step id more (T.meaning finder.now id)) result }
+{
+    let found = match finder.try_find(&id, buf) {
+        Ok(Some(found)) => found,
+        Ok(None) => return Err(PeelError::NotFound { oid: id }),
+        Err(FindError::Failed) => return Err(PeelError::Find),
+        Err(FindError::Memory) => return Err(PeelError::Memory),
+    };
+    if found.kind != Kind::Tag {
+        return Ok(None);
+    }
+    match tag_target(id.kind(), found.bytes) {
+        Some(target) => Ok(Some(target)),
+        None => Err(PeelError::NotFound { oid: id }),
+    }
+}
+
+/// The object behind the tags that begin at this id: the id itself where its object is no tag (`git rev-parse ID^{}`). It
+/// looks at 1,000 tags at the most, over one buffer, which grows to the largest of them.
+///
+/// `NotFound` names an id that has no object, or whose object is a tag that does not begin with `object `, the hex digits
+/// of an id and LF. `TagChainTooLong` comes of more than 1,000 tags in a row, as of a tag that names itself, `Find` of an
+/// object that could not be read, and `Memory` says that there was no memory for an object.
+pub fn peel_to_end<T: Find>(alloc: Global, finder: &T, id: ObjectId) -> Result<ObjectId, PeelError>
+    ensures { T.claims finder.now → PeelsTo (peel (T.meaning finder.now) 1000 id) result }
+{
+    let mut buf = Vec::new(alloc);
+    let mut at = id;
+    for _ in 0..1001u16 {
+        match next_of(finder, at, &mut buf) {
+            Ok(Some(target)) => at = target,
+            Ok(None) => return Ok(at),
+            Err(error) => return Err(error),
+        }
+    }
+    Err(PeelError::TagChainTooLong)
+}
+
+/// Where a chain of tags ends, of which so many are followed: tags up to that number lead to the object behind them,
+/// and one more is too many, as is a tag that names itself.
+pub fn ends_of_chains()
+    ensures end { (meaning : ObjectId → Stored) (tags n : ℕ) (id end : ObjectId) → n ≤ tags
+        → Chain meaning n id end → IsNoTag (meaning end) → peel meaning tags id ≡ End end }
+    ensures too_long { (meaning : ObjectId → Stored) (tags : ℕ) (id last : ObjectId)
+        → Chain meaning (suc tags) id last → peel meaning tags id ≡ TooLong }
+    ensures itself { (meaning : ObjectId → Stored) (tags : ℕ) (id : ObjectId)
+        → TagTo meaning id id → peel meaning tags id ≡ TooLong }
+{}
+
+#[cfg(test)]
+mod tests {
+    use super::*;
+    use crate::object::{Data, Never};
+    use std::test::Fail;
+
+    /// A tag under the null id, which names itself, and a commit under any other id.
+    #[derive(Drop)]
+    struct Ring;
+
+    impl Find for Ring {
+        ghost use Rattle.gix_ref_object.specs.Objects.Stored.{Absent};
+
+        ghost meaning = { λ _ id. Absent };
+
+        ghost claims = { λ _. ⊥ };
+
+        fn try_find<'b>(
+            &self,
+            id: &ObjectId,
+            buf: &'b mut Vec<u8>,
+        ) -> Result<Option<Data<'b>>, FindError> {
+            buf.clear();
+            if buf
+                .extend_from_slice(b"object 0000000000000000000000000000000000000000\ntype tag\n")
+                .is_err()
+            {
+                return Err(FindError::Memory);
+            }
+            Ok(Some(Data {
+                kind: if id.is_null() {
+                    Kind::Tag
+                } else {
+                    Kind::Commit
+                },
+                bytes: buf.as_slice(),
+                object_hash: id.kind(),
+            }))
+        }
+    }
+
+    #[test]
+    fn peels(rt: HostRuntime) -> Result<(), Fail> {
+        let alloc = rt.alloc();
+        let null = ObjectId::null(hash::Kind::Sha1);
+        let other = ObjectId::Sha1([7; 20]);
+        assert_eq!(rt;
+            peel_to_end(alloc, &Never, null),
+            Err(PeelError::NotFound { oid: null })
+        );
+        assert_eq!(rt;
+            peel_to_end(alloc, &Ring, null),
+            Err(PeelError::TagChainTooLong)
+        );
+        let boxed: Box<dyn Find> = Box::new(alloc, Ring)?;
+        assert_eq!(rt; peel_to_end(alloc, &boxed, other), Ok(other));
+        Ok(())
+    }
+}
