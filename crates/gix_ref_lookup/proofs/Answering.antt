@@ -1,5 +1,6 @@
 -- What a loose file and a record say as an answer of a lookup.
-use Rattle.std.proofs.Common.{◌≡◌, ◌≢◌, ℕ, ◌*◌, ◌==◌, List, Option, Some, None, Bool, true, false, if◌then◌else◌, length, refl, sym, ◌∙◌, ap, subst, arith}
+use Rattle.std.proofs.Common.{◌≡◌, ◌≢◌, ℕ, ◌*◌, ◌==◌, ◌&&◌, List, [], ◌∷◌, ◌++◌, append_assoc, Option, Some, None, Bool, true, false, if◌then◌else◌, length, refl, sym, ◌∙◌, ap, subst, arith}
+use Rattle.std.specs.List.{list_any}
 use Rattle.hex.specs.Hex.{decode_of}
 use Rattle.hex.proofs.HexLemmas.{decode_of-ok}
 use Rattle.gix_ref_hash.specs.Ids.{ReadsId, id_bytes, id_kind, kind_len}
@@ -9,27 +10,34 @@ use Rattle.gix_ref_hash.specs.declared.hash.Kind.{Kind}
 use Rattle.gix_ref_base.specs.PackedRecords.{Record, record_named, id_read, id_in, id_with}
 use Rattle.gix_ref_base.specs.Targets.{TargetValue, stripped_target, target_value}
 use Rattle.gix_ref_base.specs.Targets.TargetValue.{object_id, symbolic_name}
-use Rattle.gix_ref_theory.specs.Readings.{Store, as_read, reading_of_loose, reading_of_record, reading_of_id}
-use Rattle.gix_ref_theory.specs.Readings.Reading.{Is}
-use Rattle.gix_ref_theory.specs.Lookups.{peeled_of, peeled_in}
+use Rattle.gix_ref_theory.specs.Readings.{Store, as_read, reading_among, reading_by, reading_of_loose, reading_of_record, reading_of_id}
+use Rattle.gix_ref_theory.specs.Readings.Reading.{Is, Fault}
+use Rattle.gix_ref_theory.specs.Lookups.{peeled_of, peeled_in, hit_name, hit_peeled}
+use Rattle.gix_ref_theory.specs.Views.{View}
+use Rattle.gix_ref_packed.specs.declared.raw.Reference.{Reference}
+use Rattle.gix_ref_base.specs.Names.{full_bytes}
+use Rattle.gix_ref_base.specs.declared.name.FullName.{FullName}
+use Rattle.gix_ref_base.specs.declared.target.Target.{Target}
+use Rattle.gix_ref_base.specs.DeviceNames.{is_device}
+use Rattle.gix_ref_lookup.specs.Lookups.{IsLooseTarget, IsCandidate, IsByRecord}
 use Rattle.gix_ref_packed.specs.Windows.{AreFound, IsFound, ReadsOption}
 use Rattle.gix_ref_packed.specs.declared.packed.window.Found.{Found}
-use Rattle.gix_ref_base.specs.Layout.{Layout}
-use Rattle.gix_ref_lookup.specs.StoreLayout.{loose_alone}
+use Rattle.gix_ref_base.specs.Layout.{Layout, LiesIn, below}
+use Rattle.gix_ref_lookup.specs.StoreLayout.{git_options}
 use Rattle.gix_ref_lookup.specs.LooseText.{HoldsTarget}
 use Rattle.gix_ref_lookup.proofs.LooseLemmas.{held_is}
 use Rattle.gix_ref_theory.specs.ConcreteStore.{store_of}
 
 -- a target as it is read is the one less the namespace
-read_as : (f : Layout) (kind : Kind) (t : TargetValue) → as_read (store_of f (loose_alone kind)) t ≡ stripped_target f.namespace t
-read_as f kind (object_id id) = refl
-read_as f kind (symbolic_name name) = refl
+read_as : (f : Layout) (kind : Kind) (p : Bool) (t : TargetValue) → as_read (store_of f (git_options kind p)) t ≡ stripped_target f.namespace t
+read_as f kind p (object_id id) = refl
+read_as f kind p (symbolic_name name) = refl
 
 -- the reading by a text that holds a target
-pub holds_reading : (f : Layout) (kind : Kind) (text : List ℕ) (held target : TargetValue) → HoldsTarget kind text held → target ≡ stripped_target f.namespace held →
-    let s = store_of f (loose_alone kind) in reading_of_loose s (s.target_of text) ≡ Is target
-holds_reading f kind text held target holds less =
-    ap (reading_of_loose (store_of f (loose_alone kind))) (held_is kind text held holds) ∙ ap Is (read_as f kind held ∙ sym less)
+pub holds_reading : (f : Layout) (kind : Kind) (p : Bool) (text : List ℕ) (held target : TargetValue) → HoldsTarget kind text held → target ≡ stripped_target f.namespace held →
+    let s = store_of f (git_options kind p) in reading_of_loose s (s.target_of text) ≡ Is target
+holds_reading f kind p text held target holds less =
+    ap (reading_of_loose (store_of f (git_options kind p))) (held_is kind text held holds) ∙ ap Is (read_as f kind p held ∙ sym less)
 
 -- digits that are read as an id
 pub digits_read : (digits : List ℕ) (id : ObjectId) → ReadsId digits id → id_read digits ≡ Some id
@@ -59,3 +67,39 @@ found_peeled None found is = absurd is
 pub found_none : (record_there : Option Record) → AreFound record_there None → record_there ≡ None
 found_none None is = refl
 found_none (Some r) is = absurd is
+
+-- a candidate by its loose file
+pub loose_candidate : (s : Store) (view : View) (rs : List Record) (name : List ℕ) (n : FullName) (target : Target) →
+    s.is_prohibited (s.place name) ≡ false → IsLooseTarget s (view (s.place name)) (Some target) → full_bytes n ≡ name →
+    (full_bytes n ≡ hit_name s name (s.key name) (view (s.place name)))
+    × (reading_among s view rs name ≡ Is (target_value target))
+    × (None ≡ hit_peeled (s.key name) (view (s.place name)) rs)
+loose_candidate s view rs name n target allowed loose named = (
+  named ∙ ap (hit_name s name (s.key name)) (sym loose.1),
+  ap (λ b. if b then Fault else reading_by s (s.key name) (view (s.place name)) rs) allowed ∙ (ap (λ file. reading_by s (s.key name) file rs) loose.1 ∙ loose.2),
+  ap (λ file. hit_peeled (s.key name) file rs) (sym loose.1),
+)
+
+-- and by its record
+pub packed_candidate : (s : Store) (view : View) (rs : List Record) (name : List ℕ) (found : Option Reference) →
+    s.is_prohibited (s.place name) ≡ false → view (s.place name) ≡ None → IsByRecord s rs name found → IsCandidate s view rs name found
+packed_candidate s view rs name None allowed absent by =
+    ap (λ b. if b then Fault else reading_by s (s.key name) (view (s.place name)) rs) allowed ∙ (ap (λ file. reading_by s (s.key name) file rs) absent ∙ by)
+packed_candidate s view rs name (Some r) allowed absent by = (
+  by.0 ∙ ap (hit_name s name (s.key name)) (sym absent),
+  ap (λ b. if b then Fault else reading_by s (s.key name) (view (s.place name)) rs) allowed ∙ (ap (λ file. reading_by s (s.key name) file rs) absent ∙ by.1),
+  by.2 ∙ ap (λ file. hit_peeled (s.key name) file rs) (sym absent),
+)
+
+-- the devices of a path, where they are prohibited
+pub any_device : (p : Bool) (parts : List (List ℕ)) → list_any (λ (part : List ℕ). p && is_device part) parts ≡ (p && list_any is_device parts)
+any_device true parts = refl
+any_device false [] = refl
+any_device false (part ∷ parts) = any_device false parts
+
+-- a path below a folder
+pub below_true : (folder path rest : List ℕ) → path ≡ below folder rest → path ≡ below folder [] ++ rest
+below_true folder path rest is = is ∙ sym (append_assoc folder (47 ∷ []) rest)
+
+pub below_false : (folder path : List ℕ) → (LiesIn path folder → ⊥) → (rest : List ℕ) → path ≢ below folder [] ++ rest
+below_false folder path apart rest is = apart (rest, is ∙ append_assoc folder (47 ∷ []) rest)

@@ -1,5 +1,5 @@
 -- What an opened `packed-refs` holds.
-use Rattle.std.proofs.Common.{◌≡◌, ◌≢◌, ◌⊎◌, inl, inr, ⊎_elim, ℕ, ◌+◌, ◌-◌, ◌^◌, nat_lt, Bool, if◌then◌else◌, List, Option, Some, None, Result, Ok, Err, IfErr, true, false, refl, sym, ◌∙◌, ap, subst, arith}
+use Rattle.std.proofs.Common.{◌≡◌, ◌≢◌, ◌⊎◌, inl, inr, ⊎_elim, ℕ, ◌+◌, ◌-◌, ◌^◌, nat_lt, Bool, if◌then◌else◌, List, Option, Some, None, [], ◌∷◌, length, Result, Ok, Err, IfOk, IfErr, IfSome, true, false, refl, sym, ◌∙◌, ap, subst, arith}
 use Rattle.gix_ref_hash.specs.declared.hash.Kind.{Kind}
 use Rattle.gix_ref_base.specs.PackedRecords.{Record}
 use Rattle.gix_ref_files.specs.Tree.{Content, is_file, bytes_of}
@@ -7,7 +7,7 @@ use Rattle.gix_ref_files.specs.Tree.Content.{File, Folder}
 use Rattle.gix_ref_files.specs.declared.files.ReadAt.{Ghosts}
 use Rattle.gix_ref_theory.specs.OnRealTrees.{file_of}
 use Rattle.gix_ref_packed.specs.declared.packed.file.PackedFile.{PackedFile}
-use Rattle.gix_ref_packed.specs.Buffers.{HoldsRecords, IsRefusedFile}
+use Rattle.gix_ref_packed.specs.Buffers.{HoldsRecords, IsRefusedFile, IsRefusedBytes}
 use Rattle.gix_ref_packed.specs.OpenFiles.{OpenedFile, CountsRefusal, HasReadFault, FailsFindByRead, packed_file_text}
 use Rattle.gix_ref_packed.specs.FileSearches.{FailsIn}
 use Rattle.gix_ref_packed.specs.Positions.{CannotRead}
@@ -16,7 +16,16 @@ use Rattle.gix_ref_packed.specs.declared.packed.sorted_file.FindError.TheVariant
 use Rattle.gix_ref_packed.specs.declared.packed.sorted_file.ReadError.TheVariants as reading
 use Rattle.std.proofs.lemmas.Bool.{ltb-false}
 use Rattle.gix_ref_packed.proofs.WellFormedLemmas.{opened_file_holds}
-use Rattle.gix_ref_lookup.specs.Lookups.{ArePackedRecords, IsNotPacked, of_opening, of_search, as_found}
+use Rattle.gix_ref_lookup.specs.Lookups.{ArePackedRecords, AreAsked, IsSearched, IsReady, OfSearched, IsHitOfKey, IsRecordIn, IsNotPacked, IsFaultOrMemory, of_opening, of_search, as_found}
+use Rattle.gix_ref_lookup.specs.declared.find.records.Records.{Records as Asked}
+use Rattle.gix_ref_lookup.specs.declared.find.records.Records.TheVariants as sources
+use Rattle.gix_ref_packed.specs.declared.raw.Reference.{Reference}
+use Rattle.gix_ref_packed.specs.OpenedText.{Fronts, PackedText}
+use Rattle.gix_ref_packed.specs.declared.packed.decode.options.Header.{Header}
+use Rattle.gix_ref_packed.specs.RecordGrammar.{Records, Takes, NoRecord}
+use Rattle.gix_ref_packed.proofs.OneReading.{same_record}
+use Rattle.gix_ref_packed.proofs.ReadBack.{same_heading}
+use Rattle.gix_ref_packed.proofs.RecordPlaces.{shorter_record}
 use Rattle.gix_ref_lookup.specs.declared.find.error.Error.{Error}
 use Rattle.gix_ref_lookup.specs.declared.find.error.Error.TheVariants.{RefnameValidation, ReadFileContents, ReferenceCreation, PackedRef, PackedOpen, Memory}
 use Rattle.gix_ref_packed.specs.declared.packed.find.Error.TheVariants as parse
@@ -62,16 +71,80 @@ not_searched honest faults unreadable kind text name (Err Parse) refused failed 
 
 -- where less is known, more may be why
 pub not_packed_wider : (honest honest' fault fault' unreadable unreadable' : Type 0) (refused refused' : OpenError → Type 0) (error : Error) →
-    (honest' → honest) → (fault → fault') → (unreadable → unreadable') → ((e : OpenError) → refused e → refused' e) →
+    (honest' → honest) → (fault → fault') → (honest' → unreadable → unreadable') → (honest' → (e : OpenError) → refused e → refused' e) →
     IsNotPacked honest fault unreadable refused error → IsNotPacked honest' fault' unreadable' refused' error
 not_packed_wider honest honest' fault fault' unreadable unreadable' refused refused' (PackedOpen (Io e)) h f u r why = λ k. let w = why (h k) in (w.0, f w.1)
-not_packed_wider honest honest' fault fault' unreadable unreadable' refused refused' (PackedOpen HeaderParsing) h f u r why = λ k. r HeaderParsing (why (h k))
-not_packed_wider honest honest' fault fault' unreadable unreadable' refused refused' (PackedOpen (Iter line)) h f u r why = λ k. r (Iter line) (why (h k))
+not_packed_wider honest honest' fault fault' unreadable unreadable' refused refused' (PackedOpen HeaderParsing) h f u r why = λ k. r k HeaderParsing (why (h k))
+not_packed_wider honest honest' fault fault' unreadable unreadable' refused refused' (PackedOpen (Iter line)) h f u r why = λ k. r k (Iter line) (why (h k))
 not_packed_wider honest honest' fault fault' unreadable unreadable' refused refused' (PackedOpen open_memory) h f u r why = absurd why
-not_packed_wider honest honest' fault fault' unreadable unreadable' refused refused' (PackedRef parse.Parse) h f u r why = λ k. u (why (h k))
+not_packed_wider honest honest' fault fault' unreadable unreadable' refused refused' (PackedRef parse.Parse) h f u r why = λ k. u k (why (h k))
 not_packed_wider honest honest' fault fault' unreadable unreadable' refused refused' (PackedRef parse.Memory) h f u r why = absurd why
 not_packed_wider honest honest' fault fault' unreadable unreadable' refused refused' (PackedRef (parse.RefnameValidation e)) h f u r why = absurd why
 not_packed_wider honest honest' fault fault' unreadable unreadable' refused refused' Memory h f u r why = tt
 not_packed_wider honest honest' fault fault' unreadable unreadable' refused refused' (RefnameValidation e) h f u r why = absurd why
 not_packed_wider honest honest' fault fault' unreadable unreadable' refused refused' (ReadFileContents e path) h f u r why = absurd why
 not_packed_wider honest honest' fault fault' unreadable unreadable' refused refused' (ReferenceCreation e path) h f u r why = absurd why
+
+-- behind some of the records of a text there is a record, or nothing
+not_stuck : (kind : Kind) (text rest : List ℕ) (before rs : List Record) → Fronts kind text before rest → Records kind text rs → rest ≢ [] → NoRecord kind rest → ⊥
+not_stuck kind text rest [] [] fronts are some bad = some (sym fronts ∙ are)
+not_stuck kind text rest [] (r ∷ rs) fronts are some bad = bad r are.0 (subst (λ (t : List ℕ). Takes kind t r are.0) fronts are.1)
+not_stuck kind text rest (b ∷ before) [] fronts are some bad =
+    let less = shorter_record kind text b fronts.0 fronts.1 in
+    let none : length text ≡ 0 = ap length are in omega arith
+not_stuck kind text rest (b ∷ before) (r ∷ rs) fronts are some bad =
+    let same = same_record kind text b fronts.0 r are.0 fronts.1 are.1 in
+    not_stuck kind fronts.0 rest before rs fronts.2 (subst (λ (t : List ℕ). Records kind t rs) (sym same.1) are.2) some bad
+
+-- a well-formed text is opened, but for a fault or want of memory
+opens_bytes : (kind : Kind) (bytes : List ℕ) (h : Option Header) (rs : List Record) (error : OpenError) → PackedText kind bytes h rs → IsRefusedBytes kind bytes error →
+    IsFaultOrMemory (of_opening error)
+opens_bytes kind bytes h rs (Io fault) text refused = tt
+opens_bytes kind bytes h rs open_memory text refused = tt
+opens_bytes kind bytes h rs HeaderParsing text refused = absurd (refused h text.0 text.1)
+opens_bytes kind bytes h rs (Iter line) text refused =
+    let same = same_heading bytes refused.0 h refused.1 text.0 refused.2 text.1 in
+    let stuck = refused.4 in
+    absurd (not_stuck kind refused.1 stuck.rest stuck.before rs stuck.fronts (subst (λ (t : List ℕ). Records kind t rs) (sym same.1) text.2) stuck.some stuck.bad)
+
+pub opens_sound : (kind : Kind) (content : Option Content) (rs : List Record) (error : OpenError) → ArePackedRecords kind (file_of content) rs → IsRefusedFile kind content error →
+    IsFaultOrMemory (of_opening error)
+opens_sound kind (Some (File bytes)) rs error are refused = opens_bytes kind bytes are.0 rs error are.1.whole refused
+opens_sound kind (Some Folder) rs error are refused = opens_bytes kind [] None [] error ([], (refl, tt), refl) refused
+opens_sound kind None rs error are refused = opens_bytes kind [] None [] error ([], (refl, tt), refl) refused
+
+-- what is searched, from a source that is open to one that was not yet
+pub searched_wider : {R : Type 0} {G : Ghosts R} (kind : Kind) (f f' : Option (List ℕ)) (r r' : Asked R G) (P : Kind → List ℕ → Type 0) →
+    ((k : Kind) (text : List ℕ) → IsSearched kind f r k text → IsSearched kind f' r' k text) → OfSearched kind f r P → OfSearched kind f' r' P
+searched_wider kind f f' r r' P wider o = record { of_kind = o.of_kind; text = o.text; searched = wider o.of_kind o.text o.searched; has = o.has }
+
+pub hit_wider : {R : Type 0} {G : Ghosts R} (kind : Kind) (f f' : Option (List ℕ)) (r r' : Asked R G) (namespace key : List ℕ) (x : Reference) →
+    ((k : Kind) (text : List ℕ) → IsSearched kind f r k text → IsSearched kind f' r' k text) → IsHitOfKey kind f r namespace key x → IsHitOfKey kind f' r' namespace key x
+hit_wider kind f f' r r' namespace key x wider hit =
+    record { name = hit.name; searched = searched_wider kind f f' r r' (λ k text. IsRecordIn k text key x) wider hit.searched }
+
+-- carried through an answer
+pub if_ok : {X E : Type 0} {P Q : X → Type 0} (r : Result X E) → ((x : X) → P x → Q x) → IfOk r P → IfOk r Q
+if_ok (Ok x) wider holds = wider x holds
+if_ok (Err e) wider holds = holds
+
+pub if_err : {X E : Type 0} {P Q : E → Type 0} (r : Result X E) → ((e : E) → P e → Q e) → IfErr r P → IfErr r Q
+if_err (Ok x) wider holds = holds
+if_err (Err e) wider holds = wider e holds
+
+pub if_some : {X : Type 0} {P Q : X → Type 0} (r : Option X) → ((x : X) → P x → Q x) → IfSome r P → IfSome r Q
+if_some None wider holds = holds
+if_some (Some x) wider holds = wider x holds
+
+-- an open source holds its records whatever the file of `packed-refs` is
+pub ready_asked : {R : Type 0} {G : Ghosts R} (kind : Kind) (f f' : Option (List ℕ)) (r : Asked R G) (rs : List Record) → IsReady r → AreAsked kind f r rs → AreAsked kind f' r rs
+ready_asked kind f f' sources.None rs ready are = are
+ready_asked kind f f' (sources.Held buffer) rs ready are = are
+ready_asked kind f f' sources.Unopened rs ready are = absurd ready
+ready_asked kind f f' (sources.Open file) rs ready are = are
+
+pub ready_searched : {R : Type 0} {G : Ghosts R} (kind : Kind) (f f' : Option (List ℕ)) (r : Asked R G) (k : Kind) (text : List ℕ) → IsReady r → IsSearched kind f r k text → IsSearched kind f' r k text
+ready_searched kind f f' sources.None k text ready are = are
+ready_searched kind f f' (sources.Held buffer) k text ready are = are
+ready_searched kind f f' sources.Unopened k text ready are = absurd ready
+ready_searched kind f f' (sources.Open file) k text ready are = are

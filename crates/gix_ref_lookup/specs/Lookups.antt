@@ -9,7 +9,7 @@ use Rattle.gix_ref_base.specs.Targets.TargetValue.{object_id}
 use Rattle.gix_ref_base.specs.declared.target.Target.{Target}
 use Rattle.gix_ref_base.specs.PackedRecords.{Record, record_named}
 use Rattle.gix_ref_files.specs.Files.{HasRisen, Meaning}
-use Rattle.gix_ref_files.specs.Tree.{Content}
+use Rattle.gix_ref_files.specs.Tree.{Tree}
 use Rattle.gix_ref_files.specs.declared.files.FileError.TheVariants.{Device, Memory as no_memory}
 use Rattle.std.specs.declared.io.ErrorKind.TheVariants.{InvalidData}
 use Rattle.gix_ref_files.specs.declared.files.ReadAt.{Ghosts}
@@ -30,10 +30,11 @@ use Rattle.gix_ref_packed.specs.declared.packed.sorted_file.ReadError.TheVariant
 use Rattle.gix_ref_packed.specs.declared.packed.find.Error.TheVariants.{Parse}
 use Rattle.gix_ref_packed.specs.declared.raw.Reference.{Reference}
 use Rattle.gix_ref_packed.specs.OpenedText.{IsWellFormed, OpensTo}
-use Rattle.gix_ref_packed.specs.OpenFiles.{packed_file_text, packed_file_kind}
+use Rattle.gix_ref_packed.specs.OpenFiles.{HasReadFault, packed_file_text, packed_file_kind}
 use Rattle.gix_ref_packed.specs.Buffers.{buffer_text, buffer_kind, HoldsRecords, IsRefusedFile}
 use Rattle.gix_ref_packed.specs.Windows.{HitsRecord}
-use Rattle.gix_ref_lookup.specs.StoreLayout.{folders_of, loose_alone}
+use Rattle.gix_ref_packed.specs.Positions.{CannotRead}
+use Rattle.gix_ref_lookup.specs.StoreLayout.{folders_of, git_options, namespace_text}
 use Rattle.gix_ref_lookup.specs.LooseFiles.{IsUndecodable}
 use Rattle.gix_ref_lookup.specs.declared.settings.Settings.{Settings}
 use Rattle.gix_ref_lookup.specs.declared.find.records.Records.{Records}
@@ -44,7 +45,7 @@ use Rattle.gix_ref_lookup.specs.declared.find.error.Error.TheVariants.{RefnameVa
 
 -- where a store with these settings keeps names, and what it reads
 abbrev pub meaning_in : Settings → Store
-meaning_in s = store_of (folders_of s.dirs.now s.namespace.now) (loose_alone s.kind)
+meaning_in s = store_of (folders_of s.dirs.now s.namespace.now) (git_options s.kind s.prohibit_windows_device_names)
 
 -- the bytes of `packed-refs`, if there is such a file
 abbrev pub packed_refs_in : Settings → Meaning → Option (List ℕ)
@@ -130,11 +131,13 @@ abbrev pub IsLooseTarget : Store → Option (List ℕ) → Option Target → Typ
 IsLooseTarget s file None = file ≡ None
 IsLooseTarget s file (Some target) = (bytes : List ℕ) × (file ≡ Some bytes) × (reading_of_loose s (s.target_of bytes) ≡ Is (target_value target))
 
--- Why the loose file of a candidate gives no target: it could not be read, only where the count of faults rose; it holds
--- none, with the reason; no memory.
+-- Why the loose file of a candidate gives no target: it could not be read, only where the count of faults rose; its path has
+-- the name of a device, and the store prohibits these; it holds none, with the reason; no memory.
 abbrev pub IsNotRead : (honest : Type 0) → Kind → Store → View → (before now : ℕ) → List ℕ → Error → Type 0
 IsNotRead honest kind s view before now name (ReadFileContents (File source) path) =
     HasRisen before now × (source ≢ no_memory) × (path.items ≡ s.place name)
+IsNotRead honest kind s view before now name (ReadFileContents DeviceName path) =
+    (s.is_prohibited (s.place name) ≡ true) × (path.items ≡ s.place name)
 IsNotRead honest kind s view before now name (ReferenceCreation source path) =
     (path.items ≡ name) × (honest → IsUndecodable kind (view (s.place name)) source)
 IsNotRead honest kind s view before now name Memory = Unit {0}
@@ -158,7 +161,7 @@ pub record IsRecordIn (kind : Kind) (text key : List ℕ) (r : Reference) : Type
 -- and it has the name less the namespace
 pub record IsHitOfKey {R : Type 0} {G : Ghosts R} (kind : Kind) (file : Option (List ℕ)) (records : Records R G) (namespace key : List ℕ) (r : Reference) : Type 0 where
   pub name : full_bytes r.name ≡ stripped namespace key
-  pub stands : OfSearched kind file records (λ k text. IsRecordIn k text key r)
+  pub searched : OfSearched kind file records (λ k text. IsRecordIn k text key r)
 
 -- a candidate without a loose file as an answer, by its record
 abbrev pub IsByRecord : Store → List Record → List ℕ → Option Reference → Type 0
@@ -167,6 +170,10 @@ IsByRecord s records name (Some r) =
     (full_bytes r.name ≡ hit_name s name (s.key name) None)
     × (reading_by s (s.key name) None records ≡ Is (target_value r.target))
     × (r.peeled ≡ hit_peeled (s.key name) None records)
+
+-- the name has this key, and it has this
+abbrev pub OfKey : Store → List ℕ → (List ℕ → Type 0) → Type 0
+OfKey s name P = (key : List ℕ) × (s.key name ≡ Some key) × P key
 
 -- a candidate as an answer: nothing where it reads nothing, else its name, its target and its peeled id
 abbrev pub IsCandidate : Store → View → List Record → List ℕ → Option Reference → Type 0
@@ -181,3 +188,30 @@ abbrev pub Answers : Option Hit → Option Reference → Type 0
 Answers None None = Unit {0}
 Answers (Some hit) (Some r) = (full_bytes r.name ≡ hit.name) × (hit.reading ≡ Is (target_value r.target)) × (r.peeled ≡ hit.peeled)
 Answers found answer = ⊥
+
+-- on any text of `packed-refs`: a candidate has a loose file with this target; or it has none, and a record of its key
+-- that begins a line
+abbrev pub IsHit : {R : Type 0} {G : Ghosts R} → Settings → View → Records R G → List ℕ → Reference → Type 0
+IsHit settings view records name r =
+    let s = meaning_in settings in
+    ((full_bytes r.name ≡ name) × IsLooseTarget s (view (s.place name)) (Some r.target) × (r.peeled ≡ None))
+    ⊎ ((view (s.place name) ≡ None)
+    × OfKey s name (λ key. IsHitOfKey settings.kind (view s.packed_path) records (namespace_text settings.namespace.now) key r))
+
+-- Why a candidate fails: its loose file gives no target; or it has none, and no record is found for a reason.
+abbrev pub CandidateFails : {R : Type 0} {G : Ghosts R} → (honest : Type 0) → Settings → Tree → Records R G → (before now : ℕ) → List ℕ → Error → Type 0
+CandidateFails {R} {G} honest settings T records before now name error =
+    let s = meaning_in settings in
+    IsNotRead honest settings.kind s (view_of T) before now name error
+    ⊎ ((honest → view_of T (s.place name) ≡ None)
+    × IsNotPacked (honest × AreHonest records) (HasRisen before now ⊎ HasReadFault G.faults)
+    (OfKey s name (λ key. OfSearched settings.kind (view_of T s.packed_path) records (λ k text. CannotRead k text key)))
+    (IsRefusedFile settings.kind (T s.packed_path)) error)
+
+-- what is said where the records are well formed: no text is refused, and none is found unreadable
+abbrev pub IsSound : Error → Type 0
+IsSound (PackedOpen (Io error)) = Unit {0}
+IsSound (ReadFileContents source path) = Unit {0}
+IsSound (ReferenceCreation source path) = Unit {0}
+IsSound Memory = Unit {0}
+IsSound other = ⊥

@@ -1,10 +1,12 @@
 -- The layout of a store: its folders and its namespace; and what it reads.
-use Rattle.std.specs.Prelude.{ℕ, List, [], false, Option, Some, None}
+use Rattle.std.specs.Prelude.{ℕ, List, [], Bool, false, ◌&&◌, Option, Some, None}
 use Rattle.gix_ref_base.specs.Namespaces.{namespace_bytes}
 use Rattle.gix_ref_base.specs.declared.namespace.Namespace.{Namespace}
 use Rattle.gix_ref_hash.specs.declared.hash.Kind.{Kind}
 use Rattle.gix_ref_lookup.specs.CleanPaths.{common_of}
+use Rattle.gix_ref_base.specs.DeviceNames.{is_device}
 use Rattle.gix_ref_base.specs.Layout.{Layout}
+use Rattle.gix_ref_packed.specs.RecordsOfText.{records_of_text}
 use Rattle.gix_ref_lookup.specs.LooseText.{target_in}
 use Rattle.gix_ref_theory.specs.ConcreteStore.{Options}
 use Rattle.gix_ref_lookup.specs.declared.folders.Dirs.{Dirs}
@@ -20,6 +22,15 @@ folders_of dirs namespace = record {
   git = dirs.git_dir.items;
   common = common_of dirs.git_dir dirs.common_dir;
   namespace = namespace_text namespace;
+}
+
+-- what a store of ids of this kind reads: loose files and the records of `packed-refs`; a store that prohibits device names
+-- reads none of these
+abbrev pub git_options : Kind → (prohibits : Bool) → Options
+git_options kind prohibits = record {
+  target_of = target_in kind;
+  records_of = records_of_text kind;
+  is_device = λ component. prohibits && is_device component;
 }
 
 -- what a store of ids of this kind reads: loose files alone, since it does not read `packed-refs` yet

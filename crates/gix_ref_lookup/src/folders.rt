@@ -82,7 +82,7 @@ pub fn is_clean_path(path: &[u8]) -> bool
 }
 
 /// What follows the folder in the path, where the path lies in it.
-fn rest_below<'a>(path: &'a [u8], folder: &[u8]) -> Option<&'a [u8]>
+pub fn rest_below<'a>(path: &'a [u8], folder: &[u8]) -> Option<&'a [u8]>
     ensures { MatchOption result (LiesIn path.now folder.now → ⊥)
         (λ rest. path.now ≡ below folder.now rest.now) }
 {

@@ -1,12 +1,25 @@
 //! The settings of a store: where it keeps names, and what it reads.
-ghost use Rattle.std.specs.Prelude.{◌≡◌};
+ghost use Rattle.std.specs.Prelude.{◌≡◌, []};
+ghost use Rattle.gix_ref_hash.specs.Bytes.{without_front};
+ghost use Rattle.gix_ref_base.specs.Layout.{below};
 
-use crate::folders::Dirs;
+use crate::folders::{Dirs, rest_below};
 use crate::layout::layout_in;
 use gix_ref_base::name::FullNameRef;
+use gix_ref_base::name::device::has_device_name;
 use gix_ref_base::namespace::Namespace;
 use gix_ref_hash::hash::Kind;
 use std::alloc::{AllocError, Global};
+
+/// What lies below a folder in a path, or else the path.
+fn below<'a>(path: &'a [u8], folder: &[u8]) -> &'a [u8]
+    ensures { result.now ≡ without_front (below folder.now []) path.now }
+{
+    match rest_below(path, folder) {
+        Some(rest) => rest,
+        None => path,
+    }
+}
 
 /// A store without its files.
 #[derive(Clone, Copy, Debug)]
@@ -17,12 +30,16 @@ pub struct Settings<'a> {
     pub namespace: &'a Option<Namespace>,
     /// The kind of its ids.
     pub kind: Kind,
+    /// Whether a reference with a component such as `CON` is a fault.
+    pub prohibit_windows_device_names: bool,
 }
 
 impl Settings<'_> {
     ghost use Rattle.std.specs.Prelude.{◌≡◌, IfOk, vec_items};
     ghost use Rattle.std.specs.Option.{option_map};
     ghost use Rattle.gix_ref_base.specs.Names.{full_ref_bytes};
+    ghost use Rattle.gix_ref_theory.specs.ConcreteStore.{below_folders};
+    ghost use Rattle.gix_ref_lookup.specs.StoreLayout.{folders_of};
     ghost use Rattle.gix_ref_lookup.specs.Lookups.{meaning_in};
 
     /// The path of the loose file of a name. The error reports that there was no memory for it.
@@ -44,6 +61,24 @@ impl Settings<'_> {
             option_map vec_items key ≡ (meaning_in self.entry).key (full_ref_bytes name.entry)) }
     {
         layout_in(self.dirs, self.namespace).packed_key(alloc, name)
+    }
+
+    /// What lies below the common folder in a path, or else below the git folder, or else the path.
+    fn below_folders(self, path: &[u8]) -> &[u8]
+        ensures { result.now ≡ below_folders (folders_of self.entry.dirs.now self.entry.namespace.now) path.now }
+    {
+        match rest_below(path, self.dirs.common()) {
+            Some(rest) => rest,
+            None => below(path, &self.dirs.git_dir),
+        }
+    }
+
+    /// Whether a reference at this place is a fault: the store prohibits device names, and a component below its folders is
+    /// one.
+    pub fn is_prohibited(self, place: &[u8]) -> bool
+        ensures { result ≡ (meaning_in self.entry).is_prohibited place.now }
+    {
+        self.prohibit_windows_device_names && has_device_name(self.below_folders(place))
     }
 
     /// The path of `packed-refs`. The error reports that there was no memory for it.

@@ -1,18 +1,19 @@
 //! One candidate of a lookup: its loose file, or else its record in `packed-refs`.
-ghost use Rattle.std.specs.Prelude.{◌≡◌, ℕ, List, Option, None, IfOk, IfErr, IfSome, OnOk};
+ghost use Rattle.std.specs.Prelude.{◌≡◌, ◌⊎◌, false, ℕ, List, Option, None, IfOk, IfErr, IfSome, OnOk};
 ghost use Rattle.gix_ref_hash.specs.declared.hash.Kind.{Kind};
 ghost use Rattle.gix_ref_base.specs.Names.{full_bytes, full_ref_bytes};
 ghost use Rattle.gix_ref_base.specs.Namespaces.{stripped};
 ghost use Rattle.gix_ref_base.specs.PackedRecords.{Record};
 ghost use Rattle.gix_ref_base.specs.Targets.{target_value};
 ghost use Rattle.gix_ref_base.specs.Targets.TargetValue.{object_id};
-ghost use Rattle.gix_ref_files.specs.Files.{Leaves};
+ghost use Rattle.gix_ref_files.specs.Files.{Leaves, HasRisen};
 ghost use Rattle.gix_ref_files.specs.Calls.{Unchanged};
 ghost use Rattle.gix_ref_theory.specs.OnRealTrees.{view_of};
 ghost use Rattle.gix_ref_lookup.specs.StoreLayout.{namespace_text};
 ghost use Rattle.gix_ref_packed.specs.Positions.{CannotRead};
+ghost use Rattle.gix_ref_packed.specs.Buffers.{IsRefusedFile};
 ghost use Rattle.gix_ref_packed.specs.OpenFiles.{HasReadFault};
-ghost use Rattle.gix_ref_lookup.specs.Lookups.{meaning_in, IsLooseTarget, IsNotRead, IsReady, AreAsked, IsOfKey, IsFaultOrMemory, IsNotPacked, AreHonest, IsSearched, IsHitOfKey, OfSearched};
+ghost use Rattle.gix_ref_lookup.specs.Lookups.{meaning_in, packed_refs_in, OfKey, IsByRecord, IsLooseTarget, IsNotRead, IsReady, AreAsked, IsOfKey, IsFaultOrMemory, IsNotPacked, AreHonest, IsSearched, IsHitOfKey, OfSearched, IsCandidate, IsSound, IsHit, CandidateFails};
 
 use crate::find::loose::{Loose, loose_at};
 use crate::find::records::Records;
@@ -35,6 +36,8 @@ fn read_loose<F: Files>(
 ) -> Result<Option<Target>, Error>
     ensures found { F.honest → IfOk result (IsLooseTarget (meaning_in settings.entry)
         (view_of (F.means files.old).tree ((meaning_in settings.entry).place (full_ref_bytes name.entry)))) }
+    ensures allowed { OnOk result ((meaning_in settings.entry).is_prohibited
+        ((meaning_in settings.entry).place (full_ref_bytes name.entry)) ≡ false) }
     ensures failed { IfErr result (IsNotRead F.honest settings.entry.kind (meaning_in settings.entry)
         (view_of (F.means files.old).tree) (F.faults files.old) (F.faults files.new) (full_ref_bytes name.entry)) }
     ensures no_fault { OnOk result (F.faults files.new ≡ F.faults files.old) }
@@ -42,6 +45,12 @@ fn read_loose<F: Files>(
         (Unchanged (F.means files.old).tree) }
 {
     let place = settings.place(alloc, name)?;
+    if settings.is_prohibited(&place) {
+        return Err(Error::ReadFileContents {
+            source: ReadError::DeviceName,
+            path: place,
+        });
+    }
     match loose_at(alloc, files, &place, settings.kind) {
         Ok(Loose::Absent) => Ok(None),
         Ok(Loose::Holds(mut target)) => {
@@ -112,6 +121,92 @@ fn find_key<R: ReadAt + Drop>(
     match records.find(key.as_ref()) {
         Ok(Some(found)) => Ok(Some(packed_reference(namespace, key, found))),
         Ok(None) => Ok(None),
+        Err(error) => Err(error),
+    }
+}
+
+/// The reference of a name by its record in `packed-refs`, which is opened if it is asked for the first time.
+fn find_packed<F: Files>(
+    alloc: Global,
+    files: &mut F,
+    settings: Settings<'_>,
+    name: FullNameRef<'_>,
+    records: &mut Records<'_, F::Reader>,
+) -> Result<Option<Reference>, Error>
+    ensures found { F.honest → (rs : List Record) →
+        AreAsked settings.entry.kind (packed_refs_in settings.entry (F.means files.old)) records.old rs →
+        IfOk result (IsByRecord (meaning_in settings.entry) rs (full_ref_bytes name.entry)) }
+    ensures sound { F.honest → (rs : List Record) →
+        AreAsked settings.entry.kind (packed_refs_in settings.entry (F.means files.old)) records.old rs →
+        IfErr result IsFaultOrMemory }
+    ensures hit { F.honest → AreHonest records.old → IfOk result (λ r. IfSome r (λ r.
+        OfKey (meaning_in settings.entry) (full_ref_bytes name.entry) (λ key.
+        IsHitOfKey settings.entry.kind (packed_refs_in settings.entry (F.means files.old))
+        records.old (namespace_text settings.entry.namespace.now) key r))) }
+    ensures failed { IfErr result (IsNotPacked (F.honest × AreHonest records.old)
+        (HasRisen (F.faults files.old) (F.faults files.new) ⊎ HasReadFault F.Reader.faults)
+        (OfKey (meaning_in settings.entry) (full_ref_bytes name.entry) (λ key.
+        OfSearched settings.entry.kind (packed_refs_in settings.entry (F.means files.old))
+        records.old (λ k text. CannotRead k text key)))
+        (IsRefusedFile settings.entry.kind ((F.means files.old).tree (meaning_in settings.entry).packed_path))) }
+    ensures asked { F.honest → (rs : List Record) →
+        AreAsked settings.entry.kind (packed_refs_in settings.entry (F.means files.old)) records.old rs →
+        AreAsked settings.entry.kind (packed_refs_in settings.entry (F.means files.old)) records.new rs }
+    ensures honest { F.honest → AreHonest records.old → AreHonest records.new }
+    ensures searched { F.honest → (kind : Kind) (text : List ℕ) →
+        IsSearched settings.entry.kind (packed_refs_in settings.entry (F.means files.old)) records.new kind text →
+        IsSearched settings.entry.kind (packed_refs_in settings.entry (F.means files.old)) records.old kind text }
+    ensures no_fault { OnOk result (F.faults files.new ≡ F.faults files.old) }
+    ensures leaves { F.honest → Leaves (F.means files.old) (F.means files.new)
+        (Unchanged (F.means files.old).tree) }
+{
+    let Some(key) = settings.packed_key(alloc, name)? else {
+        return Ok(None);
+    };
+    match records.open(alloc, files, settings) {
+        Ok(()) => find_key(settings.namespace, records, key),
+        Err(error) => Err(error),
+    }
+}
+
+/// The reference of a candidate: by its loose file, and else by its record. `ReadFileContents` where the loose file cannot
+/// be read, `ReferenceCreation` where it holds no target, `PackedOpen` where `packed-refs` cannot be opened or read,
+/// `PackedRef` where a malformed line was met and nothing was found or the record cannot be read, and `Memory`.
+pub fn find_candidate<F: Files>(
+    alloc: Global,
+    files: &mut F,
+    settings: Settings<'_>,
+    name: FullNameRef<'_>,
+    records: &mut Records<'_, F::Reader>,
+) -> Result<Option<Reference>, Error>
+    ensures found { F.honest → (rs : List Record) →
+        AreAsked settings.entry.kind (packed_refs_in settings.entry (F.means files.old)) records.old rs →
+        IfOk result (IsCandidate (meaning_in settings.entry) (view_of (F.means files.old).tree) rs (full_ref_bytes name.entry)) }
+    ensures sound { F.honest → (rs : List Record) →
+        AreAsked settings.entry.kind (packed_refs_in settings.entry (F.means files.old)) records.old rs →
+        IfErr result IsSound }
+    ensures hit { F.honest → AreHonest records.old → IfOk result (λ r. IfSome r
+        (IsHit settings.entry (view_of (F.means files.old).tree) records.old (full_ref_bytes name.entry))) }
+    ensures failed { IfErr result (CandidateFails F.honest settings.entry (F.means files.old).tree records.old
+        (F.faults files.old) (F.faults files.new) (full_ref_bytes name.entry)) }
+    ensures asked { F.honest → (rs : List Record) →
+        AreAsked settings.entry.kind (packed_refs_in settings.entry (F.means files.old)) records.old rs →
+        AreAsked settings.entry.kind (packed_refs_in settings.entry (F.means files.old)) records.new rs }
+    ensures honest { F.honest → AreHonest records.old → AreHonest records.new }
+    ensures searched { F.honest → (kind : Kind) (text : List ℕ) →
+        IsSearched settings.entry.kind (packed_refs_in settings.entry (F.means files.old)) records.new kind text →
+        IsSearched settings.entry.kind (packed_refs_in settings.entry (F.means files.old)) records.old kind text }
+    ensures no_fault { OnOk result (F.faults files.new ≡ F.faults files.old) }
+    ensures leaves { F.honest → Leaves (F.means files.old) (F.means files.new)
+        (Unchanged (F.means files.old).tree) }
+{
+    match read_loose(alloc, files, settings, name) {
+        Ok(Some(target)) => Ok(Some(Reference {
+            name: name.to_owned(alloc)?,
+            target,
+            peeled: None,
+        })),
+        Ok(None) => find_packed(alloc, files, settings, name, records),
         Err(error) => Err(error),
     }
 }

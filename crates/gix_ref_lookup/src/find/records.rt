@@ -8,7 +8,7 @@ ghost use Rattle.gix_ref_files.specs.Calls.{Unchanged};
 ghost use Rattle.gix_ref_packed.specs.Buffers.{buffer_text, buffer_kind, IsRefusedFile};
 ghost use Rattle.gix_ref_packed.specs.FileSearches.{FindsIn};
 ghost use Rattle.gix_ref_packed.specs.OpenFiles.{HasReadFault};
-ghost use Rattle.gix_ref_lookup.specs.Lookups.{meaning_in, packed_refs_in, ArePackedRecords, AreAsked, IsSearched, IsReady, IsNotPacked, AreHonest, IsOpenedText, of_opening, of_search, as_found};
+ghost use Rattle.gix_ref_lookup.specs.Lookups.{meaning_in, packed_refs_in, ArePackedRecords, AreAsked, IsSearched, IsReady, IsFaultOrMemory, IsNotPacked, AreHonest, IsOpenedText, of_opening, of_search, as_found};
 
 use crate::find::Error;
 use crate::settings::Settings;
@@ -96,6 +96,9 @@ fn open_records<'b, F: Files>(
     ensures asked { F.honest → (records : List Record) →
         ArePackedRecords settings.entry.kind (packed_refs_in settings.entry (F.means files.old)) records →
         IfOk result (λ r. AreAsked settings.entry.kind None r records) }
+    ensures sound { F.honest → (records : List Record) →
+        ArePackedRecords settings.entry.kind (packed_refs_in settings.entry (F.means files.old)) records →
+        IfErr result IsFaultOrMemory }
     ensures searched { F.honest → IfOk result (λ r. (kind : Kind) (text : List ℕ) →
         IsSearched settings.entry.kind None r kind text →
         IsOpenedText settings.entry.kind (packed_refs_in settings.entry (F.means files.old)) kind text) }
@@ -116,7 +119,7 @@ fn open_records<'b, F: Files>(
 }
 
 impl<R: ReadAt + Drop> Records<'_, R> {
-    ghost use Rattle.std.specs.Prelude.{◌≡◌, ◌⊎◌, ℕ, List, Option, OnOk, IfErr, IfOk, IfSome, MatchResult, None};
+    ghost use Rattle.std.specs.Prelude.{◌≡◌, ◌⊎◌, ℕ, List, Option, OnOk, OnErr, IfErr, IfOk, IfSome, MatchResult, None};
     ghost use Rattle.gix_ref_base.specs.Names.{full_ref_bytes};
     ghost use Rattle.gix_ref_base.specs.PackedRecords.{Record, record_named};
     ghost use Rattle.gix_ref_hash.specs.declared.hash.Kind.{Kind};
@@ -136,9 +139,13 @@ impl<R: ReadAt + Drop> Records<'_, R> {
         settings: Settings<'_>,
     ) -> Result<(), Error>
         ensures ready { OnOk result (IsReady self.new) }
+        ensures kept { OnErr result (self.new ≡ self.old) }
         ensures asked { F.honest → (records : List Record) →
             AreAsked settings.entry.kind (packed_refs_in settings.entry (F.means files.old)) self.old records →
             OnOk result (AreAsked settings.entry.kind None self.new records) }
+        ensures sound { F.honest → (records : List Record) →
+            AreAsked settings.entry.kind (packed_refs_in settings.entry (F.means files.old)) self.old records →
+            IfErr result IsFaultOrMemory }
         ensures searched { F.honest → (kind : Kind) (text : List ℕ) →
             IsSearched settings.entry.kind None self.new kind text →
             OnOk result (IsSearched settings.entry.kind (packed_refs_in settings.entry (F.means files.old)) self.old kind text) }
@@ -153,8 +160,13 @@ impl<R: ReadAt + Drop> Records<'_, R> {
         let Records::Unopened = self else {
             return Ok(());
         };
-        *self = open_records(alloc, files, settings)?;
-        Ok(())
+        match open_records(alloc, files, settings) {
+            Ok(records) => {
+                *self = records;
+                Ok(())
+            }
+            Err(error) => Err(error),
+        }
     }
 
     /// The ids of the record of a key, once `packed-refs` is open; `None` where there is no such record. `PackedOpen`

@@ -3,7 +3,7 @@ use Rattle.gix_ref_files.specs.Tree.{Path, is_file, bytes_of}
 use Rattle.gix_ref_packed.specs.Buffers.{IsRefusedFile}
 use Rattle.gix_ref_packed.specs.OpenFiles.{OpenedFile}
 use Rattle.gix_ref_lookup.specs.Lookups.{meaning_in}
-use Rattle.gix_ref_lookup.proofs.Opening.{holds_packed, not_opened}
+use Rattle.gix_ref_lookup.proofs.Opening.{holds_packed, not_opened, opens_sound}
 use Rattle.gix_ref_lookup.proofs.find.records.open_records.Goals as goal
 
 pub returns-in-Ok-Some-clause-asked : goal.returns-in-Ok-Some-clause-asked
@@ -23,3 +23,10 @@ returns-clause-refused g c =
     rw c.refused.ensures (not_opened g.F.Files.honest g.F.Reader.ReadAt.faults c.args.settings.kind (tree (meaning_in c.args.settings).packed_path) _ _ c.in-Err.error
     (λ h. subst (λ (p : Path). IsRefusedFile c.args.settings.kind (tree p) c.in-Err.error) at (c.in-Err.ensures.refused h))
     c.in-Err.ensures.failed)
+
+pub returns-clause-sound : goal.returns-clause-sound
+returns-clause-sound g c h records are =
+    let tree = (g.F.Files.means c.args.files.now).tree in
+    let at = c.deref.ensures.value ∙ c.in_ok-path.ensures in
+    rw c.refused.ensures (opens_sound c.args.settings.kind (tree (meaning_in c.args.settings).packed_path) records c.in-Err.error are
+    (subst (λ (p : Path). IsRefusedFile c.args.settings.kind (tree p) c.in-Err.error) at (c.in-Err.ensures.refused h)))
