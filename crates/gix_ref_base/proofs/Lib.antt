@@ -2,6 +2,7 @@ pub mod Appending
 pub mod CandidateNames
 pub mod CandidateRows
 pub mod CategoryLemmas
+pub mod Composing
 pub mod DeviceLemmas
 pub mod DeviceRows
 pub mod Expanding

@@ -1,5 +1,6 @@
 pub mod Candidates
 pub mod Categories
+pub mod ComposedNames
 pub mod DeviceNames
 pub mod Layout
 pub mod Locations

@@ -8,6 +8,7 @@ use std::alloc::{AllocError, Global};
 
 pub mod candidates;
 mod category;
+pub mod compose;
 mod convert;
 pub mod device;
 mod error;

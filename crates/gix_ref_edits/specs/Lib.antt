@@ -1,1 +1,2 @@
+pub mod EditOrders
 pub mod RefEdits

@@ -1,5 +1,5 @@
 -- Edits as a caller gives them: what each asks for, and what it expects (`git update-ref`).
-use Rattle.std.specs.Prelude.{◌≡◌, ◌⊎◌, ℕ, List, [], Bool, true, false, Option, Some, None, IsSome, All, MatchOption, length, slice_index_or, ◌<◌}
+use Rattle.std.specs.Prelude.{◌≡◌, ◌⊎◌, ℕ, List, [], Bool, true, false, Option, Some, None, IsSome, All}
 use Rattle.gix_ref_base.specs.Names.{full_bytes}
 use Rattle.gix_ref_base.specs.Targets.{TargetValue, target_value}
 use Rattle.gix_ref_edits.specs.declared.transaction.LogChange.{LogChange}

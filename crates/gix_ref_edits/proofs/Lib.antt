@@ -1,0 +1,2 @@
+pub mod DerivedEquality
+pub mod DerivedOrders
