@@ -4,6 +4,7 @@ use Rattle.std.specs.Option.{option_map}
 use Rattle.gix_ref_hash.specs.declared.hash.Kind.{Kind}
 use Rattle.gix_ref_base.specs.Names.{full_bytes}
 use Rattle.gix_ref_base.specs.Namespaces.{stripped}
+use Rattle.gix_ref_base.specs.Candidates.{candidates, remote_head}
 use Rattle.gix_ref_base.specs.Targets.{target_value}
 use Rattle.gix_ref_base.specs.Targets.TargetValue.{object_id}
 use Rattle.gix_ref_base.specs.declared.target.Target.{Target}
@@ -17,7 +18,7 @@ use Rattle.gix_ref_theory.specs.Views.{View}
 use Rattle.gix_ref_theory.specs.OnRealTrees.{view_of}
 use Rattle.gix_ref_theory.specs.Readings.{Store, reading_among, reading_by, reading_of_loose, reading_of_record}
 use Rattle.gix_ref_theory.specs.Readings.Reading.{Is, Absent}
-use Rattle.gix_ref_theory.specs.Lookups.{Hit, hit_name, hit_peeled, peeled_of}
+use Rattle.gix_ref_theory.specs.Lookups.{Hit, hit_name, hit_peeled, peeled_of, lookup}
 use Rattle.gix_ref_theory.specs.ConcreteStore.{store_of}
 use Rattle.gix_ref_packed.specs.declared.packed.decode.options.Header.{Header}
 use Rattle.gix_ref_packed.specs.declared.packed.window.Found.{Found}
@@ -215,3 +216,37 @@ IsSound (ReadFileContents source path) = Unit {0}
 IsSound (ReferenceCreation source path) = Unit {0}
 IsSound Memory = Unit {0}
 IsSound other = ⊥
+
+-- the names before one are passed, and that one fails
+abbrev pub FailsAt : (Passed Fails : List ℕ → Type 0) → List (List ℕ) → Type 0
+FailsAt Passed Fails [] = ⊥
+FailsAt Passed Fails (name ∷ names) = Fails name ⊎ (Passed name × FailsAt Passed Fails names)
+
+-- some of these names has this
+abbrev pub Among : (List ℕ → Type 0) → List (List ℕ) → Type 0
+Among P [] = ⊥
+Among P (name ∷ names) = P name ⊎ Among P names
+
+-- a candidate that a lookup passes reads nothing, where the records are well formed
+abbrev pub IsPassed : {R : Type 0} {G : Ghosts R} → (honest : Type 0) → Settings → Tree → Records R G → List ℕ → Type 0
+IsPassed honest settings T asked name =
+    let s = meaning_in settings in
+    honest → (records : List Record) → AreAsked settings.kind (view_of T s.packed_path) asked records → reading_among s (view_of T) records name ≡ Absent
+
+-- a lookup fails at the first candidate that fails
+abbrev pub FailsAmong : {R : Type 0} {G : Ghosts R} → (honest : Type 0) → Settings → Tree → Records R G → (before now : ℕ) → List (List ℕ) → Error → Type 0
+FailsAmong honest settings T asked before now names error =
+    FailsAt (IsPassed honest settings T asked) (λ name. CandidateFails honest settings T asked before now name error) names
+
+-- as a list
+abbrev pub to_list : Option (List ℕ) → List (List ℕ)
+to_list None = []
+to_list (Some name) = name ∷ []
+
+-- the names that a lookup of a partial name asks for: its candidates, and the head of a remote
+abbrev pub asked_names : List ℕ → List (List ℕ)
+asked_names p = candidates p ++ to_list (remote_head p)
+
+-- What a lookup of a partial name finds in these files, among these records.
+abbrev pub lookup_of : Store → View → List Record → List ℕ → Option Hit
+lookup_of s view records p = lookup s view records (candidates p) (remote_head p)

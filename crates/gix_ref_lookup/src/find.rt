@@ -3,9 +3,10 @@ ghost use Rattle.std.specs.Prelude.{◌≡◌};
 ghost use Rattle.gix_ref_base.specs.Targets.{target_value, stripped_target};
 ghost use Rattle.gix_ref_lookup.specs.StoreLayout.{namespace_text};
 
-mod candidate;
+pub mod candidate;
 mod error;
 pub mod existing;
+pub mod lookup;
 pub mod loose;
 pub mod records;
 

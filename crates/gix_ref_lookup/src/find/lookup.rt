@@ -1,0 +1,120 @@
+//! The lookup of a partial name (`gitrevisions`): its candidates, one after the other.
+ghost use Rattle.std.specs.Prelude.{◌≡◌, ◌⊎◌, None, List, IfOk, IfErr, IfSome, OnOk};
+ghost use Rattle.gix_ref_base.specs.Candidates.{candidates, remote_head};
+ghost use Rattle.gix_ref_base.specs.Names.{partial_ref_bytes};
+ghost use Rattle.gix_ref_base.specs.PackedRecords.{Record};
+ghost use Rattle.gix_ref_files.specs.Files.{Leaves};
+ghost use Rattle.gix_ref_files.specs.Calls.{Unchanged};
+ghost use Rattle.gix_ref_theory.specs.Lookups.{first_hit, hit_or_head};
+ghost use Rattle.gix_ref_theory.specs.OnRealTrees.{view_of};
+ghost use Rattle.gix_ref_lookup.specs.Lookups.{meaning_in, packed_refs_in, AreAsked, AreHonest, Answers, IsSound, IsHit, Among, FailsAmong, to_list, lookup_of, asked_names};
+
+use crate::find::Error;
+use crate::find::candidate::find_candidate;
+use crate::find::records::Records;
+use crate::settings::Settings;
+use gix_ref_base::name::PartialNameRef;
+use gix_ref_base::name::candidates::{fronts_of, name_behind, remote_head};
+use gix_ref_files::files::Files;
+use gix_ref_packed::raw::Reference;
+use std::alloc::Global;
+
+/// The first candidate of a name that is there.
+fn find_first<F: Files>(
+    alloc: Global,
+    files: &mut F,
+    settings: Settings<'_>,
+    name: PartialNameRef<'_>,
+    records: &mut Records<'_, F::Reader>,
+) -> Result<Option<Reference>, Error>
+    ensures found { F.honest → (rs : List Record) →
+        AreAsked settings.entry.kind (packed_refs_in settings.entry (F.means files.old)) records.old rs →
+        IfOk result (Answers (first_hit (meaning_in settings.entry) (view_of (F.means files.old).tree) rs
+        (candidates (partial_ref_bytes name.entry)))) }
+    ensures sound { F.honest → (rs : List Record) →
+        AreAsked settings.entry.kind (packed_refs_in settings.entry (F.means files.old)) records.old rs →
+        IfErr result IsSound }
+    ensures hit { F.honest → AreHonest records.old → IfOk result (λ r. IfSome r (λ r. Among (λ n.
+        IsHit settings.entry (view_of (F.means files.old).tree) records.old n r)
+        (candidates (partial_ref_bytes name.entry)))) }
+    ensures failed { IfErr result (FailsAmong F.honest settings.entry (F.means files.old).tree records.old
+        (F.faults files.old) (F.faults files.new) (candidates (partial_ref_bytes name.entry))) }
+    ensures no_fault { OnOk result (F.faults files.new ≡ F.faults files.old) }
+    ensures leaves { F.honest → Leaves (F.means files.old) (F.means files.new)
+        (Unchanged (F.means files.old).tree) }
+{
+    let fronts = fronts_of(name);
+    for front in fronts {
+        let Ok(candidate) = name_behind(alloc, front, name) else {
+            return Err(Error::Memory);
+        };
+        match find_candidate(alloc, files, settings, candidate.as_ref(), records) {
+            Ok(None) => {}
+            Ok(Some(reference)) => return Ok(Some(reference)),
+            Err(error) => return Err(error),
+        }
+    }
+    Ok(None)
+}
+
+/// The `HEAD` of the remote that a name may be: its loose file alone.
+fn find_head<F: Files>(
+    alloc: Global,
+    files: &mut F,
+    settings: Settings<'_>,
+    name: PartialNameRef<'_>,
+) -> Result<Option<Reference>, Error>
+    ensures found { F.honest → IfOk result (Answers (hit_or_head (meaning_in settings.entry)
+        (view_of (F.means files.old).tree) None (remote_head (partial_ref_bytes name.entry)))) }
+    ensures sound { F.honest → IfErr result IsSound }
+    ensures failed { IfErr result (λ error. (error ≡ Error.Memory) ⊎ FailsAmong {G = F.Reader.ReadAt} F.honest
+        settings.entry (F.means files.old).tree Records.None (F.faults files.old) (F.faults files.new)
+        (to_list (remote_head (partial_ref_bytes name.entry))) error) }
+    ensures hit { F.honest → IfOk result (λ r. IfSome r (λ r. Among (λ n.
+        IsHit {G = F.Reader.ReadAt} settings.entry (view_of (F.means files.old).tree) Records.None n r)
+        (to_list (remote_head (partial_ref_bytes name.entry))))) }
+    ensures no_fault { OnOk result (F.faults files.new ≡ F.faults files.old) }
+    ensures leaves { F.honest → Leaves (F.means files.old) (F.means files.new)
+        (Unchanged (F.means files.old).tree) }
+{
+    match remote_head(alloc, name) {
+        Ok(Some(head)) => {
+            find_candidate(alloc, files, settings, head.as_ref(), &mut Records::None)
+        }
+        Ok(None) => Ok(None),
+        Err(_) => Err(Error::Memory),
+    }
+}
+
+/// The reference that a partial name is short for: the first of its candidates that is there, or else the `HEAD` of a remote
+/// of this name, as a loose file alone (`gitrevisions`).
+pub fn find_reference<F: Files>(
+    alloc: Global,
+    files: &mut F,
+    settings: Settings<'_>,
+    name: PartialNameRef<'_>,
+    records: &mut Records<'_, F::Reader>,
+) -> Result<Option<Reference>, Error>
+    ensures found { F.honest → (rs : List Record) →
+        AreAsked settings.entry.kind (packed_refs_in settings.entry (F.means files.old)) records.old rs →
+        IfOk result (Answers (lookup_of (meaning_in settings.entry) (view_of (F.means files.old).tree) rs
+        (partial_ref_bytes name.entry))) }
+    ensures sound { F.honest → (rs : List Record) →
+        AreAsked settings.entry.kind (packed_refs_in settings.entry (F.means files.old)) records.old rs →
+        IfErr result IsSound }
+    ensures hit { F.honest → AreHonest records.old → IfOk result (λ r. IfSome r (λ r. Among (λ n.
+        IsHit settings.entry (view_of (F.means files.old).tree) records.old n r)
+        (asked_names (partial_ref_bytes name.entry)))) }
+    ensures failed { IfErr result (λ error. (error ≡ Error.Memory) ⊎ FailsAmong F.honest settings.entry
+        (F.means files.old).tree records.old (F.faults files.old) (F.faults files.new)
+        (asked_names (partial_ref_bytes name.entry)) error) }
+    ensures no_fault { OnOk result (F.faults files.new ≡ F.faults files.old) }
+    ensures leaves { F.honest → Leaves (F.means files.old) (F.means files.new)
+        (Unchanged (F.means files.old).tree) }
+{
+    match find_first(alloc, files, settings, name, records) {
+        Ok(None) => find_head(alloc, files, settings, name),
+        Ok(Some(reference)) => Ok(Some(reference)),
+        Err(error) => Err(error),
+    }
+}
