@@ -13,6 +13,7 @@ pub mod ReadBack
 pub mod RecordBytes
 pub mod RecordPlaces
 pub mod RecordsOfText
+pub mod RecordsRead
 pub mod SortedPieces
 pub mod WellFormedLemmas
 pub mod WindowLemmas

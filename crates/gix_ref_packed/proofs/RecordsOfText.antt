@@ -26,7 +26,7 @@ use Rattle.gix_ref_packed.proofs.FileSearchLemmas.{readable}
 -- ---- lines
 
 -- a line in front of the lines of the rest
-abbrev in_front : List ℕ → Option (List (List ℕ)) → Option (List (List ℕ))
+abbrev pub in_front : List ℕ → Option (List (List ℕ)) → Option (List (List ℕ))
 in_front line more = option_map (λ ls. line ∷ ls) more
 
 lines_end : (t r : List ℕ) → Newline t r → text_lines t ≡ in_front [] (text_lines r)
@@ -77,7 +77,7 @@ digits_in_line [] h = All-nil (λ b. in_line b ≡ true)
 digits_in_line (b ∷ d) h = All-cons (λ x. in_line x ≡ true) b d (digit_in_line b (All-head (λ x. is_hex_digit x ≡ true) b d h)) (digits_in_line d (All-tail (λ x. is_hex_digit x ≡ true) b d h))
 
 -- a line with more in front of it
-wider : (t p a l r : List ℕ) → t ≡ p ++ a → AllPass in_line p → Line a l r → Line t (p ++ l) r
+pub wider : (t p a l r : List ℕ) → t ≡ p ++ a → AllPass in_line p → Line a l r → Line t (p ++ l) r
 wider t p a l r whole passes f = record {
   after = f.after;
   cut = record {
@@ -108,8 +108,8 @@ record_line_cut k t r rest f =
     wider t r.target (32 ∷ f.line.after) (32 ∷ r.name) f.after f.line.whole (digits_in_line r.target f.id.digits)
     (wider (32 ∷ f.line.after) (32 ∷ []) f.line.after r.name f.after refl (All-cons (λ b. in_line b ≡ true) 32 [] refl (All-nil (λ b. in_line b ≡ true))) f.line.line)
 
-newline_stops : (t r : List ℕ) → Newline t r → Line t [] r
-newline_stops t r n = record { after = t; cut = record { whole = refl; front_passes = All-nil (λ b. in_line b ≡ true); stops = stops n }; newline = n }
+pub empty_line : (t r : List ℕ) → Newline t r → Line t [] r
+empty_line t r n = record { after = t; cut = record { whole = refl; front_passes = All-nil (λ b. in_line b ≡ true); stops = stops n }; newline = n }
   where
     stops : Newline t r → StopsAt in_line t
     stops (inl lf) = subst (StopsAt in_line) (sym lf) refl
@@ -119,7 +119,7 @@ peeled_cut : (k : Kind) (t : List ℕ) (o : Option (List ℕ)) (rest : List ℕ)
 peeled_cut k t None rest ls f is = ap text_lines f.0 ∙ is
 peeled_cut k t (Some object) rest ls f is =
     let digits = digits_in_line object f.id.digits in
-    let line = wider t (94 ∷ object) f.after [] rest f.whole (All-cons (λ b. in_line b ≡ true) 94 object refl digits) (newline_stops f.after rest f.newline) in
+    let line = wider t (94 ∷ object) f.after [] rest f.whole (All-cons (λ b. in_line b ≡ true) 94 object refl digits) (empty_line f.after rest f.newline) in
     line_cut t ((94 ∷ object) ++ []) rest line ∙ ap (in_front ((94 ∷ object) ++ [])) is ∙ ap (λ l. Some (l ∷ ls)) (append-nil (94 ∷ object))
 
 records_cut : (k : Kind) (t : List ℕ) (rs : List Record) → Records k t rs → text_lines t ≡ Some (lines_of_records rs)

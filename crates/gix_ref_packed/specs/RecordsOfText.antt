@@ -1,5 +1,5 @@
 -- The records of a text of packed references, computed (`git pack-refs`).
-use Rattle.std.specs.Prelude.{ℕ, ◌+◌, ◌*◌, ◌==◌, nat_eq, Bool, false, ◌&&◌, if◌then◌else◌, List, [], ◌∷◌, ◌++◌, length, take, drop, codes, Option, Some, None, is_none, unwrap_or, ◌≡◌}
+use Rattle.std.specs.Prelude.{ℕ, ◌+◌, ◌*◌, ◌==◌, nat_eq, Bool, false, ◌&&◌, if◌then◌else◌, List, [], ◌∷◌, ◌++◌, length, take, drop, codes, Option, Some, None, is_none, unwrap_or, ◌≡◌, ◌↔◌}
 use Rattle.std.specs.List.{list_all, starts_with}
 use Rattle.std.specs.Option.{option_map, option_and_then}
 use Rattle.std.specs.Cmp.Lexicographic.{pointwise}
@@ -95,3 +95,7 @@ records_of_text kind text = unwrap_or (read_records kind text) []
 abbrev pub RecordsAreComputed : Type 0
 RecordsAreComputed =
     (kind : Kind) (text : List ℕ) (h : Option Header) (rs : List Record) → PackedText kind text h rs → records_of_text kind text ≡ rs
+
+-- records are read of a text exactly where it is a header, or none, and these records
+abbrev pub TextsAreRead : Type 0
+TextsAreRead = (kind : Kind) (text : List ℕ) (rs : List Record) → (read_records kind text ≡ Some rs) ↔ ((h : Option Header) × PackedText kind text h rs)

@@ -2,7 +2,7 @@
 ghost use Rattle.gix_ref_packed.specs.WrittenText.{WrittenTextReadsBack, PackedTextIsOne};
 ghost use Rattle.gix_ref_packed.specs.Buffers.{OpenedHoldsRecords};
 ghost use Rattle.gix_ref_packed.specs.OpenFiles.{OpenedFileHoldsRecords};
-ghost use Rattle.gix_ref_packed.specs.RecordsOfText.{RecordsAreComputed};
+ghost use Rattle.gix_ref_packed.specs.RecordsOfText.{RecordsAreComputed, TextsAreRead};
 
 use crate::packed::file::PackedFile;
 use gix_ref_files::files::ReadAt;
@@ -20,7 +20,8 @@ pub fn opened_holds_records<R: ReadAt + Drop>(_file: &PackedFile<R>)
     ensures file { OpenedFileHoldsRecords _file.now }
 {}
 
-/// The records of a text can be computed, line by line.
+/// The records of a text can be computed, line by line, and records are computed of no other text.
 pub fn records_are_computed()
-    ensures { RecordsAreComputed }
+    ensures computed { RecordsAreComputed }
+    ensures read { TextsAreRead }
 {}
