@@ -8,6 +8,8 @@ mod ids;
 #[cfg(test)]
 mod layouts;
 #[cfg(test)]
+mod lookups;
+#[cfg(test)]
 mod made;
 #[cfg(test)]
 mod names;

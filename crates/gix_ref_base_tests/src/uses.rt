@@ -1,10 +1,12 @@
 //! Short callers, each with what it can state of its result from the public contracts alone.
-ghost use Rattle.std.specs.Prelude.{◌≡◌, ◌++◌, ◌⊎◌, IfSome, IfOk, IfErr, codes, Some};
-ghost use Rattle.gix_ref_base.specs.Names.{full_ref_bytes, full_bytes};
+ghost use Rattle.std.specs.Prelude.{◌≡◌, ◌++◌, ◌⊎◌, IfSome, IfOk, IfErr, codes, map, Some};
+ghost use Rattle.gix_ref_base.specs.Names.{full_ref_bytes, full_bytes, partial_ref_bytes};
 ghost use Rattle.gix_ref_base.specs.NameGrammar.{IsFullName, full_error, IsPartialName};
 ghost use Rattle.gix_ref_base.specs.Namespaces.{namespace_bytes};
+ghost use Rattle.gix_ref_base.specs.Candidates.{candidates};
 
-use gix_ref_base::name::{Category, Error, FullName, FullNameRef};
+use gix_ref_base::name::candidates::{fronts_of, name_behind};
+use gix_ref_base::name::{Category, Error, FullName, FullNameRef, PartialNameRef};
 use gix_ref_base::namespace::Namespace;
 use std::alloc::{AllocError, Global};
 
@@ -41,4 +43,16 @@ pub fn namespaced_path(
     let mut path = Vec::from_slice(alloc, namespace.to_path())?;
     path.extend_from_slice(name.to_path())?;
     Ok(path)
+}
+
+/// All that a partial name may be short for, in the order of a lookup.
+pub fn candidates_of(alloc: Global, name: PartialNameRef<'_>) -> Result<Vec<FullName>, AllocError>
+    ensures { IfOk result
+        (λ found. map full_bytes found.items ≡ candidates (partial_ref_bytes name.entry)) }
+{
+    let mut found = Vec::new(alloc);
+    for front in fronts_of(name) {
+        found.push(name_behind(alloc, front, name)?)?;
+    }
+    Ok(found)
 }

@@ -39,13 +39,13 @@ pub enum FindError {
     Memory,
 }
 
-/// What finds objects by their ids. It means an object, nothing or a fault for each id, and what a call reports is that,
-/// where it claims so; a finder that claims nothing may report anything.
+/// A finder of objects by their ids (`git cat-file`). For each id it has an object, nothing, or something that cannot
+/// be read. Where it claims so, its calls report just that; a finder that claims nothing may report anything.
 pub trait Find: Drop {
-    /// What it has under each id.
+    /// What the finder has under each id.
     ghost meaning: { Self → ObjectId → Stored };
 
-    /// What has to be true for its calls to report that.
+    /// What has to be true for the calls to report what the finder has.
     ghost claims: { Self → Type 0 };
 
     /// The object with this id, or `None` where there is none. Its bytes are lent from the buffer, whose old content is

@@ -34,8 +34,8 @@ fn id_of_hex(kind: hash::Kind, digits: &[u8]) -> Option<ObjectId>
     ObjectId::from_hex(digits)
 }
 
-/// The id that the front of a tag names: `object `, the hex digits of an id of the kind, and LF (`git mktag`). `None` for
-/// bytes with another front.
+/// The id that a tag names in its first line: `object `, the hex digits of an id of the kind, and LF (`git mktag`).
+/// `None` for bytes with another first line.
 pub fn tag_target(kind: hash::Kind, bytes: &[u8]) -> Option<ObjectId>
     ensures { result ≡ target_of kind bytes.now }
 {
@@ -73,12 +73,12 @@ fn next_of<T: Find>(
     }
 }
 
-/// The object behind the tags that begin at this id: the id itself where its object is no tag (`git rev-parse ID^{}`). It
-/// looks at 1,000 tags at the most, over one buffer, which grows to the largest of them.
+/// The object behind the tags that begin at this id: the id itself where its object is no tag (`git rev-parse ID^{}`).
+/// It follows 1,000 tags at the most, over one buffer, which grows to the largest object.
 ///
-/// `NotFound` names an id that has no object, or whose object is a tag that does not begin with `object `, the hex digits
-/// of an id and LF. `TagChainTooLong` comes of more than 1,000 tags in a row, as of a tag that names itself, `Find` of an
-/// object that could not be read, and `Memory` says that there was no memory for an object.
+/// `NotFound` names an id that has no object, or whose object is a tag with another first line than `object `, the hex
+/// digits of an id of the same kind, and LF. `TagChainTooLong` is returned for more than 1,000 tags in a row, as for a
+/// tag that names itself, `Find` for an object that could not be read, and `Memory` where there was no memory for one.
 pub fn peel_to_end<T: Find>(alloc: Global, finder: &T, id: ObjectId) -> Result<ObjectId, PeelError>
     ensures { T.claims finder.now → PeelsTo (peel (T.meaning finder.now) 1000 id) result }
 {

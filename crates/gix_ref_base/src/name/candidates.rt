@@ -57,8 +57,8 @@ fn remotes_front(name: &[u8]) -> &'static [u8]
     }
 }
 
-/// What a lookup puts in front of a partial name, in the order of the lookup (`gitrevisions`). A name of only `A` to `Z`
-/// and underscores, as `HEAD`, is looked up as it is first, and then below `refs/`, `refs/tags/`, `refs/heads/` and
+/// What a lookup puts in front of a partial name, in the order of the lookup (`gitrevisions`). A name of only `A` to
+/// `Z` and underscores, as `HEAD`, is looked up as it is first, and then below `refs/`, `refs/tags/`, `refs/heads/` and
 /// `refs/remotes/`; a name below `refs/`, `main-worktree/` or `worktrees/` as it is first, and then below `tags/`,
 /// `heads/` and `remotes/`; any other name below `refs/`, `refs/tags/`, `refs/heads/` and `refs/remotes/`.
 pub fn fronts_of(name: PartialNameRef<'_>) -> &'static [&'static [u8]]
@@ -91,9 +91,9 @@ pub fn name_behind(
     Ok(FullName { bytes })
 }
 
-/// The `HEAD` of the remote that the partial name may be (`gitrevisions`): `refs/remotes/`, the name and `/HEAD`; without
-/// `refs/` in front where the name is `refs`, `main-worktree` or `worktrees` or begins with one of them and a slash.
-/// `None` for the name `HEAD`. The error says that there was no memory.
+/// The `HEAD` of the remote that the partial name may be (`gitrevisions`): `refs/remotes/`, the name and `/HEAD`;
+/// without `refs/` in front where the name is `refs`, `main-worktree` or `worktrees`, or begins with one of them and a
+/// slash. `None` for the name `HEAD`. The error says that there was no memory.
 pub fn remote_head(alloc: Global, name: PartialNameRef<'_>) -> Result<Option<FullName>, AllocError>
     ensures bytes { IfOk result
         (λ r. option_map full_bytes r ≡ head_of_remote (partial_ref_bytes name.entry)) }

@@ -8,9 +8,9 @@ use crate::name::{FullName, PartialName, PartialNameRef};
 use std::alloc::{AllocError, Global};
 use unicode_normalization::{to_nfc, to_nfd};
 
-/// The name in Unicode's Normalization Form C where it is in another form; `None` where it is in that form already, is not
-/// UTF-8, or would be no valid name in that form. The error says that there was no memory; a name of ASCII bytes takes
-/// none.
+/// The name in Unicode's Normalization Form C where it is in another form; `None` where it is in that form already, is
+/// not UTF-8, or would be no valid name in that form. The error says that there was no memory; a name of ASCII bytes
+/// takes none.
 pub fn compose(alloc: Global, name: PartialNameRef<'_>) -> Result<Option<PartialName>, AllocError>
     ensures { let bytes = partial_ref_bytes name.entry in
         IfOk result (λ r. MatchOption r (composed bytes ≡ bytes)
@@ -52,8 +52,8 @@ fn in_form_d(alloc: Global, path: &[u8]) -> Result<Option<FullName>, AllocError>
     }
 }
 
-/// The name in Unicode's Normalization Form D; the name as it is where it is not UTF-8, or would be no valid full name in
-/// that form. The error says that there was no memory, and drops the name; a name of ASCII bytes takes none.
+/// The name in Unicode's Normalization Form D; the name as it is where it is not UTF-8, or would be no valid full name
+/// in that form. The error says that there was no memory, and drops the name; a name of ASCII bytes takes none.
 pub fn decompose(alloc: Global, name: FullName) -> Result<FullName, AllocError>
     ensures { IfOk result (λ n. full_bytes n ≡ decomposed (full_bytes name)) }
 {
