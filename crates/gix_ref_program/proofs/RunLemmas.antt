@@ -5,7 +5,7 @@ use Rattle.gix_ref_hash.specs.declared.hash.ObjectId.{ObjectId}
 use Rattle.gix_ref_files.specs.Files.{Meaning, Leaves}
 use Rattle.gix_ref_files.proofs.Moments.{weaken}
 use Rattle.gix_ref_store.specs.Prepared.{IsOneUpdate, tree_of}
-use Rattle.gix_ref_store.specs.Store.{files_of, meaning_of}
+use Rattle.gix_ref_store.specs.Store.{files_of, loose_meaning_of}
 use Rattle.gix_ref_edits.specs.RefEdits.{new_of}
 use Rattle.gix_ref_store.specs.declared.file.store.Store.{Store}
 use Rattle.gix_ref_edits.specs.declared.transaction.RefEdit.{RefEdit}
@@ -33,7 +33,7 @@ module _ {F : Type 0} (honest : Type 0) (means : F → Meaning) (faults : F → 
   update_comes old new kind name id before edit (outcomes.Shown reference) asked comes = absurd comes
 
   pub update_stops : (old new : Store F) (kind : Kind) (name : List ℕ) (id : ObjectId) (before : Option ObjectId) (edit : RefEdit) → IsAskedFor kind name id before edit →
-      Leaves (means (files_of old)) (means (files_of new)) (λ T. (T ≡ tree_of means old) ⊎ IsStopOf (meaning_of old) (edit ∷ []) (tree_of means old) T) →
+      Leaves (means (files_of old)) (means (files_of new)) (λ T. (T ≡ tree_of means old) ⊎ IsStopOf (loose_meaning_of old) (edit ∷ []) (tree_of means old) T) →
       Leaves (means (files_of old)) (means (files_of new)) (IsStop honest means faults old kind (Update name id before))
   update_stops old new kind name id before edit asked leaves = weaken leaves (λ T stop. ⊎_elim (λ same. inl same) (λ s. inr (edit, asked, s)) stop)
 

@@ -8,7 +8,7 @@ use Rattle.gix_ref_files.proofs.Moments.{weaken, joins}
 use Rattle.gix_ref_store.specs.OwnLocks.{is_in, paths_of}
 use Rattle.gix_ref_store.specs.CommitResult.{AreCommitted, CommitsFrom, EveryStopFrom, FailsFor, left_of, names_of}
 use Rattle.gix_ref_store.specs.Prepared.{IsOneUpdate, PreparesFrom, RefusesFrom, tree_of}
-use Rattle.gix_ref_store.specs.Store.{files_of, meaning_of}
+use Rattle.gix_ref_store.specs.Store.{files_of, loose_meaning_of}
 use Rattle.gix_ref_store.specs.CarriedEdits.{AreCarried}
 use Rattle.gix_ref_edits.specs.declared.transaction.RefEdit.{RefEdit}
 use Rattle.gix_ref_store.specs.declared.file.store.Store.{Store}
@@ -49,16 +49,16 @@ module _ {F : Type 0} (honest : Type 0) (means : F → Meaning) (faults : F → 
   pub refused_named : AreNamed honest means faults old new edits left
   refused_named = record { ours = from.ours; named = from.named }
 
-  pub refused_stops : honest → Leaves (means (files_of old)) (means (files_of new)) (IsStopOf (meaning_of old) edits (tree_of means old))
+  pub refused_stops : honest → Leaves (means (files_of old)) (means (files_of new)) (IsStopOf (loose_meaning_of old) edits (tree_of means old))
   refused_stops h = weaken (from.leaves h) (λ T adds. inl adds)
 
 -- one that was committed, or whose commit failed
 module _ {F : Type 0} (honest : Type 0) (means : F → Meaning) (faults : F → ℕ) (old mid new : Store F) (edits carried : List RefEdit) (paths : List Paths) (one : IsOneUpdate edits) (from : PreparesFrom honest means faults old mid edits carried paths) where
   pub done : (answer : Result Done Failed) (error : Option UpdateError) (left : List Path) → error ≡ error_of answer → left ≡ left_of answer →
       IfOk answer (λ d. CommitsFrom honest means faults mid new carried paths (paths_of d.locks_left.items)) → honest → error ≡ None →
-      AreCommitted (meaning_of old) edits (tree_of means old) left (tree_of means new)
+      AreCommitted (loose_meaning_of old) edits (tree_of means old) left (tree_of means new)
   done (Ok d) error left told same commits h none =
-      subst (λ l. AreCommitted (meaning_of old) edits (tree_of means old) l (tree_of means new)) (sym same) (commits old edits one from h)
+      subst (λ l. AreCommitted (loose_meaning_of old) edits (tree_of means old) l (tree_of means new)) (sym same) (commits old edits one from h)
   done (Err f) error left told same commits h none = cc
     where
       no : Some (Commit f.error) ≡ None
@@ -80,7 +80,7 @@ module _ {F : Type 0} (honest : Type 0) (means : F → Meaning) (faults : F → 
       (subst (λ l. IsUpdateError honest means faults old new edits (Commit f.error) l) (sym same) (failed f.error fails, (ends old edits one from).gone))
 
   pub stops : (left : List Path) → EveryStopFrom honest means faults mid new carried paths left → honest →
-      Leaves (means (files_of old)) (means (files_of new)) (IsStopOf (meaning_of old) edits (tree_of means old))
+      Leaves (means (files_of old)) (means (files_of new)) (IsStopOf (loose_meaning_of old) edits (tree_of means old))
   stops left ends h = joins (weaken (from.held.leaves h) (λ T adds. inl adds)) (weaken ((ends old edits one from).leaves h) (λ T well. inr well))
 
   pub named : (left all : List Path) → left ≡ all → (all ≡ []) ⊎ HasRisen (faults (files_of mid)) (faults (files_of new)) → EveryStopFrom honest means faults mid new carried paths all →

@@ -14,7 +14,7 @@ use Rattle.gix_ref_lookup.specs.CleanPaths.{is_clean}
 use Rattle.gix_ref_store.specs.CommitResult.{AreCommitted}
 use Rattle.gix_ref_store.specs.Lookup.{FindsIn, FailsIn}
 use Rattle.gix_ref_store.specs.Prepared.{tree_of}
-use Rattle.gix_ref_store.specs.Store.{files_of, folders, kind_of, meaning_of}
+use Rattle.gix_ref_store.specs.Store.{files_of, folders, kind_of, loose_meaning_of}
 use Rattle.gix_ref_edits.specs.RefEdits.{name_of, new_of, mode_of, is_forced, message_of, expected_of, matched}
 use Rattle.gix_ref_store.specs.declared.file.store.Store.{Store}
 use Rattle.gix_ref_store.specs.declared.store.WriteReflog.TheVariants.{Disable}
@@ -111,7 +111,7 @@ module _ {F : Type 0} where
     -- An edit: it is committed, but for locks that stay; or it was not made, and locks may stay; or there was no memory for it.
     abbrev pub EditOutcome : (old new : Store F) → RefEdit → Outcome → Type 0
     EditOutcome old new edit (outcomes.Updated locks) =
-        (honest → AreCommitted (meaning_of old) (edit ∷ []) (tree_of means old) (paths_of locks.items) (tree_of means new))
+        (honest → AreCommitted (loose_meaning_of old) (edit ∷ []) (tree_of means old) (paths_of locks.items) (tree_of means new))
         × AreNamed honest means faults old new (edit ∷ []) (paths_of locks.items)
     EditOutcome old new edit (outcomes.Refused (refusals.Update error) locks) =
         IsUpdateError honest means faults old new (edit ∷ []) error (paths_of locks.items)
@@ -144,7 +144,7 @@ module _ {F : Type 0} where
     abbrev pub IsStop : Store F → Kind → Asked → Tree → Type 0
     IsStop old kind (Update name id before) T =
         (T ≡ tree_of means old)
-        ⊎ ((edit : RefEdit) × IsAskedFor kind name id before edit × IsStopOf (meaning_of old) (edit ∷ []) (tree_of means old) T)
+        ⊎ ((edit : RefEdit) × IsAskedFor kind name id before edit × IsStopOf (loose_meaning_of old) (edit ∷ []) (tree_of means old) T)
     IsStop old kind (Show name) T = T ≡ tree_of means old
 
     -- a line that is not begun

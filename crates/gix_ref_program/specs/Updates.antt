@@ -8,7 +8,7 @@ use Rattle.gix_ref_store.specs.Causes.{locks_of}
 use Rattle.gix_ref_store.specs.CommitResult.{IsOldOrNew, names_of}
 use Rattle.gix_ref_store.specs.Prepared.{RefusesFrom, tree_of, locks_in}
 use Rattle.gix_ref_theory.specs.Readings as readings
-use Rattle.gix_ref_store.specs.Store.{files_of, meaning_of}
+use Rattle.gix_ref_store.specs.Store.{files_of, loose_meaning_of}
 use Rattle.gix_ref_store.specs.PrepareSteps.{places_of}
 use Rattle.gix_ref_store.specs.declared.file.store.Store.{Store}
 use Rattle.gix_ref_edits.specs.declared.transaction.RefEdit.{RefEdit}
@@ -45,7 +45,7 @@ module _ {F : Type 0} (honest : Type 0) (means : F → Meaning) (faults : F → 
   HasFailed old new edits (LockCommit source name) =
       HasRisen (faults (files_of old)) (faults (files_of new)) × (is_in (names_of edits) (full_bytes name) ≡ true)
   HasFailed old new edits (FolderInPlace path) =
-      (is_in (places_of (meaning_of old) edits) path.items ≡ true) × (honest → is_folder (tree_of means new path.items) ≡ true)
+      (is_in (places_of (loose_meaning_of old) edits) path.items ≡ true) × (honest → is_folder (tree_of means new path.items) ≡ true)
 
   -- Why an update was not made, and the locks that stay: it was refused by the first cause against it, and all is as before but for
   -- these locks; or its commit failed.

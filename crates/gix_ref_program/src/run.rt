@@ -2,7 +2,7 @@
 ghost use Rattle.std.specs.Prelude.{◌≡◌, ◌⊎◌, [], ◌∷◌, false, IsSome, IfOk, MatchResult};
 ghost use Rattle.std.specs.Option.{option_map};
 ghost use Rattle.gix_ref_lookup.specs.StoreLayout.{namespace_text};
-ghost use Rattle.gix_ref_store.specs.Store.{files_of, meaning_of};
+ghost use Rattle.gix_ref_store.specs.Store.{files_of, loose_meaning_of};
 ghost use Rattle.gix_ref_store.specs.Prepared.{tree_of};
 ghost use Rattle.gix_ref_edits.specs.RefEdits.{new_of};
 ghost use Rattle.gix_ref_files.specs.Calls.{Unchanged};
@@ -163,7 +163,7 @@ fn make_update<F: Files>(
     ensures packed_refs { result.0 ≡ packed_refs }
     ensures outcome { EditOutcome F.honest F.means F.faults store.old store.new edit result.1 }
     ensures leaves { F.honest → Leaves (F.means (files_of store.old)) (F.means (files_of store.new))
-        (λ T. (T ≡ tree_of F.means store.old) ⊎ IsStopOf (meaning_of store.old) (edit ∷ [])
+        (λ T. (T ≡ tree_of F.means store.old) ⊎ IsStopOf (loose_meaning_of store.old) (edit ∷ [])
         (tree_of F.means store.old) T) }
 {
     let Ok(edits) = one_edit(alloc, edit) else {

@@ -4,7 +4,7 @@ ghost use Rattle.gix_ref_files.specs.Files.{Leaves};
 ghost use Rattle.gix_ref_store.specs.OwnLocks.{paths_of};
 ghost use Rattle.gix_ref_store.specs.CommitResult.{AreCommitted, left_of, mode_of};
 ghost use Rattle.gix_ref_store.specs.Prepared.{IsOneUpdate, tree_of};
-ghost use Rattle.gix_ref_store.specs.Store.{files_of, meaning_of, IsSameStore};
+ghost use Rattle.gix_ref_store.specs.Store.{files_of, loose_meaning_of, IsSameStore};
 ghost use Rattle.gix_ref_program.specs.Updates.{IsStopOf, IsUpdateError, AreNamed, error_of};
 
 use gix_ref_edits::transaction::RefEdit;
@@ -47,12 +47,12 @@ pub fn update<F: Files>(
 ) -> UpdateReport
     requires one { IsOneUpdate edits.items }
     requires quiet { store.old.write_reflog ≡ WriteReflog.Disable }
-    ensures done { F.honest → result.error ≡ None → AreCommitted (meaning_of store.old) edits.items
+    ensures done { F.honest → result.error ≡ None → AreCommitted (loose_meaning_of store.old) edits.items
         (tree_of F.means store.old) (paths_of result.locks_left.items) (tree_of F.means store.new) }
     ensures error { IfSome result.error (λ error. IsUpdateError F.honest F.means F.faults store.old
         store.new edits.items error (paths_of result.locks_left.items)) }
     ensures leaves { F.honest → Leaves (F.means (files_of store.old)) (F.means (files_of store.new))
-        (IsStopOf (meaning_of store.old) edits.items (tree_of F.means store.old)) }
+        (IsStopOf (loose_meaning_of store.old) edits.items (tree_of F.means store.old)) }
     ensures named { AreNamed F.honest F.means F.faults store.old store.new edits.items
         (paths_of result.locks_left.items) }
     ensures packed_refs { result.packed_refs ≡ packed_refs }

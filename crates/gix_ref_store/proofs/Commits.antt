@@ -10,7 +10,7 @@ use Rattle.gix_ref_store.specs.OwnLocks.{is_in, RemovesLocks}
 use Rattle.gix_ref_store.specs.CommitRenames.{renames_of, lock_at, stays_at, IsRaised}
 use Rattle.gix_ref_store.specs.CommitResult.{AreCommitted, EveryStopIsOldOrNew, SaysWhy, FailsFor, names_of}
 use Rattle.gix_ref_store.specs.Prepared.{IsOneUpdate, PreparesFrom, tree_of}
-use Rattle.gix_ref_store.specs.Store.{files_of, folders, kind_of, meaning_of}
+use Rattle.gix_ref_store.specs.Store.{files_of, folders, kind_of, loose_meaning_of}
 use Rattle.gix_ref_store.specs.PrepareSteps.{lock_paths, place_paths}
 use Rattle.gix_ref_store.specs.CarriedEdits.{AreCarried}
 use Rattle.gix_ref_edits.specs.declared.transaction.RefEdit.{RefEdit}
@@ -44,7 +44,7 @@ module _ {F : Type 0} (honest : Type 0) (means : F → Meaning) (faults : F → 
   abbrev now : Meaning
   now = means (files_of new)
 
-  ready : honest → IsReady (meaning_of old) (kind_of old) before first.tree given carried paths
+  ready : honest → IsReady (loose_meaning_of old) (kind_of old) before first.tree given carried paths
   ready h = record {
     accepted = from.held.accepted h;
     texts = from.held.texts h;
@@ -71,7 +71,7 @@ module _ {F : Type 0} (honest : Type 0) (means : F → Meaning) (faults : F → 
       ours = λ q h. subst (λ locks. is_in locks q ≡ true) (same ∙ from.locks) (ours q h);
     }
 
-    pub committed : (h : honest) → IsAfter (renames_of carried paths) first.tree mid.tree → AreCommitted (meaning_of old) given before left now.tree
+    pub committed : (h : honest) → IsAfter (renames_of carried paths) first.tree mid.tree → AreCommitted (loose_meaning_of old) given before left now.tree
     committed h after = commits (folders old) (kind_of old) (folders_laid old.dirs old.namespace) before first given carried paths one (ready h) mid.tree now.tree left after (releases h).tree (well.gone h)
 
 -- a folder stays where locks are removed

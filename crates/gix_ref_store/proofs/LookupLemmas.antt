@@ -14,7 +14,7 @@ use Rattle.gix_ref_theory.specs.Readings.{Store, Reading, reading, reading_by, r
 use Rattle.gix_ref_theory.specs.Readings.Reading.{Is, Fault, Absent}
 use Rattle.gix_ref_theory.specs.ConcreteStore.{store_of, below_folders}
 use Rattle.gix_ref_lookup.specs.StoreLayout.{loose_alone}
-use Rattle.gix_ref_store.specs.Lookup.{IsDecoded, IsUndecodable, Reads, ReadsBy, FailsBy, RefusesBy}
+use Rattle.gix_ref_lookup.specs.LooseFiles.{IsDecoded}
 use Rattle.gix_ref_packed.specs.declared.raw.Reference.{Reference}
 use Rattle.gix_ref_lookup.specs.declared.find.error.Error.{Error}
 use Rattle.gix_ref_lookup.specs.declared.find.error.Error.TheVariants.{RefnameValidation, ReadFileContents, ReferenceCreation, Memory}
@@ -50,53 +50,6 @@ alone f kind view name =
     by_file key (Some bytes) = refl
     by_file None None = refl
     by_file (Some key) None = refl
-
--- what is told of the file is the reading
-pub reads_by : (f : Layout) (kind : Kind) (view : View) (name : List ℕ) (loose : Loose) (answer : Option Reference) →
-    let s = store_of f (loose_alone kind) in
-    IsDecoded kind (view (s.place name)) loose → ReadsBy s name loose answer → Reads s view name answer
-reads_by f kind view name loose_files.Absent None told by =
-    alone f kind view name ∙ ap (file_reading (store_of f (loose_alone kind))) told
-reads_by f kind view name (loose_files.Holds target) (Some r) told by =
-    let s = store_of f (loose_alone kind) in (
-      by.0,
-      alone f kind view name
-          ∙ (ap (file_reading s) told.1
-          ∙ (ap (reading_of_loose s) (held_is kind told.0 (target_value target) told.2) ∙ ap Is (sym by.1))),
-      by.2,
-    )
-reads_by f kind view name loose_files.Absent (Some r) told by = absurd by
-reads_by f kind view name (loose_files.Holds target) None told by = absurd by
-reads_by f kind view name (loose_files.Undecodable error) answer told by = absurd by
-
--- and a refusal is a fault
-pub fails_by : (honest : Type 0) (f : Layout) (kind : Kind) (view : View) (name : List ℕ) (before now : ℕ) (loose : Loose) (error : Error) →
-    let s = store_of f (loose_alone kind) in
-    (honest → IsDecoded kind (view (s.place name)) loose) → RefusesBy name loose error → FailsBy honest kind s view name before now error
-fails_by honest f kind view name before now (loose_files.Undecodable error) (ReferenceCreation source path) tells by = (
-  by.1,
-  λ h.
-      let s = store_of f (loose_alone kind) in
-      let file = tells h in (
-        alone f kind view name ∙ (ap (file_reading s) file.1 ∙ ap (reading_of_loose s) (refused_none kind file.0 error file.2 file.3)),
-        subst (IsUndecodable kind (view (s.place name))) (sym by.0) file,
-      ),
-)
-fails_by honest f kind view name before now loose Memory tells by = tt
-fails_by honest f kind view name before now loose_files.Absent (ReferenceCreation told path) tells by = absurd by
-fails_by honest f kind view name before now (loose_files.Holds target) (ReferenceCreation told path) tells by = absurd by
-fails_by honest f kind view name before now loose (RefnameValidation error) tells by = absurd (never loose by)
-  where
-    never : (loose : Loose) → RefusesBy name loose (RefnameValidation error) → ⊥
-    never loose_files.Absent by = by
-    never (loose_files.Holds target) by = by
-    never (loose_files.Undecodable source) by = by
-fails_by honest f kind view name before now loose (ReadFileContents source path) tells by = absurd (never loose by)
-  where
-    never : (loose : Loose) → RefusesBy name loose (ReadFileContents source path) → ⊥
-    never loose_files.Absent by = by
-    never (loose_files.Holds target) by = by
-    never (loose_files.Undecodable source) by = by
 
 -- carried through an answer
 pub if_ok : {X E : Type 0} {P Q : X → Type 0} (r : Result X E) → ((x : X) → P x → Q x) → IfOk r P → IfOk r Q

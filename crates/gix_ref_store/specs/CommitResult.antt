@@ -11,7 +11,7 @@ use Rattle.gix_ref_theory.specs.Edits as plan
 use Rattle.gix_ref_theory.specs.Edits.Mode.{DeletionsOnly}
 use Rattle.gix_ref_store.specs.Prepared.{IsOneUpdate, PreparesFrom, tree_of, locks_in}
 use Rattle.gix_ref_theory.specs.Readings as readings
-use Rattle.gix_ref_store.specs.Store.{files_of, meaning_of}
+use Rattle.gix_ref_store.specs.Store.{files_of, loose_meaning_of}
 use Rattle.gix_ref_store.specs.PrepareSteps.{place_paths, places_of}
 use Rattle.gix_ref_edits.specs.RefEdits.{name_of}
 use Rattle.gix_ref_store.specs.CarriedEdits.{edit_of}
@@ -67,8 +67,8 @@ module _ {F : Type 0} (honest : Type 0) (means : F → Meaning) (faults : F → 
   -- reference as before or as edited; of the locks only those stay that are named, and one is named only where a fault came.
   pub record EveryStopIsOldOrNew (old start new : Store F) (given : List RefEdit) (left : List Path) : Type 0 where
     -- the tree with which it begins, which a stop before its first change leaves
-    pub began : honest → IsOldOrNew (meaning_of old) given (tree_of means old) (tree_of means start)
-    pub leaves : honest → Leaves (means (files_of start)) (means (files_of new)) (IsOldOrNew (meaning_of old) given (tree_of means old))
+    pub began : honest → IsOldOrNew (loose_meaning_of old) given (tree_of means old) (tree_of means start)
+    pub leaves : honest → Leaves (means (files_of start)) (means (files_of new)) (IsOldOrNew (loose_meaning_of old) given (tree_of means old))
     pub gone : honest → (q : Path) → is_in (locks_in old given) q ≡ true → is_in left q ≡ false → is_file (tree_of means new q) ≡ false
     pub ours : (q : Path) → is_in left q ≡ true → is_in (locks_in old given) q ≡ true
 
@@ -82,7 +82,7 @@ module _ {F : Type 0} (honest : Type 0) (means : F → Meaning) (faults : F → 
   abbrev pub CommitsFrom : (start new : Store F) → List RefEdit → List Paths → List Path → Type 0
   CommitsFrom start new edits paths left =
       (old : Store F) (given : List RefEdit) → IsOneUpdate given → PreparesFrom honest means faults old start given edits paths → honest →
-      AreCommitted (meaning_of old) given (tree_of means old) left (tree_of means new)
+      AreCommitted (loose_meaning_of old) given (tree_of means old) left (tree_of means new)
 
   -- Why a commit failed, with these edits and paths: a rename that failed, only where a fault came; or a folder at the place of a reference.
   abbrev pub FailsFor : (start new : Store F) → List RefEdit → List Paths → Error → Type 0

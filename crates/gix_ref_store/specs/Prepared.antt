@@ -5,7 +5,7 @@ use Rattle.gix_ref_files.specs.Tree.{Tree, Path, is_file}
 use Rattle.gix_ref_files.specs.Files.{Meaning, Leaves, HasRisen}
 use Rattle.gix_ref_store.specs.OwnLocks.{is_in, AddsLocks, RemovesLocks}
 use Rattle.gix_ref_store.specs.Causes.{Refuses, IsAccepted, IsCounted, locks_of}
-use Rattle.gix_ref_store.specs.Store.{files_of, kind_of, meaning_of, IsSameStore}
+use Rattle.gix_ref_store.specs.Store.{files_of, kind_of, loose_meaning_of, IsSameStore}
 use Rattle.gix_ref_store.specs.PrepareSteps.{HoldTexts, old_targets, lock_paths, place_paths, places_of}
 use Rattle.gix_ref_edits.specs.RefEdits.{new_of}
 use Rattle.gix_ref_store.specs.CarriedEdits.{AreCarried}
@@ -29,13 +29,13 @@ module _ {F : Type 0} (means : F → Meaning) where
 module _ {F : Type 0} where
   -- the locks of edits in a store
   abbrev pub locks_in : Store F → List RefEdit → List Path
-  locks_in store edits = locks_of (meaning_of store) edits
+  locks_in store edits = locks_of (loose_meaning_of store) edits
 
 module _ {F : Type 0} (honest : Type 0) (means : F → Meaning) (faults : F → ℕ) where
   -- A refusal: its error is the first cause that stands; `Io` came with a fault; all is as before but for the locks that are named, and
   -- folders that lead to locks; those that are named are locks of the edits, and one is named only where a fault came.
   pub record RefusesFrom (old new : Store F) (edits : List RefEdit) (error : Error) (left : List Path) : Type 0 where
-    pub cause : honest → Refuses (meaning_of old) (kind_of old) (tree_of means old) edits error
+    pub cause : honest → Refuses (loose_meaning_of old) (kind_of old) (tree_of means old) edits error
     pub counted : IsCounted (faults (files_of old)) (faults (files_of new)) error
     pub as_before : honest → AddsLocks left (locks_in old edits) (tree_of means old) (tree_of means new)
     pub ours : (q : Path) → is_in left q ≡ true → is_in (locks_in old edits) q ≡ true
@@ -46,9 +46,9 @@ module _ {F : Type 0} (honest : Type 0) (means : F → Meaning) (faults : F → 
   -- Locks that are held: no cause stands; this was found of each edit; each lock has its whole text, and nothing else was added but folders
   -- that lead to locks.
   pub record HoldsFrom (old new : Store F) (edits : List RefEdit) (was : List (Option TargetValue)) : Type 0 where
-    pub accepted : honest → IsAccepted (meaning_of old) (kind_of old) (tree_of means old) edits
-    pub found : honest → was ≡ old_targets (meaning_of old) (tree_of means old) edits
-    pub texts : honest → HoldTexts (meaning_of old) (tree_of means old) (tree_of means new) edits
+    pub accepted : honest → IsAccepted (loose_meaning_of old) (kind_of old) (tree_of means old) edits
+    pub found : honest → was ≡ old_targets (loose_meaning_of old) (tree_of means old) edits
+    pub texts : honest → HoldTexts (loose_meaning_of old) (tree_of means old) (tree_of means new) edits
     pub adds : honest → AddsLocks (locks_in old edits) (locks_in old edits) (tree_of means old) (tree_of means new)
     pub leaves : honest → Leaves (means (files_of old)) (means (files_of new)) (AddsLocks (locks_in old edits) (locks_in old edits) (tree_of means old))
     pub no_fewer : faults (files_of old) ≤ faults (files_of new)
@@ -59,8 +59,8 @@ module _ {F : Type 0} (honest : Type 0) (means : F → Meaning) (faults : F → 
     pub was : List (Option TargetValue)
     pub held : HoldsFrom old new edits was
     pub carried : AreCarried edits was after
-    pub places : place_paths paths ≡ places_of (meaning_of old) edits
-    pub locks : lock_paths paths ≡ locks_of (meaning_of old) edits
+    pub places : place_paths paths ≡ places_of (loose_meaning_of old) edits
+    pub locks : lock_paths paths ≡ locks_of (loose_meaning_of old) edits
 
   -- A transaction that is given up: of its locks only those stay that are named, and one is named only where a fault came.
   pub record RollsBackFrom (old new : Store F) (locks left : List Path) : Type 0 where

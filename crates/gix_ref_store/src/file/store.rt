@@ -2,7 +2,7 @@
 ghost use Rattle.std.specs.Prelude.{◌≡◌};
 ghost use Rattle.gix_ref_lookup.specs.CleanPaths.{are_clean};
 
-use crate::file::folders::{Dirs, dirs_are_compatible, is_clean_path, resolved};
+use gix_ref_lookup::folders::{Dirs, dirs_are_compatible, is_clean_path, resolved};
 use crate::store::{Options, WriteReflog};
 use gix_ref_base::namespace::Namespace;
 use gix_ref_hash::hash::Kind;

@@ -3,7 +3,7 @@ use Rattle.gix_ref_files.specs.Files.{Leaves}
 use Rattle.gix_ref_store.specs.OwnLocks.{paths_of}
 use Rattle.gix_ref_store.specs.CommitResult.{AreCommitted, left_of}
 use Rattle.gix_ref_store.specs.Prepared.{PreparesFrom, RefusesFrom, tree_of}
-use Rattle.gix_ref_store.specs.Store.{files_of, meaning_of}
+use Rattle.gix_ref_store.specs.Store.{files_of, loose_meaning_of}
 use Rattle.gix_ref_program.specs.Updates.{IsStopOf, IsUpdateError, AreNamed}
 use Rattle.gix_ref_program.proofs.Updating.{at_same, refused_named, refused_stops, done, told, stops, named}
 use Rattle.gix_ref_program.proofs.update.update.Goals as goal
@@ -37,7 +37,7 @@ returns-in-Ok-clause-leaves g c =
     let paths = c.in-Ok.prepared.plan.paths.items in
     let left = paths_of c.report_of_commit.result.locks_left.items in
     let from : PreparesFrom F.honest F.means F.faults c.args.store.now c.in-Ok.prepared.store.now c.args.edits.items edits paths = rw c.transaction.ensures.value at c.in-Ok.ensures.prepared in
-    let found : F.honest → Leaves (F.means (files_of c.args.store.now)) (F.means (files_of c.commit.new.self.0)) (IsStopOf (meaning_of c.args.store.now) c.args.edits.items (tree_of F.means c.args.store.now)) =
+    let found : F.honest → Leaves (F.means (files_of c.args.store.now)) (F.means (files_of c.commit.new.self.0)) (IsStopOf (loose_meaning_of c.args.store.now) c.args.edits.items (tree_of F.means c.args.store.now)) =
     stops F.honest F.means F.faults c.args.store.now c.in-Ok.prepared.store.now c.commit.new.self.0 c.args.edits.items edits paths c.requires.one from (left_of c.commit.result) c.commit.ensures.ended in
     search rules
 
@@ -48,7 +48,7 @@ returns-in-Ok-clause-done g c =
     let paths = c.in-Ok.prepared.plan.paths.items in
     let left = paths_of c.report_of_commit.result.locks_left.items in
     let from : PreparesFrom F.honest F.means F.faults c.args.store.now c.in-Ok.prepared.store.now c.args.edits.items edits paths = rw c.transaction.ensures.value at c.in-Ok.ensures.prepared in
-    at_same (λ new. F.honest → c.report_of_commit.result.error ≡ None → AreCommitted (meaning_of c.args.store.now) c.args.edits.items (tree_of F.means c.args.store.now) left (tree_of F.means new)) {x = c.store-in-Ok-1.given.0} {y = c.commit.new.self.0} (search rules)
+    at_same (λ new. F.honest → c.report_of_commit.result.error ≡ None → AreCommitted (loose_meaning_of c.args.store.now) c.args.edits.items (tree_of F.means c.args.store.now) left (tree_of F.means new)) {x = c.store-in-Ok-1.given.0} {y = c.commit.new.self.0} (search rules)
     (done F.honest F.means F.faults c.args.store.now c.in-Ok.prepared.store.now c.commit.new.self.0 c.args.edits.items edits paths c.requires.one from c.commit.result c.report_of_commit.result.error left c.report_of_commit.ensures.error c.report_of_commit.ensures.left c.commit.ensures.committed)
 
 pub returns-in-Err-clause-named : goal.returns-in-Err-clause-named
@@ -67,6 +67,6 @@ returns-in-Err-clause-leaves g c =
     let new = c.prepare.follows.lender-at-none in
     let left = paths_of c.in-Err.refused.locks_left.items in
     let from : RefusesFrom F.honest F.means F.faults c.args.store.now new c.args.edits.items c.in-Err.refused.error left = search rules in
-    let found : F.honest → Leaves (F.means (files_of c.args.store.now)) (F.means (files_of new)) (IsStopOf (meaning_of c.args.store.now) c.args.edits.items (tree_of F.means c.args.store.now)) =
+    let found : F.honest → Leaves (F.means (files_of c.args.store.now)) (F.means (files_of new)) (IsStopOf (loose_meaning_of c.args.store.now) c.args.edits.items (tree_of F.means c.args.store.now)) =
     refused_stops F.honest F.means F.faults c.args.store.now new c.args.edits.items c.in-Err.refused.error left from in
     search rules

@@ -1,7 +1,7 @@
 //! What a transaction stands on beside its files: the folders of the store, its namespace and the kind of its ids.
 ghost use Rattle.std.specs.Prelude.{◌≡◌, IfOk};
 
-use crate::file::folders::Dirs;
+use gix_ref_lookup::folders::Dirs;
 use gix_ref_base::namespace::Namespace;
 use gix_ref_hash::hash::Kind;
 

@@ -3,7 +3,7 @@ ghost use Rattle.std.specs.Prelude.{◌≡◌, ◌≤◌, [], IfOk, IfErr, vec_l
 ghost use Rattle.std.specs.Vec.{vec_capacity};
 ghost use Rattle.gix_ref_store.specs.OwnLocks.{paths_of};
 ghost use Rattle.gix_ref_store.specs.Prepared.{IsOneUpdate, RefusesFrom, HoldsFrom};
-ghost use Rattle.gix_ref_store.specs.Store.{meaning_of};
+ghost use Rattle.gix_ref_store.specs.Store.{loose_meaning_of};
 ghost use Rattle.gix_ref_store.specs.PrepareSteps.{value_of, lock_paths, place_paths, places_of};
 ghost use Rattle.gix_ref_store.specs.Causes.{locks_of};
 
@@ -38,8 +38,8 @@ impl<F: Files> Store<F> {
         ensures len { IfOk result (λ t. vec_len t.found ≡ length edits.now) }
         ensures paths { IfOk result (λ t. vec_len t.paths ≡ length edits.now) }
         ensures places { IfOk result (λ t. place_paths t.paths.items ≡ places_of
-            (meaning_of self.old) edits.now) }
-        ensures locks { IfOk result (λ t. lock_paths t.paths.items ≡ locks_of (meaning_of self.old)
+            (loose_meaning_of self.old) edits.now) }
+        ensures locks { IfOk result (λ t. lock_paths t.paths.items ≡ locks_of (loose_meaning_of self.old)
             edits.now) }
         ensures room { IfOk result (λ t. vec_len t.paths ≤ vec_capacity t.left) }
         ensures none { IfOk result (λ t. t.left.items ≡ []) }

@@ -13,10 +13,10 @@ ghost use Rattle.gix_ref_store.specs.Causes.{found, IsCounted, IsNotIo, IsMismat
 ghost use Rattle.gix_ref_edits.specs.RefEdits.{name_of, expected_of, new_of, Expects};
 ghost use Rattle.gix_ref_store.specs.PrepareSteps.{setting_of, value_of, places_of, place_paths, lock_paths, lock_text, is_new, held_by, IsText, IsRefusedLock, IsNewLock, FillsLock};
 
-use crate::file::find::loose::{Loose, loose_at};
-use crate::file::find::strip;
-use crate::file::layout::layout_in;
-use crate::file::loose::text_of;
+use gix_ref_lookup::find::loose::{Loose, loose_at};
+use gix_ref_lookup::find::strip;
+use gix_ref_lookup::layout::layout_in;
+use gix_ref_lookup::loose::text_of;
 use crate::file::transaction::prepare::Error;
 use crate::file::transaction::prepare::expect::check_expected;
 use crate::file::transaction::setting::{Paths, Setting};

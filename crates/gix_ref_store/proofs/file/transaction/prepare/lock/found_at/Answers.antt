@@ -2,7 +2,7 @@ use Rattle.std.proofs.Common.{◌∙◌, subst}
 use Rattle.gix_ref_files.specs.Tree.{Path}
 use Rattle.gix_ref_theory.specs.OnRealTrees.{view_of}
 use Rattle.gix_ref_lookup.specs.StoreLayout.{folders_of}
-use Rattle.gix_ref_store.specs.Lookup.{IsDecoded}
+use Rattle.gix_ref_lookup.specs.LooseFiles.{IsDecoded}
 use Rattle.gix_ref_store.proofs.LookupLemmas.{found_loose}
 use Rattle.gix_ref_store.proofs.file.transaction.prepare.lock.found_at.Goals as goal
 
