@@ -17,6 +17,7 @@ fn candidates_in_turn(rt: HostRuntime) -> Result<(), Fail> {
     assert_eq!(rt; found.len(), 5);
     assert!(rt; found[0].eq_bytes(b"HEAD"));
     let found = candidates_of(alloc, partial(&rt, "refs/heads/x"))?;
+    assert_eq!(rt; found.len(), 4);
     assert!(rt; found[0].eq_bytes(b"refs/heads/x"));
     assert!(rt; found[1].eq_bytes(b"tags/refs/heads/x"));
     Ok(())
