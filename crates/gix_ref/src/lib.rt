@@ -3,6 +3,7 @@
 //! - `name`, `namespace`, `target`, `hash`: names of references, namespaces, targets and ids.
 //! - `file`: the store over files, its lookups and its transactions; `store`: its options; `transaction`: edits.
 //! - `packed`, `log`, `raw`, `actor`: `packed-refs`, reflogs, references as values, and signatures.
+//! - `object`: objects, and finders of objects.
 //! - `files`: the file system that a store is over, with `Disk` for the disk and `Memory` for tests; `lock`: lock files.
 //! - `layout`: where a name is kept; `theorems`: what is proved of definitions alone.
 #![tactic(auto)]
@@ -15,5 +16,6 @@ pub use gix_ref_edits::transaction;
 pub use gix_ref_files::{lock, steps};
 pub use gix_ref_hash::hash;
 pub use gix_ref_log::{actor, log};
+pub use gix_ref_object::object;
 pub use gix_ref_packed::{packed, raw};
 pub use gix_ref_store::{file, store};
