@@ -2,12 +2,15 @@
 use gix_ref::hash::{hex_hash, hex_hash_any, newline};
 use gix_ref::namespace::expand;
 use gix_ref::{
-    actor, file, files, hash, layout, lock, log, name, namespace, packed, raw, steps, store,
-    target, transaction,
+    actor, file, files, hash, layout, lock, log, name, namespace, object, packed, raw, steps,
+    store, target, transaction,
 };
 
 /// Names a type.
 fn named<T>() {}
+
+/// Names a finder of objects.
+fn finds<T: object::Find>() {}
 
 #[test]
 fn types_of_names_and_values() {
@@ -26,6 +29,11 @@ fn types_of_names_and_values() {
     named::<target::Target>();
     named::<target::TargetRef<'_>>();
     named::<raw::Reference>();
+    named::<object::Kind>();
+    named::<object::Data<'_>>();
+    named::<object::FindError>();
+    named::<object::Never>();
+    finds::<object::Never>();
     named::<actor::Time>();
     named::<actor::Signature>();
     named::<actor::SignatureRef<'_>>();
@@ -68,6 +76,7 @@ fn types_of_files_and_the_store() {
     named::<file::loose::Reference>();
     named::<file::loose::Error>();
     named::<file::find::Error>();
+    named::<file::find::ReadError>();
     named::<file::find::existing::Error>();
     named::<file::transaction::PackedRefs>();
     named::<file::transaction::Refused>();
