@@ -1,9 +1,12 @@
 //! Measures the formats: `bench MODE FOLDER TURNS` does the work of the mode so many times on the files of the folder. It
 //! prints the number of hits, and on standard error the nanoseconds that this took. The work of the modes that end in
 //! `-make` is to write the files that the others read; `tiny` does a little of each.
+//!
+//! The modes `find-hit`, `find-miss` and `open-find` look up names in a repository and print `MODE TURNS NANOSECONDS HITS`.
 #![tactic(auto)]
 
 mod logs;
+mod lookups;
 mod packed;
 
 use anyhow::{Context, Result, bail};
@@ -39,6 +42,12 @@ fn main(rt: HostRuntime) -> Result<()> {
     };
     let turns = turns.parse::<u64>().context("TURNS")?;
     let start = Instant::now(&rt)?;
+    let files = Disk::new(rt.clone()?);
+    if let Some(hits) = lookups::run(rt.alloc(), files, mode.as_str(), folder.as_str(), turns) {
+        let nanoseconds = start.elapsed(&rt)?.as_nanos();
+        println!(rt; "{mode} {turns} {nanoseconds} {hits}")?;
+        return Ok(());
+    }
     let hits = hits_of(&rt, mode.as_str(), folder.as_str(), turns)?;
     let nanoseconds = start.elapsed(&rt)?.as_nanos();
     println!(rt; "{hits}")?;
