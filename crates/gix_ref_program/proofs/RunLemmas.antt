@@ -11,6 +11,7 @@ use Rattle.gix_ref_store.specs.declared.file.store.Store.{Store}
 use Rattle.gix_ref_edits.specs.declared.transaction.RefEdit.{RefEdit}
 use Rattle.gix_ref_program.specs.Updates.{IsStopOf}
 use Rattle.gix_ref_program.specs.Words.{Update, Line}
+use Rattle.gix_ref_files.specs.declared.files.ReadAt.{Ghosts}
 use Rattle.gix_ref_program.specs.Runs.{IsAskedFor, IsOpened, EditOutcome, UpdateOutcome, CommandOutcome, LineOutcome, IsStop, IsStopIn}
 use Rattle.gix_ref_program.specs.declared.outcome.Outcome.{Outcome}
 use Rattle.gix_ref_program.specs.declared.outcome.Outcome.TheVariants as outcomes
@@ -37,9 +38,9 @@ module _ {F : Type 0} (honest : Type 0) (means : F → Meaning) (faults : F → 
       Leaves (means (files_of old)) (means (files_of new)) (IsStop honest means faults old kind (Update name id before))
   update_stops old new kind name id before edit asked leaves = weaken leaves (λ T stop. ⊎_elim (λ same. inl same) (λ s. inr (edit, asked, s)) stop)
 
-  pub line_comes : (files after : F) (line : Line) (old new : Store F) (outcome : Outcome) → IsOpened files line old → files_of new ≡ after →
-      CommandOutcome honest means faults old new line.kind line.asked outcome → LineOutcome honest means faults files after line outcome
-  line_comes files after line old new outcome opened same comes = inl (old, new, opened, same, comes)
+  pub line_comes : {R : Type 0} (G : Ghosts R) (files after : F) (line : Line) (old new : Store F) (outcome : Outcome) → IsOpened files line old → files_of new ≡ after →
+      CommandOutcome honest means faults G old new line.kind line.asked outcome → LineOutcome honest means faults G files after line outcome
+  line_comes G files after line old new outcome opened same comes = inl (old, new, opened, same, comes)
 
   pub line_stops : (files after : F) (line : Line) (old new : Store F) → IsOpened files line old → files_of new ≡ after →
       Leaves (means (files_of old)) (means (files_of new)) (IsStop honest means faults old line.kind line.asked) → Leaves (means files) (means after) (IsStopIn honest means faults files line)

@@ -59,6 +59,8 @@ abbrev pub find_word : finds.Error → List ℕ
 find_word (find.RefnameValidation error) = codes "RefnameValidation"
 find_word (find.ReadFileContents source path) = codes "ReadFileContents"
 find_word (find.ReferenceCreation source path) = codes "ReferenceCreation"
+find_word (find.PackedRef error) = codes "PackedRef"
+find_word (find.PackedOpen error) = codes "PackedOpen"
 find_word find.Memory = codes "Memory"
 
 abbrev pub word_of : Refusal → List ℕ

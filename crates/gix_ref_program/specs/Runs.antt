@@ -12,7 +12,11 @@ use Rattle.gix_ref_files.specs.Files.{Meaning, Leaves}
 use Rattle.gix_ref_store.specs.OwnLocks.{paths_of}
 use Rattle.gix_ref_lookup.specs.CleanPaths.{is_clean}
 use Rattle.gix_ref_store.specs.CommitResult.{AreCommitted}
-use Rattle.gix_ref_store.specs.Lookup.{FindsIn, FailsIn}
+use Rattle.gix_ref_base.specs.PackedRecords.{Record}
+use Rattle.gix_ref_files.specs.declared.files.ReadAt.{Ghosts}
+use Rattle.gix_ref_lookup.specs.Lookups.{IsSound}
+use Rattle.gix_ref_lookup.specs.declared.find.records.Records.TheVariants.{Unopened}
+use Rattle.gix_ref_store.specs.Lookup.{AreRecordsIn, FindsAmong, HitsIn, FailsIn}
 use Rattle.gix_ref_store.specs.Prepared.{tree_of}
 use Rattle.gix_ref_store.specs.Store.{files_of, folders, kind_of, loose_meaning_of}
 use Rattle.gix_ref_edits.specs.RefEdits.{name_of, new_of, mode_of, is_forced, message_of, expected_of, matched}
@@ -127,18 +131,21 @@ module _ {F : Type 0} where
     UpdateOutcome old new kind name id before outcome = (edit : RefEdit) × IsAskedFor kind name id before edit × EditOutcome old new edit outcome
 
     -- A lookup: what it finds is shown; or there is nothing; or it fails; or its name breaks a rule.
-    abbrev pub ShowOutcome : (old new : Store F) → (name : List ℕ) → Outcome → Type 0
-    ShowOutcome old new name (outcomes.Shown reference) = honest → FindsIn means old name (Some reference)
-    ShowOutcome old new name (outcomes.Refused refusals.NotFound locks) =
-        (honest → FindsIn means old name None) × (locks.items ≡ [])
-    ShowOutcome old new name (outcomes.Refused (refusals.Find error) locks) =
-        FailsIn honest means faults old new name error × (locks.items ≡ [])
-    ShowOutcome old new name (outcomes.Refused (refusals.Name error) locks) = (partial_error name ≡ Some error) × (new ≡ old) × (locks.items ≡ [])
-    ShowOutcome old new name outcome = ⊥
+    abbrev pub ShowOutcome : {R : Type 0} (G : Ghosts R) → (old new : Store F) → (name : List ℕ) → Outcome → Type 0
+    ShowOutcome G old new name (outcomes.Shown reference) =
+        honest → HitsIn {G = G} means old Unopened name (Some reference) × ((records : List Record) → AreRecordsIn means old records → FindsAmong means old records name (Some reference))
+    ShowOutcome G old new name (outcomes.Refused refusals.NotFound locks) =
+        (honest → (records : List Record) → AreRecordsIn means old records → FindsAmong means old records name None) × (locks.items ≡ [])
+    ShowOutcome G old new name (outcomes.Refused (refusals.Find error) locks) =
+        FailsIn {G = G} honest means faults old new Unopened name error
+        × (honest → (records : List Record) → AreRecordsIn means old records → IsSound error)
+        × (locks.items ≡ [])
+    ShowOutcome G old new name (outcomes.Refused (refusals.Name error) locks) = (partial_error name ≡ Some error) × (new ≡ old) × (locks.items ≡ [])
+    ShowOutcome G old new name outcome = ⊥
 
-    abbrev pub CommandOutcome : (old new : Store F) → Kind → Asked → Outcome → Type 0
-    CommandOutcome old new kind (Update name id before) outcome = UpdateOutcome old new kind name id before outcome
-    CommandOutcome old new kind (Show name) outcome = ShowOutcome old new name outcome
+    abbrev pub CommandOutcome : {R : Type 0} (G : Ghosts R) → (old new : Store F) → Kind → Asked → Outcome → Type 0
+    CommandOutcome G old new kind (Update name id before) outcome = UpdateOutcome old new kind name id before outcome
+    CommandOutcome G old new kind (Show name) outcome = ShowOutcome G old new name outcome
 
     -- a stop in a command leaves this tree: as before; or of an update what a stop in it leaves
     abbrev pub IsStop : Store F → Kind → Asked → Tree → Type 0
@@ -153,9 +160,9 @@ module _ {F : Type 0} where
     NotBegun line outcome = ⊥
 
     -- what a line comes to: it is begun in its store, or it is not, and the files are as before
-    abbrev pub LineOutcome : (files after : F) → Line → Outcome → Type 0
-    LineOutcome files after line outcome =
-        ((old : Store F) × (new : Store F) × IsOpened files line old × (files_of new ≡ after) × CommandOutcome old new line.kind line.asked outcome)
+    abbrev pub LineOutcome : {R : Type 0} (G : Ghosts R) → (files after : F) → Line → Outcome → Type 0
+    LineOutcome G files after line outcome =
+        ((old : Store F) × (new : Store F) × IsOpened files line old × (files_of new ≡ after) × CommandOutcome G old new line.kind line.asked outcome)
         ⊎ ((after ≡ files) × NotBegun line outcome)
 
     -- a stop in a line leaves this tree: as before, or what a stop in its command leaves
@@ -170,10 +177,10 @@ module _ {F : Type 0} where
       pub printed : IfOk status (λ s. (s ≡ 2) × Appends out now (codes "wrong words\n"))
 
     -- A run of a line: what it comes to is printed, and printed by the status; and each stop leaves what a stop in the line leaves.
-    pub record RunsLine {E : Type 0} (files after : F) (words : List (List ℕ)) (out now : Option (List ℕ)) (status : Result ℕ E) : Type 0 where
+    pub record RunsLine {R : Type 0} (G : Ghosts R) {E : Type 0} (files after : F) (words : List (List ℕ)) (out now : Option (List ℕ)) (status : Result ℕ E) : Type 0 where
       pub line : Line
       pub outcome : Outcome
       pub is_line : IsLine words line
-      pub comes_to : LineOutcome files after line outcome
+      pub comes_to : LineOutcome G files after line outcome
       pub printed : IfOk status (λ s. (s ≡ status_of outcome) × Appends out now (printed outcome))
       pub leaves : honest → Leaves (means files) (means after) (IsStopIn files line)

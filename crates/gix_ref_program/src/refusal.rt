@@ -82,6 +82,8 @@ fn find_variant(error: &find::Error) -> &'static str
         find::Error::RefnameValidation(_) => "RefnameValidation",
         find::Error::ReadFileContents { .. } => "ReadFileContents",
         find::Error::ReferenceCreation { .. } => "ReferenceCreation",
+        find::Error::PackedRef(_) => "PackedRef",
+        find::Error::PackedOpen(_) => "PackedOpen",
         find::Error::Memory => "Memory",
     }
 }

@@ -32,6 +32,7 @@ with_files store files = record {
   files = files;
   dirs = store.dirs;
   object_hash = store.object_hash;
+  packed_mmap_threshold = store.packed_mmap_threshold;
 }
 
 module _ {F : Type 0} (honest : Type 0) (means : F → Meaning) (faults : F → ℕ) (old start new : Store F) (given carried : List RefEdit) (paths : List Paths) (one : IsOneUpdate given) (from : PreparesFrom honest means faults old start given carried paths) where

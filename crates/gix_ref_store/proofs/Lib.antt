@@ -4,6 +4,7 @@ pub mod Committing
 pub mod Firsts
 pub mod Locking
 pub mod LookupLemmas
+pub mod LooseAnswers
 pub mod OneEdit
 pub mod OneUpdate
 pub mod Removing

@@ -1,16 +1,24 @@
 -- What a lookup in a store answers (`gitrevisions`).
-use Rattle.std.specs.Prelude.{◌≡◌, ◌⊎◌, ℕ, List, Option, Some, None, IfSome}
+use Rattle.std.specs.Prelude.{◌≡◌, ◌⊎◌, true, false, ℕ, List, [], Option, Some, None, IfSome}
 use denote.Ref.{Bor}
-use Rattle.gix_ref_base.specs.Names.{partial_bytes}
+use Rattle.gix_ref_base.specs.Names.{partial_bytes, full_bytes}
+use Rattle.gix_ref_base.specs.Targets.{target_value}
+use Rattle.gix_ref_theory.specs.Lookups.{Hit}
+use Rattle.gix_ref_theory.specs.Readings.Reading.{Is}
 use Rattle.gix_ref_base.specs.PackedRecords.{Record}
 use Rattle.gix_ref_base.specs.Layout.{packed_refs}
 use Rattle.gix_ref_files.specs.Files.{Meaning, Leaves}
 use Rattle.gix_ref_files.specs.Calls.{Unchanged}
 use Rattle.gix_ref_files.specs.declared.files.ReadAt.{Ghosts}
+use Rattle.gix_ref_files.specs.Tree.{Content, is_file, bytes_of}
+use Rattle.gix_ref_packed.specs.Buffers.{Opened, IsRefusedFile, HoldsRecords, buffer_kind, buffer_text}
+use Rattle.gix_ref_packed.specs.declared.packed.buffer.Buffer.{Buffer}
+use Rattle.gix_ref_packed.specs.declared.packed.buffer.open.Error.{Error as OpenError}
 use Rattle.gix_ref_packed.specs.declared.raw.Reference.{Reference}
 use Rattle.gix_ref_theory.specs.Views.{View}
 use Rattle.gix_ref_theory.specs.OnRealTrees.{view_of}
 use Rattle.gix_ref_lookup.specs.Lookups.{Answers, ArePackedRecords, AreAsked, AreHonest, IsSound, IsHit, Among, FailsAmong, lookup_of, asked_names}
+use Rattle.gix_ref_lookup.specs.declared.loose.Reference.{Reference as Loose}
 use Rattle.gix_ref_lookup.specs.declared.settings.Settings.{Settings}
 use Rattle.gix_ref_lookup.specs.declared.find.records.Records.{Records}
 use Rattle.gix_ref_lookup.specs.declared.find.records.Records.TheVariants as sources
@@ -34,6 +42,27 @@ settings_of store = record {
   prohibit_windows_device_names = store.prohibit_windows_device_names;
 }
 
+-- why one that has to find something has no reference, where none was found: that, with the name; or no memory for the name
+abbrev pub IsNotFound : List ℕ → Missing → Type 0
+IsNotFound p (NotFound name) = partial_bytes name ≡ p
+IsNotFound p (Find error) = error ≡ Memory
+
+-- the records that a buffer of the caller gives a lookup
+abbrev pub held : {R : Type 0} {G : Ghosts R} → Option (Bor Buffer) → Records R G
+held None = sources.None
+held (Some buffer) = sources.Held buffer
+
+-- these are its records; where there is no buffer, there are none
+abbrev pub AreHeld : Option (Bor Buffer) → List Record → Type 0
+AreHeld None records = records ≡ []
+AreHeld (Some buffer) records = HoldsRecords (buffer_kind buffer.now) records (buffer_text buffer.now)
+
+-- what a lookup finds, as a loose reference
+abbrev pub AnswersLoose : Option Hit → Option Loose → Type 0
+AnswersLoose None None = Unit {0}
+AnswersLoose (Some hit) (Some r) = (full_bytes r.name ≡ hit.name) × (hit.reading ≡ Is (target_value r.target))
+AnswersLoose found answer = ⊥
+
 module _ {F : Type 0} (means : F → Meaning) where
   -- the files of a store, without its folders
   abbrev pub view_in : StoreValue F → View
@@ -47,12 +76,38 @@ module _ {F : Type 0} (means : F → Meaning) where
   abbrev pub FindsAmong : StoreValue F → List Record → List ℕ → Option Reference → Type 0
   FindsAmong store records p found = Answers (lookup_of (stores.meaning_of store) (view_in store) records p) found
 
+  -- and this among loose files alone
+  abbrev pub FindsLoose : StoreValue F → List ℕ → Option Loose → Type 0
+  FindsLoose store p found = AnswersLoose (lookup_of (stores.meaning_of store) (view_in store) [] p) found
+
   -- one that has to find something finds nothing, or fails by a fault, a loose file or want of memory
   abbrev pub MissesAmong : StoreValue F → List Record → List ℕ → Missing → Type 0
   MissesAmong store records p (Find error) = IsSound error
   MissesAmong store records p (NotFound name) = FindsAmong store records p None
 
+  -- and so among loose files alone
+  abbrev pub MissesLoose : StoreValue F → List ℕ → Missing → Type 0
+  MissesLoose store p (Find error) = IsSound error
+  MissesLoose store p (NotFound name) = FindsLoose store p None
+
+  -- what is at the path of its `packed-refs`
+  abbrev pub packed_refs_at : StoreValue F → Option Content
+  packed_refs_at store = (means (stores.files_of store)).tree (packed_refs (stores.folders store))
+
+  -- this is its `packed-refs` in memory; or there is no such file
+  abbrev pub OpensBuffer : StoreValue F → Option Buffer → Type 0
+  OpensBuffer store None = is_file (packed_refs_at store) ≡ false
+  OpensBuffer store (Some buffer) = (is_file (packed_refs_at store) ≡ true) × Opened (stores.kind_of store) (bytes_of (packed_refs_at store)) buffer
+
+  -- why it is not opened
+  abbrev pub RefusesBuffer : StoreValue F → OpenError → Type 0
+  RefusesBuffer store error = IsRefusedFile (stores.kind_of store) (packed_refs_at store) error
+
 module _ {F R : Type 0} {G : Ghosts R} (means : F → Meaning) where
+  -- the records that a lookup in a store asks are these
+  abbrev pub AreAskedIn : StoreValue F → Records R G → List Record → Type 0
+  AreAskedIn store asked records = AreAsked (stores.kind_of store) (view_in means store (packed_refs (stores.folders store))) asked records
+
   -- on any text of `packed-refs`: what is found is a loose file of a name that is asked for, or a record of it that begins a
   -- line
   abbrev pub HitsIn : StoreValue F → Records R G → List ℕ → Option Reference → Type 0

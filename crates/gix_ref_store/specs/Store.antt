@@ -37,6 +37,10 @@ meaning_of store = store_of (folders store) (git_options (kind_of store) store.p
 abbrev pub loose_meaning_of : {F : Type 0} → Store F → readings.Store
 loose_meaning_of store = store_of (folders store) (loose_alone (kind_of store))
 
+-- the threshold that it keeps for its `packed-refs`
+abbrev pub threshold_of : {F : Type 0} → Store F → ℕ
+threshold_of store = store.packed_mmap_threshold
+
 -- the same store, but for what its files hold
 pub record IsSameStore {F : Type 0} (old new : Store F) : Type 0 where
   pub dirs : new.dirs ≡ old.dirs
@@ -56,6 +60,7 @@ pub record IsMade {F : Type 0} (files : F) (git_dir : Vec ℕ Global) (common_di
   pub reflogs : store.write_reflog ≡ options.write_reflog
   pub composes : store.precompose_unicode ≡ options.precompose_unicode
   pub prohibits : store.prohibit_windows_device_names ≡ options.prohibit_windows_device_names
+  pub threshold : threshold_of store ≡ 32768
 
 -- there is a store in these folders
 abbrev pub AreDirs : Vec ℕ Global → Option (Vec ℕ Global) → Type 0

@@ -1,6 +1,7 @@
 //! Finding references (`gitrevisions`).
 ghost use Rattle.std.specs.Prelude.{◌≡◌};
-ghost use Rattle.gix_ref_store.specs.Lookup.{settings_of};
+ghost use Rattle.gix_ref_base.specs.Names.{partial_ref_bytes};
+ghost use Rattle.gix_ref_store.specs.Lookup.{IsNotFound};
 
 pub use gix_ref_lookup::find::{Error, ReadError, existing};
 
@@ -15,14 +16,52 @@ use gix_ref_lookup::settings::Settings;
 use gix_ref_packed::packed::Buffer;
 use std::alloc::Global;
 
+/// No reference of the name was found; or there was no memory for the name.
+fn not_found(alloc: Global, partial: PartialNameRef<'_>) -> existing::Error
+    ensures { IsNotFound (partial_ref_bytes partial.entry) result }
+{
+    match partial.to_owned(alloc) {
+        Ok(name) => existing::Error::NotFound { name },
+        Err(_) => existing::Error::Find(Error::Memory),
+    }
+}
+
 impl<F: Files> Store<F> {
     ghost use Rattle.std.specs.Prelude.{◌≡◌, List, Some, IfOk, IfErr, OnOk};
     ghost use Rattle.gix_ref_base.specs.Names.{partial_ref_bytes};
     ghost use Rattle.gix_ref_base.specs.PackedRecords.{Record};
-    ghost use Rattle.gix_ref_lookup.specs.Lookups.{IsSound};
+    ghost use Rattle.gix_ref_lookup.specs.Lookups.{IsSound, AreHonest};
     ghost use Rattle.gix_ref_lookup.specs.declared.find.records.Records.TheVariants.{Unopened};
     ghost use Rattle.gix_ref_store.specs.Store.{files_of};
-    ghost use Rattle.gix_ref_store.specs.Lookup.{AreRecordsIn, FindsAmong, HitsIn, FailsIn, MissesIn, MissesAmong, LooksUp};
+    ghost use Rattle.gix_ref_store.specs.Lookup.{AreRecordsIn, AreAskedIn, AreHeld, held, FindsAmong, FindsLoose, HitsIn, FailsIn, MissesIn, MissesAmong, MissesLoose, LooksUp};
+
+    /// The reference that a partial name is short for, where these records are asked.
+    fn find_among(
+        &mut self,
+        alloc: Global,
+        partial: PartialNameRef<'_>,
+        asked: &mut Records<'_, F::Reader>,
+    ) -> Result<Option<Reference>, Error>
+        ensures found { F.honest → (records : List Record) → AreAskedIn F.means self.old asked.old records →
+            IfOk result (FindsAmong F.means self.old records (partial_ref_bytes partial.entry)) }
+        ensures sound { F.honest → (records : List Record) → AreAskedIn F.means self.old asked.old records →
+            IfErr result IsSound }
+        ensures hit { F.honest → AreHonest asked.old → IfOk result
+            (HitsIn F.means self.old asked.old (partial_ref_bytes partial.entry)) }
+        ensures failed { IfErr result (FailsIn F.honest F.means F.faults self.old self.new asked.old
+            (partial_ref_bytes partial.entry)) }
+        ensures no_fault { OnOk result (F.faults (files_of self.new) ≡ F.faults
+            (files_of self.old)) }
+        ensures unchanged { LooksUp F.honest F.means self.old self.new }
+    {
+        let settings = Settings {
+            dirs: &self.dirs,
+            namespace: &self.namespace,
+            kind: self.object_hash,
+            prohibit_windows_device_names: self.prohibit_windows_device_names,
+        };
+        find_reference(alloc, &mut self.files, settings, partial, asked)
+    }
 
     /// Finds the reference that a partial name is short for (`gitrevisions`), in the namespace of the store: the first of its
     /// candidates that has a loose file, or else a record in `packed-refs`. `main` is looked for as `refs/main`,
@@ -57,19 +96,7 @@ impl<F: Files> Store<F> {
             (files_of self.old)) }
         ensures unchanged { LooksUp F.honest F.means self.old self.new }
     {
-        let settings = Settings {
-            dirs: &self.dirs,
-            namespace: &self.namespace,
-            kind: self.object_hash,
-            prohibit_windows_device_names: self.prohibit_windows_device_names,
-        };
-        find_reference(
-            alloc,
-            &mut self.files,
-            settings,
-            partial,
-            &mut Records::Unopened,
-        )
+        self.find_among(alloc, partial, &mut Records::Unopened)
     }
 
     /// As `try_find`, but where no reference is found this is `NotFound`, with the name.
@@ -92,10 +119,104 @@ impl<F: Files> Store<F> {
     {
         match self.try_find(alloc, partial) {
             Ok(Some(reference)) => Ok(reference),
-            Ok(None) => match partial.to_owned(alloc) {
-                Ok(name) => Err(existing::Error::NotFound { name }),
-                Err(_) => Err(existing::Error::Find(Error::Memory)),
-            },
+            Ok(None) => Err(not_found(alloc, partial)),
+            Err(error) => Err(existing::Error::Find(error)),
+        }
+    }
+
+    /// As `try_find`, among loose files alone.
+    pub fn try_find_loose(
+        &mut self,
+        alloc: Global,
+        partial: PartialNameRef<'_>,
+    ) -> Result<Option<loose::Reference>, Error>
+        ensures found { F.honest → IfOk result
+            (FindsLoose F.means self.old (partial_ref_bytes partial.entry)) }
+        ensures sound { F.honest → IfErr result IsSound }
+        ensures failed { IfErr result (FailsIn {G = F.Reader.ReadAt} F.honest F.means F.faults
+            self.old self.new Records.None (partial_ref_bytes partial.entry)) }
+        ensures no_fault { OnOk result (F.faults (files_of self.new) ≡ F.faults
+            (files_of self.old)) }
+        ensures unchanged { LooksUp F.honest F.means self.old self.new }
+    {
+        match self.find_among(alloc, partial, &mut Records::None) {
+            Ok(Some(reference)) => Ok(Some(loose::Reference::from(reference))),
+            Ok(None) => Ok(None),
+            Err(error) => Err(error),
+        }
+    }
+
+    /// As `find`, among loose files alone.
+    pub fn find_loose(
+        &mut self,
+        alloc: Global,
+        partial: PartialNameRef<'_>,
+    ) -> Result<loose::Reference, existing::Error>
+        ensures found { F.honest → IfOk result
+            (λ r. FindsLoose F.means self.old (partial_ref_bytes partial.entry) (Some r)) }
+        ensures sound { F.honest → IfErr result
+            (MissesLoose F.means self.old (partial_ref_bytes partial.entry)) }
+        ensures failed { IfErr result (MissesIn {G = F.Reader.ReadAt} F.honest F.means F.faults
+            self.old self.new Records.None (partial_ref_bytes partial.entry)) }
+        ensures no_fault { OnOk result (F.faults (files_of self.new) ≡ F.faults
+            (files_of self.old)) }
+        ensures unchanged { LooksUp F.honest F.means self.old self.new }
+    {
+        match self.try_find_loose(alloc, partial) {
+            Ok(Some(reference)) => Ok(reference),
+            Ok(None) => Err(not_found(alloc, partial)),
+            Err(error) => Err(existing::Error::Find(error)),
+        }
+    }
+
+    /// As `try_find`, where the records of this buffer are asked in place of those of the file; none where it is `None`. So a
+    /// caller who holds the buffer opens no file but loose ones.
+    pub fn try_find_packed(
+        &mut self,
+        alloc: Global,
+        partial: PartialNameRef<'_>,
+        packed: Option<&Buffer>,
+    ) -> Result<Option<Reference>, Error>
+        ensures found { F.honest → (records : List Record) → AreHeld packed.entry records →
+            IfOk result (FindsAmong F.means self.old records (partial_ref_bytes partial.entry)) }
+        ensures sound { F.honest → (records : List Record) → AreHeld packed.entry records →
+            IfErr result IsSound }
+        ensures hit { F.honest → IfOk result (HitsIn {G = F.Reader.ReadAt} F.means self.old
+            (held packed.entry) (partial_ref_bytes partial.entry)) }
+        ensures failed { IfErr result (FailsIn {G = F.Reader.ReadAt} F.honest F.means F.faults
+            self.old self.new (held packed.entry) (partial_ref_bytes partial.entry)) }
+        ensures no_fault { OnOk result (F.faults (files_of self.new) ≡ F.faults
+            (files_of self.old)) }
+        ensures unchanged { LooksUp F.honest F.means self.old self.new }
+    {
+        match packed {
+            Some(buffer) => self.find_among(alloc, partial, &mut Records::Held(buffer)),
+            None => self.find_among(alloc, partial, &mut Records::None),
+        }
+    }
+
+    /// As `find`, where the records of this buffer are asked in place of those of the file; none where it is `None`.
+    pub fn find_packed(
+        &mut self,
+        alloc: Global,
+        partial: PartialNameRef<'_>,
+        packed: Option<&Buffer>,
+    ) -> Result<Reference, existing::Error>
+        ensures found { F.honest → (records : List Record) → AreHeld packed.entry records →
+            IfOk result (λ r. FindsAmong F.means self.old records (partial_ref_bytes partial.entry) (Some r)) }
+        ensures sound { F.honest → (records : List Record) → AreHeld packed.entry records →
+            IfErr result (MissesAmong F.means self.old records (partial_ref_bytes partial.entry)) }
+        ensures hit { F.honest → IfOk result (λ r. HitsIn {G = F.Reader.ReadAt} F.means self.old
+            (held packed.entry) (partial_ref_bytes partial.entry) (Some r)) }
+        ensures failed { IfErr result (MissesIn {G = F.Reader.ReadAt} F.honest F.means F.faults
+            self.old self.new (held packed.entry) (partial_ref_bytes partial.entry)) }
+        ensures no_fault { OnOk result (F.faults (files_of self.new) ≡ F.faults
+            (files_of self.old)) }
+        ensures unchanged { LooksUp F.honest F.means self.old self.new }
+    {
+        match self.try_find_packed(alloc, partial, packed) {
+            Ok(Some(reference)) => Ok(reference),
+            Ok(None) => Err(not_found(alloc, partial)),
             Err(error) => Err(existing::Error::Find(error)),
         }
     }

@@ -10,6 +10,9 @@ use std::alloc::{AllocError, Global};
 use std::fmt::Debug;
 use thiserror::Error;
 
+/// The threshold of a new store, in bytes.
+const PACKED_MMAP_THRESHOLD: u64 = 32_768;
+
 /// A store of references in files: loose files below the git folder and the common folder.
 #[derive(Drop)]
 pub struct Store<F> {
@@ -17,13 +20,14 @@ pub struct Store<F> {
     pub write_reflog: WriteReflog,
     /// The namespace in which all names are read and written, if there is one (`gitnamespaces`).
     pub namespace: Option<Namespace>,
-    /// Whether components such as `CON` are faults. Without effect yet.
+    /// Whether references with a component such as `CON` are faults. Without effect on transactions yet.
     pub prohibit_windows_device_names: bool,
     /// Whether names are asked of `packed-refs` in composed form. Without effect yet.
     pub precompose_unicode: bool,
     pub(crate) files: F,
     pub(crate) dirs: Dirs,
     pub(crate) object_hash: Kind,
+    pub(crate) packed_mmap_threshold: u64,
 }
 
 /// Why there is no store in these folders. The files are handed back.
@@ -138,6 +142,7 @@ impl<F> Store<F> {
                 common_dir,
             },
             object_hash,
+            packed_mmap_threshold: PACKED_MMAP_THRESHOLD,
         })
     }
 
@@ -153,6 +158,7 @@ impl<F> Store<F> {
             files,
             dirs: _,
             object_hash: _,
+            packed_mmap_threshold: _,
         } = self;
         files
     }

@@ -1,0 +1,78 @@
+//! The `packed-refs` of a store (`git pack-refs`).
+use crate::file::store::Store;
+use gix_ref_files::files::Files;
+use gix_ref_packed::packed::Buffer;
+use gix_ref_packed::packed::buffer::open::Error;
+use std::alloc::Global;
+
+impl<F> Store<F> {
+    ghost use Rattle.std.specs.Prelude.{◌≡◌};
+    ghost use Rattle.gix_ref_store.specs.Store.{files_of, threshold_of, IsSameStore};
+
+    /// Keeps a new threshold, in bytes, and returns the one before; it is 32,768 at first. Other stores map `packed-refs` into
+    /// memory from that size on; this one reads it, so the threshold has no other effect.
+    pub fn set_packed_buffer_mmap_threshold(&mut self, threshold: u64) -> u64
+        ensures before { result ≡ threshold_of self.old }
+        ensures kept { threshold_of self.new ≡ threshold }
+        ensures files { files_of self.new ≡ files_of self.old }
+        ensures same { IsSameStore self.old self.new }
+    {
+        let before = self.packed_mmap_threshold;
+        self.packed_mmap_threshold = threshold;
+        before
+    }
+}
+
+impl<F: Files> Store<F> {
+    ghost use Rattle.std.specs.Prelude.{◌≡◌, IfOk, IfErr, OnOk};
+    ghost use Rattle.gix_ref_packed.specs.Buffers.{count_open};
+    ghost use Rattle.gix_ref_store.specs.Store.{files_of};
+    ghost use Rattle.gix_ref_store.specs.Lookup.{LooksUp, OpensBuffer, RefusesBuffer};
+
+    /// The `packed-refs` of the store in memory; `None` where there is no such file. `Io` where it cannot be read,
+    /// `HeaderParsing` where it begins with `#` and has no header, `Iter` at the first line that is no record where the records
+    /// are to be sorted, and `Memory`. The file is read once, as a whole.
+    pub fn open_packed_buffer(&mut self, alloc: Global) -> Result<Option<Buffer>, Error>
+        ensures opened { F.honest → IfOk result (OpensBuffer F.means self.old) }
+        ensures refused { F.honest → IfErr result (RefusesBuffer F.means self.old) }
+        ensures count { F.faults (files_of self.new) ≡ count_open result (F.faults
+            (files_of self.old)) }
+        ensures unchanged { LooksUp F.honest F.means self.old self.new }
+    {
+        let path = match self.packed_refs_path(alloc) {
+            Ok(path) => path,
+            Err(_) => return Err(Error::Memory),
+        };
+        Buffer::open(
+            alloc,
+            &mut self.files,
+            &path,
+            self.packed_mmap_threshold,
+            self.object_hash,
+        )
+    }
+
+    /// As `open_packed_buffer`: the file is read anew each time.
+    pub fn cached_packed_buffer(&mut self, alloc: Global) -> Result<Option<Buffer>, Error>
+        ensures opened { F.honest → IfOk result (OpensBuffer F.means self.old) }
+        ensures refused { F.honest → IfErr result (RefusesBuffer F.means self.old) }
+        ensures count { F.faults (files_of self.new) ≡ count_open result (F.faults
+            (files_of self.old)) }
+        ensures unchanged { LooksUp F.honest F.means self.old self.new }
+    {
+        self.open_packed_buffer(alloc)
+    }
+
+    /// Tries to open the `packed-refs` of the store, and keeps nothing of it: the errors are those of `open_packed_buffer`.
+    pub fn force_refresh_packed_buffer(&mut self, alloc: Global) -> Result<(), Error>
+        ensures refused { F.honest → IfErr result (RefusesBuffer F.means self.old) }
+        ensures no_fault { OnOk result (F.faults (files_of self.new) ≡ F.faults
+            (files_of self.old)) }
+        ensures unchanged { LooksUp F.honest F.means self.old self.new }
+    {
+        match self.open_packed_buffer(alloc) {
+            Ok(_) => Ok(()),
+            Err(error) => Err(error),
+        }
+    }
+}
