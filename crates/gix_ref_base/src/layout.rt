@@ -168,6 +168,11 @@ impl<'a> RefLayout<'a> {
     ghost use Rattle.gix_ref_base.specs.RefLayout.{layout_of, location_value};
 
     /// The path of the loose file of a name. The error says that there was no memory for it.
+    ///
+    /// ```text
+    /// let layout = RefLayout { git_dir: b"/r", common_dir: b"/r", namespace: b"" };
+    /// layout.loose(alloc, FullNameRef::try_from("refs/heads/x")?)? // /r/refs/heads/x
+    /// ```
     pub fn loose(self, alloc: Global, name: FullNameRef<'_>) -> Result<Vec<u8>, AllocError>
         ensures { IfOk result (λ path.
             path.items ≡ (paths_at (layout_of self.entry) (full_ref_bytes name.entry)).place) }
@@ -176,6 +181,10 @@ impl<'a> RefLayout<'a> {
     }
 
     /// The path of the log of a name. The error says that there was no memory for it.
+    ///
+    /// ```text
+    /// layout.log(alloc, FullNameRef::try_from("HEAD")?)? // /r/logs/HEAD
+    /// ```
     pub fn log(self, alloc: Global, name: FullNameRef<'_>) -> Result<Vec<u8>, AllocError>
         ensures { IfOk result (λ path.
             path.items ≡ (paths_at (layout_of self.entry) (full_ref_bytes name.entry)).log) }

@@ -124,6 +124,10 @@ impl<'a> FullNameRef<'a> {
     }
 
     /// The last component of the name: `main` of `refs/heads/main`.
+    ///
+    /// ```text
+    /// FullNameRef::try_from("refs/heads/feature/x")?.file_name() // `x`
+    /// ```
     pub fn file_name(self) -> &'a [u8]
         ensures { IsLastComponent (full_ref_bytes self.entry) result.now }
     {
@@ -209,6 +213,12 @@ impl FullName {
 
     /// Puts the namespace in front of the name, unless the name begins with it. The error says that there was no
     /// memory, and leaves the name.
+    ///
+    /// ```text
+    /// let mut name = FullName::try_from(b"refs/heads/x".to_vec(alloc)?)?;
+    /// name.prefix_namespace(alloc, &namespace)?; // refs/namespaces/foo/refs/heads/x
+    /// name.strip_namespace(&namespace);          // refs/heads/x
+    /// ```
     pub fn prefix_namespace(
         &mut self,
         alloc: Global,
@@ -344,6 +354,11 @@ impl PartialName {
 
     /// The name, a slash and the component, checked as a partial name. The error is the first rule that this breaks,
     /// or `Memory`; it drops the name.
+    ///
+    /// ```text
+    /// let remote = PartialName::try_from(b"origin".to_vec(alloc)?)?;
+    /// let branch = remote.join(alloc, b"main")?; // origin/main
+    /// ```
     pub fn join(self, alloc: Global, component: &[u8]) -> Result<PartialName, Error>
         ensures { let joined = partial_bytes self ++ 47 ∷ component.now in
             MatchResult result (λ n. (partial_bytes n ≡ joined) × (partial_error joined ≡ None))

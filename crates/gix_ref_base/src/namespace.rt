@@ -51,6 +51,11 @@ impl Namespace {
 
     /// The namespace and then the prefix, which is not checked; for listings below a prefix within the namespace. The
     /// error says that there was no memory, and drops the namespace.
+    ///
+    /// ```text
+    /// let namespace = expand(alloc, PartialNameRef::try_from("foo")?)?;
+    /// let heads = namespace.into_namespaced_prefix(alloc, b"refs/heads/")?; // refs/namespaces/foo/refs/heads/
+    /// ```
     pub fn into_namespaced_prefix(self, alloc: Global, prefix: &[u8]) -> Result<Vec<u8>, AllocError>
         ensures { IfOk result (λ bytes. bytes.items ≡ namespace_bytes self ++ prefix.now) }
     {

@@ -82,6 +82,12 @@ impl Target {
     }
 
     /// The id, or `None` of a symbolic target.
+    ///
+    /// ```text
+    /// if let Some(id) = reference.target.try_id() {
+    ///     // the reference points to an object
+    /// }
+    /// ```
     pub fn try_id(&self) -> Option<ObjectId>
         ensures { result ≡ target_id (target_value self.now) }
     {
@@ -136,6 +142,13 @@ impl Target {
     }
 
     /// Whether a lent target is the same: an equal id, or a name of the same bytes.
+    ///
+    /// ```text
+    /// let expected = Target::Object(id);
+    /// if expected.eq_ref(reference.target.to_ref()) {
+    ///     // nothing changes
+    /// }
+    /// ```
     pub fn eq_ref(&self, other: TargetRef<'_>) -> bool
         ensures { IsTrue result ↔ (target_value self.now ≡ target_ref_value other.entry) }
     {

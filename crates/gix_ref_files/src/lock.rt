@@ -119,6 +119,17 @@ pub fn make_lock<F: Files>(files: &mut F, path: &[u8], lock: &[u8]) -> Result<Cr
 impl Lock {
     /// Takes the lock of a path: makes the folders that lead there, and then the file with `.lock` after the path.
     /// `Memory` where a growth was refused, before anything was done. After another error folders may have been made.
+    ///
+    /// ```text
+    /// match Lock::acquire(alloc, &mut files, b".git/refs/heads/a")? {
+    ///     Acquire::Held(lock) => {
+    ///         lock.write(&mut files, b"1111111111111111111111111111111111111111\n")?;
+    ///         lock.commit(&mut files)
+    ///     }
+    ///     // another process holds it, or a file is in the path
+    ///     _ => return Ok(()),
+    /// }
+    /// ```
     pub fn acquire<F: Files>(
         alloc: Global,
         files: &mut F,

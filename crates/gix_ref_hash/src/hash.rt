@@ -70,6 +70,11 @@ impl Kind {
 
 impl ObjectId {
     /// Reads an id from exactly 40 or 64 hex digits, of either case; `None` for any other text.
+    ///
+    /// ```text
+    /// ObjectId::from_hex(b"1111111111111111111111111111111111111111") // an id of 20 bytes
+    /// ObjectId::from_hex(b"11")                                       // None
+    /// ```
     pub fn from_hex(text: &[u8]) -> Option<ObjectId>
         ensures { MatchOption result (IsHex text.now → ⊥) (ReadsId text.now) }
     {
@@ -246,6 +251,11 @@ fn any_id(text: &[u8]) -> Option<(&[u8], &[u8])>
 
 /// Takes the hex digits of an id of any kind from the front of the input: the run of hex digits, cut at 64, which
 /// must be 40 or 64 digits long. `None` leaves the input.
+///
+/// ```text
+/// let mut text = b"1111111111111111111111111111111111111111 refs/heads/a".as_slice();
+/// let digits = hex_hash_any(&mut text); // the 40 digits; the text is ` refs/heads/a`
+/// ```
 pub fn hex_hash_any<'a>(input: &mut &'a [u8]) -> Option<&'a [u8]>
     ensures taken { IfSome result (λ digits. HexRun input.old.now digits.now input.new.now
         × IsHex digits.now) }
@@ -259,6 +269,11 @@ pub fn hex_hash_any<'a>(input: &mut &'a [u8]) -> Option<&'a [u8]>
 }
 
 /// Takes a newline, LF or CR and LF, from the front of the input. `None` leaves the input, where there is none.
+///
+/// ```text
+/// let mut text = b"\r\nnext".as_slice();
+/// let end = newline(&mut text); // `\r\n`; the text is `next`
+/// ```
 pub fn newline<'a>(input: &mut &'a [u8]) -> Option<&'a [u8]>
     ensures taken { IfSome result (λ end. IsNewline end.now
         × (input.old.now ≡ end.now ++ input.new.now)) }

@@ -190,6 +190,11 @@ impl<'a> SignatureRef<'a> {
 
     /// Reads a signature, `name <email> seconds +hhmm`: the name is all before the first `<`, less one space at its end,
     /// and the email lies between that and the last `>`. `None` for any other text; nothing may follow.
+    ///
+    /// ```text
+    /// SignatureRef::decode(b"A U Thor <a@example.com> 1234567890 +0800")
+    /// // the name `A U Thor`, the email `a@example.com`, 1234567890 seconds, an offset of 28800 seconds
+    /// ```
     #[inline(always)]
     pub fn decode(text: &'a [u8]) -> Option<SignatureRef<'a>>
         ensures { MatchOption result ((who : Who) → IsSignature text.now who → ⊥)

@@ -34,6 +34,11 @@ impl Reference {
     ///
     /// `Parse` where they are neither, with the bytes; `RefnameValidation` with the path that is no full name and the
     /// first rule that it breaks; `Memory` where a copy found no memory. Each drops the name.
+    ///
+    /// ```text
+    /// let name = FullName::try_from(b"HEAD".to_vec(alloc)?)?;
+    /// let head = Reference::try_from_path(alloc, name, b"ref: refs/heads/main\n", Kind::Sha1)?;
+    /// ```
     pub fn try_from_path(
         alloc: Global,
         name: FullName,

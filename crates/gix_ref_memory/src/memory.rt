@@ -65,6 +65,11 @@ impl Memory {
     /// Puts a file with these bytes at a path, in place of a file that stands there, and makes the folders that lead
     /// to it; false, and nothing changed, where a folder stands at the path or a file in it. It is no call of files,
     /// so it is not counted, and no plan has it fail. `Memory` where a growth was refused; then nothing has changed.
+    ///
+    /// ```text
+    /// let mut files = Memory::new(alloc);
+    /// files.put(b"/r/HEAD", b"ref: refs/heads/main\n")?; // makes the folder `/r` too
+    /// ```
     pub fn put(&mut self, path: &[u8], bytes: &[u8]) -> Result<bool, FileError>
         ensures answer { IfOk result (Puts (tree_of self.old) path.now bytes.now
             (tree_of self.new)) }
@@ -99,6 +104,10 @@ impl Memory {
     }
 
     /// Has the kth call from now fail, and do nothing. This takes the place of an earlier plan.
+    ///
+    /// ```text
+    /// files.fail_at(3); // two calls more are done, and the third fails
+    /// ```
     pub fn fail_at(&mut self, k: u64)
         ensures plan { plan_of self.new ≡ FailsAt (min (calls_of self.old + k) (2 ^ 64 - 1)) }
         ensures same { KeepsFiles self.old self.new }

@@ -79,6 +79,10 @@ fn next_of<T: Find>(
 /// `NotFound` names an id that has no object, or whose object is a tag with another first line than `object `, the hex
 /// digits of an id of the same kind, and LF. `TagChainTooLong` is returned for more than 1,000 tags in a row, as for a
 /// tag that names itself, `Find` for an object that could not be read, and `Memory` where there was no memory for one.
+///
+/// ```text
+/// let commit = peel_to_end(alloc, &objects, tag_id)?; // the object behind the tag
+/// ```
 pub fn peel_to_end<T: Find>(alloc: Global, finder: &T, id: ObjectId) -> Result<ObjectId, PeelError>
     ensures { T.claims finder.now → PeelsTo (peel (T.meaning finder.now) 1000 id) result }
 {

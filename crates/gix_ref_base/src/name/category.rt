@@ -158,6 +158,10 @@ impl<'a> Category<'a> {
 
     /// The text in front of the names of the category, as far as it is the same for all of them; empty for a pseudo
     /// name.
+    ///
+    /// ```text
+    /// Category::RemoteBranch.prefix() // `refs/remotes/`
+    /// ```
     pub fn prefix(self) -> &'static [u8]
         ensures { result.now ≡ prefix_of self.entry }
     {
@@ -228,6 +232,11 @@ impl<'a> Category<'a> {
     /// `rewritten/`, `worktree/`) is dropped from the front of the short name where it stands there; then the prefix
     /// goes in front, for a linked worktree also its name and a slash, unless the text begins with it. The error is
     /// the first rule for full names that the text breaks, or `Memory`.
+    ///
+    /// ```text
+    /// Category::Tag.to_full_name(alloc, b"v1")?        // refs/tags/v1
+    /// Category::Note.to_full_name(alloc, b"notes/x")?  // refs/notes/x
+    /// ```
     #[tactic(auto, unfolding(crate::specs::Categories::text_of))]
     pub fn to_full_name(self, alloc: Global, short: &[u8]) -> Result<FullName, Error>
         ensures { MatchResult result (λ n. (full_bytes n ≡ text_of self.entry short.now)

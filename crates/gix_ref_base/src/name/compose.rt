@@ -11,6 +11,12 @@ use unicode_normalization::{to_nfc, to_nfd};
 /// The name in Unicode's Normalization Form C where it is in another form; `None` where it is in that form already, is
 /// not UTF-8, or would be no valid name in that form. The error says that there was no memory; a name of ASCII bytes
 /// takes none.
+///
+/// ```text
+/// // `a` and a combining diaeresis, as some file systems give it, becomes one character.
+/// let name = PartialNameRef::try_from("refs/heads/a\u{308}")?;
+/// let composed = compose(alloc, name)?;
+/// ```
 pub fn compose(alloc: Global, name: PartialNameRef<'_>) -> Result<Option<PartialName>, AllocError>
     ensures { let bytes = partial_ref_bytes name.entry in
         IfOk result (λ r. MatchOption r (composed bytes ≡ bytes)

@@ -25,6 +25,12 @@ use std::alloc::Global;
 
 /// The lines of a log, oldest first. Each is a line, or a decode fault with its number, and it goes on after one. Lines
 /// are cut at LF, a CR before LF is dropped, and nothing follows a final LF. Costs time in proportion to what is read.
+///
+/// ```text
+/// for line in forward(&log) {
+///     println!(rt; "{}", line?.new_oid())?;
+/// }
+/// ```
 pub fn forward(log: &[u8]) -> Forward<'_>
     // Whatever calls of `next` follow, they give the lines of the log, in order.
     ensures { EachRunFrom ForwardStep result
@@ -42,6 +48,13 @@ pub fn forward(log: &[u8]) -> Forward<'_>
 ///
 /// It reads as much of the file as its lines ask for, each byte once, in reads of about the buffer's length, and keeps the
 /// allocator for the lines that it gives; it takes no memory for anything else. A buffer without room is `EmptyBuffer`.
+///
+/// ```text
+/// let mut buf = [0; 4096];
+/// for line in reverse(alloc, reader, &mut buf)? {
+///     println!(rt; "{}", line?.new_oid)?; // the newest first
+/// }
+/// ```
 pub fn reverse<F: ReadAt + Drop>(
     alloc: Global,
     log: F,

@@ -50,6 +50,13 @@ impl<'a> LineRef<'a> {
     /// Reads the first line of the text: an id, a space, an id, a space, a signature, and optionally a tab and the message,
     /// up to LF or the end. A CR before the LF belongs to the message. The error lends the first line of
     /// any other text.
+    ///
+    /// ```text
+    /// match LineRef::from_bytes(line) {
+    ///     Ok(line) => println!(rt; "{} {}", line.new_oid(), line.message.as_bstr())?,
+    ///     Err(error) => println!(rt; "no line of a log: {error}")?,
+    /// }
+    /// ```
     pub fn from_bytes(text: &'a [u8]) -> Result<LineRef<'a>, decode::Error<'a>>
         ensures { MatchResult result (λ line. IsLine text.now (line_ref_parts line))
             (λ error. NoLine text.now × IsFirstLine text.now error.input.now) }

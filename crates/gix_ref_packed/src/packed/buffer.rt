@@ -69,6 +69,11 @@ impl Buffer {
     /// records: `Iter` reports the first line that is no record. Where a name is below an earlier one, the records are put in
     /// the order of their names, those of one name in their old order, and `Memory` reports that there was no memory for
     /// that (`git pack-refs`).
+    ///
+    /// ```text
+    /// let text = fs::read(&rt, ".git/packed-refs")?;
+    /// let packed = Buffer::from_bytes(alloc, text, Kind::Sha1)?;
+    /// ```
     pub fn from_bytes(alloc: Global, bytes: Vec<u8>, kind: Kind) -> Result<Buffer, Error>
         ensures opened { IfOk result (Opened kind bytes.items) }
         ensures refused { IfErr result (IsRefused kind bytes.items) }

@@ -117,6 +117,13 @@ impl Buffer {
     ghost use Rattle.gix_ref_packed.specs.Items.{ItemStep, AreItems, AreRecords, unread_buffer, unread_from};
 
     /// The records of the buffer, in the order of their names. Lines are numbered as in the file that was opened.
+    ///
+    /// ```text
+    /// for record in packed.iter() {
+    ///     let record = record?;
+    ///     println!(rt; "{} {}", record.target(), record.name)?;
+    /// }
+    /// ```
     pub fn iter(&self) -> Iter<'_>
         // Whatever calls of `next` follow, they give the records and the faults of the text.
         ensures items { EachRunFrom ItemStep result (λ run. AreItems (run.whole ≡ true)
@@ -132,6 +139,12 @@ impl Buffer {
 
     /// The records whose names begin with the prefix, in the order of their names: the first is found by halving, and
     /// the first other name ends them.
+    ///
+    /// ```text
+    /// for tag in packed.iter_prefixed(b"refs/tags/".to_vec(alloc)?) {
+    ///     println!(rt; "{}", tag?.name)?;
+    /// }
+    /// ```
     pub fn iter_prefixed(&self, prefix: Vec<u8>) -> Iter<'_>
         // Whatever calls of `next` follow, they give the records and faults from the start of a line on, up to the first
         // other name.

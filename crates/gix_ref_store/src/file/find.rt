@@ -80,6 +80,12 @@ impl<F: Files> Store<F> {
     ///
     /// Reads one file for each candidate. `packed-refs` is opened where the first candidate has no loose file, and searched by
     /// halving where its header says `sorted`: some seventeen reads of 1 KB among a million records.
+    ///
+    /// ```text
+    /// if let Some(tag) = store.try_find(alloc, PartialNameRef::try_from("v1.0")?)? {
+    ///     println!(rt; "{} {}", tag.target, tag.name)?; // the id, and refs/tags/v1.0
+    /// }
+    /// ```
     pub fn try_find(
         &mut self,
         alloc: Global,
@@ -174,6 +180,13 @@ impl<F: Files> Store<F> {
 
     /// As `try_find`, where the records of this buffer are asked in place of those of the file; none where it is `None`. So a
     /// caller who holds the buffer opens no file but loose ones.
+    ///
+    /// ```text
+    /// let packed = store.open_packed_buffer(alloc)?;
+    /// for name in names {
+    ///     let found = store.try_find_packed(alloc, name, packed.as_ref())?;
+    /// }
+    /// ```
     pub fn try_find_packed(
         &mut self,
         alloc: Global,

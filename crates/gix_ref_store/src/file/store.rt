@@ -60,6 +60,10 @@ impl<F> Store<F> {
 
     /// The store in a git folder that is the common folder too, with the default options. The folder is bytes with
     /// slashes; `object_hash` is the kind of all ids. `PathNotClean` hands the files back.
+    ///
+    /// ```text
+    /// let store = Store::at(Disk::new(rt.clone()?), b".git".to_vec(alloc)?, Kind::Sha1)?;
+    /// ```
     pub fn at(files: F, git_dir: Vec<u8>, object_hash: Kind) -> Result<Store<F>, Error<F>>
         ensures made { IfOk result (IsMade files git_dir None object_hash default_options) }
         ensures found { MatchResult result (λ _. AreDirs git_dir None)
@@ -84,6 +88,11 @@ impl<F> Store<F> {
 
     /// The store of a linked worktree, whose git folder is `<common_dir>/worktrees/<one component>`, or apart from the
     /// common folder, with the default options (`git worktree`). `PathNotClean` and `FoldersMeet` hand the files back.
+    ///
+    /// ```text
+    /// let git_dir = b".git/worktrees/fix".to_vec(alloc)?;
+    /// let store = Store::for_linked_worktree(files, git_dir, b".git".to_vec(alloc)?, Kind::Sha1)?;
+    /// ```
     pub fn for_linked_worktree(
         files: F,
         git_dir: Vec<u8>,

@@ -117,6 +117,13 @@ pub struct RolledBack {
 
 impl<F: Files> Store<F> {
     /// A transaction on this store. It borrows the store until it is committed or rolled back.
+    ///
+    /// ```text
+    /// match store.transaction(PackedRefs::default()).prepare(alloc, edits) {
+    ///     Ok(prepared) => prepared.commit(alloc, None),
+    ///     Err(refused) => return Err(refused.error),
+    /// }
+    /// ```
     pub fn transaction(&mut self, packed_refs: PackedRefs) -> Transaction<'_, F>
         ensures same_reference { result.store.ghost_name ≡ self.entry.ghost_name }
         ensures value { result.store.now ≡ self.old }
