@@ -191,7 +191,8 @@ impl<'a> RefLayout<'a> {
         name: FullNameRef<'_>,
     ) -> Result<Option<Vec<u8>>, AllocError>
         ensures { IfOk result (λ key.
-            option_map vec_items key ≡ (paths_at (layout_of self.entry) (full_ref_bytes name.entry)).key) }
+            option_map vec_items key ≡ (paths_at (layout_of self.entry) (full_ref_bytes
+            name.entry)).key) }
     {
         self.key_in(alloc, location_or_common(name))
     }
@@ -235,7 +236,8 @@ impl<'a> RefLayout<'a> {
     /// The key of a location.
     fn key_in(self, alloc: Global, location: Location<'_>) -> Result<Option<Vec<u8>>, AllocError>
         ensures { IfOk result (λ key.
-            option_map vec_items key ≡ (paths_of (layout_of self.entry) (location_value location.entry)).key) }
+            option_map vec_items key ≡ (paths_of (layout_of self.entry) (location_value
+            location.entry)).key) }
     {
         match location {
             Location::Common(name) => Ok(Some(joined(self.namespace.to_vec(alloc)?, name)?)),

@@ -17,8 +17,11 @@ pub struct Place {
 /// Renames the first lock to its place, and then the second.
 pub fn publish_both<F: Files>(files: &mut F, first: Place, second: Place) -> Result<(), Ended>
     requires { AreApart first.lock.items first.path.items second.lock.items second.path.items }
-    ensures stops { F.honest → StopsLeave (F.means files.old) (F.means files.new) (InOrder first.lock.items first.path.items second.lock.items second.path.items (F.means files.old).tree) }
-    ensures at_end { F.honest → InOrder first.lock.items first.path.items second.lock.items second.path.items (F.means files.old).tree (F.means files.new).tree }
+    ensures stops { F.honest → StopsLeave (F.means files.old) (F.means files.new) (InOrder
+        first.lock.items first.path.items second.lock.items second.path.items (F.means
+        files.old).tree) }
+    ensures at_end { F.honest → InOrder first.lock.items first.path.items second.lock.items
+        second.path.items (F.means files.old).tree (F.means files.new).tree }
 {
     let once = Action::Rename {
         from: first.lock,

@@ -94,12 +94,12 @@ module _ {R : Type 0} {G : Ghosts R} (honest : Type 0) (settings : Settings) (T 
   fails_from before before' now name error count (inr packed) = inr (
     λ h. subst (λ (U : Tree). view_of U (s.place name) ≡ None) (same h) (packed.0 h),
     not_packed_wider (honest × AreHonest r') (honest × AreHonest r) (HasRisen before' now ⊎ HasReadFault G.faults) (HasRisen before now ⊎ HasReadFault G.faults)
-    (OfKey s name (λ key. OfSearched settings.kind (packed_refs_at settings T') r' (λ k text. CannotRead k text key)))
-    (OfKey s name (λ key. OfSearched settings.kind (packed_refs_at settings T) r (λ k text. CannotRead k text key)))
-    (IsRefusedFile settings.kind (T' s.packed_path)) (IsRefusedFile settings.kind (T s.packed_path)) error
-    (λ h. (h.0, readers h.0 h.1)) (λ f. subst (λ b. HasRisen b now ⊎ HasReadFault G.faults) count f)
-    (λ h bad. (bad.0, bad.1, searched_wider settings.kind (packed_refs_at settings T') (packed_refs_at settings T) r' r (λ k text. CannotRead k text bad.0) (back h.0) bad.2))
-    (λ h e refused. subst (λ (U : Tree). IsRefusedFile settings.kind (U s.packed_path) e) (same h.0) refused) packed.1,
+        (OfKey s name (λ key. OfSearched settings.kind (packed_refs_at settings T') r' (λ k text. CannotRead k text key)))
+        (OfKey s name (λ key. OfSearched settings.kind (packed_refs_at settings T) r (λ k text. CannotRead k text key)))
+        (IsRefusedFile settings.kind (T' s.packed_path)) (IsRefusedFile settings.kind (T s.packed_path)) error
+        (λ h. (h.0, readers h.0 h.1)) (λ f. subst (λ b. HasRisen b now ⊎ HasReadFault G.faults) count f)
+        (λ h bad. (bad.0, bad.1, searched_wider settings.kind (packed_refs_at settings T') (packed_refs_at settings T) r' r (λ k text. CannotRead k text bad.0) (back h.0) bad.2))
+        (λ h e refused. subst (λ (U : Tree). IsRefusedFile settings.kind (U s.packed_path) e) (same h.0) refused) packed.1,
   )
 
   -- and a hit is one of the lookup

@@ -10,12 +10,12 @@ ghost use Rattle.gix_ref_lookup.specs.LooseText.{HoldsPath, HoldsId, HoldsTarget
 
 mod error;
 
-use gix_ref_packed::raw;
 pub use error::Error;
 use gix_ref_base::name::{FullName, FullNameRef};
 use gix_ref_base::target::{self, Target};
 use gix_ref_hash::bytes::{after_spaces, before_line_end, strip_front};
 use gix_ref_hash::hash::{Kind, ObjectId, hex_hash, is_hex};
+use gix_ref_packed::raw;
 use std::alloc::{AllocError, Global};
 
 /// A reference in a file of its own.

@@ -65,7 +65,8 @@ impl Settings<'_> {
 
     /// What lies below the common folder in a path, or else below the git folder, or else the path.
     fn below_folders(self, path: &[u8]) -> &[u8]
-        ensures { result.now ≡ below_folders (folders_of self.entry.dirs.now self.entry.namespace.now) path.now }
+        ensures { result.now ≡ below_folders (folders_of self.entry.dirs.now
+            self.entry.namespace.now) path.now }
     {
         match rest_below(path, self.dirs.common()) {
             Some(rest) => rest,

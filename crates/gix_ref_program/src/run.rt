@@ -186,7 +186,8 @@ fn make_update<F: Files>(
 
 /// Shows a reference.
 fn show<F: Files>(alloc: Global, store: &mut Store<F>, name: &[u8]) -> Outcome
-    ensures outcome { ShowOutcome F.honest F.means F.faults F.Reader.ReadAt store.old store.new name.now result }
+    ensures outcome { ShowOutcome F.honest F.means F.faults F.Reader.ReadAt store.old store.new
+        name.now result }
     ensures leaves { F.honest → Leaves (F.means (files_of store.old)) (F.means (files_of store.new))
         (Unchanged (F.means (files_of store.old)).tree) }
 {
@@ -211,7 +212,8 @@ fn execute<F: Files>(
 ) -> (PackedRefs, Outcome)
     requires quiet { store.old.write_reflog ≡ WriteReflog.Disable }
     ensures packed_refs { result.0 ≡ packed_refs }
-    ensures outcome { CommandOutcome F.honest F.means F.faults F.Reader.ReadAt store.old store.new kind
+    ensures outcome { CommandOutcome F.honest F.means F.faults F.Reader.ReadAt store.old store.new
+        kind
         (asked_of command.now) result.1 }
     ensures leaves { F.honest → Leaves (F.means (files_of store.old)) (F.means (files_of store.new))
         (IsStop F.honest F.means F.faults store.old kind (asked_of command.now)) }
@@ -233,7 +235,8 @@ fn run_line<F: Files>(
     line: &Line<'_>,
 ) -> (F, PackedRefs, Outcome)
     ensures packed_refs { result.1 ≡ packed_refs }
-    ensures outcome { LineOutcome F.honest F.means F.faults F.Reader.ReadAt files result.0 (line_of line.now)
+    ensures outcome { LineOutcome F.honest F.means F.faults F.Reader.ReadAt files result.0
+        (line_of line.now)
         result.2 }
     ensures leaves { F.honest → Leaves (F.means files) (F.means result.0)
         (IsStopIn F.honest F.means F.faults files (line_of line.now)) }
@@ -268,8 +271,10 @@ pub fn run<F: Files, W: Write>(
     out: &mut W,
 ) -> RunResult<F>
     ensures packed_refs { result.packed_refs ≡ packed_refs }
-    ensures ran { RunsWrong F.honest F.means F.faults files result.files (texts words.now) (W.contents out.old) (W.contents out.new) result.status
-        ⊎ RunsLine F.honest F.means F.faults F.Reader.ReadAt files result.files (texts words.now) (W.contents out.old) (W.contents out.new) result.status }
+    ensures ran { RunsWrong F.honest F.means F.faults files result.files (texts words.now)
+        (W.contents out.old) (W.contents out.new) result.status
+        ⊎ RunsLine F.honest F.means F.faults F.Reader.ReadAt files result.files (texts words.now)
+        (W.contents out.old) (W.contents out.new) result.status }
 {
     let Some(line) = parse(words) else {
         let status = print(alloc, Outcome::WrongWords, out);

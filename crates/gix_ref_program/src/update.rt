@@ -47,7 +47,8 @@ pub fn update<F: Files>(
 ) -> UpdateReport
     requires one { IsOneUpdate edits.items }
     requires quiet { store.old.write_reflog ≡ WriteReflog.Disable }
-    ensures done { F.honest → result.error ≡ None → AreCommitted (loose_meaning_of store.old) edits.items
+    ensures done { F.honest → result.error ≡ None → AreCommitted (loose_meaning_of store.old)
+        edits.items
         (tree_of F.means store.old) (paths_of result.locks_left.items) (tree_of F.means store.new) }
     ensures error { IfSome result.error (λ error. IsUpdateError F.honest F.means F.faults store.old
         store.new edits.items error (paths_of result.locks_left.items)) }

@@ -130,4 +130,3 @@ module _ {F R : Type 0} {G : Ghosts R} (honest : Type 0) (means : F → Meaning)
   abbrev pub MissesIn : (old new : StoreValue F) → Records R G → List ℕ → Missing → Type 0
   MissesIn old new asked p (Find error) = FailsIn old new asked p error
   MissesIn old new asked p (NotFound name) = partial_bytes name ≡ p
-

@@ -2,7 +2,7 @@
 use crate::made::{Id, digits, files, object, partial, store};
 use gix_ref_base::target::Target;
 use gix_ref_files::files::FileError;
-use gix_ref_store::file::find::{self, existing};
+use gix_ref_store::file::find::{self, ReadError, existing};
 use gix_ref_store::raw::Reference;
 use std::io::ErrorKind;
 
@@ -129,14 +129,7 @@ fn answers(rt: HostRuntime) {
             "refs/heads/a/b",
             Answer::NotFound,
         ),
-        (
-            "short names are not looked up yet",
-            a,
-            ID,
-            "",
-            "a",
-            Answer::NotFound,
-        ),
+        ("a short name", a, ID, "", "a", Answer::Object),
         (
             "outside of the namespace",
             a,
@@ -197,7 +190,10 @@ fn a_fault_is_no_answer(rt: HostRuntime) {
     let mut store = store(&rt, alloc, memory, "", "");
     match store.try_find(alloc, partial(&rt, "HEAD")) {
         Err(find::Error::ReadFileContents { source, path }) => {
-            assert_eq!(rt; source, FileError::Device(ErrorKind::Other));
+            assert_eq!(rt;
+                source,
+                ReadError::File(FileError::Device(ErrorKind::Other))
+            );
             assert!(rt; path.as_slice() == b"/r/HEAD".as_slice());
         }
         _ => panic!(rt; "the read fails"),

@@ -8,8 +8,12 @@ mod find;
 #[cfg(test)]
 mod folders;
 #[cfg(test)]
+mod lookups;
+#[cfg(test)]
 mod loose;
 #[cfg(test)]
 mod made;
+#[cfg(test)]
+mod slow;
 #[cfg(test)]
 mod transactions;

@@ -35,11 +35,14 @@ fn read_loose<F: Files>(
     name: FullNameRef<'_>,
 ) -> Result<Option<Target>, Error>
     ensures found { F.honest → IfOk result (IsLooseTarget (meaning_in settings.entry)
-        (view_of (F.means files.old).tree ((meaning_in settings.entry).place (full_ref_bytes name.entry)))) }
+        (view_of (F.means files.old).tree ((meaning_in settings.entry).place (full_ref_bytes
+        name.entry)))) }
     ensures allowed { OnOk result ((meaning_in settings.entry).is_prohibited
         ((meaning_in settings.entry).place (full_ref_bytes name.entry)) ≡ false) }
-    ensures failed { IfErr result (IsNotRead F.honest settings.entry.kind (meaning_in settings.entry)
-        (view_of (F.means files.old).tree) (F.faults files.old) (F.faults files.new) (full_ref_bytes name.entry)) }
+    ensures failed { IfErr result (IsNotRead F.honest settings.entry.kind (meaning_in
+        settings.entry)
+        (view_of (F.means files.old).tree) (F.faults files.old) (F.faults files.new)
+        (full_ref_bytes name.entry)) }
     ensures no_fault { OnOk result (F.faults files.new ≡ F.faults files.old) }
     ensures leaves { F.honest → Leaves (F.means files.old) (F.means files.new)
         (Unchanged (F.means files.old).tree) }
@@ -80,7 +83,8 @@ fn strip_name(name: &mut FullName, namespace: &Option<Namespace>)
 
 /// The reference of a record: its name less the namespace, and its ids.
 fn packed_reference(namespace: &Option<Namespace>, mut name: FullName, found: Found) -> Reference
-    ensures name { full_bytes result.name ≡ stripped (namespace_text namespace.now) (full_bytes name) }
+    ensures name { full_bytes result.name ≡ stripped (namespace_text namespace.now) (full_bytes
+        name) }
     ensures target { target_value result.target ≡ object_id found.target }
     ensures peeled { result.peeled ≡ found.object }
 {
@@ -134,10 +138,12 @@ fn find_packed<F: Files>(
     records: &mut Records<'_, F::Reader>,
 ) -> Result<Option<Reference>, Error>
     ensures found { F.honest → (rs : List Record) →
-        AreAsked settings.entry.kind (packed_refs_in settings.entry (F.means files.old)) records.old rs →
+        AreAsked settings.entry.kind (packed_refs_in settings.entry (F.means files.old))
+        records.old rs →
         IfOk result (IsByRecord (meaning_in settings.entry) rs (full_ref_bytes name.entry)) }
     ensures sound { F.honest → (rs : List Record) →
-        AreAsked settings.entry.kind (packed_refs_in settings.entry (F.means files.old)) records.old rs →
+        AreAsked settings.entry.kind (packed_refs_in settings.entry (F.means files.old))
+        records.old rs →
         IfErr result IsFaultOrMemory }
     ensures hit { F.honest → AreHonest records.old → IfOk result (λ r. IfSome r (λ r.
         OfKey (meaning_in settings.entry) (full_ref_bytes name.entry) (λ key.
@@ -148,14 +154,19 @@ fn find_packed<F: Files>(
         (OfKey (meaning_in settings.entry) (full_ref_bytes name.entry) (λ key.
         OfSearched settings.entry.kind (packed_refs_in settings.entry (F.means files.old))
         records.old (λ k text. CannotRead k text key)))
-        (IsRefusedFile settings.entry.kind ((F.means files.old).tree (meaning_in settings.entry).packed_path))) }
+        (IsRefusedFile settings.entry.kind ((F.means files.old).tree (meaning_in
+        settings.entry).packed_path))) }
     ensures asked { F.honest → (rs : List Record) →
-        AreAsked settings.entry.kind (packed_refs_in settings.entry (F.means files.old)) records.old rs →
-        AreAsked settings.entry.kind (packed_refs_in settings.entry (F.means files.old)) records.new rs }
+        AreAsked settings.entry.kind (packed_refs_in settings.entry (F.means files.old))
+        records.old rs →
+        AreAsked settings.entry.kind (packed_refs_in settings.entry (F.means files.old))
+        records.new rs }
     ensures honest { F.honest → AreHonest records.old → AreHonest records.new }
     ensures searched { F.honest → (kind : Kind) (text : List ℕ) →
-        IsSearched settings.entry.kind (packed_refs_in settings.entry (F.means files.old)) records.new kind text →
-        IsSearched settings.entry.kind (packed_refs_in settings.entry (F.means files.old)) records.old kind text }
+        IsSearched settings.entry.kind (packed_refs_in settings.entry (F.means files.old))
+        records.new kind text →
+        IsSearched settings.entry.kind (packed_refs_in settings.entry (F.means files.old))
+        records.old kind text }
     ensures no_fault { OnOk result (F.faults files.new ≡ F.faults files.old) }
     ensures leaves { F.honest → Leaves (F.means files.old) (F.means files.new)
         (Unchanged (F.means files.old).tree) }
@@ -180,22 +191,31 @@ pub fn find_candidate<F: Files>(
     records: &mut Records<'_, F::Reader>,
 ) -> Result<Option<Reference>, Error>
     ensures found { F.honest → (rs : List Record) →
-        AreAsked settings.entry.kind (packed_refs_in settings.entry (F.means files.old)) records.old rs →
-        IfOk result (IsCandidate (meaning_in settings.entry) (view_of (F.means files.old).tree) rs (full_ref_bytes name.entry)) }
+        AreAsked settings.entry.kind (packed_refs_in settings.entry (F.means files.old))
+        records.old rs →
+        IfOk result (IsCandidate (meaning_in settings.entry) (view_of (F.means files.old).tree) rs
+        (full_ref_bytes name.entry)) }
     ensures sound { F.honest → (rs : List Record) →
-        AreAsked settings.entry.kind (packed_refs_in settings.entry (F.means files.old)) records.old rs →
+        AreAsked settings.entry.kind (packed_refs_in settings.entry (F.means files.old))
+        records.old rs →
         IfErr result IsSound }
     ensures hit { F.honest → AreHonest records.old → IfOk result (λ r. IfSome r
-        (IsHit settings.entry (view_of (F.means files.old).tree) records.old (full_ref_bytes name.entry))) }
-    ensures failed { IfErr result (CandidateFails F.honest settings.entry (F.means files.old).tree records.old
+        (IsHit settings.entry (view_of (F.means files.old).tree) records.old (full_ref_bytes
+        name.entry))) }
+    ensures failed { IfErr result (CandidateFails F.honest settings.entry (F.means files.old).tree
+        records.old
         (F.faults files.old) (F.faults files.new) (full_ref_bytes name.entry)) }
     ensures asked { F.honest → (rs : List Record) →
-        AreAsked settings.entry.kind (packed_refs_in settings.entry (F.means files.old)) records.old rs →
-        AreAsked settings.entry.kind (packed_refs_in settings.entry (F.means files.old)) records.new rs }
+        AreAsked settings.entry.kind (packed_refs_in settings.entry (F.means files.old))
+        records.old rs →
+        AreAsked settings.entry.kind (packed_refs_in settings.entry (F.means files.old))
+        records.new rs }
     ensures honest { F.honest → AreHonest records.old → AreHonest records.new }
     ensures searched { F.honest → (kind : Kind) (text : List ℕ) →
-        IsSearched settings.entry.kind (packed_refs_in settings.entry (F.means files.old)) records.new kind text →
-        IsSearched settings.entry.kind (packed_refs_in settings.entry (F.means files.old)) records.old kind text }
+        IsSearched settings.entry.kind (packed_refs_in settings.entry (F.means files.old))
+        records.new kind text →
+        IsSearched settings.entry.kind (packed_refs_in settings.entry (F.means files.old))
+        records.old kind text }
     ensures no_fault { OnOk result (F.faults files.new ≡ F.faults files.old) }
     ensures leaves { F.honest → Leaves (F.means files.old) (F.means files.new)
         (Unchanged (F.means files.old).tree) }

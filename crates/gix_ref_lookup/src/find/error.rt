@@ -25,7 +25,10 @@ pub enum Error {
     RefnameValidation(name::Error),
     /// The file at the place of a candidate, which is the path, could not be read.
     #[error("the file of a reference could not be read: {source}")]
-    ReadFileContents { source: ReadError, path: Vec<u8> },
+    ReadFileContents {
+        source: ReadError,
+        path: Vec<u8>,
+    },
     /// The file of a candidate, whose name is the relative path, holds no target.
     #[error("the file of a reference holds no target: {source}")]
     ReferenceCreation {

@@ -58,7 +58,7 @@ fn is_listed(entries: &[Entry], name: &[u8]) -> bool
     entries.iter().any(|entry| entry.name.as_slice() == name)
 }
 
-/// AddsEntries what stands at a name in a folder, if it is not listed yet.
+/// Adds the entry of a name in a folder, if something is there and it is not listed yet.
 fn add_entry(
     alloc: Global,
     changes: &[Change],

@@ -3,14 +3,13 @@ ghost use Rattle.std.specs.Prelude.{◌≡◌};
 ghost use Rattle.gix_ref_base.specs.Names.{partial_ref_bytes};
 ghost use Rattle.gix_ref_store.specs.Lookup.{IsNotFound};
 
-pub use gix_ref_lookup::find::{Error, ReadError, existing};
-
 use crate::file::store::Store;
 use crate::raw::Reference;
 use gix_ref_base::name::PartialNameRef;
 use gix_ref_files::files::Files;
 use gix_ref_lookup::find::lookup::find_reference;
 use gix_ref_lookup::find::records::Records;
+pub use gix_ref_lookup::find::{Error, ReadError, existing};
 use gix_ref_lookup::loose;
 use gix_ref_lookup::settings::Settings;
 use gix_ref_packed::packed::Buffer;
@@ -42,9 +41,11 @@ impl<F: Files> Store<F> {
         partial: PartialNameRef<'_>,
         asked: &mut Records<'_, F::Reader>,
     ) -> Result<Option<Reference>, Error>
-        ensures found { F.honest → (records : List Record) → AreAskedIn F.means self.old asked.old records →
+        ensures found { F.honest → (records : List Record) → AreAskedIn F.means self.old asked.old
+            records →
             IfOk result (FindsAmong F.means self.old records (partial_ref_bytes partial.entry)) }
-        ensures sound { F.honest → (records : List Record) → AreAskedIn F.means self.old asked.old records →
+        ensures sound { F.honest → (records : List Record) → AreAskedIn F.means self.old asked.old
+            records →
             IfErr result IsSound }
         ensures hit { F.honest → AreHonest asked.old → IfOk result
             (HitsIn F.means self.old asked.old (partial_ref_bytes partial.entry)) }
@@ -106,10 +107,12 @@ impl<F: Files> Store<F> {
         partial: PartialNameRef<'_>,
     ) -> Result<Reference, existing::Error>
         ensures found { F.honest → (records : List Record) → AreRecordsIn F.means self.old records →
-            IfOk result (λ r. FindsAmong F.means self.old records (partial_ref_bytes partial.entry) (Some r)) }
+            IfOk result (λ r. FindsAmong F.means self.old records (partial_ref_bytes
+            partial.entry) (Some r)) }
         ensures sound { F.honest → (records : List Record) → AreRecordsIn F.means self.old records →
             IfErr result (MissesAmong F.means self.old records (partial_ref_bytes partial.entry)) }
-        ensures hit { F.honest → IfOk result (λ r. HitsIn {G = F.Reader.ReadAt} F.means self.old Unopened
+        ensures hit { F.honest → IfOk result (λ r. HitsIn {G = F.Reader.ReadAt} F.means self.old
+            Unopened
             (partial_ref_bytes partial.entry) (Some r)) }
         ensures failed { IfErr result (MissesIn {G = F.Reader.ReadAt} F.honest F.means F.faults
             self.old self.new Unopened (partial_ref_bytes partial.entry)) }
@@ -203,7 +206,8 @@ impl<F: Files> Store<F> {
         packed: Option<&Buffer>,
     ) -> Result<Reference, existing::Error>
         ensures found { F.honest → (records : List Record) → AreHeld packed.entry records →
-            IfOk result (λ r. FindsAmong F.means self.old records (partial_ref_bytes partial.entry) (Some r)) }
+            IfOk result (λ r. FindsAmong F.means self.old records (partial_ref_bytes
+            partial.entry) (Some r)) }
         ensures sound { F.honest → (records : List Record) → AreHeld packed.entry records →
             IfErr result (MissesAmong F.means self.old records (partial_ref_bytes partial.entry)) }
         ensures hit { F.honest → IfOk result (λ r. HitsIn {G = F.Reader.ReadAt} F.means self.old

@@ -2,10 +2,10 @@
 ghost use Rattle.std.specs.Prelude.{◌≡◌};
 ghost use Rattle.gix_ref_lookup.specs.CleanPaths.{are_clean};
 
-use gix_ref_lookup::folders::{Dirs, dirs_are_compatible, is_clean_path, resolved};
 use crate::store::{Options, WriteReflog};
 use gix_ref_base::namespace::Namespace;
 use gix_ref_hash::hash::Kind;
+use gix_ref_lookup::folders::{Dirs, dirs_are_compatible, is_clean_path, resolved};
 use std::alloc::{AllocError, Global};
 use std::fmt::Debug;
 use thiserror::Error;

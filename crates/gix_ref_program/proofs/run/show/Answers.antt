@@ -11,8 +11,7 @@ returns-in-Ok-Some-clause-outcome g c h =
     let F = g.F.Files in
     let old = c.args.store.now in
     let found = c.in-Ok-Some.reference in
-    let hit = rw c.in-Ok-Some.field-0-is at (c.in-Ok-Some.ensures.hit h) in
-    (
+    let hit = rw c.in-Ok-Some.field-0-is at (c.in-Ok-Some.ensures.hit h) in (
       subst (λ (p : List ℕ). HitsIn {R = g.row.F-Reader.Denot} {G = g.F.Reader.ReadAt} F.means old Unopened p (Some found)) c.in-Ok.ensures.0 hit,
       λ (records : List Record) (are : AreRecordsIn F.means old records).
           subst (λ (p : List ℕ). FindsAmong F.means old records p (Some found)) c.in-Ok.ensures.0 (rw c.in-Ok-Some.field-0-is at (c.in-Ok-Some.ensures.found h records are)),

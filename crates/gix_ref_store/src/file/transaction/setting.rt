@@ -1,9 +1,9 @@
 //! What a transaction stands on beside its files: the folders of the store, its namespace and the kind of its ids.
 ghost use Rattle.std.specs.Prelude.{◌≡◌, IfOk};
 
-use gix_ref_lookup::folders::Dirs;
 use gix_ref_base::namespace::Namespace;
 use gix_ref_hash::hash::Kind;
+use gix_ref_lookup::folders::Dirs;
 
 /// Where the names of a store stand.
 #[derive(Clone, Copy, Debug)]

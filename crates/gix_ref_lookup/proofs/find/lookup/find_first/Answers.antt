@@ -111,7 +111,7 @@ loop-front-preserved g c =
     let same = λ (h : g.F.Files.honest). (x.leaves h).tree in
     let asked = λ (h : g.F.Files.honest) (rs : List Record) (are : AreAsked settings.kind (packed_refs_at settings first.tree) c.args.records.now rs). subst (λ (T : Tree). AreAsked settings.kind (packed_refs_at settings T) c.loop-front.records rs) (sym (same h)) (x.asked h rs are) in
     let absent : g.F.Files.honest → (rs : List Record) → AreAsked settings.kind (packed_refs_at settings first.tree) c.args.records.now rs → reading_among s view rs n ≡ Absent =
-      λ h rs are. subst (λ (m : List ℕ). IsCandidate s view rs m None) named (subst (λ (T : Tree). IsCandidate s (view_of T) rs (full_ref_bytes c.as_ref.result) None) (same h) (rw c.in-Ok-None.field-0-is at (e.found h rs (asked h rs are)))) in
+    λ h rs are. subst (λ (m : List ℕ). IsCandidate s view rs m None) named (subst (λ (T : Tree). IsCandidate s (view_of T) rs (full_ref_bytes c.as_ref.result) None) (same h) (rw c.in-Ok-None.field-0-is at (e.found h rs (asked h rs are)))) in
     record {
       asked = λ h rs are. subst (λ (T : Tree). AreAsked settings.kind (packed_refs_at settings T) c.find_candidate.new.records rs) (same h) (e.asked h rs (asked h rs are));
       readers = λ h a. e.honest h (x.readers h a);

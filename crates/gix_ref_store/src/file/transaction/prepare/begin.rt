@@ -39,7 +39,8 @@ impl<F: Files> Store<F> {
         ensures paths { IfOk result (λ t. vec_len t.paths ≡ length edits.now) }
         ensures places { IfOk result (λ t. place_paths t.paths.items ≡ places_of
             (loose_meaning_of self.old) edits.now) }
-        ensures locks { IfOk result (λ t. lock_paths t.paths.items ≡ locks_of (loose_meaning_of self.old)
+        ensures locks { IfOk result (λ t. lock_paths t.paths.items ≡ locks_of (loose_meaning_of
+            self.old)
             edits.now) }
         ensures room { IfOk result (λ t. vec_len t.paths ≤ vec_capacity t.left) }
         ensures none { IfOk result (λ t. t.left.items ≡ []) }

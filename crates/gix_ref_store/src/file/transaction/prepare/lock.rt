@@ -13,10 +13,6 @@ ghost use Rattle.gix_ref_store.specs.Causes.{found, IsCounted, IsNotIo, IsMismat
 ghost use Rattle.gix_ref_edits.specs.RefEdits.{name_of, expected_of, new_of, Expects};
 ghost use Rattle.gix_ref_store.specs.PrepareSteps.{setting_of, value_of, places_of, place_paths, lock_paths, lock_text, is_new, held_by, IsText, IsRefusedLock, IsNewLock, FillsLock};
 
-use gix_ref_lookup::find::loose::{Loose, loose_at};
-use gix_ref_lookup::find::strip;
-use gix_ref_lookup::layout::layout_in;
-use gix_ref_lookup::loose::text_of;
 use crate::file::transaction::prepare::Error;
 use crate::file::transaction::prepare::expect::check_expected;
 use crate::file::transaction::setting::{Paths, Setting};
@@ -25,6 +21,10 @@ use gix_ref_base::target::Target;
 use gix_ref_edits::transaction::{Change, RefEdit, RefLog};
 use gix_ref_files::files::{Create, Files};
 use gix_ref_files::lock::make_lock;
+use gix_ref_lookup::find::loose::{Loose, loose_at};
+use gix_ref_lookup::find::strip;
+use gix_ref_lookup::layout::layout_in;
+use gix_ref_lookup::loose::text_of;
 use std::alloc::{AllocError, Global};
 
 /// The place of an edit's reference, and its lock.
