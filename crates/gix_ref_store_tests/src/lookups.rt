@@ -20,21 +20,42 @@ const I2: &str = "2222222222222222222222222222222222222222";
 
 const IA: &str = "aaaaaaaaaaaaaaaaaaaaaaaaaaaaaaaaaaaaaaaa";
 
+/// A branch, and `HEAD`.
+const MAIN: &[(&str, &str)] = &[
+    ("/r/refs/heads/main", I1),
+    ("/r/HEAD", "ref: refs/heads/main\n"),
+];
+
+/// Two records out of their order.
+const UNSORTED: &[&str] = &[I2, " refs/tags/b\n", I1, " refs/heads/a\n"];
+
+/// A record behind a line that is no header.
+const WITHOUT_HEADER: &[&str] = &["# foo\n", I1, " refs/heads/a\n"];
+
+/// A loose file.
+const LOOSE: &[(&str, &str)] = &[("/r/refs/heads/loose", I2)];
+
+/// A record in the namespace `foo`.
+const IN_FOO: &[&str] = &[SORTED, I1, " refs/namespaces/foo/refs/heads/x\n"];
+
+/// A file with the name of a device.
+const DEVICE: &[(&str, &str)] = &[("/r/refs/heads/CON", I1)];
+
 /// What a lookup is to return.
 #[derive(Clone, Copy, Debug, PartialEq, Eq)]
-enum Want<'a> {
+enum Want {
     /// A reference of this name with this id.
-    Object(&'a str, &'a str),
+    Object(&'static str, &'static str),
     /// A reference of this name with this id, peeled to the other.
-    Peeled(&'a str, &'a str, &'a str),
+    Peeled(&'static str, &'static str, &'static str),
     /// A reference of this name to the other name.
-    Symbolic(&'a str, &'a str),
+    Symbolic(&'static str, &'static str),
     /// `NotFound` with the name that was asked for.
     NotFound,
     /// `ReferenceCreation` with this relative path.
-    Undecodable(&'a str),
+    Undecodable(&'static str),
     /// `ReadFileContents` with `DeviceName` and this path.
-    Device(&'a str),
+    Device(&'static str),
     /// `PackedOpen` with `HeaderParsing`.
     Header,
     /// `PackedRef` with `Parse`.
@@ -43,16 +64,16 @@ enum Want<'a> {
 
 /// A store and a lookup in it.
 #[derive(Clone, Copy)]
-struct Row<'a> {
-    meaning: &'a str,
+struct Row {
+    meaning: &'static str,
     /// The namespace, or nothing.
-    space: &'a str,
+    space: &'static str,
     /// Paths of loose files and their texts.
-    loose: &'a [(&'a str, &'a str)],
+    loose: &'static [(&'static str, &'static str)],
     /// The parts of the text of `packed-refs`; there is no such file where there are none.
-    packed: &'a [&'a str],
-    name: &'a str,
-    want: Want<'a>,
+    packed: &'static [&'static str],
+    name: &'static str,
+    want: Want,
 }
 
 fn put(rt: &impl Abort, memory: &mut Memory, path: &str, text: &[u8]) {
@@ -69,7 +90,7 @@ fn joined(rt: &impl Abort, alloc: Global, parts: &[&str]) -> Vec<u8> {
 }
 
 /// The files of a row.
-fn files_of(rt: &impl Abort, alloc: Global, row: Row<'_>) -> Memory {
+fn files_of(rt: &impl Abort, alloc: Global, row: Row) -> Memory {
     let mut memory = Memory::new(alloc);
     for (path, text) in row.loose {
         put(rt, &mut memory, path, text.as_bytes());
@@ -100,7 +121,7 @@ fn is_symbolic(target: &Target, name: &str) -> bool {
 }
 
 /// Whether a reference is as it is to be.
-fn is_reference(reference: &Reference, want: Want<'_>) -> bool {
+fn is_reference(reference: &Reference, want: Want) -> bool {
     let name = reference.name.to_path();
     match want {
         Want::Object(wanted, id) => {
@@ -123,7 +144,7 @@ fn is_reference(reference: &Reference, want: Want<'_>) -> bool {
 }
 
 /// Whether a failure is as it is to be.
-fn is_failure(error: &find::Error, want: Want<'_>) -> bool {
+fn is_failure(error: &find::Error, want: Want) -> bool {
     match error {
         find::Error::ReferenceCreation { relative_path, .. } => match want {
             Want::Undecodable(path) => relative_path.as_slice() == path.as_bytes(),
@@ -143,7 +164,7 @@ fn is_failure(error: &find::Error, want: Want<'_>) -> bool {
 }
 
 /// Whether a lookup of a name returned what it is to return.
-fn is_wanted(found: &Result<Reference, existing::Error>, name: &str, want: Want<'_>) -> bool {
+fn is_wanted(found: &Result<Reference, existing::Error>, name: &str, want: Want) -> bool {
     match found {
         Ok(reference) => is_reference(reference, want),
         Err(existing::Error::NotFound { name: asked }) => {
@@ -154,7 +175,7 @@ fn is_wanted(found: &Result<Reference, existing::Error>, name: &str, want: Want<
 }
 
 /// Looks up the name of a row, with device names prohibited or not.
-fn check(rt: &impl Abort, alloc: Global, row: Row<'_>, is_prohibited: bool) {
+fn check(rt: &impl Abort, alloc: Global, row: Row, is_prohibited: bool) {
     let memory = files_of(rt, alloc, row);
     let mut store = store(rt, alloc, memory, "", row.space);
     store.prohibit_windows_device_names = is_prohibited;
@@ -163,263 +184,257 @@ fn check(rt: &impl Abort, alloc: Global, row: Row<'_>, is_prohibited: bool) {
     assert!(rt; is_wanted(&found, name, row.want), "{meaning}: {name}");
 }
 
+/// Which candidate is found.
+const CANDIDATES: [Row; 10] = [
+    Row {
+        meaning: "a packed tag comes before a loose branch",
+        space: "",
+        loose: &[("/r/refs/heads/v1", I1)],
+        packed: &[SORTED, I2, " refs/tags/v1\n"],
+        name: "v1",
+        want: Want::Object("refs/tags/v1", I2),
+    },
+    Row {
+        meaning: "the loose head of a remote",
+        space: "",
+        loose: &[("/r/refs/remotes/FOO/HEAD", I1)],
+        packed: &[],
+        name: "FOO",
+        want: Want::Object("refs/remotes/FOO/HEAD", I1),
+    },
+    Row {
+        meaning: "the packed head of a remote",
+        space: "",
+        loose: &[],
+        packed: &[SORTED, I1, " refs/remotes/FOO/HEAD\n"],
+        name: "FOO",
+        want: Want::NotFound,
+    },
+    Row {
+        meaning: "a packed reference of the main worktree",
+        space: "",
+        loose: &[],
+        packed: &[SORTED, I1, " refs/heads/x\n"],
+        name: "main-worktree/refs/heads/x",
+        want: Want::Object("refs/heads/x", I1),
+    },
+    Row {
+        meaning: "a loose reference of the main worktree",
+        space: "",
+        loose: &[("/r/refs/heads/x", I1)],
+        packed: &[],
+        name: "main-worktree/refs/heads/x",
+        want: Want::Object("main-worktree/refs/heads/x", I1),
+    },
+    Row {
+        meaning: "a branch",
+        space: "",
+        loose: MAIN,
+        packed: &[],
+        name: "main",
+        want: Want::Object("refs/heads/main", I1),
+    },
+    Row {
+        meaning: "a branch below heads",
+        space: "",
+        loose: MAIN,
+        packed: &[],
+        name: "heads/main",
+        want: Want::Object("refs/heads/main", I1),
+    },
+    Row {
+        meaning: "a branch in full",
+        space: "",
+        loose: MAIN,
+        packed: &[],
+        name: "refs/heads/main",
+        want: Want::Object("refs/heads/main", I1),
+    },
+    Row {
+        meaning: "the head",
+        space: "",
+        loose: MAIN,
+        packed: &[],
+        name: "HEAD",
+        want: Want::Symbolic("HEAD", "refs/heads/main"),
+    },
+    Row {
+        meaning: "a name that is nowhere",
+        space: "",
+        loose: MAIN,
+        packed: &[],
+        name: "tags/main",
+        want: Want::NotFound,
+    },
+];
+
 #[test]
 fn candidates(rt: HostRuntime) {
-    let main: (&[(&str, &str)], &[&str]) = (
-        &[
-            ("/r/refs/heads/main", I1),
-            ("/r/HEAD", "ref: refs/heads/main\n"),
-        ],
-        &[],
-    );
-    let rows: [Row<'_>; 10] = [
-        Row {
-            meaning: "a packed tag comes before a loose branch",
-            space: "",
-            loose: &[("/r/refs/heads/v1", I1)],
-            packed: &[SORTED, I2, " refs/tags/v1\n"],
-            name: "v1",
-            want: Want::Object("refs/tags/v1", I2),
-        },
-        Row {
-            meaning: "the loose head of a remote",
-            space: "",
-            loose: &[("/r/refs/remotes/FOO/HEAD", I1)],
-            packed: &[],
-            name: "FOO",
-            want: Want::Object("refs/remotes/FOO/HEAD", I1),
-        },
-        Row {
-            meaning: "the packed head of a remote",
-            space: "",
-            loose: &[],
-            packed: &[SORTED, I1, " refs/remotes/FOO/HEAD\n"],
-            name: "FOO",
-            want: Want::NotFound,
-        },
-        Row {
-            meaning: "a packed reference of the main worktree",
-            space: "",
-            loose: &[],
-            packed: &[SORTED, I1, " refs/heads/x\n"],
-            name: "main-worktree/refs/heads/x",
-            want: Want::Object("refs/heads/x", I1),
-        },
-        Row {
-            meaning: "a loose reference of the main worktree",
-            space: "",
-            loose: &[("/r/refs/heads/x", I1)],
-            packed: &[],
-            name: "main-worktree/refs/heads/x",
-            want: Want::Object("main-worktree/refs/heads/x", I1),
-        },
-        Row {
-            meaning: "a branch",
-            space: "",
-            loose: main.0,
-            packed: main.1,
-            name: "main",
-            want: Want::Object("refs/heads/main", I1),
-        },
-        Row {
-            meaning: "a branch below heads",
-            space: "",
-            loose: main.0,
-            packed: main.1,
-            name: "heads/main",
-            want: Want::Object("refs/heads/main", I1),
-        },
-        Row {
-            meaning: "a branch in full",
-            space: "",
-            loose: main.0,
-            packed: main.1,
-            name: "refs/heads/main",
-            want: Want::Object("refs/heads/main", I1),
-        },
-        Row {
-            meaning: "the head",
-            space: "",
-            loose: main.0,
-            packed: main.1,
-            name: "HEAD",
-            want: Want::Symbolic("HEAD", "refs/heads/main"),
-        },
-        Row {
-            meaning: "a name that is nowhere",
-            space: "",
-            loose: main.0,
-            packed: main.1,
-            name: "tags/main",
-            want: Want::NotFound,
-        },
-    ];
-    for row in rows {
+    for row in CANDIDATES {
         check(&rt, rt.alloc(), row, false);
     }
 }
+
+/// Records beside loose files, and files that cannot be read.
+const RECORDS: [Row; 10] = [
+    Row {
+        meaning: "a file in the path of the loose file",
+        space: "",
+        loose: &[("/r/refs/heads/a", I2)],
+        packed: &[SORTED, I1, " refs/heads/a/b\n"],
+        name: "refs/heads/a/b",
+        want: Want::Object("refs/heads/a/b", I1),
+    },
+    Row {
+        meaning: "a folder in place of the loose file",
+        space: "",
+        loose: &[("/r/refs/heads/d/e", I2)],
+        packed: &[SORTED, I1, " refs/heads/d\n"],
+        name: "refs/heads/d",
+        want: Want::Object("refs/heads/d", I1),
+    },
+    Row {
+        meaning: "a peeled line",
+        space: "",
+        loose: &[],
+        packed: &[SORTED, I1, " refs/tags/p\n^", IA, "\n"],
+        name: "p",
+        want: Want::Peeled("refs/tags/p", I1, IA),
+    },
+    Row {
+        meaning: "the last of records out of their order",
+        space: "",
+        loose: &[],
+        packed: UNSORTED,
+        name: "a",
+        want: Want::Object("refs/heads/a", I1),
+    },
+    Row {
+        meaning: "the first of records out of their order",
+        space: "",
+        loose: &[],
+        packed: UNSORTED,
+        name: "b",
+        want: Want::Object("refs/tags/b", I2),
+    },
+    Row {
+        meaning: "an undecodable file before a record",
+        space: "",
+        loose: &[("/r/refs/heads/x", "xyz")],
+        packed: &[SORTED, I1, " refs/heads/x\n"],
+        name: "x",
+        want: Want::Undecodable("refs/heads/x"),
+    },
+    Row {
+        meaning: "a tag before an undecodable file",
+        space: "",
+        loose: &[("/r/refs/heads/x", "xyz"), ("/r/refs/tags/x", I2)],
+        packed: &[SORTED, I1, " refs/heads/x\n"],
+        name: "x",
+        want: Want::Object("refs/tags/x", I2),
+    },
+    Row {
+        meaning: "a loose file beside a file without a header",
+        space: "",
+        loose: LOOSE,
+        packed: WITHOUT_HEADER,
+        name: "refs/heads/loose",
+        want: Want::Object("refs/heads/loose", I2),
+    },
+    Row {
+        meaning: "a record behind no header",
+        space: "",
+        loose: LOOSE,
+        packed: WITHOUT_HEADER,
+        name: "refs/heads/a",
+        want: Want::Header,
+    },
+    Row {
+        meaning: "malformed lines",
+        space: "",
+        loose: &[],
+        packed: &[SORTED, "xyz\nuvw\n"],
+        name: "refs/heads/a",
+        want: Want::Parse,
+    },
+];
 
 #[test]
 fn records(rt: HostRuntime) {
-    let x = "/r/refs/heads/x";
-    let tag = ("/r/refs/tags/x", I2);
-    let unsorted: &[&str] = &[I2, " refs/tags/b\n", I1, " refs/heads/a\n"];
-    let foo: &[&str] = &["# foo\n", I1, " refs/heads/a\n"];
-    let loose: &[(&str, &str)] = &[("/r/refs/heads/loose", I2)];
-    let rows: [Row<'_>; 10] = [
-        Row {
-            meaning: "a file in the path of the loose file",
-            space: "",
-            loose: &[("/r/refs/heads/a", I2)],
-            packed: &[SORTED, I1, " refs/heads/a/b\n"],
-            name: "refs/heads/a/b",
-            want: Want::Object("refs/heads/a/b", I1),
-        },
-        Row {
-            meaning: "a folder in place of the loose file",
-            space: "",
-            loose: &[("/r/refs/heads/d/e", I2)],
-            packed: &[SORTED, I1, " refs/heads/d\n"],
-            name: "refs/heads/d",
-            want: Want::Object("refs/heads/d", I1),
-        },
-        Row {
-            meaning: "a peeled line",
-            space: "",
-            loose: &[],
-            packed: &[SORTED, I1, " refs/tags/p\n^", IA, "\n"],
-            name: "p",
-            want: Want::Peeled("refs/tags/p", I1, IA),
-        },
-        Row {
-            meaning: "the last of records out of their order",
-            space: "",
-            loose: &[],
-            packed: unsorted,
-            name: "a",
-            want: Want::Object("refs/heads/a", I1),
-        },
-        Row {
-            meaning: "the first of records out of their order",
-            space: "",
-            loose: &[],
-            packed: unsorted,
-            name: "b",
-            want: Want::Object("refs/tags/b", I2),
-        },
-        Row {
-            meaning: "an undecodable file before a record",
-            space: "",
-            loose: &[(x, "xyz")],
-            packed: &[SORTED, I1, " refs/heads/x\n"],
-            name: "x",
-            want: Want::Undecodable("refs/heads/x"),
-        },
-        Row {
-            meaning: "a tag before an undecodable file",
-            space: "",
-            loose: &[(x, "xyz"), tag],
-            packed: &[SORTED, I1, " refs/heads/x\n"],
-            name: "x",
-            want: Want::Object("refs/tags/x", I2),
-        },
-        Row {
-            meaning: "a loose file beside a file without a header",
-            space: "",
-            loose,
-            packed: foo,
-            name: "refs/heads/loose",
-            want: Want::Object("refs/heads/loose", I2),
-        },
-        Row {
-            meaning: "a record behind no header",
-            space: "",
-            loose,
-            packed: foo,
-            name: "refs/heads/a",
-            want: Want::Header,
-        },
-        Row {
-            meaning: "malformed lines",
-            space: "",
-            loose: &[],
-            packed: &[SORTED, "xyz\nuvw\n"],
-            name: "refs/heads/a",
-            want: Want::Parse,
-        },
-    ];
-    for row in rows {
+    for row in RECORDS {
         check(&rt, rt.alloc(), row, false);
     }
 }
+
+/// Lookups in the namespace `foo`.
+const IN_A_NAMESPACE: [Row; 3] = [
+    Row {
+        meaning: "a record",
+        space: "foo",
+        loose: &[],
+        packed: IN_FOO,
+        name: "x",
+        want: Want::Object("refs/heads/x", I1),
+    },
+    Row {
+        meaning: "a loose file before a record",
+        space: "foo",
+        loose: &[("/r/refs/namespaces/foo/refs/heads/x", I2)],
+        packed: IN_FOO,
+        name: "refs/heads/x",
+        want: Want::Object("refs/heads/x", I2),
+    },
+    Row {
+        meaning: "a symbolic target",
+        space: "foo",
+        loose: &[(
+            "/r/refs/namespaces/foo/HEAD",
+            "ref: refs/namespaces/foo/refs/heads/x\n",
+        )],
+        packed: IN_FOO,
+        name: "HEAD",
+        want: Want::Symbolic("HEAD", "refs/heads/x"),
+    },
+];
 
 #[test]
 fn in_a_namespace(rt: HostRuntime) {
-    let record: &[&str] = &[SORTED, I1, " refs/namespaces/foo/refs/heads/x\n"];
-    let rows: [Row<'_>; 3] = [
-        Row {
-            meaning: "a record",
-            space: "foo",
-            loose: &[],
-            packed: record,
-            name: "x",
-            want: Want::Object("refs/heads/x", I1),
-        },
-        Row {
-            meaning: "a loose file before a record",
-            space: "foo",
-            loose: &[("/r/refs/namespaces/foo/refs/heads/x", I2)],
-            packed: record,
-            name: "refs/heads/x",
-            want: Want::Object("refs/heads/x", I2),
-        },
-        Row {
-            meaning: "a symbolic target",
-            space: "foo",
-            loose: &[(
-                "/r/refs/namespaces/foo/HEAD",
-                "ref: refs/namespaces/foo/refs/heads/x\n",
-            )],
-            packed: record,
-            name: "HEAD",
-            want: Want::Symbolic("HEAD", "refs/heads/x"),
-        },
-    ];
-    for row in rows {
+    for row in IN_A_NAMESPACE {
         check(&rt, rt.alloc(), row, false);
     }
 }
 
+/// Names, what a lookup of each is to return, and whether device names are prohibited.
+const DEVICES: [(&str, Want, bool); 8] = [
+    ("refs/heads/CON", Want::Device("/r/refs/heads/CON"), true),
+    (
+        "refs/heads/aux.txt",
+        Want::Device("/r/refs/heads/aux.txt"),
+        true,
+    ),
+    (
+        "refs/heads/nul/x",
+        Want::Device("/r/refs/heads/nul/x"),
+        true,
+    ),
+    (
+        "refs/heads/conin$",
+        Want::Device("/r/refs/heads/conin$"),
+        true,
+    ),
+    ("refs/heads/lpt9", Want::Device("/r/refs/heads/lpt9"), true),
+    ("refs/heads/COM10", Want::NotFound, true),
+    ("refs/heads/CONX", Want::NotFound, true),
+    ("refs/heads/CON", Want::Object("refs/heads/CON", I1), false),
+];
+
 #[test]
 fn device_names(rt: HostRuntime) {
-    let con: &[(&str, &str)] = &[("/r/refs/heads/CON", I1)];
-    let rows: [(&str, Want<'_>, bool); 8] = [
-        ("refs/heads/CON", Want::Device("/r/refs/heads/CON"), true),
-        (
-            "refs/heads/aux.txt",
-            Want::Device("/r/refs/heads/aux.txt"),
-            true,
-        ),
-        (
-            "refs/heads/nul/x",
-            Want::Device("/r/refs/heads/nul/x"),
-            true,
-        ),
-        (
-            "refs/heads/conin$",
-            Want::Device("/r/refs/heads/conin$"),
-            true,
-        ),
-        ("refs/heads/lpt9", Want::Device("/r/refs/heads/lpt9"), true),
-        ("refs/heads/COM10", Want::NotFound, true),
-        ("refs/heads/CONX", Want::NotFound, true),
-        ("refs/heads/CON", Want::Object("refs/heads/CON", I1), false),
-    ];
-    for (name, want, is_prohibited) in rows {
+    for (name, want, is_prohibited) in DEVICES {
         let row = Row {
             meaning: "a device",
             space: "",
-            loose: con,
+            loose: DEVICE,
             packed: &[],
             name,
             want,

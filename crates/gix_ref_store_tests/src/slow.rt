@@ -114,7 +114,10 @@ fn digits(rt: &impl Abort, alloc: Global, number: usize, last: char) -> String {
 
 /// Whether this bit of a number is set.
 fn has_bit(number: u32, bit: usize) -> bool {
-    match 1u32.checked_shl(bit as u32) {
+    let Ok(bit) = u32::try_from(bit) else {
+        return false;
+    };
+    match 1u32.checked_shl(bit) {
         Some(mask) => number & mask != 0,
         None => false,
     }
