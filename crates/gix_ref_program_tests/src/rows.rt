@@ -3,6 +3,12 @@ use crate::ran::{A, I0, I1, I2, L0, L1, LOCK, ONE, TWO, run_words, with_file};
 use std::alloc::Global;
 use std::process::Abort;
 
+/// The records of a store, and one record in them.
+const PACKED: &str = "/r/packed-refs";
+
+const RECORDS: &str =
+    "# pack-refs with: peeled fully-peeled sorted \n2222222222222222222222222222222222222222 refs/heads/a\n";
+
 /// What is printed, and the status that comes with it.
 #[derive(Clone, Copy, Debug, PartialEq, Eq)]
 enum Printed<'a> {
@@ -190,7 +196,7 @@ fn updates(rt: HostRuntime) {
 
 #[test]
 fn shows(rt: HostRuntime) {
-    let rows: [Row<'_>; 9] = [
+    let rows: [Row<'_>; 14] = [
         Row {
             meaning: "an id",
             before: (A, ONE),
@@ -267,6 +273,44 @@ fn shows(rt: HostRuntime) {
                 A,
                 "1111111111111111111111111111111111111111111111111111111111111111\n",
             ),
+        },
+        Row {
+            meaning: "a short name",
+            before: (A, ONE),
+            words: &["/r", "show", "a"],
+            printed: Printed::Text("1111111111111111111111111111111111111111 refs/heads/a\n"),
+            after: (A, ONE),
+        },
+        Row {
+            meaning: "the head of a remote",
+            before: (
+                "/r/refs/remotes/origin/HEAD",
+                "ref: refs/remotes/origin/main\n",
+            ),
+            words: &["/r", "show", "origin"],
+            printed: Printed::Text("ref: refs/remotes/origin/main refs/remotes/origin/HEAD\n"),
+            after: (A, "-"),
+        },
+        Row {
+            meaning: "a record",
+            before: (PACKED, RECORDS),
+            words: &["/r", "show", "heads/a"],
+            printed: Printed::Text("2222222222222222222222222222222222222222 refs/heads/a\n"),
+            after: (PACKED, RECORDS),
+        },
+        Row {
+            meaning: "no record",
+            before: (PACKED, RECORDS),
+            words: &["/r", "show", "b"],
+            printed: Printed::Refused("NotFound"),
+            after: (PACKED, RECORDS),
+        },
+        Row {
+            meaning: "records without a header",
+            before: (PACKED, "# foo\n"),
+            words: &["/r", "show", "a"],
+            printed: Printed::Refused("PackedOpen"),
+            after: (PACKED, "# foo\n"),
         },
     ];
     for row in rows {
