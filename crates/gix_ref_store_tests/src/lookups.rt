@@ -102,7 +102,7 @@ fn files_of(rt: &impl Abort, alloc: Global, row: Row) -> Memory {
     memory
 }
 
-/// Whether two ids are the same; `-` is none.
+/// Whether two ids are the same; `-` means no id.
 fn is_id(id: Option<ObjectId>, digits: &str) -> bool {
     id == ObjectId::from_hex(digits.as_bytes())
 }
