@@ -16,14 +16,14 @@ const WINDOW: usize = 65536;
 const LINE: &[u8] =
     b"1111111111111111111111111111111111111111 2222222222222222222222222222222222222222 C O Mitter <committer@example.com> 1618030561 +0800\tcommit: a thing\n";
 
-/// Whether a line tells anything: its lengths and its time are not all zero. Each field has a part in the answer, so that
-/// the making of none is left out of what is measured.
+/// Whether a line has any content: its lengths and its time are not all zero. Each field has a part in the result, so
+/// that the making of none is left out of what is measured.
 fn tells(name: &[u8], email: &[u8], time: Time, message: &[u8]) -> bool {
     let lengths = name.len() | email.len() | message.len();
     (lengths != 0) | (time.seconds != 0) | (time.offset != 0)
 }
 
-/// Whether a lent line was read that tells anything.
+/// Whether a borrowed line with any content was read.
 fn is_read(line: &Result<LineRef<'_>, decode::Error>) -> bool {
     match line {
         Ok(line) => {
@@ -34,7 +34,7 @@ fn is_read(line: &Result<LineRef<'_>, decode::Error>) -> bool {
     }
 }
 
-/// Whether a line with bytes of its own was read that tells anything.
+/// Whether an owned line with any content was read.
 fn is_owned(line: &Result<Line, ReverseError>) -> bool {
     match line {
         Ok(line) => {
@@ -106,7 +106,7 @@ fn make(rt: &HostRuntime, path: &str, lines: u64) -> Result<u64> {
     Ok(lines)
 }
 
-/// Does the work of a mode, and answers how many lines were read; none where there is no such mode.
+/// Does the work of a mode, and returns how many lines were read; `None` where there is no such mode.
 pub fn run(rt: &HostRuntime, mode: &str, folder: &str, turns: u64) -> Result<Option<u64>> {
     let path = format!(in rt.alloc(); "{folder}/log").context("a path")?;
     let path = path.as_str();

@@ -45,7 +45,7 @@ stripped-append p s r e valid =
     let rest = without-append p s r e in
     ap (λ v. cond (is_none (partial_error v)) v s) rest ∙ ap (λ v. cond (is_none v) r s) valid
 
--- one whose rest is none
+-- one whose rest is not a valid name
 pub stripped-bad : (p s r : List ℕ) → s ≡ p ++ r → is_some (partial_error r) ≡ true → stripped p s ≡ s
 unfolding stripped
 stripped-bad p s r e bad =

@@ -30,7 +30,7 @@ EndsIn k path = (front : List ℕ) × (path ≡ front ++ k)
 pub ends_after : (k path front : List ℕ) → EndsIn k path → EndsIn k (front ++ path)
 ends_after k path front e = (front ++ e.0, ap (λ x. front ++ x) e.1 ∙ sym (append_assoc front e.0 k))
 
--- the last part of a name, which stands at the end of its place and its log
+-- the last part of a name, which is at the end of its place and its log
 abbrev pub short : Location → List ℕ
 short (Common k) = k
 short (ThisWorktree k) = k

@@ -14,7 +14,7 @@ abbrev after_slash : List ℕ → List ℕ
 after_slash [] = []
 after_slash (b ∷ rest) = cond (eqb b 47) rest (after_slash rest)
 
--- what stands before it
+-- what is before it
 abbrev before_slash : List ℕ → List ℕ
 before_slash [] = []
 before_slash (b ∷ rest) = cond (eqb b 47) [] (b ∷ before_slash rest)

@@ -23,7 +23,7 @@ pub record IsPath (n : List ℕ) : Type 0 where
   pub locked : list_any is_locked (components n) ≡ false
   pub portion : occurs (codes "@{") n ≡ false
 
--- what stands between two slashes of a partial name
+-- what is between two slashes of a partial name
 pub record IsComponent (c : List ℕ) : Type 0 where
   pub some : is_empty c ≡ false
   pub valid : find is_invalid c ≡ None
@@ -128,7 +128,7 @@ append-find p (x ∷ c) n h k = go (p x) refl (λ h. append-find p c n h k)
         ap (λ v. cond v (Some x) (find p (c ++ n))) other
         ∙ rest (sym (ap (λ v. cond v (Some x) (find p c)) other) ∙ h)
 
--- the last byte is that of what stands behind
+-- the last byte is that of what follows
 pub last-cons : (x y : ℕ) (n : List ℕ) (z : ℕ) → ends_with nat_eq (x ∷ y ∷ n) (z ∷ []) ≡ ends_with nat_eq (y ∷ n) (z ∷ [])
 last-cons x y n z =
     let long : length (x ∷ y ∷ n) - 1 ≡ suc (length n) = omega arith in
@@ -156,7 +156,7 @@ or_assoc false b c = refl
 abbrev pair : ℕ → ℕ → List ℕ
 pair a b = a ∷ b ∷ []
 
--- a pair without a slash stands before a slash or behind it
+-- a slash in front adds no pair that begins with another byte
 pair-behind : (a b : ℕ) (n : List ℕ) → eqb a 47 ≡ false → occurs (pair a b) (47 ∷ n) ≡ occurs (pair a b) n
 pair-behind a b n no_a = ap (λ v. (v && pointwise nat_eq (b ∷ []) (take 1 n)) || occurs (pair a b) n) no_a
 
@@ -174,7 +174,7 @@ pair-append a b (x ∷ y ∷ c) n no_a no_b =
 no_slash_sym : (x : ℕ) → eqb x 47 ≡ false → eqb 47 x ≡ false
 no_slash_sym x other = ne_eqb 47 x (λ same. let yes : eqb x 47 ≡ true = eq-eqb x 47 (sym same) in absurd cc)
 
--- two slashes stand behind what has none
+-- two slashes are behind what has none
 slashes-append : (c n : List ℕ) → All (IsApart 47) c → occurs (codes "//") (c ++ 47 ∷ n) ≡ occurs (codes "//") (47 ∷ n)
 slashes-append [] n h = refl
 slashes-append (x ∷ c) n h =

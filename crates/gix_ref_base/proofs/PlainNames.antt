@@ -16,14 +16,14 @@ use Rattle.gix_ref_base.proofs.PartialNames.{name_of_rules, last-cons, or_none, 
 abbrev pub letter : ℕ → ℕ
 letter b = get_or LETTERS b 0
 
--- a byte of this letter may stand behind one of that letter
+-- a byte of this letter may follow one of that letter
 abbrev fits : ℕ → ℕ → Bool
 fits before here = bit_and here (before * 2 ^ 4 % 2 ^ 8) == 0
 
 abbrev ends : ℕ → Bool
 ends before = bit_and before 7 == 0
 
--- behind a byte of this letter each byte of the text may stand where it does, and so may the end
+-- after a byte of this letter each byte of the text may be where it is, and so may the end
 abbrev pub fits_on : ℕ → List ℕ → Bool
 fits_on before [] = ends before
 fits_on before (b ∷ n) = fits before (letter b) && fits_on (letter b) n
@@ -60,7 +60,7 @@ never_letter = at_below (λ b. cond (is_never b) (letter b == 68) true) 256 refl
 none_behind_never : (b : ℕ) → b < 256 → not (fits 68 (letter b)) ≡ true
 none_behind_never = at_below (λ b. not (fits 68 (letter b))) 256 refl
 
--- no byte that may stand before what follows it is one that no name has, or `@`
+-- no byte that may come before what follows it is one that no name has, or `@`
 allowed : (b : ℕ) (n : List ℕ) → ((k : ℕ) → get_or (b ∷ n) k 0 < 256) → fits_on (letter b) n ≡ true → is_never b ≡ false
 allowed b n bytes h = go (is_never b) refl n bytes h
   where
@@ -77,7 +77,7 @@ allowed b n bytes h = go (is_never b) refl n bytes h
 abbrev pair : ℕ → ℕ → List ℕ
 pair a b = a ∷ b ∷ []
 
--- what may not stand side by side does not
+-- bytes that may not be side by side are not
 no_pair : (a b : ℕ) → fits (letter a) (letter b) ≡ false → (x : ℕ) (n : List ℕ) → fits_on (letter x) n ≡ true → occurs (pair a b) (x ∷ n) ≡ false
 no_pair a b clashes x [] h = none_or (eqb a x && false) false (and_false (eqb a x)) refl
   where
@@ -137,7 +137,7 @@ any_behind : (P : List ℕ → Bool) (cs : List (List ℕ)) → list_any P cs �
 any_behind P [] h = refl
 any_behind P (c ∷ more) h = (or_none (P c) (list_any P more) h).1
 
--- where no dot stands behind a slash, only the first component may begin with one
+-- where no dot follows a slash, only the first component may begin with one
 only_front_dotted : (n : List ℕ) → occurs (pair 47 46) n ≡ false → list_any is_dotted (behind_front (components n)) ≡ false
 only_front_dotted [] h = refl
 only_front_dotted (x ∷ n) h =
@@ -238,7 +238,7 @@ not_at (x ∷ []) h = go (eqb x 64) refl
     go true is = clash (ends (letter x)) (both _ _ h).1 (ap (λ b. ends (letter b)) (eqb-true x 64 is))
     go false is = refl
 
--- a text whose bytes may all stand where they do, the first as if behind a slash, is a partial name
+-- a text whose bytes may all be where they are, the first as if after a slash, is a partial name
 pub plain_name : (n : List ℕ) → ((k : ℕ) → get_or n k 0 < 256) → fits_on (letter 47) n ≡ true → IsPartialName n
 plain_name [] bytes h = absurd (cc)
 plain_name (x ∷ n) bytes h =

@@ -1,4 +1,4 @@
--- One step of the scan of a name: what stands from an index on, against the next byte.
+-- One step of the scan of a name: what is from an index on, against the next byte.
 use Rattle.std.proofs.Common.{◌≡◌, ℕ, ◌+◌, ◌-◌, ◌<◌, ◌≤◌, Bool, true, false, ◌||◌, ◌&&◌, List, [], ◌∷◌, ◌++◌, length, get_or, take, drop, refl, ap, sym, ◌∙◌, subst, arith, Option, Some, eqb, eq-eqb, ne_eqb, cond}
 use Rattle.std.specs.List.{All, list_any, find}
 use Rattle.std.proofs.lemmas.List.{drop_more, drop-drop, take_all, take-append-drop, get_or-drop, length-drop}
@@ -30,7 +30,7 @@ and_false false = refl
 pair_front : (a b p x : ℕ) (xs : List ℕ) → occurs (a ∷ b ∷ []) (p ∷ x ∷ xs) ≡ ((eqb a p && eqb b x) || occurs (a ∷ b ∷ []) (x ∷ xs))
 pair_front a b p x xs = ap (λ v. (eqb a p && v) || occurs (a ∷ b ∷ []) (x ∷ xs)) (and_true (eqb b x))
 
--- what was seen of a pair before an index, and what stands from there on, after one more byte
+-- what was seen of a pair before an index, and what is from there on, after one more byte
 pub pair_step : (a b p : ℕ) (n : List ℕ) (i : ℕ) (seen all : Bool) → i < length n → (seen || occurs (a ∷ b ∷ []) (p ∷ drop i n)) ≡ all → ((seen || (eqb a p && eqb b (get_or n i 0))) || occurs (a ∷ b ∷ []) (get_or n i 0 ∷ drop (i + 1) n)) ≡ all
 pair_step a b p n i seen all within was =
     or_assoc seen _ _

@@ -59,7 +59,7 @@ prefix_of MainPseudoRef = codes "main-worktree/"
 prefix_of (LinkedRef w) = codes "worktrees/"
 prefix_of (LinkedPseudoRef w) = codes "worktrees/"
 
--- each worktree has names of the category of its own
+-- each worktree has its own names of the category (`git worktree`)
 abbrev pub is_private : Category → Bool
 is_private PseudoRef = true
 is_private MainPseudoRef = true

@@ -1,5 +1,5 @@
--- Which texts are names of references, and what is told of the others: a table of rules, in the order in which a
--- broken one is told (`git check-ref-format`).
+-- Which texts are names of references, and the errors for the others: a table of rules, in the order in which a
+-- broken one is reported (`git check-ref-format`).
 use Rattle.std.specs.Prelude.{◌≡◌, ℕ, ◌==◌, nat_eq, nat_le, Bool, true, false, not, ◌||◌, ◌&&◌, List, [], ◌∷◌, codes, Option, Some, None, if◌then◌else◌}
 use Rattle.std.specs.List.{list_any, list_all, find, starts_with, ends_with}
 use Rattle.std.specs.Cmp.Lexicographic.{pointwise}
@@ -13,7 +13,7 @@ abbrev pub is_invalid : ℕ → Bool
 is_invalid b =
     nat_le b 32 || (b == 42) || (b == 58) || (b == 63) || (b == 91) || (b == 92) || (b == 94) || (b == 126) || (b == 127)
 
--- what is told of such a byte
+-- the error for such a byte
 abbrev pub byte_error : ℕ → Error
 byte_error b = if b == 42 then Asterisk else InvalidByte b
 
@@ -34,7 +34,7 @@ first_told [] = None
 first_told (Some e ∷ rest) = Some e
 first_told (None ∷ rest) = first_told rest
 
--- the rules for partial names, each with what is told where a name breaks it
+-- the rules for partial names, each with the error for a name that breaks it
 abbrev pub partial_rules : List ℕ → List (Option Error)
 partial_rules n =
     told_if (is_empty n) Empty

@@ -1,4 +1,4 @@
--- The bytes of the four types of names, and what a conversion into each answers. Clauses of other crates speak of a
+-- The bytes of the four types of names, and what a conversion into each returns. Clauses of other crates speak of a
 -- name through these words.
 use Rattle.std.specs.Prelude.{◌≡◌, ◌⊎◌, ℕ, ◌∷◌, ◌++◌, List, Option, Some, None, Result, MatchResult, encode_utf8_all}
 use Rattle.bstr.specs.Utf8.{lossy_chars}
@@ -21,7 +21,7 @@ full_bytes n = n.bytes.items
 abbrev pub partial_bytes : PartialName → List ℕ
 partial_bytes n = n.bytes.items
 
--- a text becomes a name with its bytes exactly where it breaks no rule; else the first rule broken is told
+-- a text becomes a name with its bytes exactly where it breaks no rule; else the error is the first rule broken
 abbrev pub Converts : {N : Type 0} → (List ℕ → Option Error) → (N → List ℕ) → List ℕ → Result N Error → Type 0
 Converts rules bytes text r = MatchResult r (λ n. (bytes n ≡ text) × (rules text ≡ None)) (λ e. rules text ≡ Some e)
 

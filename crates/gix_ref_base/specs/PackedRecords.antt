@@ -6,7 +6,7 @@ use Rattle.hex.specs.declared.error.FromHexError.{FromHexError}
 use Rattle.gix_ref_hash.specs.declared.hash.ObjectId.{ObjectId}
 use Rattle.gix_ref_hash.specs.declared.hash.ObjectId.TheVariants as ids
 
--- A record: a name, the hex digits of its target as they are spelled, and those of the object at which a tag ends.
+-- A record: a name, the hex digits of its target as they are written, and those of the object at which a tag ends.
 pub record Record : Type 0 where
   pub name : List ℕ
   pub target : List ℕ

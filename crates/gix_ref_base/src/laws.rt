@@ -1,5 +1,5 @@
 //! The order and the equality of names, categories and targets, each stated by a short caller: what `==` and `cmp`
-//! answer.
+//! return.
 ghost use Rattle.std.specs.Prelude.{◌≡◌, ◌↔◌, IsTrue};
 ghost use Rattle.std.specs.Ordering.{nat_cmp};
 ghost use Rattle.std.specs.Cmp.Lexicographic.{slice_cmp};

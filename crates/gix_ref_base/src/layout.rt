@@ -167,7 +167,7 @@ impl<'a> RefLayout<'a> {
     ghost use Rattle.gix_ref_base.specs.Locations.{paths_at, paths_of};
     ghost use Rattle.gix_ref_base.specs.RefLayout.{layout_of, location_value};
 
-    /// The path of the loose file of a name. The error says that there was no memory for it.
+    /// The path of the loose file of a name (`gitrepository-layout`). The error says that there was no memory for it.
     ///
     /// ```text
     /// let layout = RefLayout { git_dir: b"/r", common_dir: b"/r", namespace: b"" };
@@ -180,7 +180,7 @@ impl<'a> RefLayout<'a> {
         self.loose_in(alloc, location_or_common(name))
     }
 
-    /// The path of the log of a name. The error says that there was no memory for it.
+    /// The path of the log of a name (`git reflog`). The error says that there was no memory for it.
     ///
     /// ```text
     /// layout.log(alloc, FullNameRef::try_from("HEAD")?)? // /r/logs/HEAD

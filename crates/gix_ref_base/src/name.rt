@@ -35,7 +35,7 @@ pub struct PartialNameRef<'a> {
     pub ghost valid: { IsPartialName bytes.now },
 }
 
-/// A full name with bytes of its own. It always holds a valid partial name; one that was made from a text is a valid
+/// An owned full name. It always holds a valid partial name; one that was made from a text is a valid
 /// full name.
 #[derive(Debug, PartialEq, Eq, PartialOrd, Ord, Hash, Drop)]
 pub struct FullName {
@@ -43,7 +43,7 @@ pub struct FullName {
     pub ghost valid: { IsPartialName bytes.items },
 }
 
-/// A partial name with bytes of its own.
+/// An owned partial name.
 #[derive(Debug, PartialEq, Eq, PartialOrd, Ord, Hash, Drop)]
 pub struct PartialName {
     bytes: Vec<u8>,
@@ -123,7 +123,7 @@ impl<'a> FullNameRef<'a> {
         category_of_bytes(self.bytes)
     }
 
-    /// The last component of the name: `main` of `refs/heads/main`.
+    /// The last component of the name, as `Path::file_name` gives it: `main` of `refs/heads/main`.
     ///
     /// ```text
     /// FullNameRef::try_from("refs/heads/feature/x")?.file_name() // `x`
@@ -154,7 +154,7 @@ impl<'a> FullNameRef<'a> {
         }
     }
 
-    /// A copy with bytes of its own; the error says that there was no memory for it.
+    /// An owned copy; the error says that there was no memory for it.
     pub fn to_owned(self, alloc: Global) -> Result<FullName, AllocError>
         ensures { IfOk result (λ n. full_bytes n ≡ full_ref_bytes self.entry) }
     {
@@ -320,7 +320,7 @@ impl<'a> PartialNameRef<'a> {
         self.bytes.as_bstr()
     }
 
-    /// A copy with bytes of its own; the error says that there was no memory for it.
+    /// An owned copy; the error says that there was no memory for it.
     pub fn to_owned(self, alloc: Global) -> Result<PartialName, AllocError>
         ensures { IfOk result (λ n. partial_bytes n ≡ partial_ref_bytes self.entry) }
     {

@@ -1,4 +1,5 @@
-//! Namespaces (`gitnamespaces`): folders of references that stand for repositories of their own.
+//! Namespaces (`gitnamespaces`): they divide the references of one repository, each with its own branches, tags and
+//! `HEAD`.
 ghost use Rattle.std.specs.Prelude.{◌≡◌, ◌++◌, List, ℕ, nat_eq, codes, true};
 ghost use Rattle.std.specs.List.{starts_with, ends_with};
 ghost use Rattle.gix_ref_base.specs.NameGrammar.{IsPartialName};

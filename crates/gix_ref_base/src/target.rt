@@ -25,7 +25,7 @@ pub enum Kind {
 pub enum Target {
     /// The reference points to this object.
     Object(ObjectId),
-    /// The reference points to the reference of this name.
+    /// The reference points to the reference of this name (`git symbolic-ref`).
     Symbolic(FullName),
 }
 
@@ -34,7 +34,7 @@ pub enum Target {
 pub enum TargetRef<'a> {
     /// The reference points to this object.
     Object(ObjectId),
-    /// The reference points to the reference of this name.
+    /// The reference points to the reference of this name (`git symbolic-ref`).
     Symbolic(FullNameRef<'a>),
 }
 
@@ -199,7 +199,7 @@ impl<'a> TargetRef<'a> {
         }
     }
 
-    /// A copy with bytes of its own; the error says that there was no memory for it.
+    /// An owned copy; the error says that there was no memory for it.
     pub fn into_owned(self, alloc: Global) -> Result<Target, AllocError>
         ensures { IfOk result (λ target. target_value target ≡ target_ref_value self.entry) }
     {

@@ -1,4 +1,4 @@
-//! Names: the grammar, with the answers of `git check-ref-format`, and what names are made of.
+//! Names: the grammar, with the results of `git check-ref-format`, and what names are made of.
 use crate::made::{bytes, copy, full, full_name, partial, partial_name, shown};
 use gix_ref_base::name::{Error, FullName, FullNameRef, PartialName, PartialNameRef};
 use std::alloc::{AllocError, Global};

@@ -30,7 +30,7 @@ abbrev pub mode_of : Change → RefLog
 mode_of (Update log expected new) = log.mode
 mode_of (Delete expected log) = log
 
--- whether an update makes a log where there is none, and the message of its line
+-- whether an update makes a log where it does not exist, and the message of its line
 abbrev pub is_forced : Change → Bool
 is_forced (Update log expected new) = log.force_create_reflog
 is_forced (Delete expected log) = false

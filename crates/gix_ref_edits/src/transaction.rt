@@ -21,9 +21,9 @@ pub enum RefLog {
 pub struct LogChange {
     /// Whether the reference changes, or its log alone.
     pub mode: RefLog,
-    /// A log is made where there is none, whatever the store's options say.
+    /// A log is made where it does not exist, whatever the store's options say (`git update-ref --create-reflog`).
     pub force_create_reflog: bool,
-    /// The message of the log line, without LF.
+    /// The message of the log line, without LF (`git update-ref -m`).
     pub message: Vec<u8>,
 }
 
@@ -120,7 +120,8 @@ pub struct RefEdit {
     pub change: Change,
     /// The name of the reference.
     pub name: FullName,
-    /// Whether a symbolic reference is followed, and the reference that it leads to is edited in its place.
+    /// Whether a symbolic reference is followed, and the reference that it leads to is edited in its place; where it is
+    /// not, this is `git update-ref --no-deref`.
     pub deref: bool,
 }
 

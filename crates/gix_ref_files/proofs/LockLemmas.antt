@@ -22,13 +22,13 @@ any_snoc P (g ∷ fs) f = ap (λ b. P g || b) (any_snoc P fs f) ∙ swap (P g) (
     swap true false c = refl
     swap false b c = refl
 
--- a file is in the way of a folder where one stands at it or in its path
+-- a file is in the way of a folder where one is at it or in its path
 way_is_blocked : (T : Tree) (q p : Path) → 0 < length q → fronts p ≡ folders_to q → is_in_the_way T q ≡ is_blocked T p
 way_is_blocked T q p some is =
     sym (any_snoc (λ f. is_file (T f)) (fronts q) q)
     ∙ ap (λ (l : List Path). list_any (λ f. is_file (T f)) l) (sym (is ∙ fronts_snoc q 47 some))
 
--- what making the folder of a path answers, told of the path
+-- the result of making the folder of a path, stated of the path
 pub readies : (before after : Tree) (q p : Path) (made : Bool) → 0 < length q → fronts p ≡ folders_to q → MakesFolders before q after made → Readies before p after made
 readies before after q p true some is made =
     (sym (way_is_blocked before q p some is) ∙ made.0, made.1 ∙ ap (λ (l : List Path). with_folders before l) (sym is))
@@ -93,7 +93,7 @@ pub lock_fronts : (path : Path) → fronts (lock_of path) ≡ fronts path
 lock_fronts [] = refl
 lock_fronts (b ∷ path) = after_plain (b ∷ []) path (codes ".lock") refl
 
--- once the folders that lead to a path stand, no file is in the path of its lock
+-- once the folders that lead to a path exist, no file is in the path of its lock
 pub lock_free : (before : Tree) (path : Path) → is_blocked before path ≡ false → is_blocked (readied before path) (lock_of path) ≡ true → ⊥
 lock_free before path free blocked =
     clash (sym free ∙ any_kept (λ f. is_file (readied before path f)) (λ f. is_file (before f)) (fronts path) (no_new_file before (fronts path))

@@ -19,7 +19,7 @@ by_cases : (p q : Path) (a b r : Option Content) → cases p q a b r
 by_cases p q a b r there elsewhere =
     elim (bytes_eq p q) as (λ v. (v ≡ true → a ≡ r) → (v ≡ false → b ≡ r) → (if v then a else b) ≡ r) [ true ↦ λ x y. x refl | false ↦ λ x y. y refl ] there elsewhere
 
--- what stands at p stands there already
+-- to put at p what is there already changes nothing
 pub put_same : (T : Tree) (p : Path) (node : Option Content) → node ≡ T p → put T p node ≡ T
 put_same T p node is = same_tree (λ q. by_cases p q node (T q) (T q) (λ eq. is ∙ ap T ((bytes_eq-Decides p q).0 eq)) (λ ne. refl))
 
@@ -56,7 +56,7 @@ all_kept P Q keeps (f ∷ fs) all =
     both_true true b h = (refl, h)
     both_true false b h = absurd (cc h)
 
--- where one path that was no folder changed, what stands below folders still does
+-- where one path that was no folder changed, what was below folders still is
 pub folders_kept : (T : Tree) (p : Path) (node : Option Content) → is_folder (T p) ≡ false → (q : Path) → has_folders T q ≡ true → has_folders (put T p node) q ≡ true
 folders_kept T p node no_folder q = all_kept (λ f. is_folder (T f)) (λ f. is_folder (put T p node f)) folder_kept (fronts q)
   where

@@ -25,7 +25,7 @@ HasRisen before now = (before < now) ⊎ (2 ^ 64 - 1 ≤ now)
 
 -- What files mean at one moment.
 pub record Meaning : Type 1 where
-  -- what stands
+  -- what is at each path
   pub tree : Tree
   -- the clock, which never goes back
   pub moment : ℕ

@@ -12,7 +12,7 @@ use Rattle.gix_ref_files.specs.declared.lock.Commit.{Commit}
 use Rattle.gix_ref_files.specs.declared.lock.Commit.TheVariants.{Moved, FolderStands}
 use Rattle.gix_ref_files.specs.declared.lock.Unspent.{Unspent}
 
--- where the lock of a place stands
+-- where the lock of a place is
 abbrev pub lock_of : Path → Path
 lock_of place = place ++ codes ".lock"
 
@@ -20,7 +20,7 @@ lock_of place = place ++ codes ".lock"
 abbrev pub readied : Tree → Path → Tree
 readied before path = with_folders before (fronts path)
 
--- the folders that lead to a path are made, or a file stands in it
+-- the folders that lead to a path are made, or a file is in it
 abbrev pub Readies : Tree → Path → Tree → Bool → Type 0
 Readies before path T true = (is_blocked before path ≡ false) × (T ≡ readied before path)
 Readies before path T false = (is_blocked before path ≡ true) × (T ≡ before)
@@ -29,13 +29,13 @@ Readies before path T false = (is_blocked before path ≡ true) × (T ≡ before
 abbrev pub Readying : Tree → Path → Tree → Type 0
 Readying before path T = (T ≡ before) ⊎ ((is_blocked before path ≡ false) × ((n : ℕ) × (T ≡ with_folders before (take n (fronts path)))))
 
--- the folders that lead to a path are made, and then its lock, where nothing stands
+-- the folders that lead to a path are made, and then its lock, where there is nothing
 abbrev pub MakesLock : Tree → Path → Tree → Create → Type 0
 MakesLock before path T Made = (is_blocked before path ≡ false) × Creates (readied before path) (lock_of path) T Made
 MakesLock before path T FileStanding = (is_blocked before path ≡ false) × Creates (readied before path) (lock_of path) T FileStanding
 MakesLock before path T FileBlocked = (is_blocked before path ≡ true) × (T ≡ before)
 
--- The answers of `acquire`: the folders that lead to the place are made, and then the lock, where nothing stands.
+-- The results of `acquire`: the folders that lead to the place are made, and then the lock, where there is nothing.
 abbrev pub Acquires : Tree → Path → Tree → Acquire → Type 0
 Acquires before path T (Held lock) = (lock ≡ path) × MakesLock before path T Made
 Acquires before path T Standing = MakesLock before path T FileStanding
@@ -45,7 +45,7 @@ Acquires before path T Blocked = MakesLock before path T FileBlocked
 abbrev pub Acquiring : Tree → Path → Tree → Type 0
 Acquiring before path T = Readying before path T ⊎ ((is_blocked before path ≡ false) × Creating (readied before path) (lock_of path) T)
 
--- the answers of `commit`: one rename to the place, or the lock given back
+-- the results of `commit`: one rename to the place, or the lock given back
 abbrev pub Commits : Tree → Path → Tree → Commit → Type 0
 Commits before place T Moved = Renames before (lock_of place) place T FileMoved
 Commits before place T (FolderStands lock) = (lock ≡ place) × Renames before (lock_of place) place T FileFolderStands

@@ -51,8 +51,8 @@ abbrev pub IsLeftBy : List Step → Tree → Tree → Type 0
 IsLeftBy [] before T = T ≡ before
 IsLeftBy (step ∷ steps) before T = Begins step before T ⊎ ((mid : Tree) × Does step before mid × IsLeftBy steps mid T)
 
--- An honest answer that ends the run: something stands or a file is in the way where one was to be made, no file to
--- append to, a folder at the end of a rename, or a file in the way of folders. A removal has no such answer.
+-- An honest result that ends the run: something is there or a file is in the way where one was to be made, no file to
+-- append to, a folder at the end of a rename, or a file in the way of folders. A removal has no such result.
 abbrev pub IsRefused : Step → Tree → Type 0
 IsRefused (Create path) T = IsSome (T path) ⊎ (is_blocked T path ≡ true)
 IsRefused (Append path bytes) T = is_file (T path) ≡ false
@@ -74,7 +74,7 @@ EndsAt [] at cause before T = ⊥
 EndsAt (step ∷ steps) zero cause before T = EndsBy step cause before T
 EndsAt (step ∷ steps) (suc at) cause before T = (mid : Tree) × Does step before mid × EndsAt steps at cause mid T
 
--- the step that an action stands for
+-- the step of an action
 abbrev pub step_of : Action → Step
 step_of (CreateAction path) = Create path.items
 step_of (AppendAction path bytes) = Append path.items bytes.items

@@ -1,10 +1,10 @@
--- A tree: what stands at each path, and what each change makes of it.
+-- A tree: what is at each path, and what each change makes of it.
 use Rattle.std.specs.Prelude.{◌≡◌, ℕ, List, [], ◌∷◌, ◌++◌, Bool, true, false, Option, Some, None, if◌then◌else◌, ◌==◌, bytes_eq, is_some}
 use Rattle.std.specs.List.{list_any, list_all}
 use Rattle.gix_ref_files.specs.declared.files.Node.{Node}
 use Rattle.gix_ref_files.specs.declared.files.Node.TheVariants.{File as a_file, Folder as a_folder, Nothing as nothing, Blocked as blocked}
 
--- what can stand at a path: a file with its bytes, or a folder
+-- what can be at a path: a file with its bytes, or a folder
 pub data Content : Type 0 where
   File : (bytes : List ℕ) → Content
   Folder : Content
@@ -13,11 +13,11 @@ pub data Content : Type 0 where
 abbrev pub Path : Type 0
 Path = List ℕ
 
--- what stands at each path, if anything does
+-- what is at each path, if anything is
 abbrev pub Tree : Type 0
 Tree = Path → Option Content
 
--- nothing stands anywhere
+-- nothing is anywhere
 abbrev pub no_tree : Tree
 no_tree p = None
 
@@ -25,19 +25,19 @@ no_tree p = None
 abbrev pub put : Tree → Path → Option Content → Tree
 put T p content q = if bytes_eq p q then content else T q
 
--- the bytes of a file; none where no file stands
+-- the bytes of a file; empty where there is no file
 abbrev pub bytes_of : Option Content → List ℕ
 bytes_of (Some (File bytes)) = bytes
 bytes_of (Some Folder) = []
 bytes_of None = []
 
--- a file stands there
+-- a file is there
 abbrev pub is_file : Option Content → Bool
 is_file (Some (File bytes)) = true
 is_file (Some Folder) = false
 is_file None = false
 
--- a folder stands there
+-- a folder is there
 abbrev pub is_folder : Option Content → Bool
 is_folder (Some (File bytes)) = false
 is_folder (Some Folder) = true
@@ -53,11 +53,11 @@ more None bytes = None
 abbrev pub appended : Tree → Path → List ℕ → Tree
 appended T p bytes = put T p (more (T p) bytes)
 
--- what stood at one path stands at another
+-- what was at one path is at another
 abbrev pub moved : Tree → Path → Path → Tree
 moved T from to = put (put T from None) to (T from)
 
--- nothing stands at p any more
+-- nothing is at p any more
 abbrev pub removed : Tree → Path → Tree
 removed T p = put T p None
 
@@ -66,21 +66,21 @@ abbrev pub fronts_after : Path → List ℕ → List Path
 fronts_after seen [] = []
 fronts_after seen (c ∷ rest) = if c == 47 then seen ∷ fronts_after (seen ++ c ∷ []) rest else fronts_after (seen ++ c ∷ []) rest
 
--- The proper fronts of a path, the shortest first: what stands before each slash. A slash at the very
+-- The proper fronts of a path, the shortest first: what is before each slash. A slash at the very
 -- beginning has no front before it, so an absolute path needs no folder for its root.
 abbrev pub fronts : Path → List Path
 fronts [] = []
 fronts (c ∷ rest) = fronts_after (c ∷ []) rest
 
--- a file stands at a proper front of p
+-- a file is at a proper front of p
 abbrev pub is_blocked : Tree → Path → Bool
 is_blocked T p = list_any (λ f. is_file (T f)) (fronts p)
 
--- folders stand at all proper fronts of p
+-- folders are at all proper fronts of p
 abbrev pub has_folders : Tree → Path → Bool
 has_folders T p = list_all (λ f. is_folder (T f)) (fronts p)
 
--- A tree is well formed: every proper front of a path where something stands is a folder.
+-- A tree is well formed: every proper front of a path that exists is a folder.
 abbrev pub IsShaped : Tree → Type 0
 IsShaped T = (p : Path) → is_some (T p) ≡ true → has_folders T p ≡ true
 
@@ -93,17 +93,17 @@ abbrev pub with_folders : Tree → List Path → Tree
 with_folders T [] = T
 with_folders T (p ∷ ps) = with_folders (put T p (Some Folder)) ps
 
--- the answer for what stands at a path; where nothing does, a file may stand in the path
+-- the result for what is at a path; where nothing is, a file may be in the path
 abbrev pub node_of : Option Content → Bool → Node
 node_of (Some (File bytes)) below_file = a_file
 node_of (Some Folder) below_file = a_folder
 node_of None true = blocked
 node_of None false = nothing
 
--- what `kind` tells of a path
+-- what `kind` returns for a path
 abbrev pub node_at : Tree → Path → Node
 node_at T p = node_of (T p) (is_blocked T p)
 
--- a folder stands at p, and nothing below it
+-- a folder is at p, and nothing below it
 abbrev pub IsEmptyFolder : Tree → Path → Type 0
 IsEmptyFolder T p = (is_folder (T p) ≡ true) × ((name : List ℕ) → T (p ++ 47 ∷ name) ≡ None)

@@ -3,10 +3,10 @@ use Rattle.std.specs.Prelude.{◌≡◌, ℕ, List, []}
 use Rattle.gix_ref_files.specs.Tree.{no_tree}
 use Rattle.gix_ref_files.specs.Files.{Meaning}
 
--- a meaning that tells nothing: no contract speaks of it where files are not honest
+-- a meaning that says nothing: no contract speaks of it where files are not honest
 abbrev pub no_meaning : Meaning
 no_meaning = record { tree = no_tree; moment = 0; left_since = λ t T. T ≡ no_tree }
 
--- bytes that tell nothing
+-- bytes that say nothing
 abbrev pub no_bytes : List ℕ
 no_bytes = []

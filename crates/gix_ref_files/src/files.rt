@@ -1,8 +1,8 @@
-//! The trait of a small file system: what each call answers, what it makes of the tree, what a stop could leave.
+//! The trait of a small file system: what each call returns, what it makes of the tree, what a stop could leave.
 //!
-//! A path is bytes, parted by slashes. Files mean a TREE (what stands at each path), a CLOCK, and for each moment
+//! A path is bytes, separated by slashes. Files mean a TREE (what is at each path), a CLOCK, and for each moment
 //! that has come the trees that a stop since then could have left. HONEST files keep this meaning: listings, kinds
-//! and reads tell the tree, a call changes it as its contract says and in no other way, and nobody else does. All
+//! and reads show the tree, a call changes it as its contract says and in no other way, and nobody else does. All
 //! that a contract says of the tree and of stops it says of honest files. What it says of the count of faults, of
 //! want of memory and of buffers holds of all files. Whether a type's files are honest is said by the type: files
 //! in memory are, and no program can know it of a disk.
@@ -21,12 +21,12 @@ pub enum FileError {
     /// A path or a name that is not UTF-8, on a device that takes only such. Counted.
     #[error("a name that is not UTF-8")]
     NotUtf8,
-    /// A growth of the caller's memory was refused. Not counted, and answered only by calls that take an allocator.
+    /// A growth of the caller's memory was refused. Not counted, and returned only by calls that take an allocator.
     #[error("out of memory")]
     Memory,
 }
 
-/// What stands at a path.
+/// What is at a path.
 #[derive(Clone, Copy, Debug, PartialEq, Eq)]
 pub enum Node {
     /// A file.
@@ -35,27 +35,27 @@ pub enum Node {
     Folder,
     /// Nothing, and no file in the path.
     Nothing,
-    /// Nothing, since a file stands in the path.
+    /// Nothing, since a file is in the path.
     Blocked,
 }
 
-/// The answers of `create_new`.
+/// The results of `create_new`.
 #[derive(Clone, Copy, Debug, PartialEq, Eq)]
 pub enum Create {
     /// An empty file was made.
     Made,
-    /// Something stands there already.
+    /// Something is there already.
     Standing,
-    /// A file stands in the path.
+    /// A file is in the path.
     Blocked,
 }
 
-/// The answers of `rename`.
+/// The results of `rename`.
 #[derive(Clone, Copy, Debug, PartialEq, Eq)]
 pub enum Rename {
     /// The file was moved.
     Moved,
-    /// A folder stands where it was to go.
+    /// A folder is where it was to go.
     FolderStands,
 }
 
@@ -74,13 +74,13 @@ pub trait ReadAt {
     ghost use Rattle.gix_ref_files.specs.Files.{count_after};
     ghost use Rattle.gix_ref_files.specs.Calls.{IsRead};
 
-    /// Reads tell the bytes.
+    /// Reads return the bytes.
     ghost honest: { Type 0 };
 
     /// The bytes of the file.
     ghost bytes: { Self → List ℕ };
 
-    /// How many bytes there are, as the reader was told when it was opened.
+    /// How many bytes there are, as the reader learned when it was opened.
     ghost size: { Self → ℕ };
 
     /// How many faults this reader met.
@@ -91,8 +91,8 @@ pub trait ReadAt {
         ensures size { result ≡ size self.now }
         ensures bytes { honest → result ≡ length (bytes self.now) };
 
-    /// Fills the buffer with the bytes from a place on. Where the file ends before the buffer is full, or the device
-    /// fails, this is a `Device` fault, and the buffer may hold anything.
+    /// Fills the buffer with the bytes from a place on (`FileExt::read_exact_at`). Where the file ends before the
+    /// buffer is full, or the device fails, this is a `Device` fault, and the buffer may hold anything.
     fn read_exact_at(&mut self, place: u64, buf: &mut [u8]) -> Result<(), FileError>
         ensures bytes { honest → OnOk result (IsRead (bytes self.old) place buf.new) }
         ensures same { bytes self.new ≡ bytes self.old }
@@ -103,8 +103,8 @@ pub trait ReadAt {
 
 /// A small file system.
 ///
-/// A call that takes an allocator answers `Memory` where a growth was refused; no other call does. A `Device` fault
-/// comes where the device fails, and where the tree leaves no other answer, as for a file to be made in a folder
+/// A call that takes an allocator returns `Memory` where a growth was refused; no other call does. A `Device` fault
+/// comes where the device fails, and where the tree allows no other result, as for a file to be made in a folder
 /// that is not there. It and `NotUtf8` count one fault.
 pub trait Files {
     ghost use Rattle.std.specs.Prelude.{◌≤◌};
@@ -124,7 +124,7 @@ pub trait Files {
     /// How many faults there were.
     ghost faults: { Self → ℕ };
 
-    /// Tells what stands at a path.
+    /// Returns what is at a path.
     fn kind(&mut self, path: &[u8]) -> Result<Node, FileError>
         ensures answer { honest →
             IfOk result (λ node. node ≡ node_at (means self.old).tree path.now) }
@@ -133,8 +133,8 @@ pub trait Files {
         ensures count { faults self.new ≡ count_after result (faults self.old) }
         ensures memory { IsErrOf result FileError.Memory → ⊥ };
 
-    /// Tells what stands at a path, and where it is a file puts its bytes into the buffer in place of what was there.
-    /// At every other answer, and after an error, the buffer is empty.
+    /// Returns what is at a path, and where it is a file puts its bytes into the buffer in place of what was there
+    /// (`fs::read`). With every other result, and after an error, the buffer is empty.
     fn read(&mut self, alloc: Global, path: &[u8], buf: &mut Vec<u8>) -> Result<Node, FileError>
         ensures answer { honest →
             IfOk result (λ node. node ≡ node_at (means self.old).tree path.now) }
@@ -145,7 +145,7 @@ pub trait Files {
             (Unchanged (means self.old).tree) }
         ensures count { faults self.new ≡ count_after result (faults self.old) };
 
-    /// Opens a file for reading; none where no file stands.
+    /// Opens a file for reading (`File::open`); `None` where there is no file.
     fn open(&mut self, alloc: Global, path: &[u8]) -> Result<Option<Self::Reader>, FileError>
         ensures answer { honest →
             IfOk result (λ reader. Opens Self.Reader.honest Self.Reader.bytes (means self.old).tree
@@ -154,14 +154,16 @@ pub trait Files {
             (Unchanged (means self.old).tree) }
         ensures count { faults self.new ≡ count_after result (faults self.old) };
 
-    /// Lists the files and folders in a folder, each once, in an order that is open; none where no folder stands.
+    /// Lists the files and folders in a folder, each once, in an unspecified order (`fs::read_dir`); `None` where there
+    /// is no folder.
     fn list(&mut self, alloc: Global, path: &[u8]) -> Result<Option<Vec<Entry>>, FileError>
         ensures answer { honest → IfOk result (Lists (means self.old).tree path.now) }
         ensures leaves { honest → Leaves (means self.old) (means self.new)
             (Unchanged (means self.old).tree) }
         ensures count { faults self.new ≡ count_after result (faults self.old) };
 
-    /// Makes an empty file where nothing stands and folders lead there. A fault leaves all as before.
+    /// Makes an empty file where there is nothing and folders lead there (`File::create_new`). A fault leaves all as
+    /// before.
     fn create_new(&mut self, path: &[u8]) -> Result<Create, FileError>
         ensures answer { honest →
             IfOk result (Creates (means self.old).tree path.now (means self.new).tree) }
@@ -171,8 +173,8 @@ pub trait Files {
         ensures count { faults self.new ≡ count_after result (faults self.old) }
         ensures memory { IsErrOf result FileError.Memory → ⊥ };
 
-    /// Makes the folders that lead to a path, and one there, where they do not stand; false where a file is in the
-    /// way. A fault leaves a beginning of them, the outermost first.
+    /// Makes the folders that lead to a path, and one there, where they do not exist (`fs::create_dir_all`); false
+    /// where a file is in the way. A fault leaves a beginning of them, the outermost first.
     fn make_folders(&mut self, path: &[u8]) -> Result<bool, FileError>
         ensures answer { honest →
             IfOk result (MakesFolders (means self.old).tree path.now (means self.new).tree) }
@@ -184,7 +186,7 @@ pub trait Files {
         ensures count { faults self.new ≡ count_after result (faults self.old) }
         ensures memory { IsErrOf result FileError.Memory → ⊥ };
 
-    /// Adds bytes to the end of a file; false where no file stands. A fault leaves any beginning of them there.
+    /// Adds bytes to the end of a file; false where there is no file. A fault leaves any beginning of them there.
     fn append(&mut self, path: &[u8], bytes: &[u8]) -> Result<bool, FileError>
         ensures answer { honest →
             IfOk result (Appends (means self.old).tree path.now bytes.now (means self.new).tree) }
@@ -196,7 +198,7 @@ pub trait Files {
         ensures count { faults self.new ≡ count_after result (faults self.old) }
         ensures memory { IsErrOf result FileError.Memory → ⊥ };
 
-    /// Moves a file, also onto a file. A fault leaves the tree before or the tree after.
+    /// Moves a file, also onto a file (`fs::rename`). A fault leaves the tree before or the tree after.
     fn rename(&mut self, from: &[u8], to: &[u8]) -> Result<Rename, FileError>
         ensures answer { honest →
             IfOk result (Renames (means self.old).tree from.now to.now (means self.new).tree) }
@@ -205,7 +207,8 @@ pub trait Files {
         ensures count { faults self.new ≡ count_after result (faults self.old) }
         ensures memory { IsErrOf result FileError.Memory → ⊥ };
 
-    /// Removes a file; false where none stands. A fault leaves the tree before or the tree after.
+    /// Removes a file (`fs::remove_file`); false where there is no file. A fault leaves the tree before or the tree
+    /// after.
     fn remove_file(&mut self, path: &[u8]) -> Result<bool, FileError>
         ensures answer { honest →
             IfOk result (RemovesFile (means self.old).tree path.now (means self.new).tree) }
@@ -214,7 +217,8 @@ pub trait Files {
         ensures count { faults self.new ≡ count_after result (faults self.old) }
         ensures memory { IsErrOf result FileError.Memory → ⊥ };
 
-    /// Removes an empty folder; false where none stands. A fault leaves the tree before or the tree after.
+    /// Removes an empty folder (`fs::remove_dir`); false where there is no empty folder. A fault leaves the tree before
+    /// or the tree after.
     fn remove_folder(&mut self, path: &[u8]) -> Result<bool, FileError>
         ensures answer { honest →
             IfOk result (RemovesFolder (means self.old).tree path.now (means self.new).tree) }
@@ -231,6 +235,6 @@ pub trait Files {
     ghost only_now: { (files : Self) (T : Tree) → honest →
         (means files).left_since (means files).moment T → T ≡ (means files).tree };
 
-    /// Every proper front of what stands is a folder.
+    /// Every proper front of a path that exists is a folder.
     ghost shaped: { (files : Self) → honest → IsShaped (means files).tree };
 }

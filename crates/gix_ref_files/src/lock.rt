@@ -27,23 +27,23 @@ impl Model for Lock {
     ghost invariant = { λ a. a.lock.items ≡ a.place.items ++ codes ".lock" };
 }
 
-/// The answers of `Lock::acquire`.
+/// The results of `Lock::acquire`.
 #[derive(Debug)]
 pub enum Acquire {
     /// The lock was made, and is held.
     Held(Lock),
-    /// Something stands at the lock's path.
+    /// Something is at the lock's path.
     Standing,
-    /// A file stands in the path.
+    /// A file is in the path.
     Blocked,
 }
 
-/// The answers of `Lock::commit`.
+/// The results of `Lock::commit`.
 #[derive(Debug)]
 pub enum Commit {
     /// The lock is now the file at the place.
     Moved,
-    /// A folder stands at the place. The lock is still held.
+    /// A folder is at the place. The lock is still held.
     FolderStands(Lock),
 }
 
@@ -56,7 +56,7 @@ pub struct Unspent {
     pub lock: Lock,
 }
 
-/// The last slash of a path that is not its first byte; 0 where there is none.
+/// The last slash of a path that is not its first byte; 0 if it has no such slash.
 fn folder_end(path: &[u8]) -> usize
     ensures folders { fronts path.now ≡ folders_up_to path.now result }
     ensures within { result ≤ length path.now }
@@ -70,7 +70,7 @@ fn folder_end(path: &[u8]) -> usize
     end
 }
 
-/// Makes the folders that lead to a path; false where a file stands in it.
+/// Makes the folders that lead to a path; false where a file is in it.
 fn ready<F: Files>(files: &mut F, path: &[u8]) -> Result<bool, FileError>
     ensures answer { F.honest →
         IfOk result (Readies (F.means files.old).tree path.now (F.means files.new).tree) }
@@ -157,7 +157,7 @@ impl Lock {
         }
     }
 
-    /// Adds bytes to the file of the lock; false where it does not stand. A fault leaves any beginning of them there,
+    /// Adds bytes to the file of the lock; false where it does not exist. A fault leaves any beginning of them there,
     /// and the lock held.
     pub fn write<F: Files>(&self, files: &mut F, bytes: &[u8]) -> Result<bool, FileError>
         ensures answer { F.honest →
@@ -174,7 +174,7 @@ impl Lock {
         files.append(&self.lock, bytes)
     }
 
-    /// Renames the file of the lock to the place. A fault gives the lock back; its file stands where it was, or at
+    /// Renames the file of the lock to the place. A fault gives the lock back; its file is where it was, or at
     /// the place.
     pub fn commit<F: Files>(self, files: &mut F) -> Result<Commit, Unspent>
         ensures answer { F.honest →
@@ -195,7 +195,7 @@ impl Lock {
         }
     }
 
-    /// Removes the file of the lock; false where it does not stand. A fault gives the lock back; its file stands, or
+    /// Removes the file of the lock; false where it does not exist. A fault gives the lock back; its file exists, or
     /// it is gone.
     pub fn remove<F: Files>(self, files: &mut F) -> Result<bool, Unspent>
         ensures answer { F.honest →
@@ -216,7 +216,7 @@ impl Lock {
         }
     }
 
-    /// Gives the lock up and leaves its file as it is: for a lock that could not be removed, whose path is to be told.
+    /// Gives the lock up and leaves its file as it is: for a lock that could not be removed, whose path is reported.
     pub fn into_path(self) -> Vec<u8>
         ensures { result.items ≡ lock_of self }
     {

@@ -1,4 +1,4 @@
-//! A run of steps over files, one after the other, up to the first fault or unexpected answer.
+//! A run of steps over files, one after the other, up to the first fault or unexpected result.
 ghost use Rattle.std.specs.Prelude.{◌≡◌, ◌<◌, OnOk, IfErr, IsErrOf, MatchResult, length};
 ghost use Rattle.gix_ref_files.specs.Files.{Leaves};
 ghost use Rattle.gix_ref_files.specs.Steps.{Does, Begins, EndsBy, IsAfter, IsLeftBy, EndsAt, step_of, steps_of, count_ended};
@@ -9,17 +9,17 @@ use crate::files::{Create, FileError, Files, Rename};
 /// What a step does.
 #[derive(Debug, Drop)]
 pub enum Action {
-    /// Makes an empty file where nothing stands and folders lead there.
+    /// Makes an empty file where there is nothing and folders lead there.
     Create { path: Vec<u8> },
-    /// Adds bytes to the end of a file that stands.
+    /// Adds bytes to the end of a file that exists.
     Append { path: Vec<u8>, bytes: Vec<u8> },
     /// Moves a file, also onto a file.
     Rename { from: Vec<u8>, to: Vec<u8> },
-    /// Removes a file, if one stands there.
+    /// Removes a file, if there is one.
     RemoveFile { path: Vec<u8> },
     /// Makes the folders that lead to a path, and one there.
     MakeFolders { path: Vec<u8> },
-    /// Removes a folder, if an empty one stands there.
+    /// Removes a folder, if there is an empty one.
     RemoveFolder { path: Vec<u8> },
     /// Ends the run.
     End,
@@ -39,7 +39,7 @@ pub struct Planned<E> {
 pub enum Cause {
     /// The call failed.
     File(FileError),
-    /// The call answered that it cannot do the step: something stands where a file was to be made, no file to append
+    /// The call returned that it cannot do the step: something is where a file was to be made, no file to append
     /// to, a folder where a file was to go, or a file in the way.
     Unexpected,
     /// The step is `End`.
@@ -95,7 +95,7 @@ fn run_step<F: Files>(files: &mut F, action: &Action) -> Result<(), Cause>
     if done { Ok(()) } else { Err(Cause::Unexpected) }
 }
 
-/// Does the steps of a plan in order, up to the first fault, unexpected answer or `End`. Takes no memory of its own.
+/// Does the steps of a plan in order, up to the first fault, unexpected result or `End`. Allocates no memory itself.
 /// Costs one call of files for each step.
 pub fn run_steps<F: Files, E>(files: &mut F, plan: &[Planned<E>]) -> Result<(), Ended>
     ensures done { F.honest →

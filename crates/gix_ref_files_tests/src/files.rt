@@ -1,4 +1,4 @@
-//! The same table of calls and answers over files in memory and on the disk; stops and faults in memory, and what
+//! The same table of calls and results over files in memory and on the disk; stops and faults in memory, and what
 //! steps and locks leave then.
 
 mod disk;

@@ -1,4 +1,4 @@
--- Lemmas on searches of a byte that look at 16 places at a time: bit k of a mask tells of place k.
+-- Lemmas on searches of a byte that look at 16 places at a time: bit k of a mask is for place k.
 use Rattle.std.proofs.Common.{◌≡◌, ℕ, ◌+◌, ◌-◌, ◌*◌, ◌^◌, ◌<◌, ◌≤◌, ⊎_elim, Bool, true, false, cond, List, length, get_or, map, refl, sym, ◌∙◌, ap, subst, arith, w64}
 use Rattle.std.specs.Int.{bit_at, trailing_zeros}
 use Rattle.std.specs.Simd.Lanes.{mask_l, chunk}

@@ -1,4 +1,4 @@
--- What `==` of ids answers.
+-- What `==` of ids returns.
 use Rattle.std.proofs.Common.{◌≡◌, Bool, ap}
 use Rattle.std.specs.Bool.{Decides}
 use Rattle.std.specs.Cmp.Lexicographic.{bytes_decides}
@@ -7,7 +7,7 @@ use Rattle.gix_ref_hash.specs.declared.hash.ObjectId.TheVariants.{Sha1, Sha256}
 use Rattle.gix_ref_hash.specs.contracts.hash.ObjectIdPartialEq.TheImpl.{eq-value}
 use Rattle.gix_ref_hash.specs.Ids.{id_bytes}
 
--- what the derived `==` answers
+-- what the derived `==` returns
 unfoldable pub id_eq : ObjectId → ObjectId → Bool
 id_eq = eq-value.it
 

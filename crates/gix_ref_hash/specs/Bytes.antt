@@ -2,7 +2,7 @@
 use Rattle.std.specs.Prelude.{◌≡◌, ◌≢◌, ℕ, ◌<◌, ◌==◌, nat_eq, nat_lt, Bool, true, false, not, ◌||◌, ◌⊎◌, List, [], ◌∷◌, ◌++◌, length, drop, slice_index, if◌then◌else◌}
 use Rattle.std.specs.List.{AllPass, starts_with, slice_split}
 
--- `front` stands at the front
+-- the text begins with `front`
 abbrev pub BeginsWith : List ℕ → List ℕ → Type 0
 BeginsWith text front = (rest : List ℕ) × (text ≡ front ++ rest)
 
@@ -18,7 +18,7 @@ abbrev pub is_empty : List ℕ → Bool
 is_empty [] = true
 is_empty (b ∷ text) = false
 
--- `part` stands somewhere in the text
+-- `part` is somewhere in the text
 abbrev pub occurs : List ℕ → List ℕ → Bool
 occurs part [] = starts_with nat_eq [] part
 occurs part (b ∷ text) = starts_with nat_eq (b ∷ text) part || occurs part text
@@ -26,7 +26,7 @@ occurs part (b ∷ text) = starts_with nat_eq (b ∷ text) part || occurs part t
 abbrev pub is_slash : ℕ → Bool
 is_slash b = b == 47
 
--- what stands between the slashes
+-- what is between the slashes
 abbrev pub components : List ℕ → List (List ℕ)
 components = slice_split is_slash
 

@@ -8,7 +8,7 @@ mod search;
 
 pub use search::{first_place, last_place, some_first_break};
 
-/// What follows `front` in the text, or `None` where the text does not begin with it.
+/// What follows `front` in the text, or `None` where the text does not begin with it (`slice::strip_prefix`).
 pub fn strip_front<'a>(text: &'a [u8], front: &[u8]) -> Option<&'a [u8]>
     ensures { MatchOption result ((rest : List ℕ) → text.now ≢ front.now ++ rest)
         (λ rest. text.now ≡ front.now ++ rest.now) }
@@ -16,14 +16,14 @@ pub fn strip_front<'a>(text: &'a [u8], front: &[u8]) -> Option<&'a [u8]>
     text.strip_prefix(front)
 }
 
-/// Whether the text begins with `front`.
+/// Whether the text begins with `front` (`slice::starts_with`).
 pub fn begins_with(text: &[u8], front: &[u8]) -> bool
     ensures { IsTrue result ↔ BeginsWith text.now front.now }
 {
     strip_front(text, front).is_some()
 }
 
-/// The text before the first such byte and the text after it, or `None` where the text has none.
+/// The text before the first such byte and the text after it, or `None` where the text has none (`str::split_once`).
 #[inline(always)]
 pub fn cut(text: &[u8], byte: u8) -> Option<(&[u8], &[u8])>
     ensures { MatchOption result (NoByte byte text.now) (λ p. Cuts byte text.now p.0.now p.1.now) }
@@ -34,7 +34,7 @@ pub fn cut(text: &[u8], byte: u8) -> Option<(&[u8], &[u8])>
     }
 }
 
-/// The text before the last such byte and the text after it, or `None` where the text has none.
+/// The text before the last such byte and the text after it, or `None` where the text has none (`str::rsplit_once`).
 #[inline(always)]
 pub fn cut_last(text: &[u8], byte: u8) -> Option<(&[u8], &[u8])>
     ensures { MatchOption result (NoByte byte text.now)

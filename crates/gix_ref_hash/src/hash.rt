@@ -13,7 +13,7 @@ mod digits;
 
 use digits::sha1_of_digits;
 
-/// The hash functions whose ids are known.
+/// The hash functions whose ids are known (`git init --object-format`).
 #[derive(Clone, Copy, Debug, PartialEq, Eq, PartialOrd, Ord, Hash)]
 pub enum Kind {
     /// SHA-1: 20 bytes, 40 hex digits.
@@ -173,7 +173,7 @@ pub fn is_hex(byte: u8) -> bool
 }
 
 /// Whether all bytes are hex digits, of either case. All are looked at, which is faster here than to stop at the first
-/// that is none.
+/// that is not one.
 fn are_hex_of_any_length(text: &[u8]) -> bool
     ensures { result ≡ list_all is_hex_digit text.now }
 {
@@ -268,7 +268,8 @@ pub fn hex_hash_any<'a>(input: &mut &'a [u8]) -> Option<&'a [u8]>
     Some(digits)
 }
 
-/// Takes a newline, LF or CR and LF, from the front of the input. `None` leaves the input, where there is none.
+/// Takes a newline, LF or CR and LF, from the front of the input. `None`, and the input as it was, if it does
+/// not begin with one.
 ///
 /// ```text
 /// let mut text = b"\r\nnext".as_slice();

@@ -1,4 +1,4 @@
-//! The order and the equality of ids, each stated by a short caller: what `==` and `cmp` answer.
+//! The order and the equality of ids, each stated by a short caller: what `==` and `cmp` return.
 ghost use Rattle.std.specs.Prelude.{◌≡◌, ◌↔◌, IsTrue};
 ghost use Rattle.std.specs.Ordering.{nat_cmp};
 ghost use Rattle.gix_ref_hash.specs.Orders.{kind_rank, id_cmp};

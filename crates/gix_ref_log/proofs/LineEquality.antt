@@ -1,4 +1,4 @@
--- What `==` of lines answers.
+-- What `==` of lines returns.
 use Rattle.std.proofs.Common.{◌≡◌, Bool, ◌&&◌, ap, nat_eq, IsTrue, int_eq}
 use Rattle.std.specs.Bool.{Decides}
 use Rattle.std.specs.Cmp.Lexicographic.{pointwise, bytes_decides}

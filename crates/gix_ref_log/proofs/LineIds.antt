@@ -1,4 +1,4 @@
--- The id in front of a line stands where the decoder looks for it.
+-- The id in front of a line is where the decoder looks for it.
 use Rattle.std.proofs.Common.{◌≡◌, ◌≢◌, ℕ, ◌+◌, ◌-◌, ◌<◌, ◌≤◌, ◌⊎◌, inl, inr, ⊎_elim, true, false, List, ◌∷◌, ◌++◌, length, slice_index, take, drop, refl, sym, ◌∙◌, ap, subst, arith}
 use Rattle.std.specs.List.{list_all}
 use Rattle.std.proofs.lemmas.List.{get_or_at, get_or_append_left, length-append, take_at, take-append-drop, drop_more, length-take-le, take_all, length-drop}
@@ -11,7 +11,7 @@ use Rattle.gix_ref_log.specs.LogIds.{IdFront, IsIdPlace}
 pub id_cuts : (text id rest : List ℕ) → IdFront text id rest → Cuts 32 text id rest
 id_cuts text id rest h = record { whole = h.1; none = no_byte_in_id 32 id refl h.0 }
 
--- one id stands in front
+-- at most one id is in front
 pub same_id : (text p i q j : List ℕ) → IdFront text p i → IdFront text q j → (p ≡ q) × (i ≡ j)
 same_id text p i q j f g = same_cut 32 text p i q j (id_cuts text p i f) (id_cuts text q j g)
 
@@ -43,7 +43,7 @@ pub place_is : (text : List ℕ) (place : ℕ) → IsIdPlace text place → (pla
 place_is text place (inl p) = inl p.0
 place_is text place (inr p) = inr p.0
 
--- the text is too short, or another byte stands there
+-- the text is too short, or another byte is there
 pub no_space : (text : List ℕ) (place : ℕ) → IsIdPlace text place → (length text ≤ place) ⊎ (slice_index text place ≢ 32) → (id rest : List ℕ) → IdFront text id rest → ⊥
 no_space text place at (inl short) id rest h =
     let within = (space_at text id rest h.1).0 in
@@ -63,7 +63,7 @@ no_digits text place at bad id rest h =
     let also : list_all is_hex_digit id ≡ false = subst (λ (t : List ℕ). list_all is_hex_digit t ≡ false) front bad in
     absurd (cc)
 
--- an id stands in front
+-- an id is in front
 pub front_is : (text : List ℕ) (place : ℕ) → IsIdPlace text place → place < length text → slice_index text place ≡ 32 → list_all is_hex_digit (take place text) ≡ true
     → IdFront text (take place text) (take (length text - (place + 1)) (drop (place + 1) text))
 front_is text place at within space digits =

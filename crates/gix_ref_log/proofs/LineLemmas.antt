@@ -41,7 +41,7 @@ one_line text a b f g =
     ∙ ap (λ (x : Who). let l : LogLine = record { previous = b.previous; new = b.new; who = x; message = a.message } in l) who
     ∙ ap (λ (x : List ℕ). let l : LogLine = record { previous = b.previous; new = b.new; who = b.who; message = x } in l) both.1
 
--- what stands behind the ids has no byte that the text has not
+-- what follows the ids has no byte that the text lacks
 none_behind : (b : ℕ) (x y : List ℕ) → NoByte b (x ++ y) → NoByte b y
 none_behind b x y none k l =
     let long = length-append x y in

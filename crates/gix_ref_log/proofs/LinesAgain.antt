@@ -21,7 +21,7 @@ either_kind kinds.Sha256 text h = inr h
 written_id : (id : ObjectId) → IsWhole id → IsIdText (encode_lower (id_bytes id))
 written_id id whole = hex_id (encode_lower (id_bytes id)) (either_kind (id_kind id) (encode_lower (id_bytes id)) (reads_whole (encode_lower (id_bytes id)) id (written_reads id whole)).0)
 
--- what stands behind the head is behind the signature
+-- what follows the head follows the signature
 head_then : (previous new : ObjectId) (who : Who) (more : List ℕ)
     → head_text previous new who ++ more ≡ encode_lower (id_bytes previous) ++ 32 ∷ (encode_lower (id_bytes new) ++ 32 ∷ (signature_text who ++ more))
 head_then previous new who more =

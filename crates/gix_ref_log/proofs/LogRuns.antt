@@ -77,7 +77,7 @@ module _ {F : Type 0} (honest : Type 0) (bytes : F → List ℕ) (faults : F →
       let step = y.1.gives ho tied in
       (step.0.0, nothing xs y.0 t step.1 step.0.1 y.2)
 
-  -- each run from a state that stands before the whole log
+  -- each run from a state before the whole log
   pub each_run : (s : Reverse F) (items : List Item) → IsTied bytes s → items_left bytes s ≡ items
       → EachRunFrom (NextStep honest bytes faults) s (λ p. IsRun (p.whole ≡ true) items p.items)
   unfolding YieldsRun

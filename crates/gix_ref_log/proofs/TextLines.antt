@@ -48,7 +48,7 @@ up_to-append p n line more = sym (append_assoc p (32 ∷ (n ++ 32 ∷ line)) mor
 whole_text : (text : List ℕ) (l : LogLine) (w : IsLine text l) → text ≡ up_to l.previous l.new w.rest
 whole_text text l w = w.previous.1 ∙ ap (λ (r : List ℕ). l.previous ++ 32 ∷ r) w.new.1
 
--- no LF stands in the parts of a line
+-- no LF is in the parts of a line
 no_feed : (text : List ℕ) (l : LogLine) (w : IsLine text l) (line : List ℕ) → NoByte 10 line → NoByte 10 (up_to l.previous l.new line)
 no_feed text l w line none =
     none_append 10 l.previous (32 ∷ (l.new ++ 32 ∷ line)) (no_byte_in_id 10 l.previous refl w.previous.0)

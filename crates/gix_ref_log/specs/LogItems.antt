@@ -11,12 +11,12 @@ use Rattle.gix_ref_log.specs.declared.log.iter.decode.LineNumber.TheVariants.{Fr
 use Rattle.gix_ref_log.specs.declared.log.iter.error.ReverseError.{ReverseError}
 use Rattle.gix_ref_log.specs.declared.log.iter.error.ReverseError.TheVariants.{Io, Decode, BufferTooSmall, Memory}
 
--- the answer for a line, forward
+-- the result for a line, forward
 abbrev pub IsAnswer : ℕ → List ℕ → Result LineRef decode.Error → Type 0
 IsAnswer n text (Ok l) = IsLine text (line_ref_parts l)
 IsAnswer n text (Err e) = (e.line ≡ FromStart n) × NoLine text
 
--- a run forward: an answer for each line, in order, numbered from n. `Ended` holds where the run went on to the end
+-- a run forward: a result for each line, in order, numbered from n. `Ended` holds where the run went on to the end
 abbrev pub IsForwardRun : Type 0 → ℕ → List (List ℕ) → List (Result LineRef decode.Error) → Type 0
 IsForwardRun Ended n lines [] = Ended → lines ≡ []
 IsForwardRun Ended n lines (r ∷ rs) = (text : List ℕ) × (rest : List (List ℕ)) × (lines ≡ text ∷ rest) × IsAnswer n text r × IsForwardRun Ended (n + 1) rest rs

@@ -46,7 +46,7 @@ IsFirstLine text line = (rest : List ℕ) × CutsOrAll 10 text line rest
 abbrev pub line_ref_parts : LineRef → LogLine
 line_ref_parts l = record { previous = l.previous_oid.now; new = l.new_oid.now; who = signature_ref_who l.signature; message = l.message.now }
 
--- a line with bytes of its own is the same line, its ids read
+-- an owned line is the same line, its ids read
 pub record IsOwned (l : LogLine) (line : Line) : Type 0 where
   pub previous : ReadsId l.previous line.previous_oid
   pub new : ReadsId l.new line.new_oid
@@ -83,7 +83,7 @@ pub record CanWriteLine (who : Who) (message : List ℕ) : Type 0 where
   pub one_line : NoByte 10 message
   pub signature : CanWrite who
 
--- a line that is read again as it was written: it can be written, and no tab stands in name or email
+-- a line that is read again as it was written: it can be written, and no tab is in name or email
 pub record IsReadable (previous new : ObjectId) (who : Who) (message : List ℕ) : Type 0 where
   pub previous_whole : IsWhole previous
   pub new_whole : IsWhole new

@@ -1,4 +1,5 @@
-//! The order and the equality of times, signatures and lines, each stated by a short caller: what `==` and `cmp` answer.
+//! The order and the equality of times, signatures and lines, each stated by a short caller: what `==` and `cmp`
+//! return.
 ghost use Rattle.std.specs.Prelude.{◌≡◌, ◌↔◌, IsTrue};
 ghost use Rattle.gix_ref_log.specs.Signatures.{signature_who, signature_ref_who};
 ghost use Rattle.gix_ref_log.specs.LogLines.{line_ref_parts};

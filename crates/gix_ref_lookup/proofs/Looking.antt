@@ -110,7 +110,7 @@ module _ {R : Type 0} {G : Ghosts R} (honest : Type 0) (settings : Settings) (T 
     (packed.1.0, packed.1.1, hit_wider settings.kind (packed_refs_at settings T') (packed_refs_at settings T) r' r (namespace_text settings.namespace.now) packed.1.0 x (back h) packed.1.2),
   )
 
--- the answer of one candidate alone
+-- the result of one candidate alone
 pub answer_one : (s : Store) (view : View) (rs : List Record) (name : List ℕ) (found : Option Reference) → IsCandidate s view rs name found → Answers (first_hit s view rs (name ∷ [])) found
 answer_one s view rs name None absent = subst (λ f. Answers f None) (sym (hit_later s view rs name [] absent)) tt
 answer_one s view rs name (Some r) is = hit_here s view rs name [] r is
@@ -160,7 +160,7 @@ among_wider P Q [] wider why = absurd why
 among_wider P Q (n ∷ names) wider (inl here) = inl (wider n here)
 among_wider P Q (n ∷ names) wider (inr later) = inr (among_wider P Q names wider later)
 
--- where a lookup answers nothing, nothing is found
+-- where a lookup returns `None`, nothing is found
 pub none_found : (found : Option Hit) → Answers found None → found ≡ None
 none_found None is = refl
 none_found (Some hit) is = absurd is

@@ -267,7 +267,7 @@ id_reads_back kind id of_kind whole =
       ends = refl;
     })
 
--- a fact, told at `Ok`
+-- a fact, stated at `Ok`
 pub at_ok : {A E : Type 0} (P : Type 0) (r : Result A E) → P → OnOk r P
 at_ok P (Ok x) p = p
 at_ok P (Err e) p = tt

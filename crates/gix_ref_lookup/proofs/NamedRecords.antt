@@ -32,7 +32,7 @@ asked_none kind sources.Unopened rs key are bad = ap (record_named key) are
 asked_none kind (sources.Held buffer) rs key are bad = held_none _ rs _ key are bad
 asked_none kind (sources.Open file) rs key are bad = held_none kind rs _ key are.2 bad
 
--- what does not become a name is none
+-- what does not become a name is not a valid one
 pub no_name : {N : Type 0} (rules : List ℕ → Option Error) (bytes : N → List ℕ) (text : List ℕ) (r : Result N Error) → Converts rules bytes text r → ((n : N) → r ≡ Ok n → ⊥) → rules text ≡ None → ⊥
 no_name rules bytes text (Ok n) converts not valid = not n refl
 no_name rules bytes text (Err e) converts not valid = let both : None ≡ Some e = sym valid ∙ converts in absurd (cc)

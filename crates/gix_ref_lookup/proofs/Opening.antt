@@ -123,7 +123,7 @@ pub hit_wider : {R : Type 0} {G : Ghosts R} (kind : Kind) (f f' : Option (List �
 hit_wider kind f f' r r' namespace key x wider hit =
     record { name = hit.name; searched = searched_wider kind f f' r r' (λ k text. IsRecordIn k text key x) wider hit.searched }
 
--- carried through an answer
+-- carried through a result
 pub if_ok : {X E : Type 0} {P Q : X → Type 0} (r : Result X E) → ((x : X) → P x → Q x) → IfOk r P → IfOk r Q
 if_ok (Ok x) wider holds = wider x holds
 if_ok (Err e) wider holds = holds

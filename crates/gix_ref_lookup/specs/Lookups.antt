@@ -1,4 +1,4 @@
--- What the calls of this crate answer: candidates, the records that they ask, and lookups (`gitrevisions`).
+-- What the calls of this crate return: candidates, the records that they ask, and lookups (`gitrevisions`).
 use Rattle.std.specs.Prelude.{◌≡◌, ◌≢◌, ◌⊎◌, ℕ, List, [], ◌∷◌, ◌++◌, Bool, true, false, Option, Some, None, Result, Ok, Err, Contains}
 use Rattle.std.specs.Option.{option_map}
 use Rattle.gix_ref_hash.specs.declared.hash.Kind.{Kind}
@@ -144,7 +144,7 @@ IsNotRead honest kind s view before now name (ReferenceCreation source path) =
 IsNotRead honest kind s view before now name Memory = Unit {0}
 IsNotRead honest kind s view before now name other = ⊥
 
--- the reference of a key among these records as an answer, in this namespace
+-- the reference of a key among these records as a result, in this namespace
 abbrev pub IsOfKey : (namespace : List ℕ) → List Record → (key : List ℕ) → Option Reference → Type 0
 IsOfKey namespace records key None = record_named key records ≡ None
 IsOfKey namespace records key (Some r) =
@@ -164,7 +164,7 @@ pub record IsHitOfKey {R : Type 0} {G : Ghosts R} (kind : Kind) (file : Option (
   pub name : full_bytes r.name ≡ stripped namespace key
   pub searched : OfSearched kind file records (λ k text. IsRecordIn k text key r)
 
--- a candidate without a loose file as an answer, by its record
+-- a candidate without a loose file as a result, by its record
 abbrev pub IsByRecord : Store → List Record → List ℕ → Option Reference → Type 0
 IsByRecord s records name None = reading_by s (s.key name) None records ≡ Absent
 IsByRecord s records name (Some r) =
@@ -176,7 +176,7 @@ IsByRecord s records name (Some r) =
 abbrev pub OfKey : Store → List ℕ → (List ℕ → Type 0) → Type 0
 OfKey s name P = (key : List ℕ) × (s.key name ≡ Some key) × P key
 
--- a candidate as an answer: nothing where it reads nothing, else its name, its target and its peeled id
+-- a candidate as a result: nothing where it reads nothing, else its name, its target and its peeled id
 abbrev pub IsCandidate : Store → View → List Record → List ℕ → Option Reference → Type 0
 IsCandidate s view records name None = reading_among s view records name ≡ Absent
 IsCandidate s view records name (Some r) =
@@ -184,7 +184,7 @@ IsCandidate s view records name (Some r) =
     × (reading_among s view records name ≡ Is (target_value r.target))
     × (r.peeled ≡ hit_peeled (s.key name) (view (s.place name)) records)
 
--- what a lookup finds, as an answer
+-- what a lookup finds, as a result
 abbrev pub Answers : Option Hit → Option Reference → Type 0
 Answers None None = Unit {0}
 Answers (Some hit) (Some r) = (full_bytes r.name ≡ hit.name) × (hit.reading ≡ Is (target_value r.target)) × (r.peeled ≡ hit.peeled)

@@ -35,7 +35,7 @@ pub fn resolved<'a>(git_dir: &'a Vec<u8>, common_dir: &'a Option<Vec<u8>>) -> &'
     }
 }
 
-/// Whether a component may stand in a clean path.
+/// Whether a component may be in a clean path.
 fn is_clean_part(component: &[u8]) -> bool
     ensures { result ≡ is_clean_component component.now }
 {
@@ -59,7 +59,7 @@ fn has_no_nul(path: &[u8]) -> bool
     path.iter().all(|byte| *byte != 0)
 }
 
-/// Whether all components may stand in a clean path.
+/// Whether all components may be in a clean path.
 fn are_clean_parts(path: &[u8]) -> bool
     ensures { result ≡ list_all is_clean_component (components path.now) }
 {

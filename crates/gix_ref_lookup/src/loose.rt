@@ -18,7 +18,7 @@ use gix_ref_hash::hash::{Kind, ObjectId, hex_hash, is_hex};
 use gix_ref_packed::raw;
 use std::alloc::{AllocError, Global};
 
-/// A reference in a file of its own.
+/// A loose reference: one in its own file.
 #[derive(Debug, PartialEq, Eq, PartialOrd, Ord, Hash, Drop)]
 pub struct Reference {
     /// Its full name.
@@ -29,8 +29,8 @@ pub struct Reference {
 
 impl Reference {
     /// The reference of a name by the bytes of its file. They are `ref: `, any further spaces and a full name, up to
-    /// the first NUL, CR or LF; or the 40 or 64 hex digits of an id of the kind that no hex digit follows, whatever
-    /// else does.
+    /// the first NUL, CR or LF (`git symbolic-ref`); or the 40 or 64 hex digits of an id of the kind that no hex digit
+    /// follows, whatever else does.
     ///
     /// `Parse` where they are neither, with the bytes; `RefnameValidation` with the path that is no full name and the
     /// first rule that it breaks; `Memory` where a copy found no memory. Each drops the name.

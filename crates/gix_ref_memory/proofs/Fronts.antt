@@ -86,7 +86,7 @@ front_of_front (suc n) zero xs le = absurd (omega arith)
 front_of_front (suc n) (suc m) [] le = refl
 front_of_front (suc n) (suc m) (x ∷ xs) le = ap (λ (l : List Change). x ∷ l) (front_of_front n m xs (omega arith))
 
--- what stood at the front of a list stands there still
+-- what was at the front of a list is still there
 kept_through : (first mid now : List Change) → take (length first) mid ≡ first → take (length mid) now ≡ mid → take (length first) now ≡ first
 kept_through first mid now kept more =
     let short : length first ≤ length mid = omega (arith, ap (λ (l : List Change). length l) kept, length-take (length first) mid) in

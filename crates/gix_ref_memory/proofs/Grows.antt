@@ -15,7 +15,7 @@ use Rattle.gix_ref_memory.specs.declared.memory.changes.Stands.{Stands}
 use Rattle.gix_ref_memory.specs.declared.memory.changes.Change.{Change}
 use Rattle.gix_ref_memory.specs.declared.memory.changes.Change.TheVariants.{Put, Append, Move}
 
--- what stands at a path in the end
+-- what is at a path in the end
 pub after_is : (changes : List Change) (T : Tree) (q : Path) → after changes T q ≡ stands changes q (T q)
 after_is [] T q = refl
 after_is (change ∷ changes) T q = after_is changes (changed change T) q

@@ -52,7 +52,7 @@ below_begins folder path rest is =
 pub below_slash : (folder path : Path) (rest : List ℕ) → path ≡ folder ++ 47 ∷ rest → get_or path (length folder) 0 ≡ 47
 below_slash folder path rest is = ap (λ (l : Path). get_or l (length folder) 0) is ∙ get_or-append_seam folder 47 rest 0
 
--- what is found stands
+-- what is found exists
 pub stands_some : (stands : Stands) → IsSome (found_content (Some stands))
 stands_some (FileOf bytes) = refl
 stands_some FolderOf = refl

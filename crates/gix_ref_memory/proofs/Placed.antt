@@ -16,7 +16,7 @@ put_here p q new content some = by_path (bytes_eq p q) refl some
     by_path true eq stands = inl ((bytes_eq-Decides p q).0 eq)
     by_path false eq stands = inr stands
 
--- what stands after a change stood before, or the change put it there
+-- what is there after a change was there before, or the change put it there
 put_or_stood : (change : Change) (q : Path) (content : Option Content) → IsSome (stands_after change q content) → (place_of change ≡ q) ⊎ IsSome content
 put_or_stood (Put path stored) q content some = put_here path.items q (content_of stored) content some
 put_or_stood (Append path whole had) q content some = put_here path.items q (Some (File whole.items)) content some
@@ -32,7 +32,7 @@ placed_or_stood [] T q some = inr some
 placed_or_stood (change ∷ changes) T q some =
     ⊎_elim (λ later. inl (inr later)) (λ stood. ⊎_elim (λ here. inl (inl here)) (λ before. inr before) (put_or_stood change q (T q) stood)) (placed_or_stood changes (changed change T) q some)
 
--- what stands, a change put there
+-- what is there, a change put there
 pub placed : (changes : List Change) (q : Path) → IsSome (after changes no_tree q) → IsPlaced changes q
 placed changes q some = ⊎_elim (λ here. here) (λ stood. absurd (nothing stood)) (placed_or_stood changes no_tree q some)
   where

@@ -30,7 +30,7 @@ place_of (Put path stored) = path.items
 place_of (Append path whole had) = path.items
 place_of (Move from to bytes) = to.items
 
--- what stands at q after a change, if this stood there before
+-- what is at q after a change, if this was there before
 abbrev pub stands_after : Change → Path → Option Content → Option Content
 stands_after (Put path stored) q content = if bytes_eq path.items q then content_of stored else content
 stands_after (Append path whole had) q content = if bytes_eq path.items q then Some (File whole.items) else content
@@ -94,7 +94,7 @@ abbrev pub IsPlaced : List Change → Path → Type 0
 IsPlaced [] q = ⊥
 IsPlaced (change ∷ changes) q = (place_of change ≡ q) ⊎ IsPlaced changes q
 
--- the answers of `put`, and the tree T that each leaves
+-- the results of `put`, and the tree T that each leaves
 abbrev pub Puts : Tree → Path → List ℕ → Tree → Bool → Type 0
 Puts before p bytes T true = (is_folder (before p) ≡ false) × (is_blocked before p ≡ false) × (T ≡ put (with_folders before (fronts p)) p (Some (File bytes)))
 Puts before p bytes T false = ((is_folder (before p) || is_blocked before p) ≡ true) × (T ≡ before)

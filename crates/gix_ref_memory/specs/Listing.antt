@@ -14,7 +14,7 @@ pub record ListsSome (T : Tree) (p : Path) (entries : List Entry) : Type 0 where
   pub tells : All (IsEntryOf T p) entries
   pub once : AllPairs (λ entry later. entry_name entry ≢ entry_name later) entries
 
--- the entries new are old ones, and perhaps one more with this name, which is there in the end if something stands there
+-- the entries new are old ones, and perhaps one more with this name, which is listed in the end if something is there
 pub record AddsEntries (T : Tree) (p : Path) (name : List ℕ) (old new : List Entry) : Type 0 where
   pub good : ListsSome T p old → ListsSome T p new
   pub here : IsSome (T (p ++ 47 ∷ name)) → IsListed new name

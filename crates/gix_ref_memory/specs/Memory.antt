@@ -17,7 +17,7 @@ meaning memory = meaning_after memory.changes.items
 abbrev pub past_of : Memory → List Change
 past_of memory = memory.changes.items
 
--- what stands
+-- what is at each path
 abbrev pub tree_of : Memory → Tree
 tree_of memory = after memory.changes.items no_tree
 

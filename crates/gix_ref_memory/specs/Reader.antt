@@ -14,7 +14,7 @@ bytes_in reader = reader.bytes.items
 abbrev pub reader_calls : MemoryReader → ℕ
 reader_calls reader = reader.turns.calls
 
--- how many of its own calls failed
+-- how many of the reader's calls failed
 abbrev pub reader_faults : MemoryReader → ℕ
 reader_faults reader = reader.turns.faults
 

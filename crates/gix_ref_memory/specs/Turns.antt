@@ -30,7 +30,7 @@ LacksMemory error = error ≡ Memory
 abbrev pub CannotGrow : FileError → Type 0
 CannotGrow error = error ≡ Device OutOfMemory
 
--- or there is no answer: nothing is at the path, no file is on the way there, and a folder is missing
+-- or there is no result: nothing is at the path, no file is on the way there, and a folder is missing
 pub record HasNoWay (T : Tree) (p : Path) : Type 0 where
   pub nothing : T p ≡ None
   pub not_blocked : is_blocked T p ≡ false

@@ -62,8 +62,8 @@ impl Memory {
         }
     }
 
-    /// Puts a file with these bytes at a path, in place of a file that stands there, and makes the folders that lead
-    /// to it; false, and nothing changed, where a folder stands at the path or a file in it. It is no call of files,
+    /// Puts a file with these bytes at a path, in place of a file that is there, and makes the folders that lead
+    /// to it; false, and nothing changed, where a folder is at the path or a file in it. It is no call of files,
     /// so it is not counted, and no plan has it fail. `Memory` where a growth was refused; then nothing has changed.
     ///
     /// ```text
@@ -85,7 +85,7 @@ impl Memory {
         }
     }
 
-    /// The bytes of the file at a path; none where no file stands.
+    /// The bytes of the file at a path; `None` where there is no file.
     pub fn get(&self, path: &[u8]) -> Option<&[u8]>
         ensures found { IfSome result (λ bytes. tree_of self.now path.now ≡ Some (File bytes.now)) }
         ensures none { IfNone result (is_file (tree_of self.now path.now) ≡ false) }
@@ -116,7 +116,7 @@ impl Memory {
     }
 
     /// Has the kth call from now do its first n parts and fail, and every later call fail. Parts are the bytes of an
-    /// append or the folders that lead to a path and the one there, also those that stand; any other call that changes
+    /// append or the folders that lead to a path and the one there, also those that exist; any other call that changes
     /// the tree does all of it where n is not 0, and nothing where it is, and `create_new` always nothing. This takes
     /// the place of an earlier plan.
     pub fn stop_at(&mut self, k: u64, n: usize)

@@ -42,7 +42,7 @@ pub record FindsIn (kind : Kind) (text name : List ℕ) (result : Result (Option
   pub none : IfOk result (λ found. IfNone found (IsNotMalformed kind text))
   -- why it fails on any text
   pub refused : IfErr result (FailsIn kind text name)
-  -- among ascending records it is the record of the name, or there is none
+  -- among ascending records it is the record of the name, or `None` where no record has it
   pub records : (rs : List Record) → Records kind text rs → Ascending rs → MatchResult result (AreFound (record_named name rs)) IsReadFault
   -- so it is where ids and names are not checked, but for a record of the name that cannot be read
   pub forms : (rs : List Record) → Forms kind text rs → Ascending rs →

@@ -48,7 +48,7 @@ Ends s = (s.text ≡ []) ⊎ ((r : Record) × (rest : List ℕ) × Takes s.kind 
 abbrev pub IsAlike : Unread → Unread → Type 0
 IsAlike s t = (t.kind ≡ s.kind) × (t.prefix ≡ s.prefix)
 
--- One item, by what is to be read before it and after it: the record there, or the line, where no record stands.
+-- One item, by what is to be read before it and after it: the record there, or the line, where it is no record.
 abbrev pub Gives : Unread → Option (Result Reference Error) → Unread → Type 0
 Gives s None t = Ends s × (t.text ≡ [])
 Gives s (Some (Ok r)) t =

@@ -23,7 +23,7 @@ pub record Finds {E : Type 0} (kind : Kind) (text name : List ℕ) (result : Res
   pub none : IfOk result (λ found. IfNone found (IsNotMalformed kind text))
   -- on any text an error comes from a malformed line, or from a record of the name that cannot be read
   pub refused : IfErr result (λ _. CannotRead kind text name)
-  -- among ascending records it is the record of the name, or there is none
+  -- among ascending records it is the record of the name, or `None` where no record has it
   pub records : (rs : List Record) → Records kind text rs → Ascending rs →
       MatchResult result (λ found. option_map record_of found ≡ record_named name rs) (λ _. ⊥)
   -- so it is where ids and names are not checked, but for a record of the name that cannot be read

@@ -1,5 +1,5 @@
 -- The text of packed references as it is written (`git pack-refs`): the header with its last space, LF everywhere, and ids
--- as they are spelled.
+-- as the records have them.
 use Rattle.std.specs.Prelude.{◌≡◌, ℕ, true, List, Option, Some}
 use Rattle.std.specs.List.{All}
 use Rattle.gix_ref_hash.specs.declared.hash.Kind.{Kind}

@@ -23,7 +23,7 @@ pub fn order_references(a: &Reference, b: &Reference) -> Ordering
     a.cmp(b)
 }
 
-/// Lent records are equal where the name and the digits of the ids are, as they are spelled.
+/// Lent records are equal where the name and the digits of the ids are, as they are written.
 pub fn same_records(a: packed::Reference<'_>, b: packed::Reference<'_>) -> bool
     ensures { IsTrue result ↔ (record_of a.entry ≡ record_of b.entry) }
 {

@@ -1,5 +1,5 @@
-//! The search in memory and the search in a file give the same answer on every front of a text, and with every byte of it
-//! replaced.
+//! The search in memory and the search in a file give the same result on every front of a text, and with every byte
+//! of it replaced.
 use crate::made::{CRLF, NAMES, TEXT, buffer, full, sorted, stored};
 use gix_ref_base::name::FullNameRef;
 use gix_ref_files::files::Files;
@@ -11,7 +11,7 @@ use gix_ref_packed::packed::{Buffer, Found, Reference};
 use std::alloc::Global;
 use std::process::Abort;
 
-/// What a search answers, wherever it looks.
+/// What a search returns, wherever it looks.
 #[derive(Clone, Copy, Debug, PartialEq, Eq)]
 enum Answer {
     Ids(ObjectId, Option<ObjectId>),

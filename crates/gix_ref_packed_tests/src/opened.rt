@@ -88,7 +88,7 @@ fn from_files(rt: HostRuntime) {
     }
 }
 
-/// The answer of the search in an opened file.
+/// The result of the search in an opened file.
 fn asked(
     rt: &impl Abort,
     alloc: Global,

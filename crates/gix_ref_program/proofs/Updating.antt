@@ -1,4 +1,4 @@
--- An update whose preparation succeeded: what its commit answers, seen from before the preparation.
+-- An update whose preparation succeeded: what its commit returns, seen from before the preparation.
 use Rattle.std.proofs.Common.{◌≡◌, ◌≤◌, ◌⊎◌, inl, inr, ⊎_elim, ℕ, List, [], ◌∷◌, true, Option, Some, None, Result, Ok, Err, IfOk, IfErr, IfSome, sym, ◌∙◌, ap, subst, arith}
 use Rattle.gix_ref_base.specs.Names.{full_bytes}
 use Rattle.gix_ref_base.specs.Targets.{TargetValue}

@@ -1,4 +1,4 @@
--- What a run of the program comes to.
+-- The outcome of a run of the program.
 use Rattle.std.specs.Prelude.{◌≡◌, ◌⊎◌, ℕ, List, [], ◌∷◌, true, false, codes, Option, Some, None, Result, IfOk}
 use Rattle.std.specs.Io.KnownBytes.{Appends}
 use Rattle.gix_ref_hash.specs.Ids.{null_id}
@@ -85,7 +85,7 @@ abbrev pub IsUnopened : Line → Refusal → Type 0
 IsUnopened line refusal = IsNoFolder line.dir refusal ⊎ ((is_clean line.dir ≡ true) × NoNamespace line.namespace refusal)
 
 module _ {F : Type 0} where
-  -- names are as they are spelled, and no component is prohibited
+  -- names are used as they are written, and no component is prohibited
   pub record IsPlain (store : Store F) : Type 0 where
     pub composes : store.precompose_unicode ≡ false
     pub prohibits : store.prohibit_windows_device_names ≡ false
@@ -123,7 +123,7 @@ module _ {F : Type 0} where
     EditOutcome old new edit (outcomes.Refused refusals.Memory locks) = (new ≡ old) × (locks.items ≡ [])
     EditOutcome old new edit outcome = ⊥
 
-    -- An update: what its edit comes to; or its name is no full name; or there was no memory.
+    -- An update: the outcome of its edit; or its name is no full name; or there was no memory.
     abbrev pub UpdateOutcome : (old new : Store F) → Kind → (name : List ℕ) → ObjectId → Option ObjectId → Outcome → Type 0
     UpdateOutcome old new kind name id before (outcomes.Refused (refusals.Name error) locks) =
         (full_error name ≡ Some error) × (new ≡ old) × (locks.items ≡ [])
@@ -159,7 +159,7 @@ module _ {F : Type 0} where
     NotBegun line (outcomes.Refused refusal locks) = IsUnopened line refusal × (locks.items ≡ [])
     NotBegun line outcome = ⊥
 
-    -- what a line comes to: it is begun in its store, or it is not, and the files are as before
+    -- the outcome of a line: it is begun in its store, or it is not, and the files are as before
     abbrev pub LineOutcome : {R : Type 0} (G : Ghosts R) → (files after : F) → Line → Outcome → Type 0
     LineOutcome G files after line outcome =
         ((old : Store F) × (new : Store F) × IsOpened files line old × (files_of new ≡ after) × CommandOutcome G old new line.kind line.asked outcome)
@@ -176,7 +176,7 @@ module _ {F : Type 0} where
       pub same : after ≡ files
       pub printed : IfOk status (λ s. (s ≡ 2) × Appends out now (codes "wrong words\n"))
 
-    -- A run of a line: what it comes to is printed, and printed by the status; and each stop leaves what a stop in the line leaves.
+    -- A run of a line: its outcome is printed, and gives the status; and each stop leaves what a stop in the line leaves.
     pub record RunsLine {R : Type 0} (G : Ghosts R) {E : Type 0} (files after : F) (words : List (List ℕ)) (out now : Option (List ℕ)) (status : Result ℕ E) : Type 0 where
       pub line : Line
       pub outcome : Outcome

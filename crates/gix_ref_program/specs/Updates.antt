@@ -40,7 +40,7 @@ module _ {F : Type 0} (honest : Type 0) (means : F → Meaning) (faults : F → 
   OnlyStay old new edits left =
       (q : Path) → is_in (locks_in old edits) q ≡ true → is_in left q ≡ false → is_file (tree_of means new q) ≡ false
 
-  -- why a commit failed: a rename failed, only where a fault came; or a folder stands at the place of an edit
+  -- why a commit failed: a rename failed, only where a fault came; or a folder is at the place of an edit
   abbrev pub HasFailed : (old new : Store F) → List RefEdit → commits.Error → Type 0
   HasFailed old new edits (LockCommit source name) =
       HasRisen (faults (files_of old)) (faults (files_of new)) × (is_in (names_of edits) (full_bytes name) ≡ true)

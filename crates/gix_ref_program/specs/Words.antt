@@ -61,7 +61,7 @@ abbrev pub namespace_words : Option (List ℕ) → List (List ℕ)
 namespace_words None = []
 namespace_words (Some name) = codes "--namespace" ∷ (name ∷ [])
 
--- the options that stand before a command, and the command
+-- the options before a command, and the command
 pub record HasOptions (words : List (List ℕ)) (namespace : Option (List ℕ)) (asked : Asked) : Type 0 where
   pub command : List (List ℕ)
   pub is_command : IsCommand command asked
@@ -73,7 +73,7 @@ pub record IsLine (words : List (List ℕ)) (line : Line) : Type 0 where
   pub options : HasOptions rest line.namespace line.asked
   pub words_are : words ≡ line.dir ∷ (kind_words line.kind ++ rest)
 
--- what the values of the code stand for
+-- what the values of the code mean
 
 abbrev pub asked_of : Command → Asked
 asked_of (commands.Update name id old) = Update name.now id old

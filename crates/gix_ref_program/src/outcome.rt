@@ -1,4 +1,4 @@
-//! What a line comes to, and how that is printed.
+//! The outcome of a line, and how it is printed.
 ghost use Rattle.std.specs.Prelude.{◌≡◌, ◌++◌, IfOk, OnOk};
 ghost use Rattle.std.specs.Io.KnownBytes.{Appends};
 ghost use Rattle.gix_ref_base.specs.Targets.{target_value};
@@ -11,7 +11,7 @@ use std::alloc::{AllocError, Global};
 use std::io;
 use std::io::Write;
 
-/// What a line comes to.
+/// The outcome of a line.
 #[derive(Debug, Drop)]
 pub enum Outcome {
     /// The words are no line.
@@ -94,8 +94,8 @@ fn status(outcome: &Outcome) -> u8
     }
 }
 
-/// Prints an outcome in one write, and tells the status. The error is the writer's, or says that there was no memory for
-/// the text.
+/// Prints an outcome in one write, and returns the status. The error is the writer's, or says that there was no memory
+/// for the text.
 pub fn print<W: Write>(alloc: Global, outcome: Outcome, out: &mut W) -> io::Result<u8>
     ensures status { IfOk result (λ s. s ≡ status_of outcome) }
     ensures printed { OnOk result (Appends (W.contents out.old) (W.contents out.new)

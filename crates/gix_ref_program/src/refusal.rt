@@ -89,7 +89,7 @@ fn find_variant(error: &find::Error) -> &'static str
 }
 
 impl Refusal {
-    /// The variant of the error, as the program tells it.
+    /// The variant of the error, as the program prints it.
     pub fn variant(&self) -> &'static str
         ensures { result.now ≡ word_of self.now }
     {

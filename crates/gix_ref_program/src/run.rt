@@ -256,7 +256,7 @@ fn run_line<F: Files>(
     }
 }
 
-/// Does what the words ask for, and prints what it came to in one write: nothing for an update that was made, a target
+/// Does what the words ask for, and prints the outcome in one write: nothing for an update that was made, a target
 /// and a name for a reference that is shown, else `refused: ` and the variant of the error, or `wrong words`; and a
 /// line for each lock that could not be removed. The status is 0, 1 for a refusal, 2 for wrong words; it is an error where
 /// the writer failed, or where there was no memory for the text. (`git update-ref`, `git show-ref`)

@@ -36,8 +36,8 @@ pub struct UpdateReport {
 
 /// Prepares one update, and commits it. The store writes no log line.
 ///
-/// The answer tells why it was not made: the first cause against it, or what stopped its commit. Each lock that could not
-/// be removed is named. Costs what `prepare` and `commit` do: five calls of files for a reference that changes.
+/// The result says why it was not made: the first cause against it, or what stopped its commit. Each lock that could
+/// not be removed is named. Costs what `prepare` and `commit` do: five calls of files for a reference that changes.
 /// (`git update-ref`)
 pub fn update<F: Files>(
     alloc: Global,
@@ -76,7 +76,7 @@ pub fn update<F: Files>(
     }
 }
 
-/// What a commit answers.
+/// The report of a commit by its result.
 fn report_of_commit(answer: Result<Done, Failed>) -> UpdateReport
     ensures error { result.error ≡ error_of answer }
     ensures packed_refs { result.packed_refs ≡ mode_of answer }

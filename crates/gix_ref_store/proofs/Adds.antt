@@ -60,7 +60,7 @@ in_one p q h = ⊎_elim (λ here. same_path p q here) (λ none. false_is_true no
 pub in_here : (p q : Path) (ps : List Path) → p ≡ q → is_in (p ∷ ps) q ≡ true
 in_here p q ps e = or_left (bytes_eq p q) (is_in ps q) (is_same_path p q e)
 
--- what stands at a place of a list is in it
+-- what is at an index of a list is in it
 pub in_at : (ps : List Path) (k : ℕ) (d : Path) → k < length ps → is_in ps (get_or ps k d) ≡ true
 in_at [] k d lt = absurd (omega (arith, lt))
 in_at (p ∷ ps) zero d lt = in_here p p ps refl
@@ -110,7 +110,7 @@ adds_then xs ys all S T U wider first second q =
     (λ new. ⊎_elim (λ old. inr (sym old ∙ new.0, new.1)) (λ was. absurd (subst (λ content. IsOurs xs all q content) new.0 was.1)) (first q))
     (second q)
 
--- where the path is no lock that was taken, a test that tells no folder from nothing tells the same
+-- where the path is no lock that was taken, a test that gives the same for a folder and for nothing gives the same as before
 pub same_view : {X : Type 0} (view : Option Content → X) → view (Some Folder) ≡ view None → (taken all : List Path) (S T : Tree) (q : Path) → AddsLocks taken all S T → is_in taken q ≡ false → view (T q) ≡ view (S q)
 same_view {X} view folder taken all S T q adds not_taken = ⊎_elim (λ same. ap view same) (λ new. by_node (T q) new.1 ∙ ap view (sym new.0)) (adds q)
   where

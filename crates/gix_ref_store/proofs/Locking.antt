@@ -42,7 +42,7 @@ none_of T (f ∷ fs) q none within =
         one : (x : Path) → x ≡ q → list_any (λ y. is_file (T y)) (x ∷ []) ≡ true
         one x e = ap (λ b. b || false) (ap (λ (p : Path). is_file (T p)) e ∙ a_file)
 
--- folders of which none stands at a file add folders alone
+-- folders of which none is at a file add folders alone
 folders_add : (T : Tree) (fs : List Path) (lock : Path) → list_any (λ f. is_file (T f)) fs ≡ false → ((q : Path) → is_in fs q ≡ true → is_in (fronts lock) q ≡ true) → AddsLocks [] (lock ∷ []) T (with_folders T fs)
 folders_add T fs lock none way q =
     ⊎_elim (λ same. inl same) (λ made. by_content (T q) refl made.0 made.1) (folders_at T fs q)
@@ -104,7 +104,7 @@ module _ (before : Tree) (place lock : Path) (at : lock ≡ lock_of place) where
       subst (λ (t : Tree). AddsLocks (lock ∷ []) (lock ∷ []) before t) (sym (is ∙ ap (created (readied before place)) (sym at)))
       (new_lock free (sym at_lock ∙ ap (readied before place) at ∙ allowed.0))
 
-  -- the three answers
+  -- the three results
   pub made_new : (T : Tree) → MakesLock before place T Made → IsNewLock before lock T
   made_new T (free, (allowed, is)) = record {
     way = blocked_is ∙ free;

@@ -1,4 +1,4 @@
--- What a lookup tells by a loose file is the reading of the reference.
+-- What a lookup returns by a loose file is the reading of the reference.
 use Rattle.std.proofs.Common.{◌≡◌, ℕ, List, [], ◌∷◌, Option, Some, None, Bool, true, false, refl, sym, ap, subst, ◌∙◌, is_none, if◌then◌else◌, IfOk, IfErr, Result, Ok, Err}
 use Rattle.std.specs.List.{list_any}
 use Rattle.gix_ref_hash.specs.Bytes.{without_front, components}
@@ -51,7 +51,7 @@ alone f kind view name =
     by_file None None = refl
     by_file (Some key) None = refl
 
--- carried through an answer
+-- carried through a result
 pub if_ok : {X E : Type 0} {P Q : X → Type 0} (r : Result X E) → ((x : X) → P x → Q x) → IfOk r P → IfOk r Q
 if_ok (Ok x) wider holds = wider x holds
 if_ok (Err e) wider holds = holds

@@ -1,4 +1,4 @@
--- A loose reference of an answer.
+-- A loose reference of a result.
 use Rattle.std.proofs.Common.{◌≡◌, Option, Some, None, ◌∙◌, ap, sym}
 use Rattle.gix_ref_base.specs.Names.{full_bytes}
 use Rattle.gix_ref_base.specs.Targets.{target_value}

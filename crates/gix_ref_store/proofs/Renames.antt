@@ -69,7 +69,7 @@ module _ (all : List Paths) (total : ℕ) (edits : List RefEdit) (done n : ℕ) 
       (before k (omega (arith, less)) lt stays (is_false (is_in left (lock_at all k)) (λ h. clash (wider (lock_at all k) h) out))))
       (eq-or-lt_of_le le)
 
--- a lock of some paths stands at a place of the list
+-- a lock of some paths is at an index of the list
 pub lock_found : (paths : List Paths) (q : Path) → is_in (lock_paths paths) q ≡ true → (k : ℕ) × (k < length paths) × (lock_at paths k ≡ q)
 lock_found [] q h = false_is_true h
 lock_found (own ∷ paths) q h = ⊎_elim

@@ -20,7 +20,7 @@ use Rattle.gix_ref_store.specs.declared.file.transaction.prepare.error.Error.{Er
 use Rattle.gix_ref_store.proofs.Firsts.{fault_here, fault_later, pass_more, seen_of}
 use Rattle.gix_ref_store.proofs.Taking.{Held, front_in, more_here, refused, still, stop_taking, lockable, free_more, same_found, filling, stop_filling, held_more}
 
--- the lock of an edit stands at its index
+-- the lock of an edit is at its index
 pub lock_at : (s : Store) (edits : List RefEdit) (paths : List Paths) → lock_paths paths ≡ locks_of s edits → (i : ℕ) (edit : RefEdit) (path : Paths) → i < length edits → i < length paths → edit ≡ get_or edits i edit → path ≡ get_or paths i path → path.lock.items ≡ lock_of (s.place (name_of edit))
 lock_at s edits paths same i edit path lt lt' is path_is =
     let at_path : get_or (lock_paths paths) i [] ≡ (get_or paths i path).lock.items = get_or-map (λ (p : Paths). p.lock.items) paths i path [] lt' in

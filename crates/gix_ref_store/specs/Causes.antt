@@ -1,4 +1,4 @@
--- Why `prepare` refuses edits: each cause as a statement on the tree before the call, and the order in which they are told.
+-- Why `prepare` refuses edits: each cause as a statement on the tree before the call, and the order in which they are reported.
 use Rattle.std.specs.Prelude.{◌≡◌, ◌≢◌, ◌⊎◌, ℕ, List, [], true, false, Option, Some, None, IsSome, map, All}
 use Rattle.std.specs.Option.{option_map}
 use Rattle.gix_ref_hash.specs.Ids.{id_kind, null_id, IsWhole}
@@ -26,13 +26,13 @@ use Rattle.gix_ref_edits.specs.declared.transaction.RefEdit.{RefEdit}
 use Rattle.gix_ref_store.specs.declared.file.transaction.prepare.error.Error.{Error}
 use Rattle.gix_ref_store.specs.declared.file.transaction.prepare.error.Error.TheVariants.{UnsafeName, TargetNotFull, OtherHashKind, PathCollision, LockAcquire, MustExist as must_exist, MustNotExist, ReferenceOutOfDate, Io, Memory}
 
--- how a fault of files is told
+-- how a fault of files is reported
 abbrev pub cause_of : FileError → Error
 cause_of (Device kind) = Io (Device kind)
 cause_of NotUtf8 = Io NotUtf8
 cause_of out_of_memory = Memory
 
--- `Io` is answered only where the count of faults rose, and never for want of memory.
+-- `Io` is returned only where the count of faults rose, and never for want of memory.
 abbrev pub IsCounted : ℕ → ℕ → Error → Type 0
 IsCounted before now (Io error) = HasRisen before now × (error ≡ out_of_memory → ⊥)
 IsCounted before now other = Unit {0}
@@ -109,7 +109,7 @@ found s view name = found_by s (s.key name) (decoded s (view (s.place name))) (r
 
 -- What an edit expects against what is found.
 
--- the target that has to be there; the null id stands for any
+-- the target that has to be there; the null id means any
 abbrev pub required : Kind → PreviousValue → Option TargetValue
 required kind MustExist = Some (object_id (null_id kind))
 required kind (MustExistAndMatch target) = Some (target_value target)
@@ -174,7 +174,7 @@ abbrev pub Refuses : Store → Kind → Tree → List RefEdit → Error → Type
 Refuses s kind T edits error =
     IsIoOrMemory error ⊎ (IsFirstInvalid kind [] edits error ⊎ (AllValid kind [] edits × IsFirstCause s kind T [] edits error))
 
--- no cause stands
+-- no cause applies
 pub record IsAccepted (s : Store) (kind : Kind) (T : Tree) (edits : List RefEdit) : Type 0 where
   pub sound : AllValid kind [] edits
   pub no_cause : NoCause s kind T [] edits

@@ -1,4 +1,4 @@
--- What `commit` answers and leaves.
+-- What `commit` returns and leaves.
 use Rattle.std.specs.Prelude.{◌≡◌, ℕ, List, true, false, map, get_or, [], Option, Some, None, Result, Ok, Err}
 use Rattle.gix_ref_base.specs.Names.{full_bytes}
 use Rattle.gix_ref_files.specs.Tree.{Tree, Path, is_file, is_folder}
@@ -46,17 +46,17 @@ pub record IsOldOrNew (s : readings.Store) (edits : List RefEdit) (before T : Tr
 abbrev pub names_of : List RefEdit → List (List ℕ)
 names_of edits = map name_of edits
 
--- the locks that the answer of a commit names
+-- the locks that the result of a commit names
 abbrev pub left_of : Result Done Failed → List Path
 left_of (Ok done) = paths_of done.locks_left.items
 left_of (Err failed) = paths_of failed.locks_left.items
 
--- the mode that the answer of a commit hands back
+-- the mode that the result of a commit hands back
 abbrev pub mode_of : Result Done Failed → PackedRefs
 mode_of (Ok done) = done.packed_refs
 mode_of (Err failed) = failed.packed_refs
 
--- what an error tells of the renames of these edits, where they ended at one of them, by this fault or by a folder at this place
+-- what an error reports of the renames of these edits, where they ended at one of them, by this fault or by a folder at this place
 abbrev pub SaysWhy : List RefEdit → (at : ℕ) → Path → Option FileError → Error → Type 0
 SaysWhy edits at place None (FolderInPlace path) = path.items ≡ place
 SaysWhy edits at place (Some fault) (LockCommit source name) = (source ≡ fault) × (full_bytes name ≡ get_or (names_of edits) at [])

@@ -1,4 +1,4 @@
--- What a lookup in a store answers (`gitrevisions`).
+-- What a lookup in a store returns (`gitrevisions`).
 use Rattle.std.specs.Prelude.{◌≡◌, ◌⊎◌, true, false, ℕ, List, [], Option, Some, None, IfSome}
 use denote.Ref.{Bor}
 use Rattle.gix_ref_base.specs.Names.{partial_bytes, full_bytes}

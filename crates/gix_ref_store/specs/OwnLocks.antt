@@ -23,7 +23,7 @@ IsOurs taken all q (Some (File bytes)) = is_in taken q ≡ true
 IsOurs taken all q (Some Folder) = leads_to all q ≡ true
 IsOurs taken all q None = ⊥
 
--- All that stood before stands as it was, and no more stands but what the transaction adds.
+-- All that was there before is as it was, and nothing more is there but what the transaction adds.
 abbrev pub AddsLocks : (taken all : List Path) → Tree → Tree → Type 0
 AddsLocks taken all before T = (q : Path) → (T q ≡ before q) ⊎ ((before q ≡ None) × IsOurs taken all q (T q))
 

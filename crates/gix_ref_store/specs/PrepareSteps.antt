@@ -24,7 +24,7 @@ use Rattle.gix_ref_store.specs.declared.file.transaction.setting.Paths.{Paths}
 use Rattle.gix_ref_store.specs.declared.file.transaction.prepare.error.Error.{Error}
 use Rattle.gix_ref_store.specs.declared.file.transaction.prepare.error.Error.TheVariants.{PathCollision, LockAcquire, Io, Memory}
 
--- the store that a transaction stands on
+-- the store of a transaction
 abbrev pub setting_of : Setting → Store
 setting_of setting = store_of (folders_of setting.dirs.now setting.namespace.now) (loose_alone setting.kind)
 
@@ -99,7 +99,7 @@ abbrev pub IsText : Change → Option TargetValue → Option (Vec ℕ Global) �
 IsText change found None = is_written change found ≡ false
 IsText change found (Some text) = (is_written change found ≡ true) × (text.items ≡ lock_text change found)
 
--- The lock of each of these edits stands in T, with its whole text by what was found before.
+-- The lock of each of these edits is in T, with its whole text by what was found before.
 abbrev pub HoldTexts : Store → (before T : Tree) → List RefEdit → Type 0
 HoldTexts s before T [] = Unit {0}
 HoldTexts s before T (edit ∷ edits) =

@@ -1,4 +1,4 @@
--- What `prepare` answers and leaves.
+-- What `prepare` returns and leaves.
 use Rattle.std.specs.Prelude.{◌≡◌, ◌≤◌, ◌⊎◌, ℕ, List, [], ◌∷◌, true, false, Option, IsSome}
 use Rattle.gix_ref_base.specs.Targets.{TargetValue}
 use Rattle.gix_ref_files.specs.Tree.{Tree, Path, is_file}
@@ -32,7 +32,7 @@ module _ {F : Type 0} where
   locks_in store edits = locks_of (loose_meaning_of store) edits
 
 module _ {F : Type 0} (honest : Type 0) (means : F → Meaning) (faults : F → ℕ) where
-  -- A refusal: its error is the first cause that stands; `Io` came with a fault; all is as before but for the locks that are named, and
+  -- A refusal: its error is the first cause that applies; `Io` came with a fault; all is as before but for the locks that are named, and
   -- folders that lead to locks; those that are named are locks of the edits, and one is named only where a fault came.
   pub record RefusesFrom (old new : Store F) (edits : List RefEdit) (error : Error) (left : List Path) : Type 0 where
     pub cause : honest → Refuses (loose_meaning_of old) (kind_of old) (tree_of means old) edits error
@@ -43,7 +43,7 @@ module _ {F : Type 0} (honest : Type 0) (means : F → Meaning) (faults : F → 
     pub leaves : honest → Leaves (means (files_of old)) (means (files_of new)) (AddsLocks (locks_in old edits) (locks_in old edits) (tree_of means old))
     pub same : IsSameStore old new
 
-  -- Locks that are held: no cause stands; this was found of each edit; each lock has its whole text, and nothing else was added but folders
+  -- Locks that are held: no cause applies; this was found of each edit; each lock has its whole text, and nothing else was added but folders
   -- that lead to locks.
   pub record HoldsFrom (old new : Store F) (edits : List RefEdit) (was : List (Option TargetValue)) : Type 0 where
     pub accepted : honest → IsAccepted (loose_meaning_of old) (kind_of old) (tree_of means old) edits

@@ -1,4 +1,4 @@
--- A store as a value: what stands where in it, and when there is none.
+-- A store as a value: what is where in it, and when none can be made.
 use Rattle.std.specs.Prelude.{◌≡◌, true, false, Option, None, Vec, vec_items, ℕ, List}
 use Rattle.std.specs.Option.{option_map}
 use Rattle.std.specs.declared.alloc.Global.{Global}
@@ -66,7 +66,7 @@ pub record IsMade {F : Type 0} (files : F) (git_dir : Vec ℕ Global) (common_di
 abbrev pub AreDirs : Vec ℕ Global → Option (Vec ℕ Global) → Type 0
 AreDirs git common = (are_clean git common ≡ true) × AreCompatible git.items (common_of git common)
 
--- why there is none; the files are handed back
+-- why no store can be made; the files are handed back
 abbrev pub HasNoStore : {F : Type 0} → F → Vec ℕ Global → Option (Vec ℕ Global) → Error F → Type 0
 HasNoStore files git common (PathNotClean back) = (back ≡ files) × (are_clean git common ≡ false)
 HasNoStore files git common (FoldersMeet back) = (back ≡ files) × (are_clean git common ≡ true) × (AreCompatible git.items (common_of git common) → ⊥)

@@ -1,5 +1,5 @@
 //! The options of a store.
-/// When log lines are written for updates.
+/// When log lines are written for updates (`core.logAllRefUpdates` of `git config`).
 #[derive(Clone, Copy, Debug, PartialEq, Eq, PartialOrd, Ord, Hash)]
 pub enum WriteReflog {
     /// For every reference, also where it had no log.
@@ -27,7 +27,7 @@ impl Default for WriteReflog {
 pub struct Options {
     /// When log lines are written.
     pub write_reflog: WriteReflog,
-    /// Whether names are asked of `packed-refs` in composed form.
+    /// Whether names are asked of `packed-refs` in composed form (`core.precomposeUnicode` of `git config`).
     pub precompose_unicode: bool,
     /// Whether components such as `CON` are faults.
     pub prohibit_windows_device_names: bool,

@@ -9,7 +9,7 @@ use std::io::ErrorKind;
 /// The text of a loose file with forty digits `1`.
 const ID: &[u8] = b"1111111111111111111111111111111111111111\n";
 
-/// What a lookup answers.
+/// What a lookup returns.
 #[derive(Clone, Copy, Debug, PartialEq, Eq)]
 enum Answer<'a> {
     Object,
@@ -19,7 +19,7 @@ enum Answer<'a> {
     OtherError,
 }
 
-/// What a lookup answered: an object is forty digits `1`, and a symbolic target has this name.
+/// What a lookup returned: an object is forty digits `1`, and a symbolic target has this name.
 fn answer_of<'a>(found: &'a Result<Reference, existing::Error>) -> Answer<'a> {
     match found {
         Ok(reference) => match &reference.target {

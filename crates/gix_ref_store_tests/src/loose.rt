@@ -30,7 +30,7 @@ enum Answer {
     Memory,
 }
 
-/// The answer for a target.
+/// The result for a target.
 fn target_answer(target: &Target) -> Answer {
     match target {
         Target::Object(id) => Answer::Object(id.kind()),

@@ -32,7 +32,7 @@ enum Expect {
     Existing(Id),
 }
 
-/// What `prepare` answers.
+/// What `prepare` returns.
 #[derive(Clone, Copy, Debug, PartialEq, Eq)]
 enum Answer {
     Prepared,
@@ -116,7 +116,7 @@ fn prepared(alloc: Global, mut store: Store<Memory>, edits: Vec<RefEdit>) -> (An
     (answer, store.into_files())
 }
 
-/// A file before, the name, the new id, what is expected, and the answer.
+/// A file before, the name, the new id, what is expected, and the result.
 type Row<'a> = (&'a str, (&'a str, &'a [u8]), &'a str, Id, Expect, Answer);
 
 #[test]

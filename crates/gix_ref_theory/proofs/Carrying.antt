@@ -36,7 +36,7 @@ more_file (Some (File old)) bytes h = refl
 more_file (Some Folder) bytes h = absurd (false≢true h)
 more_file None bytes h = absurd (false≢true h)
 
--- an append where no file stands changes nothing
+-- an append where there is no file changes nothing
 more_none : (node : Option Content) (bytes : List ℕ) → is_file node ≡ false → file_of (more node bytes) ≡ file_of node
 more_none (Some (File old)) bytes h = absurd (false≢true (sym h))
 more_none (Some Folder) bytes h = refl

@@ -26,7 +26,7 @@ AreEdits s (e ∷ edits) =
     (s.is_reference e.name ≡ true) × ((f : Edit) → IsEdit f edits → s.place e.name ≢ s.place f.name) × AreEdits s edits
 
 -- The merged records: the old ones without the keys of deletions and with the packed updates, ascending by name. A
--- record that no edit alters is the old one, with its ids as they were spelled.
+-- record that no edit alters is the old one, with its ids as they were written.
 pub record IsMerged (s : Store) (mode : Mode) (edits : List Edit) (old new : List Record) : Type 0 where
   pub each : (key : List ℕ) → record_named key new ≡ merged_record s mode edits key (record_named key old)
   pub ascending : AllPairs (λ (r later : Record). slice_cmp nat_cmp r.name later.name ≡ Less) new

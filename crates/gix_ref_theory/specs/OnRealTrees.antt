@@ -13,7 +13,7 @@ use Rattle.gix_ref_theory.specs.Edits.{Edit, Mode, removes_packed}
 use Rattle.gix_ref_theory.specs.Plan.{plan}
 use Rattle.gix_ref_theory.specs.Between.{IsPrepared, IsBetween, NoDeletionFirst, InOrder, IsCommitted}
 
--- the file in what stands at a path
+-- the bytes of what is at a path, if it is a file
 abbrev pub file_of : Option Content → Option (List ℕ)
 file_of (Some (File bytes)) = Some bytes
 file_of (Some Folder) = None

@@ -10,8 +10,8 @@ use Rattle.gix_ref_theory.specs.Edits.{Change, Edit, Mode, Effect, effect, alter
 use Rattle.gix_ref_theory.specs.Edits.Change.{Update, Delete}
 use Rattle.gix_ref_theory.specs.Edits.Effect.{Writes, Removes, Keeps}
 
--- 1. For each update in order: its log line, then its rename. The line comes first, so that no change of a reference
--- stands without its line.
+-- 1. For each update in order: its log line, then its rename. The line comes first, so that no reference is changed
+-- without its line.
 abbrev pub line_writes : Path → Change → Option (List ℕ) → List Write
 line_writes log Delete line = []
 line_writes log (Update target) None = []

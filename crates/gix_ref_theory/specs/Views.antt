@@ -4,7 +4,7 @@ use Rattle.std.specs.Prelude.{◌≡◌, ℕ, List, [], ◌∷◌, ◌++◌, Opt
 use Rattle.gix_ref_files.specs.Tree.{Path}
 use Rattle.gix_ref_files.specs.Lock.{lock_of}
 
--- the bytes of the file at each path; none where a folder or nothing stands
+-- the bytes of the file at each path; `None` where there is a folder or nothing
 abbrev pub View : Type 0
 View = Path → Option (List ℕ)
 

@@ -138,7 +138,7 @@ RemovedFirstIsWrong =
     let left = after (Remove (codes "/r/refs/tags/t") ∷ []) loose in
     ReadsAsBefore store loose left (codes "refs/tags/t") ⊎ ReadsAsEdited store edits loose left (codes "refs/tags/t") → ⊥
 
--- in the removing mode the plan itself shows the deletion first: t is gone while a's loose file still stands
+-- in the removing mode the plan itself shows the deletion first: t is gone while a's loose file still exists
 abbrev pub RemovingModeShowsDeletionFirst : Type 0
 RemovingModeShowsDeletionFirst = NoDeletionFirst store edits files (files_after PackingAndRemoving packed_records 2) → ⊥
 

@@ -8,8 +8,8 @@ use crate::name::{Error, FullName};
 use gix_ref_hash::bytes::{begins_with, split_component, strip_front};
 use std::alloc::{AllocError, Global};
 
-/// What a name stands for. Each variant says where the name begins; the short name is what follows that, but for the
-/// notes, bisect, worktree and rewritten groups, whose short name is all behind `refs/`.
+/// The kind of reference that a name is. Each variant says how the name begins; the short name is what follows that,
+/// but for the notes, bisect, worktree and rewritten groups, whose short name is all behind `refs/`.
 #[derive(Clone, Copy, Debug, PartialEq, Eq, PartialOrd, Ord, Hash)]
 pub enum Category<'a> {
     /// `refs/tags/`
@@ -180,7 +180,7 @@ impl<'a> Category<'a> {
         }
     }
 
-    /// Whether each worktree has references of this category of its own, which no other worktree sees.
+    /// Whether each worktree has its own references of this category, which no other worktree sees (`git worktree`).
     pub fn is_worktree_private(self) -> bool
         ensures { result ≡ is_private self.entry }
     {
@@ -229,7 +229,7 @@ impl<'a> Category<'a> {
     }
 
     /// The full name with this short name. The word of the category (`notes/`, `refs/` for `MainRef`, `bisect/`,
-    /// `rewritten/`, `worktree/`) is dropped from the front of the short name where it stands there; then the prefix
+    /// `rewritten/`, `worktree/`) is dropped from the front of the short name if it begins with it; then the prefix
     /// goes in front, for a linked worktree also its name and a slash, unless the text begins with it. The error is
     /// the first rule for full names that the text breaks, or `Memory`.
     ///

@@ -10,7 +10,7 @@ use unicode_normalization::{to_nfc, to_nfd};
 
 /// The name in Unicode's Normalization Form C where it is in another form; `None` where it is in that form already, is
 /// not UTF-8, or would be no valid name in that form. The error says that there was no memory; a name of ASCII bytes
-/// takes none.
+/// takes none. (`core.precomposeUnicode` of `git config`)
 ///
 /// ```text
 /// // `a` and a combining diaeresis, as some file systems give it, becomes one character.

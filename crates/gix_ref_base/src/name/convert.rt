@@ -239,7 +239,8 @@ impl fmt::Display for PartialName {
     }
 }
 
-/// What is shown of a name: its bytes where they are UTF-8, and else their text with U+FFFD for each piece that is none.
+/// What is shown of a name: its bytes where they are UTF-8, and else their text with U+FFFD for each invalid piece
+/// (`String::from_utf8_lossy`).
 pub fn shown_names()
     ensures text { (bytes : List ℕ) → IsUtf8 bytes → shown bytes ≡ bytes }
     ensures lossy { (bytes : List ℕ) → shown bytes ≡ utf8_lossy bytes }

@@ -18,7 +18,7 @@ struct Faults {
 }
 
 /// For each byte a letter. Its low bits say what the byte is: 1 a slash, 2 a dot, 4 a byte that no name has, or `@`. The
-/// same bits four places higher say behind which of these it may not stand, or only the scan can tell. So the slash has
+/// same bits four places higher say which of these it may not follow, or that only the scan decides. So the slash has
 /// `Q`, the dot `r`, the byte with which `lock` begins "`", a byte that no name has `D`, and any other `@`.
 static LETTERS: [u8; 256] = *b"\
     DDDDDDDDDDDDDDDDDDDDDDDDDDDDDDDD\
@@ -30,7 +30,7 @@ static LETTERS: [u8; 256] = *b"\
     @@@@@@@@@@@@@@@@@@@@@@@@@@@@@@@@\
     @@@@@@@@@@@@@@@@@@@@@@@@@@@@@@@@";
 
-/// Whether a name keeps all rules for partial names, as far as two bytes in a row tell that: most names do. It looks at
+/// Whether a name keeps all rules for partial names, as far as two bytes in a row show that: most names do. It looks at
 /// all bytes without an early exit, and takes less than half of the time of the scan.
 fn is_plainly_partial(name: &[u8]) -> bool
     ensures { OnTrue result (IsPartialName name.now) }
@@ -55,7 +55,7 @@ fn is_invalid_byte(byte: u8) -> bool
     )
 }
 
-/// Whether no rule speaks of this byte, whatever stands around it, as of most bytes of names.
+/// Whether no rule concerns this byte, whatever is around it: the common case.
 fn is_plain_byte(byte: u8) -> bool
     ensures valid { OnTrue result (is_invalid byte ≡ false) }
     ensures slash { OnTrue result ((47 == byte) ≡ false) }
@@ -65,7 +65,7 @@ fn is_plain_byte(byte: u8) -> bool
     matches!(byte, b'-' | b'0'..=b'9' | b'A'..=b'Z' | b'_' | b'a'..=b'z')
 }
 
-/// What is told of a byte that no name has.
+/// The error for a byte that no name has.
 fn told_of_byte(byte: u8) -> Error
     ensures { result ≡ byte_error byte }
 {
@@ -143,7 +143,7 @@ fn scan(name: &[u8]) -> Result<Faults, u8>
     Ok(seen)
 }
 
-/// The first of the rules for partial names that the name breaks.
+/// The first of the rules for partial names that the name breaks (`git check-ref-format`).
 #[tactic(auto, unfolding(crate::specs::NameGrammar::partial_error))]
 pub fn broken_partial_rule(name: &[u8]) -> Option<Error>
     ensures { result ≡ partial_error name.now }
@@ -181,7 +181,7 @@ pub fn broken_partial_rule(name: &[u8]) -> Option<Error>
     }
 }
 
-/// The first of the rules for full names that the name breaks.
+/// The first of the rules for full names that the name breaks (`git check-ref-format`).
 #[tactic(auto, unfolding(crate::specs::NameGrammar::full_error))]
 pub fn broken_full_rule(name: &[u8]) -> Option<Error>
     ensures value { result ≡ full_error name.now }

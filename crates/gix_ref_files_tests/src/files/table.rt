@@ -1,4 +1,4 @@
-//! What each call answers on a file, on a folder, on nothing, and below a file. The caller has made, in the folder `t`:
+//! What each call returns on a file, on a folder, on nothing, and below a file. The caller has made, in the folder `t`:
 //! the file `file` with the bytes `abc`, the folder `full` with the empty file `x`, and the folder `empty`.
 //!
 //! Each function makes one call, in a loop over its rows, and has no clause, so that its caller carries none of what the
@@ -10,7 +10,7 @@ use std::io::ErrorKind;
 use std::process::Abort;
 use std::test::Fail;
 
-/// A path, what a call answers there, and what is there.
+/// A path, what a call returns there, and what is there.
 type Row<T> = (&'static [u8], T, &'static str);
 
 const NO_FOLDER: FileError = FileError::Device(ErrorKind::NotFound);
@@ -130,7 +130,7 @@ fn append_bytes<F: Files>(rt: &impl Abort, files: &mut F) {
     }
 }
 
-/// From where, to where, and the answer; `None` for a fault of the device. They leave `abcde` at `t/new`.
+/// From where, to where, and the result; `None` for a fault of the device. They leave `abcde` at `t/new`.
 const RENAMED: [(&[u8], &[u8], Option<Rename>, &str); 7] = [
     (
         b"t/file",

@@ -38,7 +38,7 @@ fn first_by_one(text: &[u8], start: usize, byte: u8) -> Option<usize>
     None
 }
 
-/// The place of the first such byte, or `None` where the text has none.
+/// The place of the first such byte, or `None` where the text has none (`memchr::memchr`).
 #[inline(always)]
 pub fn first_place(text: &[u8], byte: u8) -> Option<usize>
     ensures { IsFirstByte (is_byte byte) text.now result }
@@ -122,7 +122,7 @@ fn last_by_one(text: &[u8], end: usize, byte: u8) -> Option<usize>
     None
 }
 
-/// The place of the last such byte, or `None` where the text has none.
+/// The place of the last such byte, or `None` where the text has none (`memchr::memrchr`).
 #[inline(always)]
 pub fn last_place(text: &[u8], byte: u8) -> Option<usize>
     ensures { IsLastByte (is_byte byte) text.now result }

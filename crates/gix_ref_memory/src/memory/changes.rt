@@ -1,4 +1,4 @@
-//! What was changed, the oldest first, and what stands at a path after all of it.
+//! What was changed, the oldest first, and what is at a path after all of it.
 ghost use Rattle.std.specs.Prelude.{◌≡◌, Some};
 ghost use Rattle.gix_ref_files.specs.Tree.{no_tree, has_folders, is_blocked, is_file, is_folder};
 ghost use Rattle.gix_ref_memory.specs.Changes.{found_content, content_of, place_of, after};
@@ -13,7 +13,7 @@ pub enum Stored {
 /// A change of the tree.
 #[derive(Debug, Drop)]
 pub enum Change {
-    /// This stands at a path from now on, or nothing does.
+    /// This is at a path from now on, or nothing is.
     Put {
         path: Vec<u8>,
         stored: Option<Stored>,
@@ -24,7 +24,7 @@ pub enum Change {
         whole: Vec<u8>,
         had: usize,
     },
-    /// A file with these bytes is no more at one path, and stands at another.
+    /// A file with these bytes is no longer at one path, but at another.
     Move {
         from: Vec<u8>,
         to: Vec<u8>,
@@ -32,7 +32,7 @@ pub enum Change {
     },
 }
 
-/// What stands at a path.
+/// What is at a path.
 #[derive(Clone, Copy, Debug)]
 pub enum Stands<'a> {
     FileOf(&'a [u8]),
@@ -61,7 +61,7 @@ fn stored_stands(stored: &Option<Stored>) -> Option<Stands<'_>>
     }
 }
 
-/// What stands at a path after the changes.
+/// What is at a path after the changes.
 pub fn find<'a>(changes: &'a [Change], path: &[u8]) -> Option<Stands<'a>>
     ensures { found_content result ≡ after changes.now no_tree path.now }
 {
@@ -105,7 +105,7 @@ pub fn place(change: &Change) -> &[u8]
     }
 }
 
-/// A file stands at a path.
+/// Whether a file is at a path.
 pub fn is_file_at(changes: &[Change], path: &[u8]) -> bool
     ensures { result ≡ is_file (after changes.now no_tree path.now) }
 {
@@ -115,7 +115,7 @@ pub fn is_file_at(changes: &[Change], path: &[u8]) -> bool
     }
 }
 
-/// A folder stands at a path.
+/// Whether a folder is at a path.
 pub fn is_folder_at(changes: &[Change], path: &[u8]) -> bool
     ensures { result ≡ is_folder (after changes.now no_tree path.now) }
 {
@@ -125,7 +125,7 @@ pub fn is_folder_at(changes: &[Change], path: &[u8]) -> bool
     }
 }
 
-/// A file stands in the path.
+/// Whether a file is in the path.
 pub fn is_below_file(changes: &[Change], path: &[u8]) -> bool
     ensures { result ≡ is_blocked (after changes.now no_tree) path.now }
 {
@@ -137,7 +137,7 @@ pub fn is_below_file(changes: &[Change], path: &[u8]) -> bool
     false
 }
 
-/// Folders stand at all proper fronts of a path.
+/// Whether folders are at all proper fronts of a path.
 pub fn stands_in_folders(changes: &[Change], path: &[u8]) -> bool
     ensures { result ≡ has_folders (after changes.now no_tree) path.now }
 {

@@ -45,7 +45,7 @@ pub fn append_now(
     }
 }
 
-/// Adds the first so many of these bytes to a file, if one stands there.
+/// Adds at most the first `most` of these bytes to a file, if there is one.
 pub fn append_some(
     alloc: Global,
     changes: &mut Vec<Change>,
@@ -64,7 +64,7 @@ pub fn append_some(
     Ok(())
 }
 
-/// Moves a file; none where the tree leaves no answer.
+/// Moves a file; `None` where the tree allows no result.
 pub fn rename_now(
     alloc: Global,
     changes: &mut Vec<Change>,
@@ -198,7 +198,7 @@ fn place_file(
     Ok(())
 }
 
-/// Puts a file with these bytes at a path, and folders at its fronts; false where a folder stands at the path or a
+/// Puts a file with these bytes at a path, and folders at its fronts; false where a folder is at the path or a
 /// file in it.
 pub fn put_now(
     alloc: Global,

@@ -10,7 +10,7 @@ ghost use Rattle.gix_ref_memory.specs.Changes.{after, meaning_after, MakingFront
 use super::changes::{Change, Stored, is_below_file, is_file_at, is_folder_at};
 use std::alloc::{AllocError, Global};
 
-/// Makes a folder, where it does not stand.
+/// Makes a folder, if it does not exist.
 fn make_folder(alloc: Global, changes: &mut Vec<Change>, path: &[u8]) -> Result<(), AllocError>
     ensures made { OnOk result (after changes.new.items no_tree
         ≡ put (tree_after changes.old) path.now
@@ -65,7 +65,7 @@ pub fn make_fronts(
     Ok(())
 }
 
-/// A file stands at a path or in it.
+/// Whether a file is at a path or in it.
 fn stands_in_the_way(changes: &[Change], path: &[u8]) -> bool
     ensures { result ≡ is_in_the_way (after changes.now no_tree) path.now }
 {

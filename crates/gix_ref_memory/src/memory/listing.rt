@@ -1,4 +1,4 @@
-//! What stands in a folder in memory.
+//! What a folder in memory contains.
 ghost use Rattle.std.specs.Prelude.{◌≡◌, ◌∷◌, ◌++◌, List, ℕ, None, true, false, bytes_eq, IfOk, OnOk, IsSome, MatchOption};
 ghost use Rattle.std.specs.List.{list_any};
 ghost use Rattle.gix_ref_files.specs.Tree.{no_tree};
@@ -35,7 +35,7 @@ fn child<'a>(folder: &[u8], path: &'a [u8]) -> Option<&'a [u8]>
     }
 }
 
-/// Something stands below a path.
+/// Whether something is below a path.
 pub fn has_below(changes: &[Change], path: &[u8]) -> bool
     ensures some { result ≡ true → (rest : List ℕ)
         × IsSome (after changes.now no_tree (path.now ++ 47 ∷ rest)) }

@@ -11,9 +11,9 @@ use gix_ref_hash::hash::{ObjectId, id_of_digits};
 pub struct Reference<'a> {
     /// The full name.
     pub name: FullNameRef<'a>,
-    /// The hex digits of the id, as spelled.
+    /// The hex digits of the id, as written.
     pub target: &'a [u8],
-    /// The hex digits of the object that a tag ends at, as spelled, if the record has it.
+    /// The hex digits of the object that a tag ends at, as written, if the record has it.
     pub object: Option<&'a [u8]>,
     pub ghost target_reads: { is_id_text target.now ≡ true },
     pub ghost object_reads: { is_id_if_any object ≡ true },

@@ -1,4 +1,4 @@
-//! The file store: where it stands, and its options.
+//! The file store: its folders, and its options.
 ghost use Rattle.std.specs.Prelude.{◌≡◌};
 ghost use Rattle.gix_ref_lookup.specs.CleanPaths.{are_clean};
 
@@ -172,7 +172,7 @@ impl<F> Store<F> {
         files
     }
 
-    /// The git folder: where this worktree keeps what it has of its own.
+    /// The git folder, with the files that belong to this worktree alone (`git rev-parse --git-dir`).
     pub fn git_dir(&self) -> &[u8]
         ensures { result.now ≡ (folders self.now).git }
     {
@@ -190,13 +190,14 @@ impl<F> Store<F> {
     }
 
     /// The common folder of all worktrees: the one that was given, else the git folder.
+    /// (`git rev-parse --git-common-dir`)
     pub fn common_dir_resolved(&self) -> &[u8]
         ensures { result.now ≡ (folders self.now).common }
     {
         self.dirs.common()
     }
 
-    /// The path of `packed-refs`. The error says that there was no memory for it.
+    /// The path of `packed-refs` (`git pack-refs`). The error says that there was no memory for it.
     pub fn packed_refs_path(&self, alloc: Global) -> Result<Vec<u8>, AllocError>
         ensures { IfOk result (λ path. path.items ≡ packed_refs (folders self.now)) }
     {

@@ -73,7 +73,7 @@ pub struct Prepared<'s, F: Files, P = Plan> {
 #[derive(Debug, Drop, Error)]
 #[error("the transaction was refused: {error}")]
 pub struct Refused {
-    /// The first cause that stands against it.
+    /// The first cause that applies.
     pub error: prepare::Error,
     /// As it was given.
     pub packed_refs: PackedRefs,
@@ -140,10 +140,11 @@ impl<'s, F: Files> Transaction<'s, F> {
     ghost use Rattle.gix_ref_store.specs.contracts.file.store.Store.{the_row};
     ghost use Rattle.gix_ref_store.specs.PreparedFields.{prepared_edits, prepared_mode, prepared_paths};
 
-    /// Looks at the edits, and takes their locks with their whole texts. For now the list is one update of an object or a
-    /// symbolic target that follows no symbolic reference, and no log line is written.
+    /// Checks the edits, and takes their locks with their whole texts (`prepare` of `git update-ref --stdin`). For now
+    /// the list is one update of an object or a symbolic target that follows no symbolic reference, and no log line is
+    /// written.
     ///
-    /// `Refused` tells the first cause that stands, in the order of `prepare::Error`; then all is as before but for
+    /// `Refused` has the first cause that applies, in the order of `prepare::Error`; then all is as before but for
     /// the locks that it names, and folders on the way to locks. Reads one file, and makes one.
     pub fn prepare(self, alloc: Global, edits: Vec<RefEdit>) -> Result<Prepared<'s, F>, Refused>
         requires { IsOneUpdate edits.items }
@@ -188,7 +189,7 @@ impl<'s, F: Files> Transaction<'s, F> {
 
 impl<F: Files> Transaction<'_, F> {
     /// Gives the transaction up before it was prepared: nothing was done, and nothing is. The allocator is for the empty
-    /// lists of the answer, which take no memory.
+    /// lists of the result, which take no memory.
     pub fn rollback(self, alloc: Global) -> RolledBack
         ensures same { self.exit.0.now ≡ self.entry.store.now }
         ensures edits { result.edits.items ≡ [] }
@@ -215,9 +216,10 @@ impl<F: Files> Prepared<'_, F> {
 
     /// Renames the lock of each reference that changes to its place, in the order of the edits, and removes the other locks.
     /// At every stop on the way each reference reads as before or as edited. Takes no memory; costs one rename for a
-    /// reference that changes, and one removal for one that has its new object already.
+    /// reference that changes, and one removal for one that has its new object already. (`commit` of
+    /// `git update-ref --stdin`)
     ///
-    /// `LockCommit` where a rename failed, `FolderInPlace` where a folder stands at the place of a reference. The edits
+    /// `LockCommit` where a rename failed, `FolderInPlace` where a folder is at the place of a reference. The edits
     /// before that one are done then, and the locks are removed but for those that are named. No log line is written yet,
     /// so the store must write none, and the committer is not looked at. The allocator is for an empty list.
     pub fn commit(self, alloc: Global, _committer: Option<SignatureRef<'_>>) -> Result<Done, Failed>
@@ -261,7 +263,7 @@ impl<F: Files> Prepared<'_, F> {
     }
 
     /// Gives the transaction up: removes its locks, and hands the edits back as they were prepared. A lock that could not
-    /// be removed is named. Takes no memory.
+    /// be removed is named. Takes no memory. (`abort` of `git update-ref --stdin`)
     pub fn rollback(self) -> RolledBack
         ensures rolled { RollsBackFrom F.honest F.means F.faults self.entry.store.now
             self.exit.0.now (lock_paths (prepared_paths self.entry.plan))

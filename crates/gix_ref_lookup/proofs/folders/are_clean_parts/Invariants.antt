@@ -4,7 +4,7 @@ use Rattle.gix_ref_hash.specs.Bytes.{components}
 use Rattle.gix_ref_lookup.specs.CleanPaths.{is_clean_component}
 use Rattle.gix_ref_lookup.proofs.folders.are_clean_parts.Given as goal
 
--- what the rest tells is what all tell
+-- the rest gives the result of all
 abbrev pub invariant-loop-part : goal.invariant-loop-part
 invariant-loop-part l = list_all is_clean_component (components l.rest) ≡ list_all is_clean_component (components l.initial.rest)
 

@@ -1,11 +1,11 @@
-//! What a transaction stands on beside its files: the folders of the store, its namespace and the kind of its ids.
+//! What a transaction uses besides its files: the folders of the store, its namespace and the kind of its ids.
 ghost use Rattle.std.specs.Prelude.{◌≡◌, IfOk};
 
 use gix_ref_base::namespace::Namespace;
 use gix_ref_hash::hash::Kind;
 use gix_ref_lookup::folders::Dirs;
 
-/// Where the names of a store stand.
+/// Where the references of a store are, and the kind of its ids.
 #[derive(Clone, Copy, Debug)]
 pub(crate) struct Setting<'a> {
     pub(crate) dirs: &'a Dirs,

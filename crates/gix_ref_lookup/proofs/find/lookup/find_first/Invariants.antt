@@ -11,7 +11,7 @@ use Rattle.gix_ref_lookup.specs.Lookups.{meaning_in, packed_refs_in, AreAsked, A
 use Rattle.gix_ref_lookup.specs.declared.find.error.Error.{Error}
 use Rattle.gix_ref_lookup.proofs.find.lookup.find_first.Given as goal
 
--- the candidates that were seen are passed, and what the rest answers is what all answer
+-- the candidates that were seen are passed, and the rest gives the result of all
 abbrev pub invariant-loop-front : goal.invariant-loop-front
 invariant-loop-front g l =
     let settings = l.settings in

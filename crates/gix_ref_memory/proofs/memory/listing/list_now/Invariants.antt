@@ -4,7 +4,7 @@ use Rattle.gix_ref_memory.specs.Listing.{ListsSome}
 use Rattle.gix_ref_memory.proofs.ListingLemmas.{Remains}
 use Rattle.gix_ref_memory.proofs.memory.listing.list_now.Given as goal
 
--- what stands in the folder is listed, or a later change puts it there
+-- what is in the folder is listed, or a later change puts it there
 abbrev pub invariant-loop-change : goal.invariant-loop-change
 invariant-loop-change l = record {
   some : ListsSome (after l.changes no_tree) l.folder l.entries.items;

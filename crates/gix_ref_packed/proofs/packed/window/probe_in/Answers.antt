@@ -10,7 +10,7 @@ use Rattle.gix_ref_packed.specs.Positions.{NameAt, Compares}
 use Rattle.gix_ref_packed.proofs.WindowLemmas.{part_is, whole_part, same_line_in}
 use Rattle.gix_ref_packed.proofs.packed.window.probe_in.Goals as goal
 
--- the order of the name that stands there, if one does
+-- the order of the name there, if there is one
 ordered : (kind : Kind) (text wanted : List ℕ) (name : Option (Bor (List ℕ))) → MatchOption name ((n : List ℕ) → n ≢ [] → NameAt kind text n → ⊥) (λ n. (n.now ≢ []) × NameAt kind text n.now) → Compares kind text wanted (option_map (λ n. slice_cmp nat_cmp n.now wanted) name)
 ordered kind text wanted None none = none
 ordered kind text wanted (Some n) at = (n.now, at.1, refl, at.0)

@@ -3,7 +3,7 @@ use gix_ref_base::name::FullName;
 use gix_ref_files::files::FileError;
 use thiserror::Error;
 
-/// Why a commit ended. The edits before the one that is told are done.
+/// Why a commit ended. The edits before the one that is named are done.
 #[derive(Debug, Drop, Error)]
 pub enum Error {
     /// A call of files failed where the lock of the reference was renamed to its place. The reference reads as before or
@@ -13,7 +13,7 @@ pub enum Error {
         source: FileError,
         full_name: FullName,
     },
-    /// A folder stands where the loose file of a reference goes.
+    /// A folder is where the loose file of a reference goes.
     #[error("a folder stands in the place of a reference")]
     FolderInPlace {
         path: Vec<u8>,

@@ -1,4 +1,4 @@
-//! What a commit tells of renames that ended early.
+//! What a commit reports of renames that ended early.
 ghost use Rattle.std.specs.Prelude.{◌≡◌, ◌<◌, vec_len};
 ghost use Rattle.gix_ref_store.specs.CommitRenames.{place_at};
 ghost use Rattle.gix_ref_store.specs.CommitResult.{SaysWhy};

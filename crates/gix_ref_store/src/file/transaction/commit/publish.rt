@@ -18,11 +18,11 @@ use gix_ref_files::files::{FileError, Files, Rename};
 pub(crate) struct Unpublished {
     /// The place of the edit in the list, from 0. Those before it are done, and none after it was begun.
     pub(crate) at: usize,
-    /// The fault; none where a folder stands at the place of the reference.
+    /// The fault; `None` where a folder is at the place of the reference.
     pub(crate) source: Option<FileError>,
 }
 
-/// Whether the reference has the new object already, as a prepared edit tells by what it expects.
+/// Whether the reference has the new object already, by what a prepared edit expects.
 fn has_already(expected: &PreviousValue, new: &Target) -> bool
     ensures { result ≡ is_found (matched expected.now) (target_value new.now) }
 {
@@ -44,7 +44,7 @@ pub(crate) fn writes(change: &Change) -> bool
 }
 
 /// Renames the lock of an edit to its place, if its reference is written. An error without a fault says that a folder
-/// stands there.
+/// is there.
 fn publish_edit<F: Files>(
     files: &mut F,
     edit: &RefEdit,

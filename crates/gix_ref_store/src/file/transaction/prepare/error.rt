@@ -5,8 +5,8 @@ use gix_ref_files::files::FileError;
 use std::alloc::AllocError;
 use thiserror::Error;
 
-/// The causes of a refusal, in the order in which they are told: the first three of each edit by itself, before any lock
-/// is taken; the others edit by edit. `Io` and `Memory` can come anywhere.
+/// The causes of a refusal, in the order in which `prepare` reports them: the first three of each edit by itself,
+/// before it takes any lock; the others edit by edit. `Io` and `Memory` can come anywhere.
 #[derive(Debug, Drop, Error)]
 pub enum Error {
     /// The name of an edit neither begins with `refs/` nor has a category, so it may lie where Git keeps something else.
@@ -18,12 +18,12 @@ pub enum Error {
     /// An id of an edit, new or expected, is not of the store's kind.
     #[error("an id of an edit is of another kind than those of the store")]
     OtherHashKind,
-    /// A file stands in the path of the edit's lock.
+    /// A file is in the path of the edit's lock.
     #[error("a file stands in the path of the lock of {full_name}")]
     PathCollision {
         full_name: FullName,
     },
-    /// Something stands at the path of the edit's lock.
+    /// Something is at the path of the edit's lock already.
     #[error("the lock of {full_name} stands already")]
     LockAcquire {
         full_name: FullName,

@@ -60,7 +60,7 @@ pub(crate) fn paths_of_edits(
     Ok(paths)
 }
 
-/// The refusal of an edit whose lock stands already.
+/// The refusal of an edit whose lock exists already.
 fn standing(edit: &RefEdit) -> Error
     ensures told { (T : Tree) (lock : Path) → IsSome (T lock) →
         IsRefusedLock T (name_of edit.now) lock result }
@@ -188,7 +188,7 @@ fn fill<F: Files>(files: &mut F, lock: &[u8], text: &[u8]) -> Result<(), Error>
     Ok(())
 }
 
-/// Holds what is found against what the edit expects, and gives its lock, which stands empty, its text.
+/// Compares what is found with what the edit expects, and writes the text into its lock, which is empty.
 pub(crate) fn settle<F: Files>(
     alloc: Global,
     files: &mut F,

@@ -3,7 +3,7 @@ use Rattle.gix_ref_store.specs.Causes.{AllValid, IsFirstInvalid}
 use Rattle.gix_ref_store.specs.declared.file.transaction.prepare.error.Error.{Error}
 use Rattle.gix_ref_store.proofs.file.transaction.prepare.check.check_edits.Given as goal
 
--- what the rest of the edits tell is what all tell
+-- the rest of the edits gives the result of all
 abbrev pub invariant-loop-edit : goal.invariant-loop-edit
 invariant-loop-edit l = record {
   fault : (error : Error) → IsFirstInvalid l.kind (take l.edit-index l.edits) (drop l.edit-index l.edits) error → IsFirstInvalid l.kind [] l.edits error;

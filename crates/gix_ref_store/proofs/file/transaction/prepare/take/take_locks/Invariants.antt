@@ -7,7 +7,7 @@ use Rattle.gix_ref_store.specs.PrepareSteps.{setting_of, value_of, HoldTexts, ol
 use Rattle.gix_ref_store.specs.declared.file.transaction.prepare.error.Error.{Error}
 use Rattle.gix_ref_store.proofs.file.transaction.prepare.take.take_locks.Given as goal
 
--- the locks of the edits that were seen are taken, and what the rest tells is what all tell
+-- the locks of the edits that were seen are taken, and the rest gives the result of all
 abbrev pub invariant-loop-i : goal.invariant-loop-i
 invariant-loop-i g l =
     let means = g.F.Files.means in
