@@ -50,6 +50,14 @@ impl Settings<'_> {
         layout_in(self.dirs, self.namespace).loose(alloc, name)
     }
 
+    /// The path of the log of a name. The error reports that there was no memory for it.
+    pub fn log(self, alloc: Global, name: FullNameRef<'_>) -> Result<Vec<u8>, AllocError>
+        ensures { IfOk result (λ path.
+            path.items ≡ (meaning_in self.entry).log (full_ref_bytes name.entry)) }
+    {
+        layout_in(self.dirs, self.namespace).log(alloc, name)
+    }
+
     /// The name of the record of a name in `packed-refs`; `None` where each worktree has its own reference. The error
     /// reports that there was no memory for it.
     pub fn packed_key(

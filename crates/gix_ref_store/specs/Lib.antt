@@ -9,4 +9,5 @@ pub mod OwnLocks
 pub mod PrepareSteps
 pub mod Prepared
 pub mod PreparedFields
+pub mod Reflogs
 pub mod Store
