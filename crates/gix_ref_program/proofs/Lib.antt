@@ -1,4 +1,6 @@
 pub mod LockLines
+pub mod Printing
 pub mod RunLemmas
 pub mod Updating
 pub mod WordLemmas
+pub mod LogLemmas

@@ -12,7 +12,7 @@ use Rattle.gix_ref_edits.specs.declared.transaction.RefEdit.{RefEdit}
 use Rattle.gix_ref_program.specs.Updates.{IsStopOf}
 use Rattle.gix_ref_program.specs.Words.{Update, Line}
 use Rattle.gix_ref_files.specs.declared.files.ReadAt.{Ghosts}
-use Rattle.gix_ref_program.specs.Runs.{IsAskedFor, IsOpened, EditOutcome, UpdateOutcome, CommandOutcome, LineOutcome, IsStop, IsStopIn}
+use Rattle.gix_ref_program.specs.Runs.{IsAskedFor, IsOpened, EditOutcome, UpdateOutcome, Ran, CommandRan, LineRan, IsStop, IsStopIn}
 use Rattle.gix_ref_program.specs.declared.outcome.Outcome.{Outcome}
 use Rattle.gix_ref_program.specs.declared.outcome.Outcome.TheVariants as outcomes
 use Rattle.gix_ref_program.specs.declared.refusal.Refusal.TheVariants as refusals
@@ -29,6 +29,7 @@ module _ {F : Type 0} (honest : Type 0) (means : F → Meaning) (faults : F → 
   update_comes old new kind name id before edit (outcomes.Refused refusals.PathNotClean locks) asked comes = absurd comes
   update_comes old new kind name id before edit (outcomes.Refused (refusals.Name error) locks) asked comes = absurd comes
   update_comes old new kind name id before edit (outcomes.Refused (refusals.Find error) locks) asked comes = absurd comes
+  update_comes old new kind name id before edit (outcomes.Refused (refusals.Log error) locks) asked comes = absurd comes
   update_comes old new kind name id before edit (outcomes.Refused refusals.NotFound locks) asked comes = absurd comes
   update_comes old new kind name id before edit outcomes.WrongWords asked comes = absurd comes
   update_comes old new kind name id before edit (outcomes.Shown reference) asked comes = absurd comes
@@ -38,9 +39,9 @@ module _ {F : Type 0} (honest : Type 0) (means : F → Meaning) (faults : F → 
       Leaves (means (files_of old)) (means (files_of new)) (IsStop honest means faults old kind (Update name id before))
   update_stops old new kind name id before edit asked leaves = weaken leaves (λ T stop. ⊎_elim (λ same. inl same) (λ s. inr (edit, asked, s)) stop)
 
-  pub line_comes : {R : Type 0} (G : Ghosts R) (files after : F) (line : Line) (old new : Store F) (outcome : Outcome) → IsOpened files line old → files_of new ≡ after →
-      CommandOutcome honest means faults G old new line.kind line.asked outcome → LineOutcome honest means faults G files after line outcome
-  line_comes G files after line old new outcome opened same comes = inl (old, new, opened, same, comes)
+  pub line_comes : {R : Type 0} (G : Ghosts R) (files after : F) (line : Line) (old new : Store F) (ran : Ran) → IsOpened files line old → files_of new ≡ after →
+      CommandRan honest means faults G old new line.kind line.asked ran → LineRan honest means faults G files after line ran
+  line_comes G files after line old new ran opened same comes = inl (old, new, opened, same, comes)
 
   pub line_stops : (files after : F) (line : Line) (old new : Store F) → IsOpened files line old → files_of new ≡ after →
       Leaves (means (files_of old)) (means (files_of new)) (IsStop honest means faults old line.kind line.asked) → Leaves (means files) (means after) (IsStopIn honest means faults files line)

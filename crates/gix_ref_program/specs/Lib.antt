@@ -2,3 +2,4 @@ pub mod Outcomes
 pub mod Runs
 pub mod Updates
 pub mod Words
+pub mod LogPrinting

@@ -15,6 +15,8 @@ use Rattle.gix_ref_store.specs.declared.file.transaction.commit.error.Error as c
 use Rattle.gix_ref_store.specs.declared.file.transaction.commit.error.Error.TheVariants as commit
 use Rattle.gix_ref_lookup.specs.declared.find.error.Error as finds
 use Rattle.gix_ref_lookup.specs.declared.find.error.Error.TheVariants as find
+use Rattle.gix_ref_reflog.specs.declared.error.Error as logs
+use Rattle.gix_ref_reflog.specs.declared.error.Error.TheVariants as log
 use Rattle.gix_ref_program.specs.declared.update.UpdateError.TheVariants as error
 use Rattle.gix_ref_program.specs.declared.refusal.Refusal.{Refusal}
 use Rattle.gix_ref_program.specs.declared.refusal.Refusal.TheVariants as refusals
@@ -63,12 +65,20 @@ find_word (find.PackedRef error) = codes "PackedRef"
 find_word (find.PackedOpen error) = codes "PackedOpen"
 find_word find.Memory = codes "Memory"
 
+abbrev pub log_word : logs.Error → List ℕ
+log_word (log.RefnameValidation error) = codes "RefnameValidation"
+log_word (log.Io error) = codes "Io"
+log_word log.DeviceName = codes "DeviceName"
+log_word log.EmptyBuffer = codes "EmptyBuffer"
+log_word log.Memory = codes "Memory"
+
 abbrev pub word_of : Refusal → List ℕ
 word_of refusals.PathNotClean = codes "PathNotClean"
 word_of (refusals.Name error) = name_word error
 word_of (refusals.Update (error.Prepare error)) = prepare_word error
 word_of (refusals.Update (error.Commit error)) = commit_word error
 word_of (refusals.Find error) = find_word error
+word_of (refusals.Log error) = log_word error
 word_of refusals.NotFound = codes "NotFound"
 word_of refusals.Memory = codes "Memory"
 

@@ -1,5 +1,5 @@
 -- The outcome of a run of the program.
-use Rattle.std.specs.Prelude.{◌≡◌, ◌⊎◌, ℕ, List, [], ◌∷◌, true, false, codes, Option, Some, None, Result, IfOk}
+use Rattle.std.specs.Prelude.{◌≡◌, ◌⊎◌, ℕ, List, [], ◌∷◌, Bool, true, false, codes, Option, Some, None, Result, IfOk}
 use Rattle.std.specs.Io.KnownBytes.{Appends}
 use Rattle.gix_ref_hash.specs.Ids.{null_id}
 use Rattle.gix_ref_base.specs.NameGrammar.{full_error, partial_error}
@@ -19,6 +19,10 @@ use Rattle.gix_ref_lookup.specs.declared.find.records.Records.TheVariants.{Unope
 use Rattle.gix_ref_store.specs.Lookup.{AreRecordsIn, FindsAmong, HitsIn, FailsIn}
 use Rattle.gix_ref_store.specs.Prepared.{tree_of}
 use Rattle.gix_ref_store.specs.Store.{files_of, folders, kind_of, loose_meaning_of}
+use Rattle.gix_ref_store.specs.Reflogs.{reflog_at, IsNoReflog}
+use Rattle.gix_ref_log.specs.LogItems.{EndsAtError}
+use Rattle.gix_ref_log.specs.declared.log.line.Line.{Line as LogLine}
+use Rattle.gix_ref_log.specs.declared.log.iter.error.ReverseError.{ReverseError}
 use Rattle.gix_ref_edits.specs.RefEdits.{name_of, new_of, mode_of, is_forced, message_of, expected_of, matched}
 use Rattle.gix_ref_store.specs.declared.file.store.Store.{Store}
 use Rattle.gix_ref_store.specs.declared.store.WriteReflog.TheVariants.{Disable}
@@ -28,7 +32,8 @@ use Rattle.gix_ref_edits.specs.declared.transaction.RefEdit.{RefEdit}
 use Rattle.gix_ref_edits.specs.declared.transaction.RefLog.TheVariants.{AndReference}
 use Rattle.gix_ref_program.specs.Outcomes.{printed, status_of}
 use Rattle.gix_ref_program.specs.Updates.{IsUpdateError, AreNamed, IsStopOf}
-use Rattle.gix_ref_program.specs.Words.{Asked, Update, Show, Line, IsLine}
+use Rattle.gix_ref_program.specs.LogPrinting.{log_text, log_status, AreItemsOf}
+use Rattle.gix_ref_program.specs.Words.{Asked, Update, Show, Log, Line, IsLine}
 use Rattle.gix_ref_program.specs.declared.outcome.Outcome.{Outcome}
 use Rattle.gix_ref_program.specs.declared.outcome.Outcome.TheVariants as outcomes
 use Rattle.gix_ref_program.specs.declared.refusal.Refusal.{Refusal}
@@ -67,6 +72,32 @@ abbrev pub NoNamespace : Option (List ℕ) → Refusal → Type 0
 NoNamespace (Some name) (refusals.Name error) = partial_error name ≡ Some error
 NoNamespace name refusals.Memory = Unit {0}
 NoNamespace name refusal = ⊥
+
+-- What a line comes to: an outcome, which is printed as a whole; or the items of a reflog, each printed as it comes, all
+-- where `whole` says so.
+pub data Ran : Type 0 where
+  Said : Outcome → Ran
+  Logged : (whole : Bool) (items : List (Result LogLine ReverseError)) → Ran
+
+-- what is printed of it, and the status
+abbrev pub text_of : Ran → List ℕ
+text_of (Said outcome) = printed outcome
+text_of (Logged whole items) = log_text items
+
+abbrev pub status_after : Ran → ℕ
+status_after (Said outcome) = status_of outcome
+status_after (Logged whole items) = log_status items
+
+-- it went on to the end
+abbrev pub IsWhole : Ran → Type 0
+IsWhole (Said outcome) = Unit {0}
+IsWhole (Logged whole items) = whole ≡ true
+
+-- What was done, and what is printed of it unless the writer fails: all of it, and its status.
+pub record Prints {E : Type 0} (Does : Ran → Type 0) (out now : Option (List ℕ)) (status : Result ℕ E) : Type 0 where
+  pub ran : Ran
+  pub does : Does ran
+  pub prints : IfOk status (λ s. IsWhole ran × (s ≡ status_after ran) × Appends out now (text_of ran))
 
 -- why there is no edit
 abbrev pub NoEdit : List ℕ → Refusal → Type 0
@@ -111,6 +142,18 @@ module _ {F : Type 0} where
     pub quiet : store.write_reflog ≡ Disable
     pub plain : IsPlain store
 
+  -- A reflog is refused: it is not read, or its name breaks a rule.
+  abbrev pub LogOutcome : (old new : Store F) → (name : List ℕ) → Outcome → Type 0
+  LogOutcome old new name (outcomes.Refused (refusals.Log error) locks) = IsNoReflog old name error × (locks.items ≡ [])
+  LogOutcome old new name (outcomes.Refused (refusals.Name error) locks) = (full_error name ≡ Some error) × (new ≡ old) × (locks.items ≡ [])
+  LogOutcome old new name outcome = ⊥
+
+  -- A reflog: it is refused; or its items are printed, newest first.
+  abbrev pub LogRan : (honest : Type 0) (means : F → Meaning) → (old new : Store F) → (name : List ℕ) → Ran → Type 0
+  LogRan honest means old new name (Said outcome) = LogOutcome old new name outcome
+  LogRan honest means old new name (Logged whole items) =
+      (full_error name ≡ None) × (honest → AreItemsOf (reflog_at means old name) whole items) × EndsAtError items
+
   module _ (honest : Type 0) (means : F → Meaning) (faults : F → ℕ) where
     -- An edit: it is committed, but for locks that stay; or it was not made, and locks may stay; or there was no memory for it.
     abbrev pub EditOutcome : (old new : Store F) → RefEdit → Outcome → Type 0
@@ -143,9 +186,11 @@ module _ {F : Type 0} where
     ShowOutcome G old new name (outcomes.Refused (refusals.Name error) locks) = (partial_error name ≡ Some error) × (new ≡ old) × (locks.items ≡ [])
     ShowOutcome G old new name outcome = ⊥
 
-    abbrev pub CommandOutcome : {R : Type 0} (G : Ghosts R) → (old new : Store F) → Kind → Asked → Outcome → Type 0
-    CommandOutcome G old new kind (Update name id before) outcome = UpdateOutcome old new kind name id before outcome
-    CommandOutcome G old new kind (Show name) outcome = ShowOutcome G old new name outcome
+    abbrev pub CommandRan : {R : Type 0} (G : Ghosts R) → (old new : Store F) → Kind → Asked → Ran → Type 0
+    CommandRan G old new kind (Update name id before) (Said outcome) = UpdateOutcome old new kind name id before outcome
+    CommandRan G old new kind (Show name) (Said outcome) = ShowOutcome G old new name outcome
+    CommandRan G old new kind (Log name) ran = LogRan honest means old new name ran
+    CommandRan G old new kind asked ran = ⊥
 
     -- a stop in a command leaves this tree: as before; or of an update what a stop in it leaves
     abbrev pub IsStop : Store F → Kind → Asked → Tree → Type 0
@@ -153,17 +198,18 @@ module _ {F : Type 0} where
         (T ≡ tree_of means old)
         ⊎ ((edit : RefEdit) × IsAskedFor kind name id before edit × IsStopOf (loose_meaning_of old) (edit ∷ []) (tree_of means old) T)
     IsStop old kind (Show name) T = T ≡ tree_of means old
+    IsStop old kind (Log name) T = T ≡ tree_of means old
 
     -- a line that is not begun
-    abbrev pub NotBegun : Line → Outcome → Type 0
-    NotBegun line (outcomes.Refused refusal locks) = IsUnopened line refusal × (locks.items ≡ [])
-    NotBegun line outcome = ⊥
+    abbrev pub NotBegun : Line → Ran → Type 0
+    NotBegun line (Said (outcomes.Refused refusal locks)) = IsUnopened line refusal × (locks.items ≡ [])
+    NotBegun line ran = ⊥
 
-    -- the outcome of a line: it is begun in its store, or it is not, and the files are as before
-    abbrev pub LineOutcome : {R : Type 0} (G : Ghosts R) → (files after : F) → Line → Outcome → Type 0
-    LineOutcome G files after line outcome =
-        ((old : Store F) × (new : Store F) × IsOpened files line old × (files_of new ≡ after) × CommandOutcome G old new line.kind line.asked outcome)
-        ⊎ ((after ≡ files) × NotBegun line outcome)
+    -- what a line comes to: it is begun in its store, or it is not, and the files are as before
+    abbrev pub LineRan : {R : Type 0} (G : Ghosts R) → (files after : F) → Line → Ran → Type 0
+    LineRan G files after line ran =
+        ((old : Store F) × (new : Store F) × IsOpened files line old × (files_of new ≡ after) × CommandRan G old new line.kind line.asked ran)
+        ⊎ ((after ≡ files) × NotBegun line ran)
 
     -- a stop in a line leaves this tree: as before, or what a stop in its command leaves
     abbrev pub IsStopIn : F → Line → Tree → Type 0
@@ -176,11 +222,9 @@ module _ {F : Type 0} where
       pub same : after ≡ files
       pub printed : IfOk status (λ s. (s ≡ 2) × Appends out now (codes "wrong words\n"))
 
-    -- A run of a line: its outcome is printed, and gives the status; and each stop leaves what a stop in the line leaves.
+    -- A run of a line: what it comes to is printed, and gives the status; and each stop leaves what a stop in the line leaves.
     pub record RunsLine {R : Type 0} (G : Ghosts R) {E : Type 0} (files after : F) (words : List (List ℕ)) (out now : Option (List ℕ)) (status : Result ℕ E) : Type 0 where
       pub line : Line
-      pub outcome : Outcome
       pub is_line : IsLine words line
-      pub comes_to : LineOutcome G files after line outcome
-      pub printed : IfOk status (λ s. (s ≡ status_of outcome) × Appends out now (printed outcome))
+      pub prints : Prints (LineRan G files after line) out now status
       pub leaves : honest → Leaves (means files) (means after) (IsStopIn files line)

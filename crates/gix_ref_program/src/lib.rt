@@ -1,6 +1,7 @@
 //! What the program `refs` does: its words, its commands and what it prints.
 #![tactic(auto)]
 
+pub mod log;
 pub mod outcome;
 pub mod refusal;
 pub mod run;

@@ -1,10 +1,10 @@
 //! Why a command is refused, and the name that is printed of it: the variant of the error.
 ghost use Rattle.std.specs.Prelude.{◌≡◌};
-ghost use Rattle.gix_ref_program.specs.Outcomes.{name_word, prepare_word, commit_word, find_word, word_of};
+ghost use Rattle.gix_ref_program.specs.Outcomes.{name_word, prepare_word, commit_word, find_word, log_word, word_of};
 
 use crate::update::UpdateError;
 use gix_ref_base::name;
-use gix_ref_store::file::find;
+use gix_ref_store::file::{find, log};
 use gix_ref_store::file::transaction::{commit, prepare};
 
 /// Why a line is refused.
@@ -18,6 +18,8 @@ pub enum Refusal {
     Update(UpdateError),
     /// The lookup failed.
     Find(find::Error),
+    /// The log could not be read.
+    Log(log::Error),
     /// There is no such reference.
     NotFound,
     /// A growth of memory was refused.
@@ -88,6 +90,19 @@ fn find_variant(error: &find::Error) -> &'static str
     }
 }
 
+/// The variant of an error of a reflog.
+fn log_variant(error: &log::Error) -> &'static str
+    ensures { result.now ≡ log_word error.now }
+{
+    match error {
+        log::Error::RefnameValidation(_) => "RefnameValidation",
+        log::Error::Io(_) => "Io",
+        log::Error::DeviceName => "DeviceName",
+        log::Error::EmptyBuffer => "EmptyBuffer",
+        log::Error::Memory => "Memory",
+    }
+}
+
 impl Refusal {
     /// The variant of the error, as the program prints it.
     pub fn variant(&self) -> &'static str
@@ -99,6 +114,7 @@ impl Refusal {
             Refusal::Update(UpdateError::Prepare(error)) => prepare_variant(error),
             Refusal::Update(UpdateError::Commit(error)) => commit_variant(error),
             Refusal::Find(error) => find_variant(error),
+            Refusal::Log(error) => log_variant(error),
             Refusal::NotFound => "NotFound",
             Refusal::Memory => "Memory",
         }

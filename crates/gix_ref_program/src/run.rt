@@ -7,10 +7,11 @@ ghost use Rattle.gix_ref_store.specs.Prepared.{tree_of};
 ghost use Rattle.gix_ref_edits.specs.RefEdits.{new_of};
 ghost use Rattle.gix_ref_files.specs.Calls.{Unchanged};
 ghost use Rattle.gix_ref_files.specs.Files.{Leaves};
-ghost use Rattle.gix_ref_program.specs.Runs.{IsExpected, IsEditOf, NoNamespace, NoEdit, IsNoFolder, IsAt, namespace_of, IsOpened, EditOutcome, ShowOutcome, CommandOutcome, IsStop, IsUnopened, LineOutcome, IsStopIn, RunsWrong, RunsLine};
+ghost use Rattle.gix_ref_program.specs.Runs.{IsExpected, IsEditOf, NoNamespace, NoEdit, IsNoFolder, IsAt, namespace_of, IsOpened, EditOutcome, ShowOutcome, Prints, CommandRan, LogRan, IsStop, IsUnopened, LineRan, IsStopIn, RunsWrong, RunsLine};
 ghost use Rattle.gix_ref_program.specs.Updates.{IsStopOf};
 ghost use Rattle.gix_ref_program.specs.Words.{texts, line_of, asked_of};
 
+use crate::log::print_items;
 use crate::outcome::{Outcome, print};
 use crate::refusal::Refusal;
 use crate::update::{UpdateReport, update};
@@ -202,67 +203,99 @@ fn show<F: Files>(alloc: Global, store: &mut Store<F>, name: &[u8]) -> Outcome
     }
 }
 
-/// Does what a command asks for.
-fn execute<F: Files>(
+/// Prints the reflog of a reference, newest first; nothing where there is none.
+fn print_log<F: Files, W: Write>(
+    alloc: Global,
+    store: &mut Store<F>,
+    name: &[u8],
+    out: &mut W,
+) -> io::Result<u8>
+    ensures prints { Prints (LogRan F.honest F.means store.old store.new name.now)
+        (W.contents out.old) (W.contents out.new) result }
+    ensures leaves { F.honest → Leaves (F.means (files_of store.old)) (F.means (files_of store.new))
+        (Unchanged (F.means (files_of store.old)).tree) }
+{
+    let name = match FullNameRef::try_from(name) {
+        Ok(name) => name,
+        Err(error) => return print(alloc, refused(alloc, Refusal::Name(error)), out),
+    };
+    let mut buf = [0; 4096];
+    match store.reflog_iter_rev(alloc, name, &mut buf) {
+        Ok(Some(mut lines)) => print_items(alloc, &mut lines, out),
+        Ok(None) => Ok(0),
+        Err(error) => print(alloc, refused(alloc, Refusal::Log(error)), out),
+    }
+}
+
+/// Does what a command asks for, and prints it.
+fn execute<F: Files, W: Write>(
     alloc: Global,
     store: &mut Store<F>,
     packed_refs: PackedRefs,
-    kind: Kind,
-    command: &Command<'_>,
-) -> (PackedRefs, Outcome)
+    line: &Line<'_>,
+    out: &mut W,
+) -> (PackedRefs, io::Result<u8>)
     requires quiet { store.old.write_reflog ≡ WriteReflog.Disable }
     ensures packed_refs { result.0 ≡ packed_refs }
-    ensures outcome { CommandOutcome F.honest F.means F.faults F.Reader.ReadAt store.old store.new
-        kind
-        (asked_of command.now) result.1 }
+    ensures prints { Prints (CommandRan F.honest F.means F.faults F.Reader.ReadAt store.old
+        store.new line.now.object_hash (line_of line.now).asked)
+        (W.contents out.old) (W.contents out.new) result.1 }
     ensures leaves { F.honest → Leaves (F.means (files_of store.old)) (F.means (files_of store.new))
-        (IsStop F.honest F.means F.faults store.old kind (asked_of command.now)) }
+        (IsStop F.honest F.means F.faults store.old line.now.object_hash (line_of line.now).asked) }
 {
-    match command {
-        Command::Show { name } => (packed_refs, show(alloc, store, name)),
+    let kind = line.object_hash;
+    match &line.command {
+        Command::Show { name } => (packed_refs, print(alloc, show(alloc, store, name), out)),
+        Command::Log { name } => (packed_refs, print_log(alloc, store, name, out)),
         Command::Update { name, id, old } => match edit_of(alloc, name, *id, expected(*old, kind)) {
-            Ok(edit) => make_update(alloc, store, packed_refs, edit),
-            Err(refusal) => (packed_refs, refused(alloc, refusal)),
+            Ok(edit) => {
+                let (packed_refs, outcome) = make_update(alloc, store, packed_refs, edit);
+                (packed_refs, print(alloc, outcome, out))
+            }
+            Err(refusal) => (packed_refs, print(alloc, refused(alloc, refusal), out)),
         },
     }
 }
 
-/// Does what a line asks for, and hands the files back.
-fn run_line<F: Files>(
+/// Does what a line asks for, prints it, and hands the files back.
+fn run_line<F: Files, W: Write>(
     alloc: Global,
     files: F,
     packed_refs: PackedRefs,
     line: &Line<'_>,
-) -> (F, PackedRefs, Outcome)
-    ensures packed_refs { result.1 ≡ packed_refs }
-    ensures outcome { LineOutcome F.honest F.means F.faults F.Reader.ReadAt files result.0
-        (line_of line.now)
-        result.2 }
-    ensures leaves { F.honest → Leaves (F.means files) (F.means result.0)
+    out: &mut W,
+) -> RunResult<F>
+    ensures packed_refs { result.packed_refs ≡ packed_refs }
+    ensures prints { Prints (LineRan F.honest F.means F.faults F.Reader.ReadAt files result.files
+        (line_of line.now)) (W.contents out.old) (W.contents out.new) result.status }
+    ensures leaves { F.honest → Leaves (F.means files) (F.means result.files)
         (IsStopIn F.honest F.means F.faults files (line_of line.now)) }
 {
     match store_in(alloc, files, line) {
         Ok(mut store) => {
-            let (packed_refs, outcome) = execute(
-                alloc,
-                &mut store,
+            let (packed_refs, status) = execute(alloc, &mut store, packed_refs, line, out);
+            RunResult {
+                files: store.into_files(),
                 packed_refs,
-                line.object_hash,
-                &line.command,
-            );
-            (store.into_files(), packed_refs, outcome)
+                status,
+            }
         }
-        Err((files, refusal)) => (files, packed_refs, refused(alloc, refusal)),
+        Err((files, refusal)) => RunResult {
+            files,
+            packed_refs,
+            status: print(alloc, refused(alloc, refusal), out),
+        },
     }
 }
 
-/// Does what the words ask for, and prints the outcome in one write: nothing for an update that was made, a target
-/// and a name for a reference that is shown, else `refused: ` and the variant of the error, or `wrong words`; and a
-/// line for each lock that could not be removed. The status is 0, 1 for a refusal, 2 for wrong words; it is an error where
-/// the writer failed, or where there was no memory for the text. (`git update-ref`, `git show-ref`)
+/// Does what the words ask for, and prints it: nothing for an update that was made; a target and a name for a reference
+/// that is shown; for a reflog, newest first, the ids and the message of each line, or `fault: ` and the variant of the
+/// error; else `refused: ` and the variant of the error, or `wrong words`; and a line for each lock that could not be
+/// removed. The status is 0, 1 for a refusal or a fault, 2 for wrong words; it is an error where the writer failed, or where
+/// there was no memory for the text. (`git update-ref`, `git show-ref`, `git reflog show`)
 ///
 /// The words are those behind the name of the program. Costs five calls of files for an update, one for a reference that
-/// is shown.
+/// is shown. A reflog is read and written in blocks.
 pub fn run<F: Files, W: Write>(
     alloc: Global,
     files: F,
@@ -284,11 +317,5 @@ pub fn run<F: Files, W: Write>(
             status,
         };
     };
-    let (files, packed_refs, outcome) = run_line(alloc, files, packed_refs, &line);
-    let status = print(alloc, outcome, out);
-    RunResult {
-        files,
-        packed_refs,
-        status,
-    }
+    run_line(alloc, files, packed_refs, &line, out)
 }

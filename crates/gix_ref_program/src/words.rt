@@ -1,5 +1,5 @@
-//! The words of the program: `DIR [--sha256] [--namespace NAME] COMMAND`, where a command is `update NAME ID [OLD]` or
-//! `show NAME`.
+//! The words of the program: `DIR [--sha256] [--namespace NAME] COMMAND`, where a command is `update NAME ID [OLD]`,
+//! `show NAME` or `log NAME`.
 ghost use Rattle.std.specs.Prelude.{◌≡◌, ◌++◌, ℕ, List, MatchOption, Option, codes, ◌∷◌, [], false};
 ghost use Rattle.std.specs.Option.{option_map};
 ghost use Rattle.gix_ref_hash.specs.declared.hash.ObjectId.{ObjectId};
@@ -18,6 +18,10 @@ pub enum Command<'w> {
     },
     /// `show NAME`
     Show {
+        name: &'w [u8],
+    },
+    /// `log NAME`
+    Log {
         name: &'w [u8],
     },
 }
@@ -81,17 +85,15 @@ fn update_of(words: &[String]) -> Option<Command<'_>>
 }
 
 /// `NAME`.
-fn show_of(words: &[String]) -> Option<Command<'_>>
+fn name_of(words: &[String]) -> Option<&[u8]>
     ensures { MatchOption result ((name : List ℕ) → texts words.now ≡ name ∷ [] → ⊥)
-        (λ command. IsCommand (codes "show" ∷ texts words.now) (asked_of command)) }
+        (λ name. texts words.now ≡ name.now ∷ []) }
 {
     let (name, rest) = words.split_first()?;
     if !rest.is_empty() {
         return None;
     }
-    Some(Command::Show {
-        name: name.as_bytes(),
-    })
+    Some(name.as_bytes())
 }
 
 /// The command of these words.
@@ -102,7 +104,15 @@ fn command_of(words: &[String]) -> Option<Command<'_>>
     if let Some(rest) = strip_word(words, b"update") {
         return update_of(rest);
     }
-    show_of(strip_word(words, b"show")?)
+    if let Some(rest) = strip_word(words, b"log") {
+        return Some(Command::Log {
+            name: name_of(rest)?,
+        });
+    }
+    let rest = strip_word(words, b"show")?;
+    Some(Command::Show {
+        name: name_of(rest)?,
+    })
 }
 
 /// The NAME of `--namespace`, if that comes first, and the command that follows.

@@ -1,0 +1,85 @@
+-- What a run prints, put together.
+use Rattle.std.proofs.Common.{◌≡◌, ◌⊎◌, inl, inr, ℕ, List, [], Bool, true, false, Option, Some, None, Result, Ok, Err, refl, sym, subst, append-nil, ◌++◌}
+use Rattle.std.specs.Prelude.{IfOk, OnOk}
+use Rattle.std.specs.Iterator.Runs.{WholeRun}
+use Rattle.std.specs.Io.KnownBytes.{Appends}
+use Rattle.gix_ref_base.specs.NameGrammar.{full_error}
+use Rattle.gix_ref_hash.specs.declared.hash.Kind.{Kind}
+use Rattle.gix_ref_hash.specs.declared.hash.ObjectId.{ObjectId}
+use Rattle.gix_ref_files.specs.Files.{Meaning}
+use Rattle.gix_ref_files.specs.Tree.{Content, is_file, bytes_of}
+use Rattle.gix_ref_files.specs.declared.files.ReadAt.{Ghosts}
+use Rattle.gix_ref_log.specs.LogItems.{IsRun, items_from}
+use Rattle.gix_ref_log.specs.LogWindows.{NextStep}
+use Rattle.gix_ref_log.specs.declared.log.iter.backward.Reverse.{Reverse}
+use Rattle.gix_ref_reflog.specs.declared.error.Error.{Error as LogError}
+use Rattle.gix_ref_reflog.specs.declared.error.Error.TheVariants as log_errors
+use Rattle.gix_ref_store.specs.Reflogs.{reflog_at, ReadsBackward, EndsAtErrors, IsNoReverse, IsNoReflog}
+use Rattle.gix_ref_store.specs.declared.file.store.Store.{Store}
+use Rattle.gix_ref_program.specs.LogPrinting.{log_text, log_status}
+use Rattle.gix_ref_program.specs.Outcomes.{printed, status_of}
+use Rattle.gix_ref_program.specs.Runs.{Ran, Prints, LogRan, UpdateOutcome, NoEdit}
+use Rattle.gix_ref_program.specs.Runs.Ran.{Said, Logged}
+use Rattle.gix_ref_program.specs.declared.outcome.Outcome.{Outcome}
+use Rattle.gix_ref_program.specs.declared.outcome.Outcome.TheVariants as outcomes
+use Rattle.gix_ref_program.specs.declared.refusal.Refusal.{Refusal}
+use Rattle.gix_ref_program.specs.declared.refusal.Refusal.TheVariants as refusals
+use Rattle.std.specs.Prelude.{Vec}
+use Rattle.std.specs.declared.alloc.Global.{Global}
+
+-- an outcome is printed as a whole
+pub said : {E : Type 0} (Does : Ran → Type 0) (out now : Option (List ℕ)) (status : Result ℕ E) (outcome : Outcome) → Does (Said outcome) →
+    IfOk status (λ s. s ≡ status_of outcome) → OnOk status (Appends out now (printed outcome)) → Prints Does out now status
+said Does out now (Ok s) outcome does is appends = record { ran = Said outcome; does = does; prints = (_, is, appends) }
+said Does out now (Err e) outcome does is appends = record { ran = Said outcome; does = does; prints = _ }
+
+-- what is printed, where more is known of what was done
+pub prints_more : {E : Type 0} (Does More : Ran → Type 0) (out now : Option (List ℕ)) (status : Result ℕ E) → ((ran : Ran) → Does ran → More ran) → Prints Does out now status → Prints More out now status
+prints_more Does More out now status more p = record { ran = p.ran; does = more p.ran p.does; prints = p.prints }
+
+-- the items of a log are printed
+pub logged : {F R E : Type 0} (G : Ghosts R) (honest : Type 0) (means : F → Meaning) (old new : Store F) (name : List ℕ) (lines : Reverse R) (out now : Option (List ℕ)) (status : Result ℕ E) →
+    full_error name ≡ None → (honest → ReadsBackward G (reflog_at means old name) 4096 (Some lines)) → EndsAtErrors G (Some lines) →
+    IfOk status (λ s. WholeRun (NextStep G.honest G.bytes G.faults) lines (λ run. (s ≡ log_status run.items) × Appends out now (log_text run.items))) →
+    Prints (LogRan honest means old new name) out now status
+logged G honest means old new name lines out now (Ok s) full reads ends ran =
+    let run = ran.0 in
+    record {
+      ran = Logged true run.items;
+      does = (
+        full,
+        λ h. inr ((reads h).0, subst (λ (w : Bool). IsRun (w ≡ true) (items_from 4096 1 (bytes_of (reflog_at means old name))) run.items) ran.2 ((reads h).1 run run.seen ran.1)),
+        ends run run.seen ran.1,
+      );
+      prints = (refl, ran.3.0, ran.3.1);
+    }
+logged G honest means old new name lines out now (Err e) full reads ends ran =
+    record { ran = Logged false []; does = (full, λ h. inr ((reads h).0, λ never. absurd (cc)), _); prints = _ }
+
+-- an update whose name gives no edit
+pub no_edit : {F : Type 0} (honest : Type 0) (means : F → Meaning) (faults : F → ℕ) (store : Store F) (kind : Kind) (name : List ℕ) (id : ObjectId) (before : Option ObjectId) (refusal : Refusal) (locks : Vec (Vec ℕ Global) Global) →
+    NoEdit name refusal → locks.items ≡ [] → UpdateOutcome honest means faults store store kind name id before (outcomes.Refused refusal locks)
+no_edit honest means faults store kind name id before (refusals.Name error) locks none empty = (none, refl, empty)
+no_edit honest means faults store kind name id before refusals.Memory locks none empty = (refl, empty)
+no_edit honest means faults store kind name id before refusals.PathNotClean locks none empty = absurd none
+no_edit honest means faults store kind name id before (refusals.Find error) locks none empty = absurd none
+no_edit honest means faults store kind name id before (refusals.Log error) locks none empty = absurd none
+no_edit honest means faults store kind name id before (refusals.Update error) locks none empty = absurd none
+no_edit honest means faults store kind name id before refusals.NotFound locks none empty = absurd none
+
+-- nothing is printed where there is no log
+pub no_log : {F E : Type 0} (honest : Type 0) (means : F → Meaning) (old new : Store F) (name : List ℕ) (out : Option (List ℕ)) → full_error name ≡ None → (honest → is_file (reflog_at means old name) ≡ false) →
+    Prints {E = E} (LogRan honest means old new name) out out (Ok 0)
+no_log honest means old new name out full none = record { ran = Logged true []; does = (full, λ h. inl (none h, refl), _); prints = (refl, refl, same out) }
+  where
+    same : (a : Option (List ℕ)) → Appends a a []
+    same None = _
+    same (Some x) = sym (append-nil x)
+
+-- a buffer with room is no reason
+pub has_room : {F : Type 0} (honest : Type 0) (content : Option Content) (room : ℕ) (store : Store F) (name : List ℕ) (error : LogError) → (room ≡ 0 → ⊥) → IsNoReverse honest content room store name error → IsNoReflog store name error
+has_room honest content room store name log_errors.EmptyBuffer some none = absurd (some none.0)
+has_room honest content room store name log_errors.DeviceName some none = none
+has_room honest content room store name (log_errors.Io error) some none = none
+has_room honest content room store name log_errors.Memory some none = none
+has_room honest content room store name (log_errors.RefnameValidation error) some none = none
