@@ -137,6 +137,18 @@ impl<'a> FullNameRef<'a> {
         }
     }
 
+    /// The name with these bytes, as a listing has it: any valid partial name, though by itself it may be no full one, as
+    /// `config` is none. `None` for bytes that are no partial name. Takes no memory.
+    pub fn from_path(path: &'a [u8]) -> Option<FullNameRef<'a>>
+        ensures { MatchOption result (IsPartialName path.now → ⊥)
+            (λ n. IsPartialName path.now × (full_ref_bytes n ≡ path.now)) }
+    {
+        match broken_partial_rule(path) {
+            None => Some(FullNameRef { bytes: path }),
+            Some(_) => None,
+        }
+    }
+
     /// The name inside of the namespace: what follows that. `None` where the name does not begin with it, and where the
     /// rest is no valid partial name.
     pub fn without_namespace(self, namespace: &Namespace) -> Option<FullNameRef<'a>>

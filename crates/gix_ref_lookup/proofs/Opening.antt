@@ -42,7 +42,7 @@ holds_packed kind (Some (File bytes)) records p are a_file opened = opened_file_
 holds_packed kind (Some Folder) records p are a_file opened = absurd (cc)
 holds_packed kind None records p are a_file opened = absurd (cc)
 
-risen : (n : ℕ) → HasRisen n (one_more n)
+pub risen : (n : ℕ) → HasRisen n (one_more n)
 risen n = go (nat_lt n (2 ^ 64 - 1)) refl
   where
     go : (b : Bool) → nat_lt n (2 ^ 64 - 1) ≡ b → HasRisen n (if b then n + 1 else n)

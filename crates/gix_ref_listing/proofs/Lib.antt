@@ -1,0 +1,2 @@
+pub mod FolderWalks
+pub mod WalkLemmas

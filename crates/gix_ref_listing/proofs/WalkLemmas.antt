@@ -1,0 +1,191 @@
+-- What a walk keeps, and where it goes.
+use Rattle.std.proofs.Common.{◌≡◌, ◌⊎◌, inl, inr, ⊎_elim, ℕ, Bool, true, false, cond, List, [], ◌∷◌, ◌++◌, length, refl, sym, ◌∙◌, ap, subst, append_assoc, codes, Option, Some, None, is_some, ◌||◌, arith, append-nil, ◌<◌, ◌+◌, ◌≢◌}
+use Rattle.std.specs.List.{All}
+use Rattle.std.proofs.Common.{ne_eqb, IsTrue}
+use Rattle.std.specs.Map.{lookup}
+use Rattle.std.specs.BTreeMap.{insert_entry, is_at}
+use Rattle.std.specs.Ordering.{match_ordering, is_eq}
+use Rattle.std.specs.declared.cmp.Ordering.{Ordering}
+use Rattle.std.specs.declared.cmp.Ordering.TheVariants.{Less, Equal, Greater}
+use Rattle.std.proofs.lemmas.Bool.{cases_eq}
+use Rattle.std.proofs.lemmas.List.{get_or_default}
+use Rattle.std.proofs.lemmas.List.Elements.{All-cons, All-head, All-tail}
+use Rattle.gix_ref_hash.specs.Bytes.{BeginsWith, NoByte, is_slash}
+use Rattle.std.proofs.lemmas.List.Folds.{list_any-append}
+use Rattle.gix_ref_base.specs.NameGrammar.{IsPartialName, partial_error}
+use Rattle.gix_ref_base.proofs.LocationLemmas.{has_slash, no_slash_test, test_no_slash}
+use Rattle.gix_ref_base.proofs.PartialNames.{none_or, IsPath, IsComponent, rules_of, first_component, behind_component}
+use Rattle.std.specs.Prelude.{Vec, slice_index_or}
+use Rattle.std.specs.declared.alloc.Global.{Global}
+use Rattle.std.specs.Ordering.{nat_cmp}
+use Rattle.std.specs.Cmp.Lexicographic.{slice_cmp}
+use Rattle.std.proofs.lemmas.Map.Lookups.{exact_bytes}
+use Rattle.gix_ref_files.specs.declared.files.Entry.{Entry as ListedEntry}
+use Rattle.gix_ref_files.specs.declared.files.FileError.{FileError}
+use Rattle.gix_ref_files.specs.declared.files.FileError.TheVariants.{Memory as no_memory}
+use Rattle.gix_ref_theory.specs.Views.{View}
+use Rattle.gix_ref_listing.specs.Walks.{Among, IsFolderPath, Entry, Holds, IsThere, IsFile, IsLooseName, StaysFound, IsTaken, IsBelow}
+use Rattle.gix_ref_listing.specs.declared.found.Found.{Found}
+use Rattle.gix_ref_listing.specs.declared.found.Found.TheVariants.{File, Unlisted}
+use Rattle.gix_ref_listing.specs.declared.walk.Root.{Root}
+
+module _ {K X : Type 0} (cmp : K → K → Ordering) (P : K × X → Type 0) (k : K) (v : X) where
+  stays_by : (e : K × X) (es rest : List (K × X)) (o : Ordering) → (o ≡ Equal → P e → P (e.0, v)) → (Among P es → Among P rest) → Among P (e ∷ es) → Among P (match_ordering o ((k, v) ∷ e ∷ es) ((e.0, v) ∷ es) (e ∷ rest))
+  stays_by e es rest Less put later has = inr has
+  stays_by e es rest Equal put later has = ⊎_elim (λ here. inl (put refl here)) (λ there. inr there) has
+  stays_by e es rest Greater put later has = ⊎_elim (λ here. inl here) (λ there. inr (later there)) has
+
+  -- what has it still has it after an insert, which may put the value at an equal key
+  pub among_insert : (es : List (K × X)) → ((e : K × X) → cmp k e.0 ≡ Equal → P e → P (e.0, v)) → Among P es → Among P (insert_entry cmp es k v)
+  among_insert [] put has = absurd has
+  among_insert (e ∷ es) put has = stays_by e es (insert_entry cmp es k v) (cmp k e.0) (put e) (among_insert es put) has
+
+  new_by : (e : K × X) (es rest : List (K × X)) (o : Ordering) → P (k, v) → (o ≡ Equal → P (e.0, v)) → Among P rest → Among P (match_ordering o ((k, v) ∷ e ∷ es) ((e.0, v) ∷ es) (e ∷ rest))
+  new_by e es rest Less new put later = inl new
+  new_by e es rest Equal new put later = inl (put refl)
+  new_by e es rest Greater new put later = inr later
+
+  -- what is inserted has it
+  pub inserted : (es : List (K × X)) → P (k, v) → ((e : K × X) → cmp k e.0 ≡ Equal → P (e.0, v)) → Among P (insert_entry cmp es k v)
+  inserted [] new put = inl new
+  inserted (e ∷ es) new put = new_by e es (insert_entry cmp es k v) (cmp k e.0) new (put e) (inserted es new put)
+
+  all_by : (e : K × X) (es rest : List (K × X)) (o : Ordering) → P (k, v) → (o ≡ Equal → P (e.0, v)) → All P (e ∷ es) → All P rest → All P (match_ordering o ((k, v) ∷ e ∷ es) ((e.0, v) ∷ es) (e ∷ rest))
+  all_by e es rest Less new put all later = All-cons P (k, v) (e ∷ es) new all
+  all_by e es rest Equal new put all later = All-cons P (e.0, v) es (put refl) (All-tail P e es all)
+  all_by e es rest Greater new put all later = All-cons P e rest (All-head P e es all) later
+
+  -- all have it after an insert
+  pub all_insert : (es : List (K × X)) → All P es → P (k, v) → ((e : K × X) → cmp k e.0 ≡ Equal → P (e.0, v)) → All P (insert_entry cmp es k v)
+  all_insert [] all new put = All-cons P (k, v) [] new all
+  all_insert (e ∷ es) all new put = all_by e es (insert_entry cmp es k v) (cmp k e.0) new (put e) all (all_insert es (All-tail P e es all) new put)
+
+-- a key that is in a map
+pub contained : {K X : Type 0} (cmp : K → K → Ordering) (P : K × X → Type 0) (k : K) (es : List (K × X)) → ((e : K × X) → cmp k e.0 ≡ Equal → P e) → is_some (lookup (is_at (cmp k)) es) ≡ true → Among P es
+contained cmp P k [] has found = absurd (cc)
+contained cmp P k (e ∷ es) has found = by (cmp k e.0) (has e) (contained cmp P k es has) found
+  where
+    by : (o : Ordering) → (o ≡ Equal → P e) → (is_some (lookup (is_at (cmp k)) es) ≡ true → Among P es) → is_some (cond (is_eq o) (Some e.1) (lookup (is_at (cmp k)) es)) ≡ true → Among P (e ∷ es)
+    by Less has later found = inr (later found)
+    by Equal has later found = inl (has refl)
+    by Greater has later found = inr (later found)
+
+-- among a list and one more
+pub among_pushed : {A : Type 0} (P : A → Type 0) (xs : List A) (x : A) → P x → Among P (xs ++ x ∷ [])
+among_pushed P [] x has = inl has
+among_pushed P (y ∷ xs) x has = inr (among_pushed P xs x has)
+
+pub among_before : {A : Type 0} (P : A → Type 0) (xs ys : List A) → Among P xs → Among P (xs ++ ys)
+among_before P [] ys has = absurd has
+among_before P (x ∷ xs) ys has = ⊎_elim (λ here. inl here) (λ later. inr (among_before P xs ys later)) has
+
+no_byte_in : (c : List ℕ) (x : ℕ) → NoByte 47 c → (x ≡ 47 → ⊥) → NoByte 47 (c ++ x ∷ [])
+no_byte_in c x none other = test_no_slash (c ++ x ∷ []) (list_any-append is_slash c (x ∷ []) ∙ none_or (has_slash c) (is_slash x || false) (no_slash_test c none) (none_or (is_slash x) false (ne_eqb x 47 other) refl))
+
+no_slash_yet : NoByte 47 []
+no_slash_yet k below = absurd (omega arith)
+
+slash_free : (c front rest : List ℕ) → NoByte 47 c → IsPath (c ++ (front ++ 47 ∷ rest)) → IsPath rest
+slash_free c [] rest none h = (first_component c rest none h).1
+slash_free c (x ∷ front) rest none h =
+    ⊎_elim (λ slash. slash_free [] front rest no_slash_yet (first_component c (front ++ 47 ∷ rest) none (subst (λ y. IsPath (c ++ y ∷ (front ++ 47 ∷ rest))) slash h)).1)
+    (λ other. slash_free (c ++ x ∷ []) front rest (no_byte_in c x none other) (subst IsPath (sym (append_assoc c (x ∷ []) (front ++ 47 ∷ rest))) h))
+    (cases_eq x 47)
+
+-- what is behind a slash of a path is a path
+pub behind_slash : (front rest : List ℕ) → IsPath (front ++ 47 ∷ rest) → IsPath rest
+behind_slash front rest h = slash_free [] front rest no_slash_yet h
+
+x_name : IsPartialName (codes "x")
+unfolding partial_error
+x_name = refl
+
+-- a component of a name, behind a folder, may stand before other components
+pub leads : (folder c rest : List ℕ) → IsFolderPath folder → NoByte 47 c → IsPartialName (folder ++ (c ++ 47 ∷ rest)) → IsPartialName (c ++ codes "/x")
+leads folder c rest path none valid =
+    let whole = (rules_of (folder ++ (c ++ 47 ∷ rest)) valid).0 in
+    let behind : IsPath (c ++ 47 ∷ rest) =
+      ⊎_elim (λ (empty : folder ≡ []). subst (λ f. IsPath (f ++ (c ++ 47 ∷ rest))) empty whole)
+      (λ (ends : (front : List ℕ) × (folder ≡ front ++ 47 ∷ [])). behind_slash ends.0 (c ++ 47 ∷ rest)
+      (subst IsPath (append_assoc ends.0 (47 ∷ []) (c ++ 47 ∷ rest)) (subst (λ f. IsPath (f ++ (c ++ 47 ∷ rest))) ends.1 whole))) path in
+    behind_component c (codes "x") (first_component c rest none behind).0 x_name
+
+-- two fronts of one text: one begins with the other
+pub fronts_nest : (a b x y : List ℕ) → a ++ x ≡ b ++ y → BeginsWith a b ⊎ BeginsWith b a
+fronts_nest [] b x y e = inr (b, refl)
+fronts_nest (u ∷ a) [] x y e = inl (u ∷ a, refl)
+fronts_nest (u ∷ a) (w ∷ b) x y e =
+    let here : u ≡ w = cc in
+    let rest : a ++ x ≡ b ++ y = cc in
+    ⊎_elim (λ (l : BeginsWith a b). inl (l.0, ap (λ z. z ∷ a) here ∙ ap (λ t. w ∷ t) l.1)) (λ (r : BeginsWith b a). inr (r.0, ap (λ z. z ∷ b) (sym here) ∙ ap (λ t. u ∷ t) r.1)) (fronts_nest a b x y rest)
+
+-- the order of keys is that of their bytes
+abbrev pub key_cmp : Vec ℕ Global → Vec ℕ Global → Ordering
+key_cmp a b = slice_cmp nat_cmp a.items b.items
+
+pub same_key : (a b : Vec ℕ Global) → key_cmp a b ≡ Equal → a.items ≡ b.items
+same_key a b h = exact_bytes a.items b.items h
+
+-- a folder that could not be listed holds what was found under its key
+holds_more : (name : List ℕ) (key : Vec ℕ Global) (found : Found) (error : FileError) → Holds name (key, found) → Holds name (key, Unlisted error)
+holds_more name key File error is = ([], sym is ∙ sym (append-nil key.items))
+holds_more name key (Unlisted other) error begins = begins
+
+-- and what was found under a key that is the name holds that name
+holds_key : (name : List ℕ) (key : Vec ℕ Global) (found : Found) → name ≡ key.items → Holds name (key, found)
+holds_key name key File is = sym is
+holds_key name key (Unlisted error) is = ([], is ∙ sym (append-nil key.items))
+
+-- a folder that could not be listed is kept
+pub unlisted_stays : (es new : List Entry) (key : Vec ℕ Global) (error : FileError) → new ≡ insert_entry key_cmp es key (Unlisted error) → StaysFound es new
+unlisted_stays es new key error is name had = subst (Among (Holds name)) (sym is) (among_insert key_cmp (Holds name) key (Unlisted error) es (λ e same held. holds_more name e.0 e.1 error held) had)
+
+pub unlisted_holds : (es new : List Entry) (key : Vec ℕ Global) (error : FileError) (name : List ℕ) → new ≡ insert_entry key_cmp es key (Unlisted error) → BeginsWith name key.items → Among (Holds name) new
+unlisted_holds es new key error name is begins = subst (Among (Holds name)) (sym is) (inserted key_cmp (Holds name) key (Unlisted error) es begins (λ e same. (begins.0, begins.1 ∙ ap (λ k. k ++ begins.0) (same_key key e.0 same))))
+
+pub unlisted_there : (root : Root) (view : View) (es new : List Entry) (key : Vec ℕ Global) (error : FileError) → new ≡ insert_entry key_cmp es key (Unlisted error) → All (IsThere root view) es → error ≢ no_memory → All (IsThere root view) new
+unlisted_there root view es new key error is all other = subst (All (IsThere root view)) (sym is) (all_insert key_cmp (IsThere root view) key (Unlisted error) es all other (λ e same. other))
+
+-- a file is found, where nothing was found under its name
+absent_step : (name : List ℕ) (key : Vec ℕ Global) (e : Entry) (es rest : List Entry) (o : Ordering) → is_some (cond (is_eq o) (Some e.1) (lookup (is_at (key_cmp key)) es)) ≡ false →
+    (is_some (lookup (is_at (key_cmp key)) es) ≡ false → Among (Holds name) es → Among (Holds name) rest) → Among (Holds name) (e ∷ es) → Among (Holds name) (match_ordering o ((key, File) ∷ e ∷ es) ((e.0, File) ∷ es) (e ∷ rest))
+absent_step name key e es rest Less absent later had = inr had
+absent_step name key e es rest Equal absent later had = absurd (cc)
+absent_step name key e es rest Greater absent later had = ⊎_elim (λ here. inl here) (λ there. inr (later absent there)) had
+
+absent_stays : (name : List ℕ) (key : Vec ℕ Global) (es : List Entry) → is_some (lookup (is_at (key_cmp key)) es) ≡ false → Among (Holds name) es → Among (Holds name) (insert_entry key_cmp es key File)
+absent_stays name key [] absent had = absurd had
+absent_stays name key (e ∷ es) absent had = absent_step name key e es (insert_entry key_cmp es key File) (key_cmp key e.0) absent (absent_stays name key es) had
+
+pub file_stays : (es new : List Entry) (key : Vec ℕ Global) → new ≡ insert_entry key_cmp es key File → is_some (lookup (is_at (key_cmp key)) es) ≡ false → StaysFound es new
+file_stays es new key is absent name had = subst (Among (Holds name)) (sym is) (absent_stays name key es absent had)
+
+pub file_holds : (es new : List Entry) (key : Vec ℕ Global) → new ≡ insert_entry key_cmp es key File → Among (Holds key.items) new
+file_holds es new key is = subst (Among (Holds key.items)) (sym is) (inserted key_cmp (Holds key.items) key File es refl (λ e same. sym (same_key key e.0 same)))
+
+-- and where something was found there, the name is held
+pub known_holds : (es : List Entry) (key : Vec ℕ Global) → is_some (lookup (is_at (key_cmp key)) es) ≡ true → Among (Holds key.items) es
+known_holds es key found = contained key_cmp (Holds key.items) key es (λ e same. holds_key key.items e.0 e.1 (same_key key e.0 same)) found
+
+pub file_there : (root : Root) (view : View) (es new : List Entry) (key : Vec ℕ Global) → new ≡ insert_entry key_cmp es key File → All (IsThere root view) es → IsLooseName root view key.items → All (IsThere root view) new
+file_there root view es new key is all loose = subst (All (IsThere root view)) (sym is) (all_insert key_cmp (IsThere root view) key File es all loose (λ e same. subst (IsLooseName root view) (same_key key e.0 same) loose))
+
+pub file_is_file : (es new : List Entry) (key : Vec ℕ Global) → new ≡ insert_entry key_cmp es key File → All IsFile es → All IsFile new
+file_is_file es new key is all = subst (All IsFile) (sym is) (all_insert key_cmp IsFile key File es all _ (λ e same. _))
+
+pub not_both : (b : Bool) → IsTrue b → b ≡ false → ⊥
+not_both b is is_not = let bad : false ≡ true = sym is_not ∙ is in absurd cc
+
+-- what was taken stays taken
+pub stays_taken : (root : Root) (folder : List ℕ) (found more : List Entry) (next later : List (Vec ℕ Global)) (entry : ListedEntry) → StaysFound found more → ((name : List ℕ) → IsBelow next name → IsBelow later name) →
+    IsTaken root folder found next entry → IsTaken root folder more later entry
+stays_taken root folder found more next later entry stays below taken = record {
+  file = λ is_file own. stays (folder ++ entry.name.items) (taken.file is_file own);
+  leads = λ is_folder none path name own begins. below name (taken.leads is_folder none path name own begins);
+}
+
+-- all before a place and the one there
+pub one_more : {A : Type 0} (P : A → Type 0) (xs : List A) (i : ℕ) (x : A) → ((k : ℕ) (d : A) → k < i → P (slice_index_or xs k d)) → i < length xs → x ≡ slice_index_or xs i x → P x →
+    (k : ℕ) (d : A) → k < i + 1 → P (slice_index_or xs k d)
+one_more P xs i x before within at here k d below =
+    ⊎_elim (λ (is : k ≡ i). subst (λ j. P (slice_index_or xs j d)) (sym is) (subst P (at ∙ get_or_default xs i x d within) here)) (λ other. before k d (omega arith)) (cases_eq k i)

@@ -1,0 +1,79 @@
+-- What a walk of a folder finds: the files of names, and the folders that could not be listed.
+use Rattle.std.specs.Prelude.{◌≡◌, ◌≢◌, ◌⊎◌, ℕ, List, [], ◌∷◌, ◌++◌, Vec, IsSome, true, false, codes}
+use Rattle.std.specs.declared.alloc.Global.{Global}
+use Rattle.gix_ref_hash.specs.Bytes.{BeginsWith, NoByte}
+use Rattle.gix_ref_base.specs.NameGrammar.{IsPartialName}
+use Rattle.gix_ref_files.specs.declared.files.Entry.{Entry as ListedEntry}
+use Rattle.gix_ref_files.specs.declared.files.FileError.{FileError}
+use Rattle.gix_ref_files.specs.declared.files.FileError.TheVariants as faulty
+use Rattle.gix_ref_theory.specs.Views.{View}
+use Rattle.gix_ref_lookup.specs.Lookups.{meaning_in}
+use Rattle.gix_ref_listing.specs.declared.found.Found.{Found}
+use Rattle.gix_ref_listing.specs.declared.found.Found.TheVariants.{File, Unlisted}
+use Rattle.gix_ref_listing.specs.declared.walk.Root.{Root}
+
+-- what stands before each name in its path: a path and a slash
+abbrev pub IsRootPath : List ℕ → Type 0
+IsRootPath path = (front : List ℕ) × (front ≢ []) × (path ≡ front ++ 47 ∷ [])
+
+-- a name whose own place is in this folder: a valid partial name with the prefix
+pub record IsOwnName (root : Root) (name : List ℕ) : Type 0 where
+  pub valid : IsPartialName name
+  pub begins : BeginsWith name root.prefix.now
+  pub own : (meaning_in root.settings).place name ≡ root.path.now ++ name
+
+-- and a file is there
+abbrev pub IsLooseName : Root → View → List ℕ → Type 0
+IsLooseName root view name = IsOwnName root name × IsSome (view (root.path.now ++ name))
+
+-- one of these has it
+abbrev pub Among : {A : Type 0} → (A → Type 0) → List A → Type 0
+Among P [] = ⊥
+Among P (x ∷ xs) = P x ⊎ Among P xs
+
+-- what was found under a key: a file, and the key is its name; or a folder that could not be listed
+abbrev pub Entry : Type 0
+Entry = Vec ℕ Global × Found
+
+-- the name was found, or it is in a folder that could not be listed
+abbrev pub Holds : List ℕ → Entry → Type 0
+Holds name (key, File) = key.items ≡ name
+Holds name (key, Unlisted error) = BeginsWith name key.items
+
+-- what was found is there; want of memory is no reason for a folder
+abbrev pub IsThere : Root → View → Entry → Type 0
+IsThere root view (key, File) = IsLooseName root view key.items
+IsThere root view (key, Unlisted error) = error ≢ faulty.Memory
+
+-- it is a file
+abbrev pub IsFile : Entry → Type 0
+IsFile (key, File) = Unit {0}
+IsFile (key, Unlisted error) = ⊥
+
+-- an entry of a folder is there, if it is a file
+abbrev pub IsFileOf : Root → View → (folder : List ℕ) → ListedEntry → Type 0
+IsFileOf root view folder entry = entry.is_folder ≡ false → IsSome (view (root.path.now ++ (folder ++ entry.name.items)))
+
+-- each name that was found stays found
+abbrev pub StaysFound : (old new : List Entry) → Type 0
+StaysFound old new = (name : List ℕ) → Among (Holds name) old → Among (Holds name) new
+
+-- the path of a folder below another one: nothing, or it ends in a slash
+abbrev pub IsFolderPath : List ℕ → Type 0
+IsFolderPath folder = (folder ≡ []) ⊎ ((front : List ℕ) × (folder ≡ front ++ 47 ∷ []))
+
+-- the name is below one of these folders
+abbrev pub IsBelow : List (Vec ℕ Global) → List ℕ → Type 0
+IsBelow folders name = Among (λ folder. BeginsWith name folder.items) folders
+
+-- An entry of a folder was taken: a file is found, where it is the file of a name; and a folder is to be walked, where names
+-- may be in it.
+pub record IsTaken (root : Root) (folder : List ℕ) (found : List Entry) (next : List (Vec ℕ Global)) (entry : ListedEntry) : Type 0 where
+  pub file : entry.is_folder ≡ false → IsOwnName root (folder ++ entry.name.items) → Among (Holds (folder ++ entry.name.items)) found
+  pub leads : entry.is_folder ≡ true → NoByte 47 entry.name.items → IsFolderPath folder → (name : List ℕ) → IsOwnName root name →
+      BeginsWith name (folder ++ (entry.name.items ++ codes "/")) → IsBelow next name
+
+-- Of the names that are to be listed and have this, each is found, is in a folder that could not be listed, or is below one
+-- that is to be walked.
+abbrev pub Reaches : Root → View → (List ℕ → Type 0) → List Entry → List (Vec ℕ Global) → Type 0
+Reaches root view Has found next = (name : List ℕ) → IsLooseName root view name → Has name → Among (Holds name) found ⊎ IsBelow next name

@@ -1,0 +1,6 @@
+//! Listings: the names of a store that have a loose file or a record in `packed-refs`, in ascending order
+//! (`git for-each-ref`).
+#![tactic(auto)]
+
+pub mod found;
+pub mod walk;

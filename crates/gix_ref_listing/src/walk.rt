@@ -1,0 +1,253 @@
+//! The files of names below a folder of a store, found level by level.
+ghost use Rattle.std.specs.Prelude.{◌≡◌, ◌≢◌, [], ◌++◌, ◌⊎◌, ◌≤◌, List, ℕ, IfOk, IfErr, OnOk, IsTrue, ◌↔◌, codes, ◌∷◌, IsSome};
+ghost use Rattle.std.specs.List.{All};
+ghost use Rattle.gix_ref_hash.specs.Bytes.{BeginsWith, NoByte};
+ghost use Rattle.gix_ref_base.specs.NameGrammar.{IsPartialName};
+ghost use Rattle.gix_ref_files.specs.Files.{Leaves, HasRisen};
+ghost use Rattle.gix_ref_files.specs.Calls.{Unchanged, IsListing};
+ghost use Rattle.gix_ref_files.specs.declared.files.FileError.TheVariants.{Memory};
+ghost use Rattle.gix_ref_theory.specs.OnRealTrees.{view_of};
+ghost use Rattle.gix_ref_theory.specs.Views.{View};
+ghost use Rattle.gix_ref_listing.specs.Walks.{IsOwnName, IsLooseName, Among, Holds, IsThere, IsFile, IsFileOf, IsTaken, StaysFound, IsFolderPath, IsBelow, IsRootPath, Reaches};
+
+use crate::found::{Found, FoundByKey};
+use gix_ref_base::name::{FullNameRef, PartialNameRef};
+use gix_ref_files::files::{Entry, FileError, Files};
+use gix_ref_hash::bytes::{begins_with, strip_front};
+use gix_ref_lookup::settings::Settings;
+use std::alloc::{AllocError, Global};
+
+/// Where a walk looks for names.
+#[derive(Clone, Copy, Debug)]
+pub struct Root<'a> {
+    /// What stands before each name in its path: a folder of the store, a slash, and the namespace.
+    pub path: &'a [u8],
+    /// What the names begin with.
+    pub prefix: &'a [u8],
+    /// The settings of the store.
+    pub settings: Settings<'a>,
+}
+
+/// Two texts, one behind the other.
+fn joined(alloc: Global, front: &[u8], end: &[u8]) -> Result<Vec<u8>, AllocError>
+    ensures { IfOk result (λ text. text.items ≡ front.now ++ end.now) }
+{
+    let mut text = Vec::with_capacity(alloc, front.len().saturating_add(end.len()))?;
+    text.extend_from_slice(front)?;
+    text.extend_from_slice(end)?;
+    Ok(text)
+}
+
+/// Whether a text is these two, one behind the other.
+fn is_joined(text: &[u8], front: &[u8], end: &[u8]) -> bool
+    ensures { IsTrue result ↔ (text.now ≡ front.now ++ end.now) }
+{
+    match strip_front(text, front) {
+        Some(rest) => rest == end,
+        None => false,
+    }
+}
+
+/// Whether a valid name may have this component before others.
+fn may_lead(alloc: Global, component: &[u8]) -> Result<bool, AllocError>
+    ensures { IfOk result (λ may. IsTrue may ↔ IsPartialName (component.now ++ codes "/x")) }
+{
+    let name = joined(alloc, component, b"/x")?;
+    Ok(PartialNameRef::try_from(&name).is_ok())
+}
+
+/// Whether one of two texts begins with the other.
+fn is_front(left: &[u8], right: &[u8]) -> bool
+    ensures { IsTrue result ↔ (BeginsWith left.now right.now ⊎ BeginsWith right.now left.now) }
+{
+    begins_with(left, right) || begins_with(right, left)
+}
+
+/// The path of a folder that names begin with: without the last slash.
+fn folder_path(alloc: Global, front: &[u8], folder: &[u8]) -> Result<Vec<u8>, AllocError>
+    ensures { IfOk result (λ path. (p : List ℕ) → front.now ++ folder.now ≡ p ++ 47 ∷ [] →
+        path.items ≡ p) }
+{
+    let mut path = joined(alloc, front, folder)?;
+    path.pop();
+    Ok(path)
+}
+
+/// Keeps a folder that could not be listed.
+fn keep_unlisted(
+    alloc: Global,
+    folder: &[u8],
+    error: FileError,
+    found: &mut FoundByKey,
+) -> Result<(), AllocError>
+    ensures stays { StaysFound found.old.entries found.new.entries }
+    ensures holds { OnOk result ((name : List ℕ) → BeginsWith name folder.now →
+        Among (Holds name) found.new.entries) }
+    ensures there { (root : Root) (view : View) → All (IsThere root view) found.old.entries →
+        error ≢ Memory → All (IsThere root view) found.new.entries }
+{
+    found.insert(folder.to_vec(alloc)?, Found::Unlisted(error))?;
+    Ok(())
+}
+
+impl Root<'_> {
+    /// Whether a name is to be listed where a file is there: it is valid, has the prefix, and its own place is in this
+    /// folder.
+    fn is_own(self, alloc: Global, name: &[u8]) -> Result<bool, AllocError>
+        ensures { IfOk result (λ own. IsTrue own ↔ IsOwnName self.entry name.now) }
+    {
+        if !begins_with(name, self.prefix) {
+            return Ok(false);
+        }
+        let Some(listed) = FullNameRef::from_path(name) else {
+            return Ok(false);
+        };
+        let place = self.settings.place(alloc, listed)?;
+        Ok(is_joined(&place, self.path, name))
+    }
+
+    /// Takes a file of a folder: it is found, where it is the file of a name.
+    fn take_file(
+        self,
+        alloc: Global,
+        name: Vec<u8>,
+        found: &mut FoundByKey,
+    ) -> Result<(), AllocError>
+        ensures stays { StaysFound found.old.entries found.new.entries }
+        ensures holds { OnOk result (IsOwnName self.entry name.items →
+            Among (Holds name.items) found.new.entries) }
+        ensures files { All IsFile found.old.entries → All IsFile found.new.entries }
+        ensures there { (view : View) → All (IsThere self.entry view) found.old.entries →
+            IsSome (view (self.entry.path.now ++ name.items)) →
+            All (IsThere self.entry view) found.new.entries }
+    {
+        if self.is_own(alloc, &name)? && !found.contains_key(&name) {
+            found.insert(name, Found::File)?;
+        }
+        Ok(())
+    }
+
+    /// Takes a folder of a folder: it is walked next, where names may be in it.
+    fn take_folder(
+        self,
+        alloc: Global,
+        folder: &[u8],
+        component: &[u8],
+        next: &mut Vec<Vec<u8>>,
+    ) -> Result<(), AllocError>
+        ensures stays { (name : List ℕ) → IsBelow next.old.items name → IsBelow next.new.items name }
+        ensures leads { OnOk result (NoByte 47 component.now → IsFolderPath folder.now → (name : List ℕ) → IsOwnName self.entry name →
+            BeginsWith name (folder.now ++ (component.now ++ codes "/")) →
+            IsBelow next.new.items name) }
+        ensures paths { All (λ f. IsFolderPath f.items) next.old.items → All (λ f. IsFolderPath f.items) next.new.items }
+    {
+        if !may_lead(alloc, component)? {
+            return Ok(());
+        }
+        let mut path = joined(alloc, folder, component)?;
+        path.push(b'/')?;
+        if is_front(&path, self.prefix) {
+            next.push(path)?;
+        }
+        Ok(())
+    }
+
+    /// Takes an entry of a folder.
+    fn take_entry(
+        self,
+        alloc: Global,
+        folder: &[u8],
+        entry: &Entry,
+        found: &mut FoundByKey,
+        next: &mut Vec<Vec<u8>>,
+    ) -> Result<(), AllocError>
+        ensures stays { StaysFound found.old.entries found.new.entries }
+        ensures stays_below { (name : List ℕ) → IsBelow next.old.items name →
+            IsBelow next.new.items name }
+        ensures taken { OnOk result (IsTaken self.entry folder.now found.new.entries next.new.items
+            entry.now) }
+        ensures paths { All (λ f. IsFolderPath f.items) next.old.items →
+            All (λ f. IsFolderPath f.items) next.new.items }
+        ensures files { All IsFile found.old.entries → All IsFile found.new.entries }
+        ensures there { (view : View) → All (IsThere self.entry view) found.old.entries →
+            IsFileOf self.entry view folder.now entry.now →
+            All (IsThere self.entry view) found.new.entries }
+    {
+        if entry.is_folder {
+            return self.take_folder(alloc, folder, &entry.name, next);
+        }
+        let name = joined(alloc, folder, &entry.name)?;
+        self.take_file(alloc, name, found)
+    }
+
+    /// Takes the entries of a folder.
+    fn take_entries(
+        self,
+        alloc: Global,
+        folder: &[u8],
+        entries: &[Entry],
+        found: &mut FoundByKey,
+        next: &mut Vec<Vec<u8>>,
+    ) -> Result<(), AllocError>
+        ensures stays { OnOk result (StaysFound found.old.entries found.new.entries) }
+        ensures stays_below { OnOk result ((name : List ℕ) → IsBelow next.old.items name →
+            IsBelow next.new.items name) }
+        ensures taken { OnOk result (All (IsTaken self.entry folder.now found.new.entries
+            next.new.items) entries.now) }
+        ensures paths { OnOk result (All (λ f. IsFolderPath f.items) next.old.items →
+            All (λ f. IsFolderPath f.items) next.new.items) }
+        ensures files { OnOk result (All IsFile found.old.entries → All IsFile found.new.entries) }
+        ensures there { OnOk result ((view : View) → All (IsThere self.entry view) found.old.entries →
+            All (IsFileOf self.entry view folder.now) entries.now →
+            All (IsThere self.entry view) found.new.entries) }
+    {
+        for entry in entries {
+            self.take_entry(alloc, folder, entry, found, next)?;
+        }
+        Ok(())
+    }
+
+    /// Walks a folder: its files are found, and its folders are to be walked next. One call of files. The error says that
+    /// there was no memory.
+    fn walk_folder<F: Files>(
+        self,
+        alloc: Global,
+        files: &mut F,
+        folder: &[u8],
+        found: &mut FoundByKey,
+        next: &mut Vec<Vec<u8>>,
+    ) -> Result<(), FileError>
+        requires { IsRootPath self.path.now }
+        ensures stays { OnOk result (StaysFound found.old.entries found.new.entries) }
+        ensures stays_below { OnOk result ((name : List ℕ) → IsBelow next.old.items name →
+            IsBelow next.new.items name) }
+        ensures reaches { F.honest → IfOk result (λ _. IsFolderPath folder.now → Reaches self.entry (view_of (F.means files.old).tree)
+            (λ name. BeginsWith name folder.now) found.new.entries next.new.items) }
+        ensures paths { OnOk result (All (λ f. IsFolderPath f.items) next.old.items →
+            All (λ f. IsFolderPath f.items) next.new.items) }
+        ensures files { OnOk result (All IsFile found.old.entries → All IsFile found.new.entries
+            ⊎ HasRisen (F.faults files.old) (F.faults files.new)) }
+        ensures there { F.honest → IfOk result (λ _. IsFolderPath folder.now → All (IsThere self.entry (view_of (F.means files.old).tree)) found.old.entries →
+            All (IsThere self.entry (view_of (F.means files.old).tree)) found.new.entries) }
+        ensures rises { F.faults files.old ≤ F.faults files.new }
+        ensures memory { IfErr result (λ error. error ≡ Memory) }
+        ensures leaves { F.honest → Leaves (F.means files.old) (F.means files.new)
+            (Unchanged (F.means files.old).tree) }
+    {
+        let Ok(path) = folder_path(alloc, self.path, folder) else {
+            return Err(FileError::Memory);
+        };
+        match files.list(alloc, &path) {
+            Ok(Some(entries)) => match self.take_entries(alloc, folder, &entries, found, next) {
+                Ok(()) => Ok(()),
+                Err(_) => Err(FileError::Memory),
+            },
+            Ok(None) => Ok(()),
+            Err(FileError::Memory) => Err(FileError::Memory),
+            Err(error) => match keep_unlisted(alloc, folder, error, found) {
+                Ok(()) => Ok(()),
+                Err(_) => Err(FileError::Memory),
+            },
+        }
+    }
+}
