@@ -1,10 +1,11 @@
 -- What the listing of one folder tells of the names in it.
-use Rattle.std.proofs.Common.{◌≡◌, ◌≢◌, ◌⊎◌, inl, inr, ⊎_elim, ℕ, ◌<◌, Bool, true, false, not, ◌&&◌, ◌||◌, ◌==◌, if◌then◌else◌, List, [], ◌∷◌, ◌++◌, length, refl, sym, ◌∙◌, ap, subst, append_assoc, append-nil, Option, Some, None, is_some, IsSome, nat_lt, ◌^◌, ◌-◌, ◌+◌, arith, le_refl}
+use Rattle.std.proofs.Common.{◌≡◌, ◌≢◌, ◌⊎◌, inl, inr, ⊎_elim, ℕ, ◌<◌, Bool, true, false, not, ◌&&◌, ◌||◌, ◌==◌, if◌then◌else◌, List, [], ◌∷◌, ◌++◌, length, refl, sym, ◌∙◌, ap, subst, append_assoc, append-nil, Option, Some, None, is_some, IsSome, nat_lt, ◌^◌, ◌-◌, ◌+◌, arith, le_refl, drop, take}
 use Rattle.std.specs.Option.{option_map}
 use Rattle.std.specs.List.{All, Any, Contains, list_all}
 use Rattle.std.specs.Prelude.{Vec, slice_index_or, ◌≤◌}
 use Rattle.std.specs.declared.alloc.Global.{Global}
-use Rattle.std.proofs.lemmas.List.{get_or_default}
+use Rattle.std.proofs.Math.Seq.{take-append-add}
+use Rattle.std.proofs.lemmas.List.{get_or_default, drop_more, drop_all}
 use Rattle.gix_ref_hash.specs.Bytes.{BeginsWith, NoByte, is_empty}
 use Rattle.gix_ref_listing.proofs.WalkLemmas.{behind_slash}
 use Rattle.gix_ref_base.specs.NameGrammar.{IsPartialName, partial_error}
@@ -14,7 +15,9 @@ use Rattle.gix_ref_base.specs.Locations.{cut_at_slash}
 use Rattle.gix_ref_files.specs.Tree.{Tree, Path, Content, IsShaped, is_folder, fronts, fronts_after}
 use Rattle.gix_ref_files.specs.Tree.Content.{File, Folder}
 use Rattle.gix_ref_files.specs.Calls.{IsListing, IsEntryOf, IsName, entry_name}
-use Rattle.gix_ref_files.specs.Files.{HasRisen, count_with, one_more}
+use Rattle.gix_ref_files.specs.Files.{HasRisen, Leaves, Meaning, count_with, one_more}
+use Rattle.gix_ref_files.specs.Calls.{Unchanged}
+use Rattle.gix_ref_files.proofs.Moments.{joins}
 use Rattle.gix_ref_files.specs.declared.files.Entry.{Entry as ListedEntry}
 use Rattle.gix_ref_files.specs.declared.files.FileError.{FileError}
 use Rattle.gix_ref_files.specs.declared.files.FileError.TheVariants.{Device, NotUtf8, Memory}
@@ -183,3 +186,34 @@ pub counts_up : (error : FileError) (before now : ℕ) → now ≡ count_with er
 counts_up (Device kind) before now is = subst (λ n. before ≤ n) (sym is) (up before)
 counts_up NotUtf8 before now is = subst (λ n. before ≤ n) (sym is) (up before)
 counts_up Memory before now is = subst (λ n. before ≤ n) (sym is) (le_refl before)
+
+-- the count has risen, over more calls
+pub risen_from : (a b c : ℕ) → a ≤ b → HasRisen b c → HasRisen a c
+risen_from a b c before (inl more) = inl (omega arith)
+risen_from a b c before (inr most) = inr most
+
+pub risen_on : (a b c : ℕ) → HasRisen a b → b ≤ c → HasRisen a c
+risen_on a b c (inl more) later = inl (omega arith)
+risen_on a b c (inr most) later = inr (omega arith)
+
+-- each is a file, or a fault came, over more calls
+pub files_still : {Old Mid New : Type 0} (a b c : ℕ) → a ≤ b → b ≤ c → (Old → Mid ⊎ HasRisen a b) → (Mid → New ⊎ HasRisen b c) → Old → New ⊎ HasRisen a c
+files_still a b c before later first second old = ⊎_elim (λ mid. ⊎_elim (λ new. inl new) (λ risen_later. inr (risen_from a b c before risen_later)) (second mid)) (λ risen_first. inr (risen_on a b c risen_first later)) (first old)
+
+-- nothing changed, and then nothing more
+pub unchanged_on : (old mid new : Meaning) → Leaves old mid (Unchanged old.tree) → Leaves mid new (Unchanged mid.tree) → Leaves old new (Unchanged old.tree)
+unchanged_on old mid new first second = joins first (subst (λ T. Leaves mid new (Unchanged T)) first.tree second)
+
+-- one of a list is there, or later
+pub among_next : {A : Type 0} (P : A → Type 0) (xs : List A) (i : ℕ) (x : A) → i < length xs → x ≡ slice_index_or xs i x → Among P (drop i xs) → P x ⊎ Among P (drop (i + 1) xs)
+among_next P xs i x below is had =
+    ⊎_elim (λ here. inl (subst P (sym is) here)) (λ later. inr later) (subst (Among P) (drop_more xs i x below) had)
+
+pub among_none : {A : Type 0} (P : A → Type 0) (xs : List A) (i : ℕ) → length xs ≤ i → Among P (drop i xs) → ⊥
+among_none P xs i past had = absurd (subst (Among P) (drop_all i xs past) had)
+
+-- a text that was cut at a byte: its front with that byte, and the rest
+pub cut_front : (text before after : List ℕ) → text ≡ before ++ 47 ∷ after → (take (length before + 1) text ≡ before ++ 47 ∷ []) × (text ≡ take (length before + 1) text ++ after)
+cut_front text before after whole =
+    let front : take (length before + 1) text ≡ before ++ 47 ∷ [] = ap (take (length before + 1)) whole ∙ take-append-add before (47 ∷ after) 1 in
+    (front, whole ∙ (sym (append_assoc before (47 ∷ []) after) ∙ ap (λ t. t ++ after) (sym front)))

@@ -1,5 +1,6 @@
 //! The files of names below a folder of a store, found level by level.
-ghost use Rattle.std.specs.Prelude.{◌≡◌, ◌≢◌, [], ◌++◌, ◌⊎◌, ◌≤◌, List, ℕ, IfOk, IfErr, OnOk, IsTrue, ◌↔◌, codes, ◌∷◌, IsSome};
+ghost use Rattle.std.specs.Prelude.{◌≡◌, ◌≢◌, [], ◌++◌, ◌⊎◌, ◌≤◌, List, ℕ, IfOk, IfErr, OnOk, IsTrue, ◌↔◌, codes, ◌∷◌, IsSome, Vec};
+ghost use Rattle.std.specs.declared.alloc.Global.{Global};
 ghost use Rattle.std.specs.List.{All};
 ghost use Rattle.gix_ref_hash.specs.Bytes.{BeginsWith, NoByte};
 ghost use Rattle.gix_ref_base.specs.NameGrammar.{IsPartialName};
@@ -13,7 +14,7 @@ ghost use Rattle.gix_ref_listing.specs.Walks.{IsOwnName, IsLooseName, Among, Hol
 use crate::found::{Found, FoundByKey};
 use gix_ref_base::name::{FullNameRef, PartialNameRef};
 use gix_ref_files::files::{Entry, FileError, Files};
-use gix_ref_hash::bytes::{begins_with, strip_front};
+use gix_ref_hash::bytes::{begins_with, cut_last, strip_front};
 use gix_ref_lookup::settings::Settings;
 use std::alloc::{AllocError, Global};
 
@@ -71,6 +72,27 @@ fn folder_path(alloc: Global, front: &[u8], folder: &[u8]) -> Result<Vec<u8>, Al
     let mut path = joined(alloc, front, folder)?;
     path.pop();
     Ok(path)
+}
+
+/// The folder in which the names of a prefix lie: the prefix up to its last slash.
+fn folder_of(prefix: &[u8]) -> &[u8]
+    ensures path { IsFolderPath result.now }
+    ensures front { BeginsWith prefix.now result.now }
+{
+    match cut_last(prefix, b'/') {
+        Some((folder, _)) => &prefix[..folder.len() + 1],
+        None => b"",
+    }
+}
+
+/// The list of one folder.
+fn one_folder(alloc: Global, folder: &[u8]) -> Result<Vec<Vec<u8>>, AllocError>
+    ensures { IfOk result (λ folders. (f : Vec ℕ Global) × (f.items ≡ folder.now)
+        × (folders.items ≡ f ∷ [])) }
+{
+    let mut folders = Vec::with_capacity(alloc, 1)?;
+    folders.push(folder.to_vec(alloc)?)?;
+    Ok(folders)
 }
 
 /// Keeps a folder that could not be listed.
@@ -249,5 +271,72 @@ impl Root<'_> {
                 Err(_) => Err(FileError::Memory),
             },
         }
+    }
+
+    /// Walks the folders of one level, and returns those of the next. The error says that there was no memory.
+    fn walk_level<F: Files>(
+        self,
+        alloc: Global,
+        files: &mut F,
+        folders: &[Vec<u8>],
+        found: &mut FoundByKey,
+    ) -> Result<Vec<Vec<u8>>, FileError>
+        requires root { IsRootPath self.path.now }
+        requires paths { All (λ f. IsFolderPath f.items) folders.now }
+        ensures stays { OnOk result (StaysFound found.old.entries found.new.entries) }
+        ensures reaches { F.honest → IfOk result (λ next. Reaches self.entry
+            (view_of (F.means files.old).tree) (IsBelow folders.now) found.new.entries next.items) }
+        ensures paths { IfOk result (λ next. All (λ f. IsFolderPath f.items) next.items) }
+        ensures files { OnOk result (All IsFile found.old.entries → All IsFile found.new.entries
+            ⊎ HasRisen (F.faults files.old) (F.faults files.new)) }
+        ensures there { F.honest → OnOk result (
+            All (IsThere self.entry (view_of (F.means files.old).tree)) found.old.entries →
+            All (IsThere self.entry (view_of (F.means files.old).tree)) found.new.entries) }
+        ensures rises { F.faults files.old ≤ F.faults files.new }
+        ensures memory { IfErr result (λ error. error ≡ Memory) }
+        ensures leaves { F.honest → Leaves (F.means files.old) (F.means files.new)
+            (Unchanged (F.means files.old).tree) }
+    {
+        let mut next = Vec::new(alloc);
+        for folder in folders {
+            self.walk_folder(alloc, files, folder, found, &mut next)?;
+        }
+        Ok(next)
+    }
+
+    /// Walks the folder in which the names of the prefix lie, and all folders below it that such names may be in: adds each
+    /// file of a name, and each folder that could not be listed. One call of files for each folder. The error says that there
+    /// was no memory.
+    pub fn walk<F: Files>(
+        self,
+        alloc: Global,
+        files: &mut F,
+        found: &mut FoundByKey,
+    ) -> Result<(), FileError>
+        requires { IsRootPath self.path.now }
+        ensures stays { OnOk result (StaysFound found.old.entries found.new.entries) }
+        ensures finds { F.honest → OnOk result ((name : List ℕ) → IsLooseName self.entry
+            (view_of (F.means files.old).tree) name → Among (Holds name) found.new.entries) }
+        ensures files { OnOk result (All IsFile found.old.entries → All IsFile found.new.entries
+            ⊎ HasRisen (F.faults files.old) (F.faults files.new)) }
+        ensures there { F.honest → OnOk result (
+            All (IsThere self.entry (view_of (F.means files.old).tree)) found.old.entries →
+            All (IsThere self.entry (view_of (F.means files.old).tree)) found.new.entries) }
+        ensures rises { F.faults files.old ≤ F.faults files.new }
+        ensures memory { IfErr result (λ error. error ≡ Memory) }
+        ensures leaves { F.honest → Leaves (F.means files.old) (F.means files.new)
+            (Unchanged (F.means files.old).tree) }
+    {
+        let Ok(mut folders) = one_folder(alloc, folder_of(self.prefix)) else {
+            return Err(FileError::Memory);
+        };
+        for _ in 0..u64::MAX {
+            if folders.is_empty() {
+                return Ok(());
+            }
+            folders = self.walk_level(alloc, files, &folders, found)?;
+        }
+        // No path is that long.
+        Err(FileError::Memory)
     }
 }

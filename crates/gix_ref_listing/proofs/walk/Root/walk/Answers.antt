@@ -1,0 +1,31 @@
+use Rattle.std.proofs.Common.{◌≡◌, ◌⊎◌, inl, inr, ⊎_elim, ℕ, List, sym, ◌∙◌, ap, subst, Vec, Global, le_trans}
+use Rattle.std.specs.List.{All}
+use Rattle.gix_ref_files.specs.Tree.{Tree}
+use Rattle.gix_ref_theory.specs.OnRealTrees.{view_of}
+use Rattle.gix_ref_listing.specs.Walks.{Among, Holds, IsThere, IsLooseName, IsFolderPath, IsBelow}
+use Rattle.gix_ref_listing.proofs.FolderWalks.{files_still, unchanged_on}
+use Rattle.gix_ref_listing.proofs.walk.Root.walk.Goals as goal
+
+pub loop-preserved : goal.loop-preserved
+loop-preserved g c =
+    let F = g.F.Files in
+    let root = c.args.self in
+    let before = c.loop.invariant in
+    let step = c.walk_level.ensures in
+    let done = c.in_ok-folders.ensures in
+    let first = F.means c.args.files.now in
+    let mid = F.means c.loop.files in
+    let found = c.walk_level.new.found.entries in
+    record {
+      stays = λ name had. done.stays name (before.stays name had);
+      reaches = λ h name loose.
+          let in_mid : IsLooseName root (view_of mid.tree) name = subst (λ (T : Tree). IsLooseName root (view_of T) name) (sym (before.leaves h).tree) loose in
+          ⊎_elim (λ is. inl (done.stays name is))
+          (λ below. done.reaches h name in_mid (subst (λ (fs : List (Vec ℕ Global)). IsBelow fs name) (sym c.deref.ensures.value) below))
+          (before.reaches h name loose);
+      paths = done.paths;
+      files = files_still (F.faults c.args.files.now) (F.faults c.loop.files) (F.faults c.walk_level.new.files) before.rises step.rises before.files done.files;
+      there = λ h all. subst (λ (T : Tree). All (IsThere root (view_of T)) found) (before.leaves h).tree (done.there h (subst (λ (T : Tree). All (IsThere root (view_of T)) c.loop.found.entries) (sym (before.leaves h).tree) (before.there h all)));
+      rises = le_trans before.rises step.rises;
+      leaves = λ h. unchanged_on first mid (F.means c.walk_level.new.files) (before.leaves h) (step.leaves h);
+    }
