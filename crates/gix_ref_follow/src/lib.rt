@@ -1,0 +1,5 @@
+//! Following symbolic references to an object, peeling tags, and the reflogs of references.
+#![tactic(auto)]
+
+mod chain;
+pub mod peel;
