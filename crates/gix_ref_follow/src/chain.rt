@@ -1,5 +1,6 @@
 //! Following a reference, step by step (`git symbolic-ref`).
-ghost use Rattle.std.specs.Prelude.{◌≡◌, ◌++◌, ◌∷◌, [], List, Option, Some, None, IfOk, IfErr, OnOk, OnErr, MatchResult, false};
+ghost use Rattle.std.specs.Prelude.{◌≡◌, ◌++◌, ◌∷◌, [], List, Option, Some, None, IfOk, IfErr, OnOk, OnErr, MatchResult, false, bytes_eq};
+ghost use Rattle.std.specs.List.{list_any};
 ghost use Rattle.gix_ref_base.specs.Names.{full_bytes, full_ref_bytes};
 ghost use Rattle.gix_ref_base.specs.PackedRecords.{Record};
 ghost use Rattle.gix_ref_base.specs.Targets.{target_value, target_kind};
@@ -20,14 +21,14 @@ use gix_ref_lookup::find::records::Records;
 use gix_ref_packed::raw::Reference;
 use gix_ref_store::file::Store;
 use gix_ref_store::file::find::existing;
-use std::alloc::Global;
+use std::alloc::{AllocError, Global};
 
 /// How many steps a following takes; the last one is refused.
 const MAX_STEPS: usize = 5;
 
 /// Whether one of these is the name.
 fn is_reached(reached: &[FullName], name: &FullName) -> bool
-    ensures { result ≡ is_in (full_bytes name.now) (names_of reached.now) }
+    ensures { result ≡ list_any (λ n. bytes_eq (full_bytes name.now) (full_bytes n)) reached.now }
 {
     reached.iter().any(|other| name.to_path() == other.to_path())
 }
@@ -72,6 +73,16 @@ pub(crate) fn find_next<F: Files>(
     }
 }
 
+/// Adds a copy of a name.
+#[tactic(auto, using(crate::proofs::Steps::names_append))]
+fn remember(reached: &mut Vec<FullName>, name: &FullName) -> Result<(), AllocError>
+    ensures { OnOk result (names_of reached.new.items ≡ names_of reached.old.items
+        ++ full_bytes name.now ∷ []) }
+{
+    reached.push(name.clone()?)?;
+    Ok(())
+}
+
 /// Goes on to the next reference, unless an earlier step reached it.
 fn arrive<F>(
     reference: &mut Reference,
@@ -91,7 +102,7 @@ fn arrive<F>(
     if is_reached(reached, &next.name) {
         return Err(cycle(alloc, store, reference.name.as_ref()));
     }
-    reached.push(next.name.clone()?)?;
+    remember(reached, &next.name)?;
     *reference = next;
     Ok(())
 }
@@ -160,7 +171,10 @@ pub(crate) fn follow_among<F: Files>(
         if let Some(id) = reference.target.try_id() {
             return Ok(id);
         }
-        take_step(reference, alloc, store, asked, &mut reached)?;
+        match take_step(reference, alloc, store, asked, &mut reached) {
+            Ok(()) => {}
+            Err(error) => return Err(error),
+        }
     }
     Err(Error::DepthLimitExceeded {
         max_depth: MAX_STEPS,
