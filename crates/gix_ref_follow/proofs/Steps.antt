@@ -1,21 +1,18 @@
 -- One step of a following, and what it leaves of the rest.
-use Rattle.std.proofs.Common.{◌≡◌, ◌≤◌, ◌<◌, ◌-◌, ◌+◌, ℕ, zero, suc, List, [], ◌∷◌, ◌++◌, Option, Some, None, Result, Ok, Err, Bool, true, false, if◌then◌else◌, ◌||◌, bytes_eq, MatchResult, IfErr, IfOk, OnOk, arith, refl, sym, ◌∙◌, ap, subst}
+use Rattle.std.proofs.Common.{◌≡◌, ◌≤◌, ◌+◌, ℕ, suc, List, [], ◌∷◌, ◌++◌, Option, Some, None, Result, Ok, Err, Bool, true, false, if◌then◌else◌, ◌||◌, bytes_eq, MatchResult, IfErr, IfOk, OnOk, arith, refl, sym, ◌∙◌, ap, subst}
 use Rattle.std.specs.List.{list_any}
 use Rattle.gix_ref_hash.specs.declared.hash.ObjectId.{ObjectId}
 use Rattle.gix_ref_base.specs.Names.{full_bytes, partial_bytes}
-use Rattle.gix_ref_base.specs.Targets.{TargetValue, target_value, target_kind, target_id}
+use Rattle.gix_ref_base.specs.Targets.{TargetValue, target_value, target_id}
 use Rattle.gix_ref_base.specs.Targets.TargetValue.{object_id, symbolic_name}
 use Rattle.gix_ref_base.specs.declared.name.FullName.{FullName}
-use Rattle.gix_ref_base.specs.declared.target.Kind.TheVariants.{Symbolic}
 use Rattle.gix_ref_packed.specs.declared.raw.Reference.{Reference}
 use Rattle.gix_ref_theory.specs.Lookups.{Hit}
-use Rattle.gix_ref_theory.specs.Readings.{Reading}
-use Rattle.gix_ref_theory.specs.Readings.Reading.{Is}
 use Rattle.gix_ref_lookup.specs.Lookups.{Answers, IsSound}
 use Rattle.gix_ref_lookup.specs.declared.find.existing.Error.{Error as Missing}
 use Rattle.gix_ref_lookup.specs.declared.find.existing.Error.TheVariants.{Find, NotFound}
-use Rattle.gix_ref_follow.specs.Following.{At, Ending, Finds, IsStep, Leads, Passes, at_of, follow, following, is_in, step_from, step_by, arrive}
-use Rattle.gix_ref_follow.specs.Following.Ending.{Reached, Dangling, Unreadable, Circular, TooDeep}
+use Rattle.gix_ref_follow.specs.Following.{At, Finds, IsStep, Leads, at_of, follow, following, is_in, step_from, step_by, arrive}
+use Rattle.gix_ref_follow.specs.Following.Ending.{Reached, Circular, TooDeep}
 use Rattle.gix_ref_follow.specs.Followed.{names_of, OfStep, IsCycle, IsReturn, RefusesStep, Follows}
 use Rattle.gix_ref_follow.specs.declared.peel.to_object.Error.{Error}
 use Rattle.gix_ref_follow.specs.declared.peel.to_object.Error.TheVariants.{Follow, Cycle, DepthLimitExceeded, Memory}

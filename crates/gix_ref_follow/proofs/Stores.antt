@@ -1,5 +1,5 @@
 -- Lookups in a store after other lookups in it.
-use Rattle.std.proofs.Common.{◌≡◌, ◌⊎◌, inl, inr, ℕ, List, [], ◌∷◌, Option, Some, None, refl, sym, ◌∙◌, ap, subst}
+use Rattle.std.proofs.Common.{◌≡◌, inl, inr, ℕ, List, [], ◌∷◌, sym, ◌∙◌, ap, subst}
 use Rattle.gix_ref_base.specs.PackedRecords.{Record}
 use Rattle.gix_ref_base.specs.Names.{full_bytes}
 use Rattle.gix_ref_files.specs.Files.{Meaning}
@@ -10,14 +10,14 @@ use Rattle.gix_ref_theory.specs.OnRealTrees.{view_of}
 use Rattle.gix_ref_theory.specs.Readings.{reading_among}
 use Rattle.gix_ref_theory.specs.Readings.Reading.{Absent}
 use Rattle.gix_ref_packed.specs.declared.raw.Reference.{Reference}
-use Rattle.gix_ref_lookup.specs.Lookups.{meaning_in, lookup_of, asked_names, AreAsked, AreHonest, AreStillAsked, IsHit, IsPassed, CandidateFails, FailsAt, FailsAmong, Among}
+use Rattle.gix_ref_lookup.specs.Lookups.{meaning_in, lookup_of, asked_names, AreAsked, AreStillAsked, IsHit, IsPassed, CandidateFails, FailsAt, FailsAmong}
 use Rattle.gix_ref_lookup.specs.declared.settings.Settings.{Settings}
 use Rattle.gix_ref_lookup.specs.declared.find.error.Error.{Error as FindError}
 use Rattle.gix_ref_lookup.specs.declared.find.records.Records.{Records}
 use Rattle.gix_ref_lookup.specs.declared.find.existing.Error.{Error as Missing}
 use Rattle.gix_ref_lookup.specs.declared.find.existing.Error.TheVariants.{Find, NotFound}
 use Rattle.gix_ref_lookup.proofs.Looking.{packed_refs_at, fails_from, hit_from, among_wider, still_asked}
-use Rattle.gix_ref_store.specs.Lookup.{settings_of, lent, view_in, AreAskedIn, AreStillAskedIn, HitsIn, MissesIn, FailsIn, LooksUp}
+use Rattle.gix_ref_store.specs.Lookup.{settings_of, lent, view_in, AreAskedIn, AreStillAskedIn, MissesIn, LooksUp}
 use Rattle.gix_ref_store.specs.Store as stores
 use Rattle.gix_ref_store.specs.declared.file.store.Store.{Store}
 use Rattle.gix_ref_follow.specs.Followed.{finds_in, HitsNext, IsNotFollowed}
@@ -38,7 +38,7 @@ fails_at_first {R} {G} honest settings T T' r r' before before' now names error 
     fails_wider (IsPassed honest settings T' r') (IsPassed honest settings T r)
     (λ n. CandidateFails honest settings T' r' before' now n error) (λ n. CandidateFails honest settings T r before now n error) names
     (λ n passed h rs are. subst (λ (U : Tree). reading_among (meaning_in settings) (view_of U) rs n ≡ Absent) (same h)
-        (passed h rs (subst (λ (U : Tree). AreAsked settings.kind (packed_refs_at settings U) r' rs) (sym (same h)) ((still h).asked rs are))))
+    (passed h rs (subst (λ (U : Tree). AreAsked settings.kind (packed_refs_at settings U) r' rs) (sym (same h)) ((still h).asked rs are))))
     (λ n. fails_from honest settings T T' r r' same (λ h. (still h).readers) (λ h. (still h).searched) before before' now n error count)
 
 pub same_settings : {F : Type 0} (old new : Store F) → stores.IsSameStore old new → settings_of new ≡ settings_of old
@@ -104,7 +104,7 @@ module _ {F R : Type 0} {G : Ghosts R} (honest : Type 0) (means : F → Meaning)
     hit.0,
     hit.1,
     among_wider (λ n. IsHit (settings_of mid) (view_of T') r' n next) (λ n. IsHit (settings_of first) (view_of T) r n next) (asked_names hit.0)
-    (λ n is. hit_from honest (settings_of first) T T' r r' same (λ k. (still k).readers) (λ k. (still k).searched) h n next (subst (λ (s : Settings). IsHit s (view_of T') r' n next) settled is)) hit.2,
+        (λ n is. hit_from honest (settings_of first) T T' r r' same (λ k. (still k).readers) (λ k. (still k).searched) h n next (subst (λ (s : Settings). IsHit s (view_of T') r' n next) settled is)) hit.2,
   )
 
   pub misses_on : (faults : F → ℕ) (new : Store F) (name : List ℕ) (error : Missing) → faults (stores.files_of mid) ≡ faults (stores.files_of first) →

@@ -1,5 +1,5 @@
 -- What following a reference in a store returns.
-use Rattle.std.specs.Prelude.{◌≡◌, ℕ, List, [], ◌∷◌, Option, Some, None, Result, Ok, Err, true, false}
+use Rattle.std.specs.Prelude.{◌≡◌, ℕ, List, [], ◌∷◌, Option, Some, None, Result, Ok, Err, true, MatchResult, IfOk, IfErr}
 use Rattle.gix_ref_hash.specs.declared.hash.ObjectId.{ObjectId}
 use Rattle.gix_ref_base.specs.Names.{full_bytes, partial_bytes}
 use Rattle.gix_ref_base.specs.PackedRecords.{Record}
@@ -13,11 +13,11 @@ use Rattle.gix_ref_lookup.specs.Lookups.{IsSound, lookup_of}
 use Rattle.gix_ref_lookup.specs.declared.find.records.Records.{Records}
 use Rattle.gix_ref_lookup.specs.declared.find.existing.Error.{Error as Missing}
 use Rattle.gix_ref_lookup.specs.declared.find.existing.Error.TheVariants.{Find, NotFound}
-use Rattle.gix_ref_store.specs.Lookup.{view_in, HitsIn, MissesIn}
+use Rattle.gix_ref_store.specs.Lookup.{view_in, FindsAmong, MissesAmong, HitsIn, MissesIn}
 use Rattle.gix_ref_store.specs.Store as stores
 use Rattle.gix_ref_store.specs.declared.file.store.Store.{Store}
-use Rattle.gix_ref_follow.specs.Following.{At, Ending, Finds, IsStep, Passes, at_of, following, is_in}
-use Rattle.gix_ref_follow.specs.Following.Ending.{Reached, Dangling, Unreadable, Circular, TooDeep}
+use Rattle.gix_ref_follow.specs.Following.{At, Finds, IsStep, Passes, following, is_in}
+use Rattle.gix_ref_follow.specs.Following.Ending.{Reached, Dangling, Circular, TooDeep}
 use Rattle.gix_ref_follow.specs.declared.peel.to_object.Error.{Error}
 use Rattle.gix_ref_follow.specs.declared.peel.to_object.Error.TheVariants.{Follow, Cycle, DepthLimitExceeded, Memory}
 
@@ -74,12 +74,25 @@ module _ {F : Type 0} (means : F → Meaning) where
   abbrev pub finds_in : Store F → List Record → Finds
   finds_in store records = lookup_of (stores.meaning_of store) (view_in means store) records
 
+  -- the lookup of a target in it finds this, among these records
+  abbrev pub StepFinds : Store F → List Record → TargetValue → Option (Result Reference Missing) → Type 0
+  StepFinds store records target result =
+      OfStep target (λ name r. MatchResult r (λ next. FindsAmong means store records name (Some next)) (MissesAmong means store records name)) result
+
 module _ {F R : Type 0} {G : Ghosts R} (means : F → Meaning) where
+  -- on any text of `packed-refs`: what the lookup of a target finds is one that the target is short for
+  abbrev pub StepHits : Store F → Records R G → TargetValue → Option (Result Reference Missing) → Type 0
+  StepHits store asked target result = OfStep target (λ name r. IfOk r (λ next. HitsIn means store asked name (Some next))) result
+
   -- on any text of `packed-refs`: the next reference is one that the target is short for
   abbrev pub HitsNext : Store F → Records R G → (at next : Reference) → Type 0
   HitsNext store asked at next = (name : List ℕ) × (target_value at.target ≡ symbolic_name name) × HitsIn means store asked name (Some next)
 
 module _ {F R : Type 0} {G : Ghosts R} (honest : Type 0) (means : F → Meaning) (faults : F → ℕ) where
+  -- why the lookup of a target fails
+  abbrev pub StepFails : (old new : Store F) → Records R G → TargetValue → Option (Result Reference Missing) → Type 0
+  StepFails old new asked target result = OfStep target (λ name r. IfErr r (MissesIn honest means faults old new asked name)) result
+
   -- why a reference is not followed further: the lookup of its target fails or finds nothing; that leads back, and this is the
   -- place of the reference; five steps were taken; no memory
   abbrev pub IsNotFollowed : (old new : Store F) → Records R G → Reference → Error → Type 0

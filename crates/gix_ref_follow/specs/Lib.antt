@@ -1,2 +1,3 @@
-pub mod Following
 pub mod Followed
+pub mod Following
+pub mod Peelings

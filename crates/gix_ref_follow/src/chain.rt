@@ -1,5 +1,5 @@
 //! Following a reference, step by step (`git symbolic-ref`).
-ghost use Rattle.std.specs.Prelude.{◌≡◌, ◌++◌, ◌∷◌, [], List, Option, Some, None, IfOk, IfErr, OnOk, OnErr, MatchResult, false, bytes_eq};
+ghost use Rattle.std.specs.Prelude.{◌≡◌, ◌++◌, ◌∷◌, [], List, Option, Some, None, IfOk, IfErr, OnOk, OnErr, false, bytes_eq};
 ghost use Rattle.std.specs.List.{list_any};
 ghost use Rattle.gix_ref_base.specs.Names.{full_bytes, full_ref_bytes};
 ghost use Rattle.gix_ref_base.specs.PackedRecords.{Record};
@@ -7,10 +7,10 @@ ghost use Rattle.gix_ref_base.specs.Targets.{target_value, target_kind};
 ghost use Rattle.gix_ref_base.specs.Targets.TargetValue.{object_id};
 ghost use Rattle.gix_ref_base.specs.declared.target.Kind.TheVariants.{Symbolic};
 ghost use Rattle.gix_ref_lookup.specs.Lookups.{AreHonest};
-ghost use Rattle.gix_ref_store.specs.Lookup.{AreAskedIn, AreStillAskedIn, FindsAmong, MissesAmong, HitsIn, MissesIn, LooksUp};
+ghost use Rattle.gix_ref_store.specs.Lookup.{AreAskedIn, AreStillAskedIn, LooksUp};
 ghost use Rattle.gix_ref_store.specs.Store.{files_of, meaning_of};
 ghost use Rattle.gix_ref_follow.specs.Following.{at_of, is_in, IsStep, Passes};
-ghost use Rattle.gix_ref_follow.specs.Followed.{names_of, OfStep, OnStep, IsCycle, IsReturn, RefusesStep, Follows, finds_in, HitsNext, IsNotFollowed};
+ghost use Rattle.gix_ref_follow.specs.Followed.{names_of, OnStep, StepFinds, StepHits, StepFails, IsCycle, IsReturn, RefusesStep, Follows, finds_in, HitsNext, IsNotFollowed};
 
 use crate::peel::to_object::Error;
 use gix_ref_base::name::{FullName, FullNameRef};
@@ -30,7 +30,9 @@ const MAX_STEPS: usize = 5;
 fn is_reached(reached: &[FullName], name: &FullName) -> bool
     ensures { result ≡ list_any (λ n. bytes_eq (full_bytes name.now) (full_bytes n)) reached.now }
 {
-    reached.iter().any(|other| name.to_path() == other.to_path())
+    reached
+        .iter()
+        .any(|other| name.to_path() == other.to_path())
 }
 
 /// The error for a reference that leads back.
@@ -51,14 +53,11 @@ pub(crate) fn find_next<F: Files>(
     asked: &mut Records<'_, F::Reader>,
 ) -> Option<Result<Reference, existing::Error>>
     ensures found { F.honest → (records : List Record) → AreAskedIn F.means store.old asked.old
-        records →
-        OfStep (target_value reference.now.target) (λ name r. MatchResult r
-        (λ next. FindsAmong F.means store.old records name (Some next))
-        (MissesAmong F.means store.old records name)) result }
-    ensures hit { F.honest → AreHonest asked.old → OfStep (target_value reference.now.target)
-        (λ name r. IfOk r (λ next. HitsIn F.means store.old asked.old name (Some next))) result }
-    ensures failed { OfStep (target_value reference.now.target) (λ name r. IfErr r
-        (MissesIn F.honest F.means F.faults store.old store.new asked.old name)) result }
+        records → StepFinds F.means store.old records (target_value reference.now.target) result }
+    ensures hit { F.honest → AreHonest asked.old → StepHits F.means store.old asked.old
+        (target_value reference.now.target) result }
+    ensures failed { StepFails F.honest F.means F.faults store.old store.new asked.old
+        (target_value reference.now.target) result }
     ensures asked { F.honest → OnStep result
         (AreStillAskedIn F.means store.old asked.old asked.new) }
     ensures no_fault { OnStep result (F.faults (files_of store.new) ≡ F.faults

@@ -3,3 +3,7 @@
 
 mod chain;
 pub mod peel;
+mod reference_ext;
+mod tags;
+
+pub use reference_ext::ReferenceExt;

@@ -1,4 +1,4 @@
-use Rattle.std.proofs.Common.{◌∙◌, ◌≡◌, List, Option, Some, None, IfOk}
+use Rattle.std.proofs.Common.{◌∙◌, Some}
 use Rattle.gix_ref_base.specs.Names.{partial_ref_bytes, full_bytes}
 use Rattle.gix_ref_store.specs.Lookup.{FindsAmong, MissesAmong, HitsIn}
 use Rattle.gix_ref_follow.proofs.Steps.{both, ok_named}

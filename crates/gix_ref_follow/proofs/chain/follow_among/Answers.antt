@@ -1,9 +1,9 @@
-use Rattle.std.proofs.Common.{◌≡◌, ◌≤◌, ◌<◌, ◌-◌, ◌+◌, ℕ, suc, List, Err, arith, refl, sym, ◌∙◌, ap, subst}
+use Rattle.std.proofs.Common.{◌≡◌, ◌-◌, ◌+◌, suc, List, Err, arith, sym, ◌∙◌, ap, subst}
 use Rattle.gix_ref_base.specs.Targets.{target_value}
 use Rattle.gix_ref_base.specs.PackedRecords.{Record}
 use Rattle.gix_ref_store.specs.Lookup.{AreAskedIn}
 use Rattle.gix_ref_packed.specs.declared.raw.Reference.{Reference}
-use Rattle.gix_ref_follow.specs.Following.{Finds, IsStep, at_of, follow, following}
+use Rattle.gix_ref_follow.specs.Following.{Finds, IsStep, at_of, follow}
 use Rattle.gix_ref_follow.specs.Followed.{names_of, finds_in, HitsNext, RefusesStep, Follows, IsNotFollowed}
 use Rattle.gix_ref_follow.proofs.Steps.{id_of, follow_object, follow_none, follow_on, follows_refused, leads_more}
 use Rattle.gix_ref_follow.proofs.Stores.{asked_on, still_on, hits_on, not_followed_on, looks_up, same_finds}

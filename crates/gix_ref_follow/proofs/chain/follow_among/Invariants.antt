@@ -1,4 +1,4 @@
-use Rattle.std.proofs.Common.{◌≡◌, ◌-◌, ℕ, List}
+use Rattle.std.proofs.Common.{◌≡◌, ◌-◌, List}
 use Rattle.gix_ref_base.specs.PackedRecords.{Record}
 use Rattle.gix_ref_lookup.specs.Lookups.{AreHonest}
 use Rattle.gix_ref_store.specs.Lookup.{AreAskedIn, AreStillAskedIn, LooksUp}

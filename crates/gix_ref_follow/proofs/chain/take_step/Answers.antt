@@ -1,4 +1,4 @@
-use Rattle.std.proofs.Common.{◌≡◌, ◌∙◌, ℕ, List, Some, None, sym, subst, refl, Ok, Err}
+use Rattle.std.proofs.Common.{ℕ, List, sym, subst, refl}
 use Rattle.gix_ref_base.specs.Names.{full_bytes}
 use Rattle.gix_ref_base.specs.Targets.{target_value}
 use Rattle.gix_ref_packed.specs.declared.raw.Reference.{Reference}
