@@ -2,8 +2,11 @@
 #![tactic(auto)]
 
 mod chain;
+mod loose_reference_ext;
 pub mod peel;
 mod reference_ext;
+mod sealed;
 mod tags;
 
+pub use loose_reference_ext::LooseReferenceExt;
 pub use reference_ext::ReferenceExt;

@@ -1,6 +1,7 @@
 //! Following, peeling and the reflogs of references in a store.
 use crate::chain::{find_next, follow_among};
 use crate::peel::{to_id, to_object};
+use crate::sealed::Sealed;
 use crate::tags::peel_among;
 use gix_ref_files::files::Files;
 use gix_ref_hash::hash::ObjectId;
@@ -11,12 +12,6 @@ use gix_ref_packed::raw::Reference;
 use gix_ref_store::file::find::existing;
 use gix_ref_store::file::{Store, log};
 use std::alloc::Global;
-
-mod sealed {
-    pub trait Sealed {}
-}
-
-use sealed::Sealed;
 
 impl Sealed for Reference {}
 
