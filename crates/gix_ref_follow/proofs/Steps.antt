@@ -109,7 +109,7 @@ unfolding follow
 follow_object find steps reached at id is = ap (step_from find reached (λ next. follow find steps (reached ++ next.name ∷ []) next) at) is
 
 -- what is left behind a symbolic target, by what its lookup finds
-follow_symbolic : (find : Finds) (steps : ℕ) (reached : List (List ℕ)) (at : At) (name : List ℕ) (hit : Option Hit) → at.target ≡ symbolic_name name → find name ≡ hit →
+pub follow_symbolic : (find : Finds) (steps : ℕ) (reached : List (List ℕ)) (at : At) (name : List ℕ) (hit : Option Hit) → at.target ≡ symbolic_name name → find name ≡ hit →
     follow find (suc steps) reached at ≡ step_by reached (λ next. follow find steps (reached ++ next.name ∷ []) next) at name hit
 unfolding follow
 follow_symbolic find steps reached at name hit is found =
@@ -136,7 +136,7 @@ follow_on find steps reached at next step first =
     ∙ (ap (λ (n : List ℕ). follow find steps (reached ++ n ∷ []) (record { name = step.hit.name; target = next.target; peeled = step.hit.peeled })) (sym step.named)
     ∙ ap (follow find steps (reached ++ next.name ∷ [])) (found_at find at next step)))
 
-follow_back : (find : Finds) (steps : ℕ) (reached : List (List ℕ)) (at next : At) → IsStep find at next → is_in next.name reached ≡ true → follow find (suc steps) reached at ≡ Circular at
+pub follow_back : (find : Finds) (steps : ℕ) (reached : List (List ℕ)) (at next : At) → IsStep find at next → is_in next.name reached ≡ true → follow find (suc steps) reached at ≡ Circular at
 follow_back find steps reached at next step again =
     follow_hit find steps reached at next step
     ∙ ap (λ (b : Bool). if b then Circular at else follow find steps (reached ++ step.hit.name ∷ []) (record { name = step.hit.name; target = next.target; peeled = step.hit.peeled })) (ap (λ n. is_in n reached) (sym step.named) ∙ again)

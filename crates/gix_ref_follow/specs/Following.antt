@@ -1,5 +1,5 @@
 -- Following symbolic references to an object (`git symbolic-ref`): each step is a lookup of the symbolic target.
-use Rattle.std.specs.Prelude.{◌≡◌, ◌≤◌, ℕ, zero, suc, List, [], ◌∷◌, ◌++◌, Option, Some, None, Bool, bytes_eq, if◌then◌else◌}
+use Rattle.std.specs.Prelude.{◌≡◌, ◌≤◌, ℕ, zero, suc, List, [], ◌∷◌, ◌++◌, Option, Some, None, Bool, true, false, bytes_eq, if◌then◌else◌}
 use Rattle.std.specs.List.{list_any}
 use Rattle.gix_ref_hash.specs.declared.hash.ObjectId.{ObjectId}
 use Rattle.gix_ref_base.specs.Names.{full_bytes}
@@ -84,3 +84,10 @@ Leads {A} Step (suc steps) start end = (before : A) × Leads Step steps start be
 -- a reference that a following passes, the start included
 abbrev pub Passes : {A : Type 0} → (A → A → Type 0) → A → A → Type 0
 Passes Step start end = (steps : ℕ) × (steps ≤ 5) × Leads Step steps start end
+
+-- So many steps lead from one reference to another, to references of these names, none of which an earlier step reached.
+abbrev pub Chain : Finds → (steps : ℕ) → (start : At) → (reached : List (List ℕ)) → (end : At) → Type 0
+Chain find zero start reached end = (start ≡ end) × (reached ≡ [])
+Chain find (suc steps) start reached end =
+    (before : At) × (earlier : List (List ℕ)) × Chain find steps start earlier before × IsStep find before end
+    × (is_in end.name earlier ≡ false) × (reached ≡ earlier ++ end.name ∷ [])

@@ -2,6 +2,7 @@
 #![tactic(auto)]
 
 mod chain;
+pub mod laws;
 mod loose_reference_ext;
 pub mod peel;
 mod reference_ext;

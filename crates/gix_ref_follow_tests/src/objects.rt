@@ -2,6 +2,7 @@
 use gix_ref_hash::hash::ObjectId;
 use gix_ref_object::object::{Data, Find, FindError, Kind};
 use std::alloc::Global;
+use std::cell::Cell;
 
 /// What a finder has behind its tags.
 #[derive(Clone, Copy, Debug, PartialEq, Eq)]
@@ -98,5 +99,41 @@ impl Find for Tags {
             Last::Failed => Err(FindError::Failed),
             Last::NoMemory => Err(FindError::Memory),
         }
+    }
+}
+
+/// A finder that reports something else at each call: a tag of itself, nothing, a tag with another first line, a fault.
+#[derive(Drop)]
+pub struct Changing {
+    pub alloc: Global,
+    pub calls: Cell<u8>,
+}
+
+impl Find for Changing {
+    ghost use Rattle.gix_ref_object.specs.Objects.Stored.{Absent};
+
+    ghost meaning = { λ _ id. Absent };
+
+    ghost claims = { λ _. ⊥ };
+
+    fn try_find<'b>(
+        &self,
+        id: &ObjectId,
+        buf: &'b mut Vec<u8>,
+    ) -> Result<Option<Data<'b>>, FindError> {
+        let call = self.calls.get();
+        self.calls.set(call.wrapping_add(1));
+        let (count, last) = match call % 5 {
+            0 | 1 => (0, Last::Itself),
+            2 => (0, Last::Missing),
+            3 => (0, Last::BadTag),
+            _ => (0, Last::Failed),
+        };
+        let tags = Tags {
+            alloc: self.alloc,
+            count,
+            last,
+        };
+        tags.try_find(id, buf)
     }
 }

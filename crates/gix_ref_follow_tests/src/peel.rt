@@ -1,11 +1,12 @@
 //! Peeling references.
 use crate::made::{found, is_at, numbered, store};
-use crate::objects::{Last, Tags};
+use crate::objects::{Changing, Last, Tags};
 use gix_ref_base::target::Target;
 use gix_ref_follow::ReferenceExt;
 use gix_ref_follow::peel::{to_id, to_object};
 use gix_ref_hash::hash::ObjectId;
 use gix_ref_object::object::Never;
+use std::cell::Cell;
 
 /// A loose text with the id of the number 0.
 const FIRST: &str = "0000000000000000000000000000000000000000\n";
@@ -167,4 +168,31 @@ fn faults(rt: HostRuntime) {
         }
     }
     assert!(rt; refused >= 3, "two loose files and packed-refs are read");
+}
+
+/// A finder that reports something else at each call: each call returns, and a refused one leaves the branch as it is.
+#[test]
+fn changing_finder(rt: HostRuntime) {
+    let alloc = rt.alloc();
+    let texts = [
+        ("/r/HEAD", "ref: refs/heads/a\n"),
+        ("/r/refs/heads/a", FIRST),
+    ];
+    let mut store = store(&rt, alloc, &texts);
+    let objects = Changing {
+        alloc,
+        calls: Cell::new(0),
+    };
+    for want in [
+        Answer::NotFound(0),
+        Answer::NotFound(0),
+        Answer::Find,
+        Answer::NotFound(0),
+    ] {
+        let mut head = found(&rt, alloc, &mut store, "HEAD");
+        let peeled = head.peel_to_id(alloc, &mut store, &objects);
+        assert_eq!(rt; answer_of(&peeled, "refs/heads/a"), want);
+        assert!(rt; head.target == Target::Object(numbered(0)), "as followed");
+        assert!(rt; head.peeled.is_none(), "not peeled");
+    }
 }

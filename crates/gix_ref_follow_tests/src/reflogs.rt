@@ -1,11 +1,50 @@
 //! The reflogs of references.
 use crate::made::{found, store};
 use gix_ref_follow::{LooseReferenceExt, ReferenceExt};
-use gix_ref_store::file::loose;
+use gix_ref_memory::memory::Memory;
+use gix_ref_store::file::{Store, loose};
+use gix_ref_store::raw::Reference;
+use std::alloc::Global;
 
 /// A line of a log.
 const LINE: &str =
     "0000000000000000000000000000000000000000 1111111111111111111111111111111111111111 C <c@example.com> 1234 +0800\tm\n";
+
+/// Whether the log of a reference is read forward.
+fn is_forward(alloc: Global, store: &mut Store<Memory>, reference: &Reference) -> bool {
+    let mut platform = ReferenceExt::log_iter(reference, alloc, store);
+    let lines = platform.all(alloc);
+    matches!(&lines, Ok(Some(_)))
+}
+
+/// Whether it is read backward.
+fn is_backward(alloc: Global, store: &mut Store<Memory>, reference: &Reference) -> bool {
+    let mut platform = ReferenceExt::log_iter(reference, alloc, store);
+    let lines = platform.rev(alloc);
+    matches!(&lines, Ok(Some(_)))
+}
+
+/// Whether the log of a loose reference is read forward.
+fn is_loose_forward(
+    alloc: Global,
+    store: &mut Store<Memory>,
+    reference: &loose::Reference,
+) -> bool {
+    let mut buf = Vec::new(alloc);
+    let lines = LooseReferenceExt::log_iter(reference, alloc, store, &mut buf);
+    matches!(&lines, Ok(Some(_)))
+}
+
+/// Whether it is read backward.
+fn is_loose_backward(
+    alloc: Global,
+    store: &mut Store<Memory>,
+    reference: &loose::Reference,
+) -> bool {
+    let mut buf = [0; 4096];
+    let lines = reference.log_iter_rev(alloc, store, &mut buf);
+    matches!(&lines, Ok(Some(_)))
+}
 
 #[test]
 fn logs(rt: HostRuntime) {
@@ -21,32 +60,20 @@ fn logs(rt: HostRuntime) {
         let reference = found(&rt, alloc, &mut store, name);
         let exists = ReferenceExt::log_exists(&reference, alloc, &mut store);
         assert_eq!(rt; exists.unwrap_or(!want), want, "{name} has a log");
-        let mut platform = ReferenceExt::log_iter(&reference, alloc, &mut store);
-        let forward = match platform.all(alloc) {
-            Ok(Some(lines)) => lines.count(),
-            Ok(None) => 0,
-            Err(_) => 9,
-        };
-        assert_eq!(rt; forward == 1, want, "one line of {name}, forward");
-        let backward = match platform.rev(alloc) {
-            Ok(Some(lines)) => lines.count(),
-            Ok(None) => 0,
-            Err(_) => 9,
-        };
-        assert_eq!(rt; backward == 1, want, "one line of {name}, backward");
-
+        assert_eq!(rt; is_forward(alloc, &mut store, &reference), want, "{name}");
+        assert_eq!(rt; is_backward(alloc, &mut store, &reference), want, "{name}");
         let reference = loose::Reference::from(reference);
         let exists = LooseReferenceExt::log_exists(&reference, alloc, &mut store);
+        assert_eq!(rt; exists.unwrap_or(!want), want, "{name} has a log");
         assert_eq!(rt;
-            exists.unwrap_or(!want),
+            is_loose_forward(alloc, &mut store, &reference),
             want,
-            "{name} has a log, as a loose reference"
+            "{name}"
         );
-        let mut buf = Vec::new(alloc);
-        let lines = LooseReferenceExt::log_iter(&reference, alloc, &mut store, &mut buf);
-        assert!(rt; matches!(&lines, Ok(Some(_))) == want, "{name}");
-        let mut window = [0; 4096];
-        let lines = reference.log_iter_rev(alloc, &mut store, &mut window);
-        assert!(rt; matches!(&lines, Ok(Some(_))) == want, "{name}");
+        assert_eq!(rt;
+            is_loose_backward(alloc, &mut store, &reference),
+            want,
+            "{name}"
+        );
     }
 }
