@@ -9,7 +9,7 @@ use Rattle.gix_ref_theory.specs.Readings.{Store, Reading, reading_among}
 use Rattle.gix_ref_theory.specs.Readings.Reading.{Is, Absent, Fault}
 use Rattle.gix_ref_theory.specs.Lookups.{Hit, first_hit, hit, is_there}
 use Rattle.gix_ref_packed.specs.declared.raw.Reference.{Reference}
-use Rattle.gix_ref_lookup.specs.Lookups.{Answers, IsCandidate, FailsAt, Among, IsPassed, AreAsked, IsNotRead, CandidateFails, IsHit, IsLooseTarget, AreHonest, IsSearched, OfSearched, OfKey, meaning_in, to_list}
+use Rattle.gix_ref_lookup.specs.Lookups.{Answers, IsCandidate, FailsAt, Among, IsPassed, AreAsked, IsNotRead, CandidateFails, IsHit, IsLooseTarget, AreHonest, AreStillAsked, IsSearched, OfSearched, OfKey, meaning_in, to_list}
 use Rattle.gix_ref_lookup.specs.LooseFiles.{IsUndecodable}
 use Rattle.gix_ref_lookup.specs.StoreLayout.{namespace_text}
 use Rattle.gix_ref_lookup.specs.declared.settings.Settings.{Settings}
@@ -109,6 +109,17 @@ module _ {R : Type 0} {G : Ghosts R} (honest : Type 0) (settings : Settings) (T 
     subst (λ (U : Tree). view_of U (s.place name) ≡ None) (same h) packed.0,
     (packed.1.0, packed.1.1, hit_wider settings.kind (packed_refs_at settings T') (packed_refs_at settings T) r' r (namespace_text settings.namespace.now) packed.1.0 x (back h) packed.1.2),
   )
+
+-- what one look-up leaves of the records after another
+pub still_asked : {R : Type 0} {G : Ghosts R} (kind : Kind) (file file' : Option (List ℕ)) (first mid last : Asked R G) → file' ≡ file →
+    AreStillAsked kind file first mid → AreStillAsked kind file' mid last → AreStillAsked kind file first last
+still_asked {R} {G} kind file file' first mid last same before after =
+    let later = subst (λ (f : Option (List ℕ)). AreStillAsked kind f mid last) same after in
+    record {
+      asked = λ records are. later.asked records (before.asked records are);
+      readers = λ honest. later.readers (before.readers honest);
+      searched = λ k text is. before.searched k text (later.searched k text is);
+    }
 
 -- the result of one candidate alone
 pub answer_one : (s : Store) (view : View) (rs : List Record) (name : List ℕ) (found : Option Reference) → IsCandidate s view rs name found → Answers (first_hit s view rs (name ∷ [])) found

@@ -81,6 +81,17 @@ IsSearched kind file (sources.Held buffer) of_kind text = (of_kind ≡ buffer_ki
 IsSearched kind file sources.Unopened of_kind text = IsOpenedText kind file of_kind text
 IsSearched kind file (sources.Open packed) of_kind text = (of_kind ≡ packed_file_kind packed) × (text ≡ packed_file_text packed)
 
+-- an open `packed-refs` is read by an honest reader
+abbrev pub AreHonest : {R : Type 0} {G : Ghosts R} → Records R G → Type 0
+AreHonest {R} {G} (sources.Open packed) = G.honest
+AreHonest other = Unit {0}
+
+-- What a lookup leaves of the records that it asked: the same ones, in the same text, read by an honest reader if they were before.
+pub record AreStillAsked {R : Type 0} {G : Ghosts R} (kind : Kind) (file : Option (List ℕ)) (old new : Records R G) : Type 0 where
+  pub asked : (records : List Record) → AreAsked kind file old records → AreAsked kind file new records
+  pub readers : AreHonest old → AreHonest new
+  pub searched : (of_kind : Kind) (text : List ℕ) → IsSearched kind file new of_kind text → IsSearched kind file old of_kind text
+
 -- some text that is searched has this
 pub record OfSearched {R : Type 0} {G : Ghosts R} (kind : Kind) (file : Option (List ℕ)) (records : Records R G) (P : Kind → List ℕ → Type 0) : Type 0 where
   pub of_kind : Kind
@@ -112,11 +123,6 @@ abbrev pub IsFaultOrMemory : Error → Type 0
 IsFaultOrMemory (PackedOpen (Io error)) = Unit {0}
 IsFaultOrMemory Memory = Unit {0}
 IsFaultOrMemory other = ⊥
-
--- an open `packed-refs` is read by an honest reader
-abbrev pub AreHonest : {R : Type 0} {G : Ghosts R} → Records R G → Type 0
-AreHonest {R} {G} (sources.Open packed) = G.honest
-AreHonest other = Unit {0}
 
 -- Why no record is found: a fault, only where one came; a text that is refused; a text that cannot be read; no memory.
 abbrev pub IsNotPacked : (honest fault unreadable : Type 0) → (refused : OpenError → Type 0) → Error → Type 0

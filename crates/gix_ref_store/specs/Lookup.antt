@@ -17,7 +17,7 @@ use Rattle.gix_ref_packed.specs.declared.packed.buffer.open.Error.{Error as Open
 use Rattle.gix_ref_packed.specs.declared.raw.Reference.{Reference}
 use Rattle.gix_ref_theory.specs.Views.{View}
 use Rattle.gix_ref_theory.specs.OnRealTrees.{view_of}
-use Rattle.gix_ref_lookup.specs.Lookups.{Answers, ArePackedRecords, AreAsked, AreHonest, IsSound, IsHit, Among, FailsAmong, lookup_of, asked_names}
+use Rattle.gix_ref_lookup.specs.Lookups.{Answers, ArePackedRecords, AreAsked, AreHonest, AreStillAsked, IsSound, IsHit, Among, FailsAmong, lookup_of, asked_names}
 use Rattle.gix_ref_lookup.specs.declared.loose.Reference.{Reference as Loose}
 use Rattle.gix_ref_lookup.specs.declared.settings.Settings.{Settings}
 use Rattle.gix_ref_lookup.specs.declared.find.records.Records.{Records}
@@ -107,6 +107,10 @@ module _ {F R : Type 0} {G : Ghosts R} (means : F → Meaning) where
   -- the records that a lookup in a store asks are these
   abbrev pub AreAskedIn : StoreValue F → Records R G → List Record → Type 0
   AreAskedIn store asked records = AreAsked (stores.kind_of store) (view_in means store (packed_refs (stores.folders store))) asked records
+
+  -- and what a lookup leaves of them
+  abbrev pub AreStillAskedIn : StoreValue F → (old new : Records R G) → Type 0
+  AreStillAskedIn store old new = AreStillAsked (stores.kind_of store) (view_in means store (packed_refs (stores.folders store))) old new
 
   -- on any text of `packed-refs`: what is found is a loose file of a name that is asked for, or a record of it that begins a
   -- line

@@ -7,7 +7,7 @@ ghost use Rattle.gix_ref_files.specs.Files.{Leaves};
 ghost use Rattle.gix_ref_files.specs.Calls.{Unchanged};
 ghost use Rattle.gix_ref_theory.specs.Lookups.{first_hit, hit_or_head};
 ghost use Rattle.gix_ref_theory.specs.OnRealTrees.{view_of};
-ghost use Rattle.gix_ref_lookup.specs.Lookups.{meaning_in, packed_refs_in, AreAsked, AreHonest, Answers, IsSound, IsHit, Among, FailsAmong, to_list, lookup_of, asked_names};
+ghost use Rattle.gix_ref_lookup.specs.Lookups.{meaning_in, packed_refs_in, AreAsked, AreHonest, AreStillAsked, Answers, IsSound, IsHit, Among, FailsAmong, to_list, lookup_of, asked_names};
 
 use crate::find::Error;
 use crate::find::candidate::find_candidate;
@@ -43,6 +43,8 @@ fn find_first<F: Files>(
     ensures failed { IfErr result (FailsAmong F.honest settings.entry (F.means files.old).tree
         records.old
         (F.faults files.old) (F.faults files.new) (candidates (partial_ref_bytes name.entry))) }
+    ensures asked { F.honest → OnOk result (AreStillAsked settings.entry.kind
+        (packed_refs_in settings.entry (F.means files.old)) records.old records.new) }
     ensures no_fault { OnOk result (F.faults files.new ≡ F.faults files.old) }
     ensures leaves { F.honest → Leaves (F.means files.old) (F.means files.new)
         (Unchanged (F.means files.old).tree) }
@@ -119,6 +121,8 @@ pub fn find_reference<F: Files>(
         settings.entry
         (F.means files.old).tree records.old (F.faults files.old) (F.faults files.new)
         (asked_names (partial_ref_bytes name.entry)) error) }
+    ensures asked { F.honest → OnOk result (AreStillAsked settings.entry.kind
+        (packed_refs_in settings.entry (F.means files.old)) records.old records.new) }
     ensures no_fault { OnOk result (F.faults files.new ≡ F.faults files.old) }
     ensures leaves { F.honest → Leaves (F.means files.old) (F.means files.new)
         (Unchanged (F.means files.old).tree) }

@@ -32,7 +32,7 @@ impl<F: Files> Store<F> {
     ghost use Rattle.gix_ref_lookup.specs.Lookups.{IsSound, AreHonest};
     ghost use Rattle.gix_ref_lookup.specs.declared.find.records.Records.TheVariants.{Unopened};
     ghost use Rattle.gix_ref_store.specs.Store.{files_of};
-    ghost use Rattle.gix_ref_store.specs.Lookup.{AreRecordsIn, AreAskedIn, AreHeld, held, FindsAmong, FindsLoose, HitsIn, FailsIn, MissesIn, MissesAmong, MissesLoose, LooksUp};
+    ghost use Rattle.gix_ref_store.specs.Lookup.{AreRecordsIn, AreAskedIn, AreStillAskedIn, AreHeld, held, FindsAmong, FindsLoose, HitsIn, FailsIn, MissesIn, MissesAmong, MissesLoose, LooksUp};
 
     /// The reference that a partial name is short for, where these records are asked.
     fn find_among(
@@ -51,6 +51,8 @@ impl<F: Files> Store<F> {
             (HitsIn F.means self.old asked.old (partial_ref_bytes partial.entry)) }
         ensures failed { IfErr result (FailsIn F.honest F.means F.faults self.old self.new asked.old
             (partial_ref_bytes partial.entry)) }
+        ensures asked { F.honest → OnOk result
+            (AreStillAskedIn F.means self.old asked.old asked.new) }
         ensures no_fault { OnOk result (F.faults (files_of self.new) ≡ F.faults
             (files_of self.old)) }
         ensures unchanged { LooksUp F.honest F.means self.old self.new }
@@ -62,6 +64,37 @@ impl<F: Files> Store<F> {
             prohibit_windows_device_names: self.prohibit_windows_device_names,
         };
         find_reference(alloc, &mut self.files, settings, partial, asked)
+    }
+
+    /// As `find`, where these records are asked: a caller with many lookups keeps them, and `packed-refs` is opened at most once.
+    pub fn find_existing_among(
+        &mut self,
+        alloc: Global,
+        partial: PartialNameRef<'_>,
+        asked: &mut Records<'_, F::Reader>,
+    ) -> Result<Reference, existing::Error>
+        ensures found { F.honest → (records : List Record) → AreAskedIn F.means self.old asked.old
+            records →
+            IfOk result (λ r. FindsAmong F.means self.old records (partial_ref_bytes
+            partial.entry) (Some r)) }
+        ensures sound { F.honest → (records : List Record) → AreAskedIn F.means self.old asked.old
+            records →
+            IfErr result (MissesAmong F.means self.old records (partial_ref_bytes partial.entry)) }
+        ensures hit { F.honest → AreHonest asked.old → IfOk result (λ r. HitsIn F.means self.old
+            asked.old (partial_ref_bytes partial.entry) (Some r)) }
+        ensures failed { IfErr result (MissesIn F.honest F.means F.faults self.old self.new
+            asked.old (partial_ref_bytes partial.entry)) }
+        ensures asked { F.honest → OnOk result
+            (AreStillAskedIn F.means self.old asked.old asked.new) }
+        ensures no_fault { OnOk result (F.faults (files_of self.new) ≡ F.faults
+            (files_of self.old)) }
+        ensures unchanged { LooksUp F.honest F.means self.old self.new }
+    {
+        match self.find_among(alloc, partial, asked) {
+            Ok(Some(reference)) => Ok(reference),
+            Ok(None) => Err(not_found(alloc, partial)),
+            Err(error) => Err(existing::Error::Find(error)),
+        }
     }
 
     /// Finds the reference that a partial name is short for (`gitrevisions`), in the namespace of the store: the first of its

@@ -144,6 +144,7 @@ impl<F: Files> Store<F> {
 }
 
 /// The reflog of a reference: a store, a name, and a buffer for what is read. Each of its calls reads the log anew.
+#[derive(Drop)]
 pub struct Platform<'a, 's, F> {
     /// The store of the reference.
     pub store: &'s mut Store<F>,

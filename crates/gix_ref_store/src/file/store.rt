@@ -3,9 +3,11 @@ ghost use Rattle.std.specs.Prelude.{◌≡◌};
 ghost use Rattle.gix_ref_lookup.specs.CleanPaths.{are_clean};
 
 use crate::store::{Options, WriteReflog};
+use gix_ref_base::name::FullNameRef;
 use gix_ref_base::namespace::Namespace;
 use gix_ref_hash::hash::Kind;
 use gix_ref_lookup::folders::{Dirs, dirs_are_compatible, is_clean_path, resolved};
+use gix_ref_lookup::layout::layout_in;
 use std::alloc::{AllocError, Global};
 use std::fmt::Debug;
 use thiserror::Error;
@@ -54,9 +56,10 @@ fn are_clean_paths(git_dir: &Vec<u8>, common_dir: &Option<Vec<u8>>) -> bool
 impl<F> Store<F> {
     ghost use Rattle.std.specs.Prelude.{◌≡◌, IfOk, IfErr, MatchResult, MatchOption, Some, None};
     ghost use Rattle.gix_ref_base.specs.Layout.{packed_refs};
+    ghost use Rattle.gix_ref_base.specs.Names.{full_ref_bytes};
     ghost use Rattle.std.specs.Option.{option_map};
     ghost use Rattle.gix_ref_store.specs.Options.{default_options};
-    ghost use Rattle.gix_ref_store.specs.Store.{files_of, folders, given_common, kind_of, IsMade, AreDirs, HasNoStore};
+    ghost use Rattle.gix_ref_store.specs.Store.{files_of, folders, given_common, kind_of, meaning_of, IsMade, AreDirs, HasNoStore};
 
     /// The store in a git folder that is the common folder too, with the default options. The folder is bytes with
     /// slashes; `object_hash` is the kind of all ids. `PathNotClean` hands the files back.
@@ -204,5 +207,17 @@ impl<F> Store<F> {
         let mut path = self.dirs.common().to_vec(alloc)?;
         path.extend_from_slice(b"/packed-refs")?;
         Ok(path)
+    }
+
+    /// The path of the loose file of a name (`git rev-parse --git-path`). The error says that there was no memory for it.
+    pub fn reference_path(
+        &self,
+        alloc: Global,
+        name: FullNameRef<'_>,
+    ) -> Result<Vec<u8>, AllocError>
+        ensures { IfOk result (λ path. path.items ≡ (meaning_of self.now).place (full_ref_bytes
+            name.entry)) }
+    {
+        layout_in(&self.dirs, &self.namespace).loose(alloc, name)
     }
 }

@@ -12,7 +12,7 @@ use Rattle.gix_ref_theory.specs.OnRealTrees.{view_of}
 use Rattle.gix_ref_lookup.specs.declared.find.error.Error.{Error}
 use Rattle.gix_ref_lookup.specs.declared.find.error.Error.TheVariants.{Memory}
 use Rattle.gix_ref_lookup.specs.Lookups.{meaning_in, AreAsked, IsSearched, IsCandidate, IsPassed, IsHit, Answers, CandidateFails}
-use Rattle.gix_ref_lookup.proofs.Looking.{packed_refs_at, next_name, hit_here, hit_later, among_here, fails_here, fails_later, fails_from, hit_from}
+use Rattle.gix_ref_lookup.proofs.Looking.{packed_refs_at, still_asked, next_name, hit_here, hit_later, among_here, fails_here, fails_later, fails_from, hit_from}
 use Rattle.gix_ref_lookup.proofs.find.lookup.find_first.Goals as goal
 
 pub returns-in_default-clause-failed : goal.returns-in_default-clause-failed
@@ -123,3 +123,20 @@ loop-front-preserved g c =
       no_fault = e.no_fault ∙ x.no_fault;
       leaves = λ h. joins (x.leaves h) (weaken (e.leaves h) (λ T is. is ∙ same h));
     }
+
+pub returns-in-Ok-Some-clause-asked : goal.returns-in-Ok-Some-clause-asked
+returns-in-Ok-Some-clause-asked g c h =
+    let x = c.loop-front.invariant in
+    let e = c.in-Ok-Some.ensures in
+    let settings = c.args.settings in
+    let first = g.F.Files.means c.args.files.now in
+    let mid = g.F.Files.means c.loop-front.files in
+    still_asked {R = g.row.F-Reader.Denot} {G = g.F.Reader.ReadAt} settings.kind (packed_refs_at settings first.tree) (packed_refs_at settings mid.tree) c.args.records.now c.loop-front.records c.find_candidate.new.records
+    (ap (packed_refs_at settings) (x.leaves h).tree)
+    (record { asked = x.asked h; readers = x.readers h; searched = x.searched h })
+    (record { asked = e.asked h; readers = e.honest h; searched = e.searched h })
+
+pub returns-clause-asked : goal.returns-clause-asked
+returns-clause-asked g c h =
+    let x = c.loop-front.invariant in
+    record { asked = x.asked h; readers = x.readers h; searched = x.searched h }

@@ -1,0 +1,123 @@
+-- Lookups in a store after other lookups in it.
+use Rattle.std.proofs.Common.{◌≡◌, inl, inr, ℕ, List, [], ◌∷◌, sym, ◌∙◌, ap, subst}
+use Rattle.gix_ref_base.specs.PackedRecords.{Record}
+use Rattle.gix_ref_base.specs.Names.{full_bytes}
+use Rattle.gix_ref_files.specs.Files.{Meaning}
+use Rattle.gix_ref_files.specs.Tree.{Tree}
+use Rattle.gix_ref_files.specs.declared.files.ReadAt.{Ghosts}
+use Rattle.gix_ref_files.proofs.Moments.{joins, weaken}
+use Rattle.gix_ref_theory.specs.OnRealTrees.{view_of}
+use Rattle.gix_ref_theory.specs.Readings.{reading_among}
+use Rattle.gix_ref_theory.specs.Readings.Reading.{Absent}
+use Rattle.gix_ref_packed.specs.declared.raw.Reference.{Reference}
+use Rattle.gix_ref_lookup.specs.Lookups.{meaning_in, lookup_of, asked_names, AreAsked, AreStillAsked, IsHit, IsPassed, CandidateFails, FailsAt, FailsAmong}
+use Rattle.gix_ref_lookup.specs.declared.settings.Settings.{Settings}
+use Rattle.gix_ref_lookup.specs.declared.find.error.Error.{Error as FindError}
+use Rattle.gix_ref_lookup.specs.declared.find.records.Records.{Records}
+use Rattle.gix_ref_lookup.specs.declared.find.existing.Error.{Error as Missing}
+use Rattle.gix_ref_lookup.specs.declared.find.existing.Error.TheVariants.{Find, NotFound}
+use Rattle.gix_ref_lookup.proofs.Looking.{packed_refs_at, fails_from, hit_from, among_wider, still_asked}
+use Rattle.gix_ref_store.specs.Lookup.{settings_of, lent, view_in, AreAskedIn, AreStillAskedIn, MissesIn, LooksUp}
+use Rattle.gix_ref_store.specs.Store as stores
+use Rattle.gix_ref_store.specs.declared.file.store.Store.{Store}
+use Rattle.gix_ref_follow.specs.Followed.{finds_in, HitsNext, IsNotFollowed}
+use Rattle.gix_ref_follow.specs.declared.peel.to_object.Error.{Error}
+use Rattle.gix_ref_follow.specs.declared.peel.to_object.Error.TheVariants.{Follow, Cycle, DepthLimitExceeded, Memory}
+
+pub fails_wider : (Passed Passed' Fails Fails' : List ℕ → Type 0) (names : List (List ℕ)) → ((n : List ℕ) → Passed n → Passed' n) → ((n : List ℕ) → Fails n → Fails' n) →
+    FailsAt Passed Fails names → FailsAt Passed' Fails' names
+fails_wider Passed Passed' Fails Fails' [] p f why = absurd why
+fails_wider Passed Passed' Fails Fails' (n ∷ names) p f (inl here) = inl (f n here)
+fails_wider Passed Passed' Fails Fails' (n ∷ names) p f (inr later) = inr (p n later.0, fails_wider Passed Passed' Fails Fails' names p f later.1)
+
+-- a lookup that fails after others did not is one that fails at first
+pub fails_at_first : {R : Type 0} {G : Ghosts R} (honest : Type 0) (settings : Settings) (T T' : Tree) (r r' : Records R G) (before before' now : ℕ) (names : List (List ℕ)) (error : FindError) →
+    (honest → T' ≡ T) → before' ≡ before → (honest → AreStillAsked settings.kind (packed_refs_at settings T) r r') →
+    FailsAmong honest settings T' r' before' now names error → FailsAmong honest settings T r before now names error
+fails_at_first {R} {G} honest settings T T' r r' before before' now names error same count still =
+    fails_wider (IsPassed honest settings T' r') (IsPassed honest settings T r)
+    (λ n. CandidateFails honest settings T' r' before' now n error) (λ n. CandidateFails honest settings T r before now n error) names
+    (λ n passed h rs are. subst (λ (U : Tree). reading_among (meaning_in settings) (view_of U) rs n ≡ Absent) (same h)
+    (passed h rs (subst (λ (U : Tree). AreAsked settings.kind (packed_refs_at settings U) r' rs) (sym (same h)) ((still h).asked rs are))))
+    (λ n. fails_from honest settings T T' r r' same (λ h. (still h).readers) (λ h. (still h).searched) before before' now n error count)
+
+pub same_settings : {F : Type 0} (old new : Store F) → stores.IsSameStore old new → settings_of new ≡ settings_of old
+same_settings old new same =
+    ap (λ d. let s : Settings = record { dirs = lent d; namespace = lent new.namespace; kind = stores.kind_of new; prohibit_windows_device_names = new.prohibit_windows_device_names } in s) same.dirs
+    ∙ (ap (λ n. let s : Settings = record { dirs = lent old.dirs; namespace = lent n; kind = stores.kind_of new; prohibit_windows_device_names = new.prohibit_windows_device_names } in s) same.namespace
+    ∙ (ap (λ k. let s : Settings = record { dirs = lent old.dirs; namespace = lent old.namespace; kind = k; prohibit_windows_device_names = new.prohibit_windows_device_names } in s) same.of_kind
+    ∙ ap (λ p. let s : Settings = record { dirs = lent old.dirs; namespace = lent old.namespace; kind = stores.kind_of old; prohibit_windows_device_names = p } in s) same.prohibits))
+
+pub same_place : {F : Type 0} (old new : Store F) (name : List ℕ) → stores.IsSameStore old new → (stores.meaning_of new).place name ≡ (stores.meaning_of old).place name
+same_place old new name same = ap (λ s. (meaning_in s).place name) (same_settings old new same)
+
+pub same_store : {F : Type 0} (first mid last : Store F) → stores.IsSameStore first mid → stores.IsSameStore mid last → stores.IsSameStore first last
+same_store first mid last a b = record {
+  dirs = b.dirs ∙ a.dirs;
+  namespace = b.namespace ∙ a.namespace;
+  of_kind = b.of_kind ∙ a.of_kind;
+  reflogs = b.reflogs ∙ a.reflogs;
+  composes = b.composes ∙ a.composes;
+  prohibits = b.prohibits ∙ a.prohibits;
+}
+
+module _ {F : Type 0} (honest : Type 0) (means : F → Meaning) where
+  -- lookups in a row
+  pub looks_up : (first mid last : Store F) → LooksUp honest means first mid → LooksUp honest means mid last → LooksUp honest means first last
+  looks_up first mid last a b = record {
+    leaves = λ h. joins (a.leaves h) (weaken (b.leaves h) (λ T is. is ∙ (a.leaves h).tree));
+    same = same_store first mid last a.same b.same;
+  }
+
+  -- what lookups find stays
+  pub same_finds : (old new : Store F) (rs : List Record) → LooksUp honest means old new → honest → finds_in means new rs ≡ finds_in means old rs
+  same_finds old new rs looked h =
+      ap (λ s. lookup_of (meaning_in s) (view_in means new) rs) (same_settings old new looked.same)
+      ∙ ap (λ T. lookup_of (stores.meaning_of old) (view_of T) rs) (looked.leaves h).tree
+
+module _ {F R : Type 0} {G : Ghosts R} (honest : Type 0) (means : F → Meaning) (first mid : Store F) (r r' : Records R G) (looked : LooksUp honest means first mid) (still : honest → AreStillAskedIn means first r r') where
+  abbrev T : Tree
+  T = (means (stores.files_of first)).tree
+
+  abbrev T' : Tree
+  T' = (means (stores.files_of mid)).tree
+
+  same : honest → T' ≡ T
+  same h = (looked.leaves h).tree
+
+  settled : settings_of mid ≡ settings_of first
+  settled = same_settings first mid looked.same
+
+  -- the records that are asked stay
+  pub asked_on : honest → (rs : List Record) → AreAskedIn means first r rs → AreAskedIn means mid r' rs
+  asked_on h rs are =
+      subst (λ (s : Settings). AreAsked s.kind (packed_refs_at s T') r' rs) (sym settled)
+      (subst (λ (U : Tree). AreAsked (settings_of first).kind (packed_refs_at (settings_of first) U) r' rs) (sym (same h)) ((still h).asked rs are))
+
+  pub still_on : (r'' : Records R G) → honest → AreStillAskedIn means mid r' r'' → AreStillAskedIn means first r r''
+  still_on r'' h later =
+      still_asked (settings_of first).kind (packed_refs_at (settings_of first) T) (packed_refs_at (settings_of first) T') r r' r'' (ap (packed_refs_at (settings_of first)) (same h)) (still h)
+      (subst (λ (s : Settings). AreStillAsked s.kind (packed_refs_at s T') r' r'') settled later)
+
+  pub hits_on : honest → (at next : Reference) → HitsNext means mid r' at next → HitsNext means first r at next
+  hits_on h at next hit = (
+    hit.0,
+    hit.1,
+    among_wider (λ n. IsHit (settings_of mid) (view_of T') r' n next) (λ n. IsHit (settings_of first) (view_of T) r n next) (asked_names hit.0)
+        (λ n is. hit_from honest (settings_of first) T T' r r' same (λ k. (still k).readers) (λ k. (still k).searched) h n next (subst (λ (s : Settings). IsHit s (view_of T') r' n next) settled is)) hit.2,
+  )
+
+  pub misses_on : (faults : F → ℕ) (new : Store F) (name : List ℕ) (error : Missing) → faults (stores.files_of mid) ≡ faults (stores.files_of first) →
+      MissesIn honest means faults mid new r' name error → MissesIn honest means faults first new r name error
+  misses_on faults new name (NotFound n) count why = why
+  misses_on faults new name (Find error) count (inl memory) = inl memory
+  misses_on faults new name (Find error) count (inr why) = inr
+      (fails_at_first honest (settings_of first) T T' r r' (faults (stores.files_of first)) (faults (stores.files_of mid)) (faults (stores.files_of new)) (asked_names name) error same count still
+      (subst (λ (s : Settings). FailsAmong honest s T' r' (faults (stores.files_of mid)) (faults (stores.files_of new)) (asked_names name) error) settled why))
+
+  pub not_followed_on : (faults : F → ℕ) (new : Store F) (at : Reference) (error : Error) → faults (stores.files_of mid) ≡ faults (stores.files_of first) →
+      IsNotFollowed honest means faults mid new r' at error → IsNotFollowed honest means faults first new r at error
+  not_followed_on faults new at (Follow error) count why = (why.0, why.1, misses_on faults new why.0 error count why.2)
+  not_followed_on faults new at (Cycle path) count why = why ∙ same_place first mid (full_bytes at.name) looked.same
+  not_followed_on faults new at (DepthLimitExceeded n) count why = why
+  not_followed_on faults new at Memory count why = tt

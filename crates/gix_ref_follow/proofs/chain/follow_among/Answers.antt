@@ -1,0 +1,93 @@
+use Rattle.std.proofs.Common.{◌≡◌, ◌-◌, ◌+◌, suc, List, Err, arith, sym, ◌∙◌, ap, subst}
+use Rattle.gix_ref_base.specs.Targets.{target_value}
+use Rattle.gix_ref_base.specs.PackedRecords.{Record}
+use Rattle.gix_ref_store.specs.Lookup.{AreAskedIn}
+use Rattle.gix_ref_packed.specs.declared.raw.Reference.{Reference}
+use Rattle.gix_ref_follow.specs.Following.{Finds, IsStep, at_of, follow}
+use Rattle.gix_ref_follow.specs.Followed.{names_of, finds_in, HitsNext, RefusesStep, Follows, IsNotFollowed}
+use Rattle.gix_ref_follow.proofs.Steps.{id_of, follow_object, follow_none, follow_on, follows_refused, leads_more}
+use Rattle.gix_ref_follow.proofs.Stores.{asked_on, still_on, hits_on, not_followed_on, looks_up, same_finds}
+use Rattle.gix_ref_follow.proofs.chain.follow_among.Goals as goal
+
+pub returns-in-Some-clause-followed : goal.returns-in-Some-clause-followed
+returns-in-Some-clause-followed g c h records are =
+    let find = finds_in g.F.Files.means c.args.store.now records in
+    let i = c.loop.counter in
+    let reached = names_of c.loop.reached.items in
+    let at = at_of c.loop.reference in
+    let left : 5 - i ≡ suc (4 - i) = omega (arith, c.loop-test.true) in
+    c.loop.invariant.followed h records are
+    ∙ (ap (λ n. follow find n reached at) left
+    ∙ follow_object find (4 - i) reached at c.in-Some.id (id_of (target_value c.loop.reference.target) c.in-Some.id c.in-Some.ensures))
+
+pub returns-in-Err-clause-followed : goal.returns-in-Err-clause-followed
+returns-in-Err-clause-followed g c h records are =
+    let x = c.loop.invariant in
+    let e = c.in-Err.ensures in
+    let honest = g.F.Files.honest in
+    let means = g.F.Files.means in
+    let first = c.args.store.now in
+    let mid = c.loop.store in
+    let find = finds_in means first records in
+    let i = c.loop.counter in
+    let reached = names_of c.loop.reached.items in
+    let start = at_of c.args.reference.now in
+    let at = at_of c.loop.reference in
+    let error = c.in-Err.error in
+    let left : 5 - i ≡ suc (4 - i) = omega (arith, c.loop-test.true) in
+    let asked = asked_on {R = g.row.F-Reader.Denot} {G = g.F.Reader.ReadAt} honest means first mid c.args.asked.now c.loop.asked x.unchanged x.asked h records are in
+    let refused = subst (λ (f : Finds). RefusesStep f reached at error) (same_finds honest means first mid records x.unchanged h) (e.refused h records asked) in
+    let ends = follows_refused find start at i (4 - i) reached error (omega (arith, c.loop-test.true)) (x.leads h records are) (x.followed h records are ∙ ap (λ n. follow find n reached at) left) refused in
+    subst (λ (r : Reference). Follows find start (at_of r) (Err error)) (sym e.kept) ends
+
+pub returns-in-Err-clause-failed : goal.returns-in-Err-clause-failed
+returns-in-Err-clause-failed g c =
+    let x = c.loop.invariant in
+    let e = c.in-Err.ensures in
+    let honest = g.F.Files.honest in
+    let means = g.F.Files.means in
+    let faults = g.F.Files.faults in
+    let first = c.args.store.now in
+    let new = c.take_step.new.store in
+    let error = c.in-Err.error in
+    subst (λ (r : Reference). IsNotFollowed {R = g.row.F-Reader.Denot} {G = g.F.Reader.ReadAt} honest means faults first new c.args.asked.now r error) (sym e.kept)
+    (not_followed_on {R = g.row.F-Reader.Denot} {G = g.F.Reader.ReadAt} honest means first c.loop.store c.args.asked.now c.loop.asked x.unchanged x.asked faults new c.loop.reference error x.no_fault e.failed)
+
+pub returns-clause-followed : goal.returns-clause-followed
+returns-clause-followed g c h records are =
+    let find = finds_in g.F.Files.means c.args.store.now records in
+    let reached = names_of c.loop.reached.items in
+    let at = at_of c.loop.reference in
+    let none : 5 - c.loop.counter ≡ 0 = omega (arith, c.loop-test.false) in
+    c.loop.invariant.followed h records are ∙ (ap (λ n. follow find n reached at) none ∙ follow_none find reached at)
+
+pub loop-preserved : goal.loop-preserved
+loop-preserved g c =
+    let x = c.loop.invariant in
+    let e = c.in-Ok.ensures in
+    let honest = g.F.Files.honest in
+    let means = g.F.Files.means in
+    let first = c.args.store.now in
+    let mid = c.loop.store in
+    let new = c.take_step.new.store in
+    let i = c.loop.counter in
+    let reached = names_of c.loop.reached.items in
+    let at = at_of c.loop.reference in
+    let next = at_of c.take_step.new.reference in
+    let left : 5 - i ≡ suc (5 - (i + 1)) = omega (arith, c.loop-test.true) in
+    let asked = asked_on {R = g.row.F-Reader.Denot} {G = g.F.Reader.ReadAt} honest means first mid c.args.asked.now c.loop.asked x.unchanged x.asked in
+    let step = λ (h : honest) (records : List Record) (are : AreAskedIn {R = g.row.F-Reader.Denot} {G = g.F.Reader.ReadAt} means first c.args.asked.now records). subst (λ (f : Finds). IsStep f at next) (same_finds honest means first mid records x.unchanged h) (e.moved h records (asked h records are)) in
+    record {
+      followed = λ h records are.
+          let find = finds_in means first records in
+          x.followed h records are
+          ∙ (ap (λ n. follow find n reached at) left
+          ∙ (follow_on find (5 - (i + 1)) reached at next (step h records are) e.first
+          ∙ ap (λ names. follow find (5 - (i + 1)) names next) (sym e.reached)));
+      leads = λ h records are. leads_more (IsStep (finds_in means first records)) i (at_of c.args.reference.now) at next (x.leads h records are) (step h records are);
+      hits = λ h readers. leads_more (HitsNext {R = g.row.F-Reader.Denot} {G = g.F.Reader.ReadAt} means first c.args.asked.now) i c.args.reference.now c.loop.reference c.take_step.new.reference (x.hits h readers)
+          (hits_on {R = g.row.F-Reader.Denot} {G = g.F.Reader.ReadAt} honest means first mid c.args.asked.now c.loop.asked x.unchanged x.asked h c.loop.reference c.take_step.new.reference (e.hit h ((x.asked h).readers readers)));
+      asked = λ h. still_on {R = g.row.F-Reader.Denot} {G = g.F.Reader.ReadAt} honest means first mid c.args.asked.now c.loop.asked x.unchanged x.asked c.take_step.new.asked h (e.asked h);
+      no_fault = e.no_fault ∙ x.no_fault;
+      unchanged = looks_up honest means first mid new x.unchanged c.take_step.ensures.unchanged;
+    }

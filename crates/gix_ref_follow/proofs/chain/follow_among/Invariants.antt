@@ -1,0 +1,25 @@
+use Rattle.std.proofs.Common.{◌≡◌, ◌-◌, List}
+use Rattle.gix_ref_base.specs.PackedRecords.{Record}
+use Rattle.gix_ref_lookup.specs.Lookups.{AreHonest}
+use Rattle.gix_ref_store.specs.Lookup.{AreAskedIn, AreStillAskedIn, LooksUp}
+use Rattle.gix_ref_store.specs.Store.{files_of}
+use Rattle.gix_ref_follow.specs.Following.{at_of, follow, following, IsStep, Leads}
+use Rattle.gix_ref_follow.specs.Followed.{names_of, finds_in, HitsNext}
+use Rattle.gix_ref_follow.proofs.chain.follow_among.Given as goal
+
+-- the steps so far lead here, and the rest of the following ends as the whole does
+abbrev pub invariant-loop : goal.invariant-loop
+invariant-loop g l =
+    let honest = g.F.Files.honest in
+    let means = g.F.Files.means in
+    let first = l.fn.store in
+    record {
+      followed : honest → (records : List Record) → AreAskedIn means first l.fn.asked records →
+          following (finds_in means first records) (at_of l.fn.reference) ≡ follow (finds_in means first records) (5 - l.counter) (names_of l.reached.items) (at_of l.reference);
+      leads : honest → (records : List Record) → AreAskedIn means first l.fn.asked records →
+          Leads (IsStep (finds_in means first records)) l.counter (at_of l.fn.reference) (at_of l.reference);
+      hits : honest → AreHonest l.fn.asked → Leads (HitsNext means first l.fn.asked) l.counter l.fn.reference l.reference;
+      asked : honest → AreStillAskedIn means first l.fn.asked l.asked;
+      no_fault : g.F.Files.faults (files_of l.store) ≡ g.F.Files.faults (files_of first);
+      unchanged : LooksUp honest means first l.store;
+    }

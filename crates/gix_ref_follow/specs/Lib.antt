@@ -1,0 +1,3 @@
+pub mod Followed
+pub mod Following
+pub mod Peelings

@@ -1,0 +1,99 @@
+-- Peeling a reference: following it to an object, and that object's tags (`gitrevisions`, `<rev>^{}`).
+use Rattle.std.specs.Prelude.{◌≡◌, ◌⊎◌, ℕ, List, Option, Some, None, Result, Ok, Err}
+use Rattle.gix_ref_hash.specs.declared.hash.ObjectId.{ObjectId}
+use Rattle.gix_ref_base.specs.Names.{full_bytes}
+use Rattle.gix_ref_base.specs.Targets.{target_value}
+use Rattle.gix_ref_base.specs.Targets.TargetValue.{object_id}
+use Rattle.gix_ref_files.specs.Files.{Meaning}
+use Rattle.gix_ref_files.specs.declared.files.ReadAt.{Ghosts}
+use Rattle.gix_ref_object.specs.Objects.{Stored}
+use Rattle.gix_ref_object.specs.Peeling as tags
+use Rattle.gix_ref_object.specs.Peeling.Peeled.{End, Missing, BadTag, TooLong, Failed}
+use Rattle.gix_ref_object.specs.declared.peel.PeelError.{PeelError}
+use Rattle.gix_ref_object.specs.declared.peel.PeelError.TheVariants as peeling_errors
+use Rattle.gix_ref_packed.specs.declared.raw.Reference.{Reference}
+use Rattle.gix_ref_lookup.specs.declared.find.records.Records.{Records}
+use Rattle.gix_ref_store.specs.declared.file.store.Store.{Store}
+use Rattle.gix_ref_follow.specs.Following.{At, Ending, Finds, Passes, following}
+use Rattle.gix_ref_follow.specs.Following.Ending.{Reached}
+use Rattle.gix_ref_follow.specs.Followed.{Follows, HitsNext, IsNotFollowed}
+use Rattle.gix_ref_follow.specs.declared.peel.to_id.Error.{Error}
+use Rattle.gix_ref_follow.specs.declared.peel.to_id.Error.TheVariants.{FollowToObject, Find, NotFound, TagChainTooLong, Memory}
+
+-- how a peeling ends: at a reference with the object that was found, in following it, or in peeling the tags of the object there
+pub data Peeling : Type 0 where
+  Done : At → ObjectId → Peeling
+  NotFollowed : Ending → Peeling
+  NotPeeled : At → tags.Peeled → Peeling
+
+-- the reference that points to an object which it is peeled to
+abbrev pub peeled_to : At → ObjectId → At
+peeled_to at id = record { name = at.name; target = object_id id; peeled = Some id }
+
+-- behind the tags of a reference
+abbrev pub by_tags : At → tags.Peeled → Peeling
+by_tags at (End id) = Done (peeled_to at id) id
+by_tags at other = NotPeeled at other
+
+-- behind a following: at most 1,000 tags
+abbrev pub by_ending : (ObjectId → Stored) → Ending → Peeling
+by_ending meaning (Reached at id) = by_tags at (tags.peel meaning 1000 id)
+by_ending meaning other = NotFollowed other
+
+-- a reference that was peeled already is followed nowhere
+abbrev pub by_known : Finds → (ObjectId → Stored) → At → Option ObjectId → Peeling
+by_known find meaning start (Some id) = Done (peeled_to start id) id
+by_known find meaning start None = by_ending meaning (following find start)
+
+-- from a reference, where lookups find this, and the finder of objects has these
+abbrev pub peeling : Finds → (ObjectId → Stored) → At → Peeling
+peeling find meaning start = by_known find meaning start start.peeled
+
+-- The result of a peeling that began at the one reference and stands at the other.
+abbrev pub Peels : Finds → (ObjectId → Stored) → (start now : At) → Result ObjectId Error → Type 0
+Peels find meaning start now (Ok id) = peeling find meaning start ≡ Done now id
+Peels find meaning start now (Err (FollowToObject error)) = (start.peeled ≡ None) × Follows find start now (Err error)
+Peels find meaning start now (Err (NotFound id name)) =
+    (full_bytes name ≡ now.name) × ((peeling find meaning start ≡ NotPeeled now (Missing id)) ⊎ (peeling find meaning start ≡ NotPeeled now (BadTag id)))
+Peels find meaning start now (Err TagChainTooLong) = peeling find meaning start ≡ NotPeeled now TooLong
+Peels find meaning start now (Err Find) = peeling find meaning start ≡ NotPeeled now Failed
+Peels find meaning start now (Err Memory) = (start.peeled ≡ None) × (id : ObjectId) × (following find start ≡ Reached now id)
+
+-- the error of a reference of this name for one of peeling the tags of its object
+abbrev pub IsTagError : List ℕ → PeelError → Error → Type 0
+IsTagError name peeling_errors.Find Find = Unit {0}
+IsTagError name (peeling_errors.NotFound id) (NotFound oid of) = (oid ≡ id) × (full_bytes of ≡ name)
+IsTagError name (peeling_errors.NotFound id) Memory = Unit {0}
+IsTagError name peeling_errors.TagChainTooLong TagChainTooLong = Unit {0}
+IsTagError name peeling_errors.Memory Memory = Unit {0}
+IsTagError name error other = ⊥
+
+-- what comes of peeling the tags of the object of a reference of this name
+abbrev pub PeelsTags : List ℕ → tags.Peeled → Result ObjectId Error → Type 0
+PeelsTags name (End id) (Ok end) = end ≡ id
+PeelsTags name (Missing id) (Err (NotFound oid of)) = (oid ≡ id) × (full_bytes of ≡ name)
+PeelsTags name (BadTag id) (Err (NotFound oid of)) = (oid ≡ id) × (full_bytes of ≡ name)
+PeelsTags name TooLong (Err TagChainTooLong) = Unit {0}
+PeelsTags name Failed (Err Find) = Unit {0}
+PeelsTags name peeled (Err Memory) = Unit {0}
+PeelsTags name peeled result = ⊥
+
+-- an error of peeling tags; one that names a reference names this one
+abbrev pub IsOfTags : List ℕ → Error → Type 0
+IsOfTags name (FollowToObject error) = ⊥
+IsOfTags name (NotFound id of) = full_bytes of ≡ name
+IsOfTags name other = Unit {0}
+
+module _ {F R : Type 0} {G : Ghosts R} (honest : Type 0) (means : F → Meaning) (faults : F → ℕ) where
+  -- why a reference is not peeled: it is not followed; or it was, and the tags of its object are not peeled
+  abbrev pub IsNotPeeled : (old new : Store F) → Records R G → Reference → Error → Type 0
+  IsNotPeeled old new asked at (FollowToObject error) = IsNotFollowed honest means faults old new asked at error
+  IsNotPeeled old new asked at (NotFound id name) = (full_bytes name ≡ full_bytes at.name) × (first : ObjectId) × (target_value at.target ≡ object_id first)
+  IsNotPeeled old new asked at other = (first : ObjectId) × (target_value at.target ≡ object_id first)
+
+module _ {F R : Type 0} {G : Ghosts R} (means : F → Meaning) where
+  -- on any text of `packed-refs`: the name is that of a reference to which hits lead
+  pub record HasPassed (store : Store F) (asked : Records R G) (start now : Reference) : Type 0 where
+    pub reached : Reference
+    pub passes : Passes (HitsNext means store asked) start reached
+    pub name : full_bytes now.name ≡ full_bytes reached.name
