@@ -133,7 +133,14 @@ impl<R: ReadAt + Drop> Records<'_, R> {
     ghost use Rattle.gix_ref_packed.specs.Buffers.{IsRefusedFile};
     ghost use Rattle.gix_ref_packed.specs.Windows.{AreFound, HitsRecord};
     ghost use Rattle.gix_ref_packed.specs.OpenFiles.{HasReadFault};
-    ghost use Rattle.gix_ref_lookup.specs.Lookups.{meaning_in, packed_refs_in, AreAsked, IsSearched, IsReady, IsNotPacked, AreHonest, IsFaultOrMemory, OfSearched};
+    ghost use Rattle.gix_ref_lookup.specs.Lookups.{meaning_in, packed_refs_in, AreAsked, IsSearched, IsReady, IsNotPacked, AreHonest, IsFaultOrMemory, OfSearched, has_records};
+
+    /// Whether records are asked, be it of a buffer or of a file.
+    pub fn are_asked(&self) -> bool
+        ensures { result ≡ has_records self.now }
+    {
+        !matches!(self, Records::None)
+    }
 
     /// Opens `packed-refs`, if it is asked for the first time. `PackedOpen` where it cannot be opened, and `Memory`.
     pub fn open<F: Files<Reader = R>>(

@@ -7,7 +7,7 @@ use crate::file::store::Store;
 use crate::raw::Reference;
 use gix_ref_base::name::PartialNameRef;
 use gix_ref_files::files::Files;
-use gix_ref_lookup::find::lookup::find_reference;
+use gix_ref_lookup::find::composed::find_reference;
 use gix_ref_lookup::find::records::Records;
 pub use gix_ref_lookup::find::{Error, ReadError, existing};
 use gix_ref_lookup::loose;
@@ -29,10 +29,10 @@ impl<F: Files> Store<F> {
     ghost use Rattle.std.specs.Prelude.{◌≡◌, List, Some, IfOk, IfErr, OnOk};
     ghost use Rattle.gix_ref_base.specs.Names.{partial_ref_bytes};
     ghost use Rattle.gix_ref_base.specs.PackedRecords.{Record};
-    ghost use Rattle.gix_ref_lookup.specs.Lookups.{IsSound, AreHonest};
+    ghost use Rattle.gix_ref_lookup.specs.Lookups.{Answers, IsSound, AreHonest, has_records};
     ghost use Rattle.gix_ref_lookup.specs.declared.find.records.Records.TheVariants.{Unopened};
     ghost use Rattle.gix_ref_store.specs.Store.{files_of};
-    ghost use Rattle.gix_ref_store.specs.Lookup.{AreRecordsIn, AreAskedIn, AreHeld, held, FindsAmong, FindsLoose, HitsIn, FailsIn, MissesIn, MissesAmong, MissesLoose, LooksUp};
+    ghost use Rattle.gix_ref_store.specs.Lookup.{AreRecordsIn, AreAskedIn, AreHeld, held, hit_in, FindsAmong, FindsHeld, FindsLoose, HitsIn, FailsIn, MissesIn, MissesAmong, MissesHeld, MissesLoose, LooksUp};
 
     /// The reference that a partial name is short for, where these records are asked.
     fn find_among(
@@ -43,7 +43,8 @@ impl<F: Files> Store<F> {
     ) -> Result<Option<Reference>, Error>
         ensures found { F.honest → (records : List Record) → AreAskedIn F.means self.old asked.old
             records →
-            IfOk result (FindsAmong F.means self.old records (partial_ref_bytes partial.entry)) }
+            IfOk result (Answers (hit_in F.means (has_records asked.old) self.old records
+            (partial_ref_bytes partial.entry))) }
         ensures sound { F.honest → (records : List Record) → AreAskedIn F.means self.old asked.old
             records →
             IfErr result IsSound }
@@ -60,6 +61,7 @@ impl<F: Files> Store<F> {
             namespace: &self.namespace,
             kind: self.object_hash,
             prohibit_windows_device_names: self.prohibit_windows_device_names,
+            precompose_unicode: self.precompose_unicode,
         };
         find_reference(alloc, &mut self.files, settings, partial, asked)
     }
@@ -72,6 +74,9 @@ impl<F: Files> Store<F> {
     ///
     /// A loose reference has the candidate's name, a packed one the name of its record less the namespace. A symbolic target
     /// is less the namespace.
+    ///
+    /// With `precompose_unicode`, a name that is UTF-8 is looked for in Unicode's Normalization Form C, and where that is
+    /// another name, the reference that is found has its name in Form D (`core.precomposeUnicode` of `git config`).
     ///
     /// `ReadFileContents` where a loose file cannot be read, or where its path has the name of a Windows device and the store
     /// prohibits these; `ReferenceCreation` where it holds no target; `PackedOpen` where `packed-refs` cannot be opened or
@@ -133,7 +138,7 @@ impl<F: Files> Store<F> {
         }
     }
 
-    /// As `try_find`, among loose files alone.
+    /// As `try_find`, among loose files alone: the name is looked for as it is, also with `precompose_unicode`.
     pub fn try_find_loose(
         &mut self,
         alloc: Global,
@@ -178,8 +183,8 @@ impl<F: Files> Store<F> {
         }
     }
 
-    /// As `try_find`, where the records of this buffer are asked in place of those of the file; none where it is `None`. So a
-    /// caller who holds the buffer opens no file but loose ones.
+    /// As `try_find`, where the records of this buffer are asked in place of those of the file; none where it is `None`, and
+    /// then the name is looked for as it is. So a caller who holds the buffer opens no file but loose ones.
     ///
     /// ```text
     /// let packed = store.open_packed_buffer(alloc)?;
@@ -194,7 +199,8 @@ impl<F: Files> Store<F> {
         packed: Option<&Buffer>,
     ) -> Result<Option<Reference>, Error>
         ensures found { F.honest → (records : List Record) → AreHeld packed.entry records →
-            IfOk result (FindsAmong F.means self.old records (partial_ref_bytes partial.entry)) }
+            IfOk result (FindsHeld F.means packed.entry self.old records (partial_ref_bytes
+            partial.entry)) }
         ensures sound { F.honest → (records : List Record) → AreHeld packed.entry records →
             IfErr result IsSound }
         ensures hit { F.honest → IfOk result (HitsIn {G = F.Reader.ReadAt} F.means self.old
@@ -219,10 +225,11 @@ impl<F: Files> Store<F> {
         packed: Option<&Buffer>,
     ) -> Result<Reference, existing::Error>
         ensures found { F.honest → (records : List Record) → AreHeld packed.entry records →
-            IfOk result (λ r. FindsAmong F.means self.old records (partial_ref_bytes
+            IfOk result (λ r. FindsHeld F.means packed.entry self.old records (partial_ref_bytes
             partial.entry) (Some r)) }
         ensures sound { F.honest → (records : List Record) → AreHeld packed.entry records →
-            IfErr result (MissesAmong F.means self.old records (partial_ref_bytes partial.entry)) }
+            IfErr result (MissesHeld F.means packed.entry self.old records (partial_ref_bytes
+            partial.entry)) }
         ensures hit { F.honest → IfOk result (λ r. HitsIn {G = F.Reader.ReadAt} F.means self.old
             (held packed.entry) (partial_ref_bytes partial.entry) (Some r)) }
         ensures failed { IfErr result (MissesIn {G = F.Reader.ReadAt} F.honest F.means F.faults
