@@ -1,5 +1,5 @@
 -- Lookups in a store after other lookups in it.
-use Rattle.std.proofs.Common.{◌≡◌, inl, inr, ℕ, List, [], ◌∷◌, sym, ◌∙◌, ap, subst}
+use Rattle.std.proofs.Common.{◌≡◌, inl, inr, ℕ, Bool, ◌&&◌, List, [], ◌∷◌, sym, ◌∙◌, ap, subst}
 use Rattle.gix_ref_base.specs.PackedRecords.{Record}
 use Rattle.gix_ref_base.specs.Names.{full_bytes}
 use Rattle.gix_ref_files.specs.Files.{Meaning}
@@ -10,14 +10,14 @@ use Rattle.gix_ref_theory.specs.OnRealTrees.{view_of}
 use Rattle.gix_ref_theory.specs.Readings.{reading_among}
 use Rattle.gix_ref_theory.specs.Readings.Reading.{Absent}
 use Rattle.gix_ref_packed.specs.declared.raw.Reference.{Reference}
-use Rattle.gix_ref_lookup.specs.Lookups.{meaning_in, lookup_of, asked_names, AreAsked, AreStillAsked, IsHit, IsPassed, CandidateFails, FailsAt, FailsAmong}
+use Rattle.gix_ref_lookup.specs.Lookups.{meaning_in, lookup_of, asked_names, AreAsked, AreStillAsked, IsHit, IsHitOf, name_asked, IsPassed, CandidateFails, FailsAt, FailsAmong}
 use Rattle.gix_ref_lookup.specs.declared.settings.Settings.{Settings}
 use Rattle.gix_ref_lookup.specs.declared.find.error.Error.{Error as FindError}
 use Rattle.gix_ref_lookup.specs.declared.find.records.Records.{Records}
 use Rattle.gix_ref_lookup.specs.declared.find.existing.Error.{Error as Missing}
 use Rattle.gix_ref_lookup.specs.declared.find.existing.Error.TheVariants.{Find, NotFound}
 use Rattle.gix_ref_lookup.proofs.Looking.{packed_refs_at, fails_from, hit_from, among_wider, still_asked}
-use Rattle.gix_ref_store.specs.Lookup.{settings_of, lent, view_in, AreAskedIn, AreStillAskedIn, MissesIn, LooksUp}
+use Rattle.gix_ref_store.specs.Lookup.{settings_of, composes_in, lent, view_in, AreAskedIn, AreStillAskedIn, MissesIn, LooksUp}
 use Rattle.gix_ref_store.specs.Store as stores
 use Rattle.gix_ref_store.specs.declared.file.store.Store.{Store}
 use Rattle.gix_ref_follow.specs.Followed.{finds_in, HitsNext, IsNotFollowed}
@@ -43,10 +43,11 @@ fails_at_first {R} {G} honest settings T T' r r' before before' now names error 
 
 pub same_settings : {F : Type 0} (old new : Store F) → stores.IsSameStore old new → settings_of new ≡ settings_of old
 same_settings old new same =
-    ap (λ d. let s : Settings = record { dirs = lent d; namespace = lent new.namespace; kind = stores.kind_of new; prohibit_windows_device_names = new.prohibit_windows_device_names } in s) same.dirs
-    ∙ (ap (λ n. let s : Settings = record { dirs = lent old.dirs; namespace = lent n; kind = stores.kind_of new; prohibit_windows_device_names = new.prohibit_windows_device_names } in s) same.namespace
-    ∙ (ap (λ k. let s : Settings = record { dirs = lent old.dirs; namespace = lent old.namespace; kind = k; prohibit_windows_device_names = new.prohibit_windows_device_names } in s) same.of_kind
-    ∙ ap (λ p. let s : Settings = record { dirs = lent old.dirs; namespace = lent old.namespace; kind = stores.kind_of old; prohibit_windows_device_names = p } in s) same.prohibits))
+    ap (λ d. let s : Settings = record { dirs = lent d; namespace = lent new.namespace; kind = stores.kind_of new; prohibit_windows_device_names = new.prohibit_windows_device_names; precompose_unicode = new.precompose_unicode } in s) same.dirs
+    ∙ (ap (λ n. let s : Settings = record { dirs = lent old.dirs; namespace = lent n; kind = stores.kind_of new; prohibit_windows_device_names = new.prohibit_windows_device_names; precompose_unicode = new.precompose_unicode } in s) same.namespace
+    ∙ (ap (λ k. let s : Settings = record { dirs = lent old.dirs; namespace = lent old.namespace; kind = k; prohibit_windows_device_names = new.prohibit_windows_device_names; precompose_unicode = new.precompose_unicode } in s) same.of_kind
+    ∙ (ap (λ p. let s : Settings = record { dirs = lent old.dirs; namespace = lent old.namespace; kind = stores.kind_of old; prohibit_windows_device_names = p; precompose_unicode = new.precompose_unicode } in s) same.prohibits
+    ∙ ap (λ p. let s : Settings = record { dirs = lent old.dirs; namespace = lent old.namespace; kind = stores.kind_of old; prohibit_windows_device_names = old.prohibit_windows_device_names; precompose_unicode = p } in s) same.composes)))
 
 pub same_place : {F : Type 0} (old new : Store F) (name : List ℕ) → stores.IsSameStore old new → (stores.meaning_of new).place name ≡ (stores.meaning_of old).place name
 same_place old new name same = ap (λ s. (meaning_in s).place name) (same_settings old new same)
@@ -70,12 +71,12 @@ module _ {F : Type 0} (honest : Type 0) (means : F → Meaning) where
   }
 
   -- what lookups find stays
-  pub same_finds : (old new : Store F) (rs : List Record) → LooksUp honest means old new → honest → finds_in means new rs ≡ finds_in means old rs
-  same_finds old new rs looked h =
-      ap (λ s. lookup_of (meaning_in s) (view_in means new) rs) (same_settings old new looked.same)
-      ∙ ap (λ T. lookup_of (stores.meaning_of old) (view_of T) rs) (looked.leaves h).tree
+  pub same_finds : (asks : Bool) (old new : Store F) (rs : List Record) → LooksUp honest means old new → honest → finds_in means asks new rs ≡ finds_in means asks old rs
+  same_finds asks old new rs looked h =
+      ap (λ s. lookup_of (s.precompose_unicode && asks) (meaning_in s) (view_in means new) rs) (same_settings old new looked.same)
+      ∙ ap (λ T. lookup_of (composes_in asks old) (stores.meaning_of old) (view_of T) rs) (looked.leaves h).tree
 
-module _ {F R : Type 0} {G : Ghosts R} (honest : Type 0) (means : F → Meaning) (first mid : Store F) (r r' : Records R G) (looked : LooksUp honest means first mid) (still : honest → AreStillAskedIn means first r r') where
+module _ {F R : Type 0} {G : Ghosts R} (honest : Type 0) (means : F → Meaning) (asks : Bool) (first mid : Store F) (r r' : Records R G) (looked : LooksUp honest means first mid) (still : honest → AreStillAskedIn means first r r') where
   abbrev T : Tree
   T = (means (stores.files_of first)).tree
 
@@ -99,24 +100,31 @@ module _ {F R : Type 0} {G : Ghosts R} (honest : Type 0) (means : F → Meaning)
       still_asked (settings_of first).kind (packed_refs_at (settings_of first) T) (packed_refs_at (settings_of first) T') r r' r'' (ap (packed_refs_at (settings_of first)) (same h)) (still h)
       (subst (λ (s : Settings). AreStillAsked s.kind (packed_refs_at s T') r' r'') settled later)
 
-  pub hits_on : honest → (at next : Reference) → HitsNext means mid r' at next → HitsNext means first r at next
-  hits_on h at next hit = (
-    hit.0,
-    hit.1,
-    among_wider (λ n. IsHit (settings_of mid) (view_of T') r' n next) (λ n. IsHit (settings_of first) (view_of T) r n next) (asked_names hit.0)
-        (λ n is. hit_from honest (settings_of first) T T' r r' same (λ k. (still k).readers) (λ k. (still k).searched) h n next (subst (λ (s : Settings). IsHit s (view_of T') r' n next) settled is)) hit.2,
-  )
+  pub hits_on : honest → (at next : Reference) → HitsNext means asks mid r' at next → HitsNext means asks first r at next
+  hits_on h at next hit =
+      let composes = composes_in asks first in
+      let asked = name_asked composes hit.0 in
+      let of : IsHitOf composes (settings_of first) (view_of T') r' hit.0 next = subst (λ (s : Settings). IsHitOf (s.precompose_unicode && asks) s (view_of T') r' hit.0 next) settled hit.2 in (
+        hit.0,
+        hit.1,
+        (
+          of.0,
+          among_wider (λ n. IsHit (settings_of first) (view_of T') r' n of.0) (λ n. IsHit (settings_of first) (view_of T) r n of.0) (asked_names asked)
+              (λ n is. hit_from honest (settings_of first) T T' r r' same (λ k. (still k).readers) (λ k. (still k).searched) h n of.0 is) of.1,
+          of.2,
+        ),
+      )
 
   pub misses_on : (faults : F → ℕ) (new : Store F) (name : List ℕ) (error : Missing) → faults (stores.files_of mid) ≡ faults (stores.files_of first) →
-      MissesIn honest means faults mid new r' name error → MissesIn honest means faults first new r name error
+      MissesIn honest means faults asks mid new r' name error → MissesIn honest means faults asks first new r name error
   misses_on faults new name (NotFound n) count why = why
   misses_on faults new name (Find error) count (inl memory) = inl memory
   misses_on faults new name (Find error) count (inr why) = inr
-      (fails_at_first honest (settings_of first) T T' r r' (faults (stores.files_of first)) (faults (stores.files_of mid)) (faults (stores.files_of new)) (asked_names name) error same count still
-      (subst (λ (s : Settings). FailsAmong honest s T' r' (faults (stores.files_of mid)) (faults (stores.files_of new)) (asked_names name) error) settled why))
+      (fails_at_first honest (settings_of first) T T' r r' (faults (stores.files_of first)) (faults (stores.files_of mid)) (faults (stores.files_of new)) (asked_names (name_asked (composes_in asks first) name)) error same count still
+      (subst (λ (s : Settings). FailsAmong honest s T' r' (faults (stores.files_of mid)) (faults (stores.files_of new)) (asked_names (name_asked (s.precompose_unicode && asks) name)) error) settled why))
 
   pub not_followed_on : (faults : F → ℕ) (new : Store F) (at : Reference) (error : Error) → faults (stores.files_of mid) ≡ faults (stores.files_of first) →
-      IsNotFollowed honest means faults mid new r' at error → IsNotFollowed honest means faults first new r at error
+      IsNotFollowed honest means faults asks mid new r' at error → IsNotFollowed honest means faults asks first new r at error
   not_followed_on faults new at (Follow error) count why = (why.0, why.1, misses_on faults new why.0 error count why.2)
   not_followed_on faults new at (Cycle path) count why = why ∙ same_place first mid (full_bytes at.name) looked.same
   not_followed_on faults new at (DepthLimitExceeded n) count why = why

@@ -1,5 +1,5 @@
 -- What following a reference in a store returns.
-use Rattle.std.specs.Prelude.{◌≡◌, ℕ, List, [], ◌∷◌, Option, Some, None, Result, Ok, Err, true, MatchResult, IfOk, IfErr}
+use Rattle.std.specs.Prelude.{◌≡◌, ℕ, List, [], ◌∷◌, Option, Some, None, Result, Ok, Err, Bool, true, MatchResult, IfOk, IfErr}
 use Rattle.gix_ref_hash.specs.declared.hash.ObjectId.{ObjectId}
 use Rattle.gix_ref_base.specs.Names.{full_bytes, partial_bytes}
 use Rattle.gix_ref_base.specs.PackedRecords.{Record}
@@ -9,11 +9,11 @@ use Rattle.gix_ref_base.specs.declared.name.FullName.{FullName}
 use Rattle.gix_ref_files.specs.Files.{Meaning}
 use Rattle.gix_ref_files.specs.declared.files.ReadAt.{Ghosts}
 use Rattle.gix_ref_packed.specs.declared.raw.Reference.{Reference}
-use Rattle.gix_ref_lookup.specs.Lookups.{IsSound, lookup_of}
+use Rattle.gix_ref_lookup.specs.Lookups.{IsSound}
 use Rattle.gix_ref_lookup.specs.declared.find.records.Records.{Records}
 use Rattle.gix_ref_lookup.specs.declared.find.existing.Error.{Error as Missing}
 use Rattle.gix_ref_lookup.specs.declared.find.existing.Error.TheVariants.{Find, NotFound}
-use Rattle.gix_ref_store.specs.Lookup.{view_in, FindsAmong, MissesAmong, HitsIn, MissesIn}
+use Rattle.gix_ref_store.specs.Lookup.{hit_in, FindsBy, MissesBy, HitsIn, MissesIn}
 use Rattle.gix_ref_store.specs.Store as stores
 use Rattle.gix_ref_store.specs.declared.file.store.Store.{Store}
 use Rattle.gix_ref_follow.specs.Following.{At, Finds, IsStep, Passes, following, is_in}
@@ -71,33 +71,33 @@ Follows find start now (Err Memory) = Passes (IsStep find) start now
 
 module _ {F : Type 0} (means : F → Meaning) where
   -- what lookups in a store find, among these records
-  abbrev pub finds_in : Store F → List Record → Finds
-  finds_in store records = lookup_of (stores.meaning_of store) (view_in means store) records
+  abbrev pub finds_in : (asks_records : Bool) → Store F → List Record → Finds
+  finds_in asks_records store records = hit_in means asks_records store records
 
   -- the lookup of a target in it finds this, among these records
-  abbrev pub StepFinds : Store F → List Record → TargetValue → Option (Result Reference Missing) → Type 0
-  StepFinds store records target result =
-      OfStep target (λ name r. MatchResult r (λ next. FindsAmong means store records name (Some next)) (MissesAmong means store records name)) result
+  abbrev pub StepFinds : (asks_records : Bool) → Store F → List Record → TargetValue → Option (Result Reference Missing) → Type 0
+  StepFinds asks_records store records target result =
+      OfStep target (λ name r. MatchResult r (λ next. FindsBy means asks_records store records name (Some next)) (MissesBy means asks_records store records name)) result
 
 module _ {F R : Type 0} {G : Ghosts R} (means : F → Meaning) where
   -- on any text of `packed-refs`: what the lookup of a target finds is one that the target is short for
-  abbrev pub StepHits : Store F → Records R G → TargetValue → Option (Result Reference Missing) → Type 0
-  StepHits store asked target result = OfStep target (λ name r. IfOk r (λ next. HitsIn means store asked name (Some next))) result
+  abbrev pub StepHits : (asks_records : Bool) → Store F → Records R G → TargetValue → Option (Result Reference Missing) → Type 0
+  StepHits asks_records store asked target result = OfStep target (λ name r. IfOk r (λ next. HitsIn means asks_records store asked name (Some next))) result
 
   -- on any text of `packed-refs`: the next reference is one that the target is short for
-  abbrev pub HitsNext : Store F → Records R G → (at next : Reference) → Type 0
-  HitsNext store asked at next = (name : List ℕ) × (target_value at.target ≡ symbolic_name name) × HitsIn means store asked name (Some next)
+  abbrev pub HitsNext : (asks_records : Bool) → Store F → Records R G → (at next : Reference) → Type 0
+  HitsNext asks_records store asked at next = (name : List ℕ) × (target_value at.target ≡ symbolic_name name) × HitsIn means asks_records store asked name (Some next)
 
 module _ {F R : Type 0} {G : Ghosts R} (honest : Type 0) (means : F → Meaning) (faults : F → ℕ) where
   -- why the lookup of a target fails
-  abbrev pub StepFails : (old new : Store F) → Records R G → TargetValue → Option (Result Reference Missing) → Type 0
-  StepFails old new asked target result = OfStep target (λ name r. IfErr r (MissesIn honest means faults old new asked name)) result
+  abbrev pub StepFails : (asks_records : Bool) → (old new : Store F) → Records R G → TargetValue → Option (Result Reference Missing) → Type 0
+  StepFails asks_records old new asked target result = OfStep target (λ name r. IfErr r (MissesIn honest means faults asks_records old new asked name)) result
 
   -- why a reference is not followed further: the lookup of its target fails or finds nothing; that leads back, and this is the
   -- place of the reference; five steps were taken; no memory
-  abbrev pub IsNotFollowed : (old new : Store F) → Records R G → Reference → Error → Type 0
-  IsNotFollowed old new asked at (Follow error) =
-      (name : List ℕ) × (target_value at.target ≡ symbolic_name name) × MissesIn honest means faults old new asked name error
-  IsNotFollowed old new asked at (Cycle path) = path.items ≡ (stores.meaning_of old).place (full_bytes at.name)
-  IsNotFollowed old new asked at (DepthLimitExceeded steps) = steps ≡ 5
-  IsNotFollowed old new asked at Memory = Unit {0}
+  abbrev pub IsNotFollowed : (asks_records : Bool) → (old new : Store F) → Records R G → Reference → Error → Type 0
+  IsNotFollowed asks_records old new asked at (Follow error) =
+      (name : List ℕ) × (target_value at.target ≡ symbolic_name name) × MissesIn honest means faults asks_records old new asked name error
+  IsNotFollowed asks_records old new asked at (Cycle path) = path.items ≡ (stores.meaning_of old).place (full_bytes at.name)
+  IsNotFollowed asks_records old new asked at (DepthLimitExceeded steps) = steps ≡ 5
+  IsNotFollowed asks_records old new asked at Memory = Unit {0}

@@ -1,5 +1,5 @@
 -- Peeling a reference: following it to an object, and that object's tags (`gitrevisions`, `<rev>^{}`).
-use Rattle.std.specs.Prelude.{◌≡◌, ◌⊎◌, ℕ, List, Option, Some, None, Result, Ok, Err}
+use Rattle.std.specs.Prelude.{◌≡◌, ◌⊎◌, ℕ, List, Option, Some, None, Result, Ok, Err, Bool}
 use Rattle.gix_ref_hash.specs.declared.hash.ObjectId.{ObjectId}
 use Rattle.gix_ref_base.specs.Names.{full_bytes}
 use Rattle.gix_ref_base.specs.Targets.{target_value}
@@ -86,14 +86,14 @@ IsOfTags name other = Unit {0}
 
 module _ {F R : Type 0} {G : Ghosts R} (honest : Type 0) (means : F → Meaning) (faults : F → ℕ) where
   -- why a reference is not peeled: it is not followed; or it was, and the tags of its object are not peeled
-  abbrev pub IsNotPeeled : (old new : Store F) → Records R G → Reference → Error → Type 0
-  IsNotPeeled old new asked at (FollowToObject error) = IsNotFollowed honest means faults old new asked at error
-  IsNotPeeled old new asked at (NotFound id name) = (full_bytes name ≡ full_bytes at.name) × (first : ObjectId) × (target_value at.target ≡ object_id first)
-  IsNotPeeled old new asked at other = (first : ObjectId) × (target_value at.target ≡ object_id first)
+  abbrev pub IsNotPeeled : (asks_records : Bool) → (old new : Store F) → Records R G → Reference → Error → Type 0
+  IsNotPeeled asks_records old new asked at (FollowToObject error) = IsNotFollowed honest means faults asks_records old new asked at error
+  IsNotPeeled asks_records old new asked at (NotFound id name) = (full_bytes name ≡ full_bytes at.name) × (first : ObjectId) × (target_value at.target ≡ object_id first)
+  IsNotPeeled asks_records old new asked at other = (first : ObjectId) × (target_value at.target ≡ object_id first)
 
 module _ {F R : Type 0} {G : Ghosts R} (means : F → Meaning) where
   -- on any text of `packed-refs`: the name is that of a reference to which hits lead
-  pub record HasPassed (store : Store F) (asked : Records R G) (start now : Reference) : Type 0 where
+  pub record HasPassed (asks_records : Bool) (store : Store F) (asked : Records R G) (start now : Reference) : Type 0 where
     pub reached : Reference
-    pub passes : Passes (HitsNext means store asked) start reached
+    pub passes : Passes (HitsNext means asks_records store asked) start reached
     pub name : full_bytes now.name ≡ full_bytes reached.name

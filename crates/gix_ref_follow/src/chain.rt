@@ -50,13 +50,14 @@ pub(crate) fn find_next<F: Files>(
     reference: &Reference,
     alloc: Global,
     store: &mut Store<F>,
+    asks_records: bool,
     asked: &mut Records<'_, F::Reader>,
 ) -> Option<Result<Reference, existing::Error>>
     ensures found { F.honest → (records : List Record) → AreAskedIn F.means store.old asked.old
-        records → StepFinds F.means store.old records (target_value reference.now.target) result }
-    ensures hit { F.honest → AreHonest asked.old → StepHits F.means store.old asked.old
+        records → StepFinds F.means asks_records store.old records (target_value reference.now.target) result }
+    ensures hit { F.honest → AreHonest asked.old → StepHits F.means asks_records store.old asked.old
         (target_value reference.now.target) result }
-    ensures failed { StepFails F.honest F.means F.faults store.old store.new asked.old
+    ensures failed { StepFails F.honest F.means F.faults asks_records store.old store.new asked.old
         (target_value reference.now.target) result }
     ensures asked { F.honest → OnStep result
         (AreStillAskedIn F.means store.old asked.old asked.new) }
@@ -67,7 +68,7 @@ pub(crate) fn find_next<F: Files>(
     match &reference.target {
         Target::Object(_) => None,
         Target::Symbolic(name) => {
-            Some(store.find_existing_among(alloc, name.as_ref().as_partial_name(), asked))
+            Some(store.find_existing_among(alloc, name.as_ref().as_partial_name(), asks_records, asked))
         }
     }
 }
@@ -111,23 +112,24 @@ fn take_step<F: Files>(
     reference: &mut Reference,
     alloc: Global,
     store: &mut Store<F>,
+    asks_records: bool,
     asked: &mut Records<'_, F::Reader>,
     reached: &mut Vec<FullName>,
 ) -> Result<(), Error>
     requires { target_kind (target_value reference.old.target) ≡ Symbolic }
     ensures moved { F.honest → (records : List Record) → AreAskedIn F.means store.old asked.old
         records →
-        OnOk result (IsStep (finds_in F.means store.old records) (at_of reference.old) (at_of
+        OnOk result (IsStep (finds_in F.means asks_records store.old records) (at_of reference.old) (at_of
         reference.new)) }
     ensures first { OnOk result (is_in (full_bytes reference.new.name)
         (names_of reached.old.items) ≡ false) }
     ensures refused { F.honest → (records : List Record) → AreAskedIn F.means store.old asked.old
         records →
-        IfErr result (RefusesStep (finds_in F.means store.old records)
+        IfErr result (RefusesStep (finds_in F.means asks_records store.old records)
         (names_of reached.old.items) (at_of reference.old)) }
     ensures hit { F.honest → AreHonest asked.old →
-        OnOk result (HitsNext F.means store.old asked.old reference.old reference.new) }
-    ensures failed { IfErr result (IsNotFollowed F.honest F.means F.faults store.old store.new
+        OnOk result (HitsNext F.means asks_records store.old asked.old reference.old reference.new) }
+    ensures failed { IfErr result (IsNotFollowed F.honest F.means F.faults asks_records store.old store.new
         asked.old reference.old) }
     ensures reached { OnOk result (names_of reached.new.items ≡ names_of reached.old.items
         ++ full_bytes reference.new.name ∷ []) }
@@ -138,7 +140,7 @@ fn take_step<F: Files>(
         (files_of store.old)) }
     ensures unchanged { LooksUp F.honest F.means store.old store.new }
 {
-    match find_next(reference, alloc, store, asked) {
+    match find_next(reference, alloc, store, asks_records, asked) {
         Some(Ok(next)) => arrive(reference, next, alloc, store, reached),
         Some(Err(error)) => Err(Error::Follow(error)),
         None => unreachable!(),
@@ -150,16 +152,17 @@ pub(crate) fn follow_among<F: Files>(
     reference: &mut Reference,
     alloc: Global,
     store: &mut Store<F>,
+    asks_records: bool,
     asked: &mut Records<'_, F::Reader>,
 ) -> Result<ObjectId, Error>
     ensures followed { F.honest → (records : List Record) → AreAskedIn F.means store.old asked.old
         records →
-        Follows (finds_in F.means store.old records) (at_of reference.old) (at_of reference.new)
+        Follows (finds_in F.means asks_records store.old records) (at_of reference.old) (at_of reference.new)
         result }
     ensures hits { F.honest → AreHonest asked.old →
-        Passes (HitsNext F.means store.old asked.old) reference.old reference.new }
+        Passes (HitsNext F.means asks_records store.old asked.old) reference.old reference.new }
     ensures object { IfOk result (λ id. target_value reference.new.target ≡ object_id id) }
-    ensures failed { IfErr result (IsNotFollowed F.honest F.means F.faults store.old store.new
+    ensures failed { IfErr result (IsNotFollowed F.honest F.means F.faults asks_records store.old store.new
         asked.old reference.new) }
     ensures no_fault { OnOk result (F.faults (files_of store.new) ≡ F.faults
         (files_of store.old)) }
@@ -170,7 +173,7 @@ pub(crate) fn follow_among<F: Files>(
         if let Some(id) = reference.target.try_id() {
             return Ok(id);
         }
-        match take_step(reference, alloc, store, asked, &mut reached) {
+        match take_step(reference, alloc, store, asks_records, asked, &mut reached) {
             Ok(()) => {}
             Err(error) => return Err(error),
         }

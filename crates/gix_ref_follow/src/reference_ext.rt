@@ -121,7 +121,7 @@ pub trait ReferenceExt: Sealed {
 }
 
 impl ReferenceExt for Reference {
-    ghost use Rattle.std.specs.Prelude.{◌≡◌, [], List, Option, Some, None, Ok, Err, IfOk, IfErr, IfSome, OnOk, OnErr, MatchResult, false};
+    ghost use Rattle.std.specs.Prelude.{◌≡◌, [], List, Option, Some, None, Ok, Err, IfOk, IfErr, IfSome, OnOk, OnErr, MatchResult, true, false, is_some};
     ghost use Rattle.gix_ref_base.specs.Names.{full_bytes, full_ref_bytes};
     ghost use Rattle.gix_ref_base.specs.PackedRecords.{Record};
     ghost use Rattle.gix_ref_base.specs.Targets.{target_value};
@@ -174,21 +174,21 @@ impl ReferenceExt for Reference {
     ) -> Result<ObjectId, to_id::Error>
         ensures peeled { F.honest → T.claims objects.now → (records : List Record) →
             AreRecordsIn F.means store.old records →
-            Peels (finds_in F.means store.old records) (T.meaning objects.now) (at_of self.old)
+            Peels (finds_in F.means true store.old records) (T.meaning objects.now) (at_of self.old)
             (at_of self.new) result }
         ensures at_once { IfSome self.old.peeled (λ id. (result ≡ Ok id)
             × (at_of self.new ≡ peeled_to (at_of self.old) id)) }
         ensures done { IfOk result (λ id. (target_value self.new.target ≡ object_id id)
             × (self.new.peeled ≡ Some id)) }
-        ensures hits { F.honest → HasPassed {G = F.Reader.ReadAt} F.means store.old Unopened
+        ensures hits { F.honest → HasPassed {G = F.Reader.ReadAt} F.means true store.old Unopened
             self.old self.new }
-        ensures failed { IfErr result (IsNotPeeled {G = F.Reader.ReadAt} F.honest F.means F.faults
+        ensures failed { IfErr result (IsNotPeeled {G = F.Reader.ReadAt} F.honest F.means F.faults true
             store.old store.new Unopened self.new) }
         ensures no_fault { OnOk result (F.faults (files_of store.new) ≡ F.faults
             (files_of store.old)) }
         ensures unchanged { LooksUp F.honest F.means store.old store.new }
     {
-        peel_among(self, alloc, store, objects, &mut Records::Unopened)
+        peel_among(self, alloc, store, objects, true, &mut Records::Unopened)
     }
 
     fn peel_to_id_in_place<F: Files, T: Find>(
@@ -199,15 +199,15 @@ impl ReferenceExt for Reference {
     ) -> Result<ObjectId, to_id::Error>
         ensures peeled { F.honest → T.claims objects.now → (records : List Record) →
             AreRecordsIn F.means store.old records →
-            Peels (finds_in F.means store.old records) (T.meaning objects.now) (at_of self.old)
+            Peels (finds_in F.means true store.old records) (T.meaning objects.now) (at_of self.old)
             (at_of self.new) result }
         ensures at_once { IfSome self.old.peeled (λ id. (result ≡ Ok id)
             × (at_of self.new ≡ peeled_to (at_of self.old) id)) }
         ensures done { IfOk result (λ id. (target_value self.new.target ≡ object_id id)
             × (self.new.peeled ≡ Some id)) }
-        ensures hits { F.honest → HasPassed {G = F.Reader.ReadAt} F.means store.old Unopened
+        ensures hits { F.honest → HasPassed {G = F.Reader.ReadAt} F.means true store.old Unopened
             self.old self.new }
-        ensures failed { IfErr result (IsNotPeeled {G = F.Reader.ReadAt} F.honest F.means F.faults
+        ensures failed { IfErr result (IsNotPeeled {G = F.Reader.ReadAt} F.honest F.means F.faults true
             store.old store.new Unopened self.new) }
         ensures no_fault { OnOk result (F.faults (files_of store.new) ≡ F.faults
             (files_of store.old)) }
@@ -225,23 +225,23 @@ impl ReferenceExt for Reference {
     ) -> Result<ObjectId, to_id::Error>
         ensures peeled { F.honest → T.claims objects.now → (records : List Record) →
             AreHeld packed.entry records →
-            Peels (finds_in F.means store.old records) (T.meaning objects.now) (at_of self.old)
+            Peels (finds_in F.means (is_some packed.entry) store.old records) (T.meaning objects.now) (at_of self.old)
             (at_of self.new) result }
         ensures at_once { IfSome self.old.peeled (λ id. (result ≡ Ok id)
             × (at_of self.new ≡ peeled_to (at_of self.old) id)) }
         ensures done { IfOk result (λ id. (target_value self.new.target ≡ object_id id)
             × (self.new.peeled ≡ Some id)) }
-        ensures hits { F.honest → HasPassed {G = F.Reader.ReadAt} F.means store.old
+        ensures hits { F.honest → HasPassed {G = F.Reader.ReadAt} F.means (is_some packed.entry) store.old
             (held packed.entry) self.old self.new }
-        ensures failed { IfErr result (IsNotPeeled {G = F.Reader.ReadAt} F.honest F.means F.faults
+        ensures failed { IfErr result (IsNotPeeled {G = F.Reader.ReadAt} F.honest F.means F.faults (is_some packed.entry)
             store.old store.new (held packed.entry) self.new) }
         ensures no_fault { OnOk result (F.faults (files_of store.new) ≡ F.faults
             (files_of store.old)) }
         ensures unchanged { LooksUp F.honest F.means store.old store.new }
     {
         match packed {
-            Some(buffer) => peel_among(self, alloc, store, objects, &mut Records::Held(buffer)),
-            None => peel_among(self, alloc, store, objects, &mut Records::None),
+            Some(buffer) => peel_among(self, alloc, store, objects, true, &mut Records::Held(buffer)),
+            None => peel_among(self, alloc, store, objects, false, &mut Records::None),
         }
     }
 
@@ -254,15 +254,15 @@ impl ReferenceExt for Reference {
     ) -> Result<ObjectId, to_id::Error>
         ensures peeled { F.honest → T.claims objects.now → (records : List Record) →
             AreHeld packed.entry records →
-            Peels (finds_in F.means store.old records) (T.meaning objects.now) (at_of self.old)
+            Peels (finds_in F.means (is_some packed.entry) store.old records) (T.meaning objects.now) (at_of self.old)
             (at_of self.new) result }
         ensures at_once { IfSome self.old.peeled (λ id. (result ≡ Ok id)
             × (at_of self.new ≡ peeled_to (at_of self.old) id)) }
         ensures done { IfOk result (λ id. (target_value self.new.target ≡ object_id id)
             × (self.new.peeled ≡ Some id)) }
-        ensures hits { F.honest → HasPassed {G = F.Reader.ReadAt} F.means store.old
+        ensures hits { F.honest → HasPassed {G = F.Reader.ReadAt} F.means (is_some packed.entry) store.old
             (held packed.entry) self.old self.new }
-        ensures failed { IfErr result (IsNotPeeled {G = F.Reader.ReadAt} F.honest F.means F.faults
+        ensures failed { IfErr result (IsNotPeeled {G = F.Reader.ReadAt} F.honest F.means F.faults (is_some packed.entry)
             store.old store.new (held packed.entry) self.new) }
         ensures no_fault { OnOk result (F.faults (files_of store.new) ≡ F.faults
             (files_of store.old)) }
@@ -278,19 +278,19 @@ impl ReferenceExt for Reference {
         packed: Option<&Buffer>,
     ) -> Result<ObjectId, to_object::Error>
         ensures followed { F.honest → (records : List Record) → AreHeld packed.entry records →
-            Follows (finds_in F.means store.old records) (at_of self.old) (at_of self.new) result }
-        ensures hits { F.honest → Passes (HitsNext {G = F.Reader.ReadAt} F.means store.old
+            Follows (finds_in F.means (is_some packed.entry) store.old records) (at_of self.old) (at_of self.new) result }
+        ensures hits { F.honest → Passes (HitsNext {G = F.Reader.ReadAt} F.means (is_some packed.entry) store.old
             (held packed.entry)) self.old self.new }
         ensures object { IfOk result (λ id. target_value self.new.target ≡ object_id id) }
-        ensures failed { IfErr result (IsNotFollowed {G = F.Reader.ReadAt} F.honest F.means F.faults
+        ensures failed { IfErr result (IsNotFollowed {G = F.Reader.ReadAt} F.honest F.means F.faults (is_some packed.entry)
             store.old store.new (held packed.entry) self.new) }
         ensures no_fault { OnOk result (F.faults (files_of store.new) ≡ F.faults
             (files_of store.old)) }
         ensures unchanged { LooksUp F.honest F.means store.old store.new }
     {
         match packed {
-            Some(buffer) => follow_among(self, alloc, store, &mut Records::Held(buffer)),
-            None => follow_among(self, alloc, store, &mut Records::None),
+            Some(buffer) => follow_among(self, alloc, store, true, &mut Records::Held(buffer)),
+            None => follow_among(self, alloc, store, false, &mut Records::None),
         }
     }
 
@@ -301,11 +301,11 @@ impl ReferenceExt for Reference {
         packed: Option<&Buffer>,
     ) -> Result<ObjectId, to_object::Error>
         ensures followed { F.honest → (records : List Record) → AreHeld packed.entry records →
-            Follows (finds_in F.means store.old records) (at_of self.old) (at_of self.new) result }
-        ensures hits { F.honest → Passes (HitsNext {G = F.Reader.ReadAt} F.means store.old
+            Follows (finds_in F.means (is_some packed.entry) store.old records) (at_of self.old) (at_of self.new) result }
+        ensures hits { F.honest → Passes (HitsNext {G = F.Reader.ReadAt} F.means (is_some packed.entry) store.old
             (held packed.entry)) self.old self.new }
         ensures object { IfOk result (λ id. target_value self.new.target ≡ object_id id) }
-        ensures failed { IfErr result (IsNotFollowed {G = F.Reader.ReadAt} F.honest F.means F.faults
+        ensures failed { IfErr result (IsNotFollowed {G = F.Reader.ReadAt} F.honest F.means F.faults (is_some packed.entry)
             store.old store.new (held packed.entry) self.new) }
         ensures no_fault { OnOk result (F.faults (files_of store.new) ≡ F.faults
             (files_of store.old)) }
@@ -320,16 +320,16 @@ impl ReferenceExt for Reference {
         store: &mut Store<F>,
     ) -> Option<Result<Reference, existing::Error>>
         ensures found { F.honest → (records : List Record) → AreRecordsIn F.means store.old records
-            → StepFinds F.means store.old records (target_value self.now.target) result }
-        ensures hit { F.honest → StepHits {G = F.Reader.ReadAt} F.means store.old Unopened
+            → StepFinds F.means true store.old records (target_value self.now.target) result }
+        ensures hit { F.honest → StepHits {G = F.Reader.ReadAt} F.means true store.old Unopened
             (target_value self.now.target) result }
-        ensures failed { StepFails {G = F.Reader.ReadAt} F.honest F.means F.faults store.old
+        ensures failed { StepFails {G = F.Reader.ReadAt} F.honest F.means F.faults true store.old
             store.new Unopened (target_value self.now.target) result }
         ensures no_fault { OnStep result (F.faults (files_of store.new) ≡ F.faults
             (files_of store.old)) }
         ensures unchanged { LooksUp F.honest F.means store.old store.new }
     {
-        find_next(self, alloc, store, &mut Records::Unopened)
+        find_next(self, alloc, store, true, &mut Records::Unopened)
     }
 
     fn follow_packed<F: Files>(
@@ -339,18 +339,18 @@ impl ReferenceExt for Reference {
         packed: Option<&Buffer>,
     ) -> Option<Result<Reference, existing::Error>>
         ensures found { F.honest → (records : List Record) → AreHeld packed.entry records
-            → StepFinds F.means store.old records (target_value self.now.target) result }
-        ensures hit { F.honest → StepHits {G = F.Reader.ReadAt} F.means store.old
+            → StepFinds F.means (is_some packed.entry) store.old records (target_value self.now.target) result }
+        ensures hit { F.honest → StepHits {G = F.Reader.ReadAt} F.means (is_some packed.entry) store.old
             (held packed.entry) (target_value self.now.target) result }
-        ensures failed { StepFails {G = F.Reader.ReadAt} F.honest F.means F.faults store.old
+        ensures failed { StepFails {G = F.Reader.ReadAt} F.honest F.means F.faults (is_some packed.entry) store.old
             store.new (held packed.entry) (target_value self.now.target) result }
         ensures no_fault { OnStep result (F.faults (files_of store.new) ≡ F.faults
             (files_of store.old)) }
         ensures unchanged { LooksUp F.honest F.means store.old store.new }
     {
         match packed {
-            Some(buffer) => find_next(self, alloc, store, &mut Records::Held(buffer)),
-            None => find_next(self, alloc, store, &mut Records::None),
+            Some(buffer) => find_next(self, alloc, store, true, &mut Records::Held(buffer)),
+            None => find_next(self, alloc, store, false, &mut Records::None),
         }
     }
 }

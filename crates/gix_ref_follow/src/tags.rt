@@ -70,19 +70,20 @@ pub(crate) fn peel_among<F: Files, T: Find>(
     alloc: Global,
     store: &mut Store<F>,
     objects: &T,
+    asks_records: bool,
     asked: &mut Records<'_, F::Reader>,
 ) -> Result<ObjectId, Error>
     ensures peeled { F.honest → T.claims objects.now → (records : List Record) →
         AreAskedIn F.means store.old asked.old records →
-        Peels (finds_in F.means store.old records) (T.meaning objects.now) (at_of reference.old)
+        Peels (finds_in F.means asks_records store.old records) (T.meaning objects.now) (at_of reference.old)
         (at_of reference.new) result }
     ensures at_once { IfSome reference.old.peeled (λ id. (result ≡ Ok id)
         × (at_of reference.new ≡ peeled_to (at_of reference.old) id)) }
     ensures done { IfOk result (λ id. (target_value reference.new.target ≡ object_id id)
         × (reference.new.peeled ≡ Some id)) }
     ensures hits { F.honest → AreHonest asked.old →
-        HasPassed F.means store.old asked.old reference.old reference.new }
-    ensures failed { IfErr result (IsNotPeeled F.honest F.means F.faults store.old store.new
+        HasPassed F.means asks_records store.old asked.old reference.old reference.new }
+    ensures failed { IfErr result (IsNotPeeled F.honest F.means F.faults asks_records store.old store.new
         asked.old reference.new) }
     ensures no_fault { OnOk result (F.faults (files_of store.new) ≡ F.faults
         (files_of store.old)) }
@@ -92,7 +93,7 @@ pub(crate) fn peel_among<F: Files, T: Find>(
         reference.target = Target::Object(id);
         return Ok(id);
     }
-    match follow_among(reference, alloc, store, asked) {
+    match follow_among(reference, alloc, store, asks_records, asked) {
         Ok(id) => peel_tags(reference, alloc, objects, id),
         Err(error) => Err(Error::FollowToObject(error)),
     }

@@ -1,4 +1,5 @@
 pub mod Answering
+pub mod Composing
 pub mod FolderLemmas
 pub mod Laying
 pub mod Looking

@@ -1,10 +1,12 @@
 -- What the calls of this crate return: candidates, the records that they ask, and lookups (`gitrevisions`).
-use Rattle.std.specs.Prelude.{◌≡◌, ◌≢◌, ◌⊎◌, ℕ, List, [], ◌∷◌, ◌++◌, Bool, true, false, Option, Some, None, Result, Ok, Err, Contains}
+use Rattle.std.specs.Prelude.{◌≡◌, ◌≢◌, ◌⊎◌, ◌&&◌, ℕ, List, [], ◌∷◌, ◌++◌, Bool, true, false, Option, Some, None, Result, Ok, Err, if◌then◌else◌, nat_eq}
 use Rattle.std.specs.Option.{option_map}
+use Rattle.std.specs.Cmp.Lexicographic.{pointwise}
 use Rattle.gix_ref_hash.specs.declared.hash.Kind.{Kind}
 use Rattle.gix_ref_base.specs.Names.{full_bytes}
 use Rattle.gix_ref_base.specs.Namespaces.{stripped}
 use Rattle.gix_ref_base.specs.Candidates.{candidates, remote_head}
+use Rattle.gix_ref_base.specs.ComposedNames.{composed, decomposed}
 use Rattle.gix_ref_base.specs.Targets.{target_value}
 use Rattle.gix_ref_base.specs.Targets.TargetValue.{object_id}
 use Rattle.gix_ref_base.specs.declared.target.Target.{Target}
@@ -253,6 +255,41 @@ to_list (Some name) = name ∷ []
 abbrev pub asked_names : List ℕ → List (List ℕ)
 asked_names p = candidates p ++ to_list (remote_head p)
 
--- What a lookup of a partial name finds in these files, among these records.
-abbrev pub lookup_of : Store → View → List Record → List ℕ → Option Hit
-lookup_of s view records p = lookup s view records (candidates p) (remote_head p)
+-- the name that is asked for a partial name: its composed form, where names are composed
+abbrev pub name_asked : (composes : Bool) → List ℕ → List ℕ
+name_asked composes p = if composes then composed p else p
+
+-- the name that is given of a hit: the decomposed form, where another name was asked than the caller's
+abbrev pub name_given : (asked p : List ℕ) → (name : List ℕ) → List ℕ
+name_given asked p name = if pointwise nat_eq asked p then name else decomposed name
+
+abbrev pub hit_given : (asked p : List ℕ) → Hit → Hit
+hit_given asked p found = record found { name = name_given asked p found.name }
+
+-- What a lookup of a partial name finds in these files, among these records, where names are composed or not
+-- (`core.precomposeUnicode` of `git config`).
+abbrev pub lookup_of : (composes : Bool) → Store → View → List Record → List ℕ → Option Hit
+lookup_of composes s view records p =
+    let asked = name_asked composes p in
+    option_map (hit_given asked p) (lookup s view records (candidates asked) (remote_head asked))
+
+-- the same reference under another form of its name
+pub record IsNamed (form : List ℕ → List ℕ) (found given : Reference) : Type 0 where
+  pub name : full_bytes given.name ≡ form (full_bytes found.name)
+  pub target : given.target ≡ found.target
+  pub peeled : given.peeled ≡ found.peeled
+
+-- what is given of what a lookup of a composed name found: the same under its decomposed name; or there was no memory for it
+abbrev pub IsGivenOf : Result (Option Reference) Error → Result (Option Reference) Error → Type 0
+IsGivenOf (Ok (Some found)) (Ok (Some given)) = IsNamed decomposed found given
+IsGivenOf (Ok (Some found)) (Err error) = error ≡ Memory
+IsGivenOf (Ok (Some found)) (Ok None) = ⊥
+IsGivenOf (Ok None) given = given ≡ Ok None
+IsGivenOf (Err error) given = given ≡ Err error
+
+-- on any text of `packed-refs`: what is given was found, under the name that was asked, as a loose file or as a record that
+-- begins a line
+abbrev pub IsHitOf : {R : Type 0} {G : Ghosts R} → (composes : Bool) → Settings → View → Records R G → List ℕ → Reference → Type 0
+IsHitOf composes settings view records p given =
+    let asked = name_asked composes p in
+    (found : Reference) × Among (λ n. IsHit settings view records n found) (asked_names asked) × IsNamed (name_given asked p) found given

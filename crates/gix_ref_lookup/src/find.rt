@@ -4,6 +4,7 @@ ghost use Rattle.gix_ref_base.specs.Targets.{target_value, stripped_target};
 ghost use Rattle.gix_ref_lookup.specs.StoreLayout.{namespace_text};
 
 pub mod candidate;
+pub mod composed;
 mod error;
 pub mod existing;
 pub mod lookup;

@@ -32,6 +32,8 @@ pub struct Settings<'a> {
     pub kind: Kind,
     /// Whether a reference with a component such as `CON` is a fault.
     pub prohibit_windows_device_names: bool,
+    /// Whether a name is asked in composed Unicode where records are asked (`core.precomposeUnicode` of `git config`).
+    pub precompose_unicode: bool,
 }
 
 impl Settings<'_> {

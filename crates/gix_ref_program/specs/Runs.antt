@@ -176,11 +176,11 @@ module _ {F : Type 0} where
     -- A lookup: what it finds is shown; or there is nothing; or it fails; or its name breaks a rule.
     abbrev pub ShowOutcome : {R : Type 0} (G : Ghosts R) → (old new : Store F) → (name : List ℕ) → Outcome → Type 0
     ShowOutcome G old new name (outcomes.Shown reference) =
-        honest → HitsIn {G = G} means old Unopened name (Some reference) × ((records : List Record) → AreRecordsIn means old records → FindsAmong means old records name (Some reference))
+        honest → HitsIn {G = G} means true old Unopened name (Some reference) × ((records : List Record) → AreRecordsIn means old records → FindsAmong means old records name (Some reference))
     ShowOutcome G old new name (outcomes.Refused refusals.NotFound locks) =
         (honest → (records : List Record) → AreRecordsIn means old records → FindsAmong means old records name None) × (locks.items ≡ [])
     ShowOutcome G old new name (outcomes.Refused (refusals.Find error) locks) =
-        FailsIn {G = G} honest means faults old new Unopened name error
+        FailsIn {G = G} honest means faults true old new Unopened name error
         × (honest → (records : List Record) → AreRecordsIn means old records → IsSound error)
         × (locks.items ≡ [])
     ShowOutcome G old new name (outcomes.Refused (refusals.Name error) locks) = (partial_error name ≡ Some error) × (new ≡ old) × (locks.items ≡ [])

@@ -1,5 +1,5 @@
 -- What a lookup in a store returns (`gitrevisions`).
-use Rattle.std.specs.Prelude.{◌≡◌, ◌⊎◌, true, false, ℕ, List, [], Option, Some, None, IfSome}
+use Rattle.std.specs.Prelude.{◌≡◌, ◌⊎◌, ◌&&◌, Bool, true, false, is_some, ℕ, List, [], Option, Some, None, IfSome}
 use denote.Ref.{Bor}
 use Rattle.gix_ref_base.specs.Names.{partial_bytes, full_bytes}
 use Rattle.gix_ref_base.specs.Targets.{target_value}
@@ -17,7 +17,7 @@ use Rattle.gix_ref_packed.specs.declared.packed.buffer.open.Error.{Error as Open
 use Rattle.gix_ref_packed.specs.declared.raw.Reference.{Reference}
 use Rattle.gix_ref_theory.specs.Views.{View}
 use Rattle.gix_ref_theory.specs.OnRealTrees.{view_of}
-use Rattle.gix_ref_lookup.specs.Lookups.{Answers, ArePackedRecords, AreAsked, AreHonest, AreStillAsked, IsSound, IsHit, Among, FailsAmong, lookup_of, asked_names}
+use Rattle.gix_ref_lookup.specs.Lookups.{Answers, ArePackedRecords, AreAsked, AreHonest, IsSound, IsHitOf, FailsAmong, lookup_of, asked_names, name_asked, AreStillAsked}
 use Rattle.gix_ref_lookup.specs.declared.loose.Reference.{Reference as Loose}
 use Rattle.gix_ref_lookup.specs.declared.settings.Settings.{Settings}
 use Rattle.gix_ref_lookup.specs.declared.find.records.Records.{Records}
@@ -40,7 +40,12 @@ settings_of store = record {
   namespace = lent store.namespace;
   kind = stores.kind_of store;
   prohibit_windows_device_names = store.prohibit_windows_device_names;
+  precompose_unicode = store.precompose_unicode;
 }
+
+-- it composes names where records are asked
+abbrev pub composes_in : {F : Type 0} → (asks_records : Bool) → StoreValue F → Bool
+composes_in asks_records store = store.precompose_unicode && asks_records
 
 -- why one that has to find something has no reference, where none was found: that, with the name; or no memory for the name
 abbrev pub IsNotFound : List ℕ → Missing → Type 0
@@ -72,18 +77,38 @@ module _ {F : Type 0} (means : F → Meaning) where
   abbrev pub AreRecordsIn : StoreValue F → List Record → Type 0
   AreRecordsIn store records = ArePackedRecords (stores.kind_of store) (view_in store (packed_refs (stores.folders store))) records
 
-  -- a lookup of a partial name in a store, among these records, finds this
+  -- what a lookup of a partial name in a store finds among these records
+  abbrev pub hit_in : (asks_records : Bool) → StoreValue F → List Record → List ℕ → Option Hit
+  hit_in asks_records store records p = lookup_of (composes_in asks_records store) (stores.meaning_of store) (view_in store) records p
+
+  -- a lookup of a partial name in a store finds this among these records; names are composed only where records are asked
+  abbrev pub FindsBy : (asks_records : Bool) → StoreValue F → List Record → List ℕ → Option Reference → Type 0
+  FindsBy asks_records store records p found = Answers (hit_in asks_records store records p) found
+
+  -- and this among these records of its `packed-refs`
   abbrev pub FindsAmong : StoreValue F → List Record → List ℕ → Option Reference → Type 0
-  FindsAmong store records p found = Answers (lookup_of (stores.meaning_of store) (view_in store) records p) found
+  FindsAmong store records p found = FindsBy true store records p found
+
+  -- and this among these records of a buffer of the caller; without one, no records are asked
+  abbrev pub FindsHeld : Option (Bor Buffer) → StoreValue F → List Record → List ℕ → Option Reference → Type 0
+  FindsHeld packed store records p found = FindsBy (is_some packed) store records p found
 
   -- and this among loose files alone
   abbrev pub FindsLoose : StoreValue F → List ℕ → Option Loose → Type 0
-  FindsLoose store p found = AnswersLoose (lookup_of (stores.meaning_of store) (view_in store) [] p) found
+  FindsLoose store p found = AnswersLoose (hit_in false store [] p) found
 
   -- one that has to find something finds nothing, or fails by a fault, a loose file or want of memory
+  abbrev pub MissesBy : (asks_records : Bool) → StoreValue F → List Record → List ℕ → Missing → Type 0
+  MissesBy asks_records store records p (Find error) = IsSound error
+  MissesBy asks_records store records p (NotFound name) = FindsBy asks_records store records p None
+
+  -- and so among the records of its `packed-refs`
   abbrev pub MissesAmong : StoreValue F → List Record → List ℕ → Missing → Type 0
-  MissesAmong store records p (Find error) = IsSound error
-  MissesAmong store records p (NotFound name) = FindsAmong store records p None
+  MissesAmong store records p error = MissesBy true store records p error
+
+  -- and so among the records of a buffer
+  abbrev pub MissesHeld : Option (Bor Buffer) → StoreValue F → List Record → List ℕ → Missing → Type 0
+  MissesHeld packed store records p error = MissesBy (is_some packed) store records p error
 
   -- and so among loose files alone
   abbrev pub MissesLoose : StoreValue F → List ℕ → Missing → Type 0
@@ -114,8 +139,8 @@ module _ {F R : Type 0} {G : Ghosts R} (means : F → Meaning) where
 
   -- on any text of `packed-refs`: what is found is a loose file of a name that is asked for, or a record of it that begins a
   -- line
-  abbrev pub HitsIn : StoreValue F → Records R G → List ℕ → Option Reference → Type 0
-  HitsIn store asked p found = IfSome found (λ r. Among (λ n. IsHit (settings_of store) (view_in means store) asked n r) (asked_names p))
+  abbrev pub HitsIn : (asks_records : Bool) → StoreValue F → Records R G → List ℕ → Option Reference → Type 0
+  HitsIn asks_records store asked p found = IfSome found (IsHitOf (composes_in asks_records store) (settings_of store) (view_in means store) asked p)
 
 module _ {F : Type 0} (honest : Type 0) (means : F → Meaning) where
   -- What a lookup changes: nothing but the count of faults and the clock.
@@ -125,12 +150,13 @@ module _ {F : Type 0} (honest : Type 0) (means : F → Meaning) where
 
 module _ {F R : Type 0} {G : Ghosts R} (honest : Type 0) (means : F → Meaning) (faults : F → ℕ) where
   -- why a lookup fails: no memory, or the first of its names that is not passed fails
-  abbrev pub FailsIn : (old new : StoreValue F) → Records R G → List ℕ → Error → Type 0
-  FailsIn old new asked p error =
+  abbrev pub FailsIn : (asks_records : Bool) → (old new : StoreValue F) → Records R G → List ℕ → Error → Type 0
+  FailsIn asks_records old new asked p error =
       (error ≡ Memory)
-      ⊎ FailsAmong honest (settings_of old) (means (stores.files_of old)).tree asked (faults (stores.files_of old)) (faults (stores.files_of new)) (asked_names p) error
+      ⊎ FailsAmong honest (settings_of old) (means (stores.files_of old)).tree asked (faults (stores.files_of old)) (faults (stores.files_of new))
+      (asked_names (name_asked (composes_in asks_records old) p)) error
 
   -- and one that has to find something: it fails, or finds nothing
-  abbrev pub MissesIn : (old new : StoreValue F) → Records R G → List ℕ → Missing → Type 0
-  MissesIn old new asked p (Find error) = FailsIn old new asked p error
-  MissesIn old new asked p (NotFound name) = partial_bytes name ≡ p
+  abbrev pub MissesIn : (asks_records : Bool) → (old new : StoreValue F) → Records R G → List ℕ → Missing → Type 0
+  MissesIn asks_records old new asked p (Find error) = FailsIn asks_records old new asked p error
+  MissesIn asks_records old new asked p (NotFound name) = partial_bytes name ≡ p

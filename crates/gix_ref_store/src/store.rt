@@ -27,7 +27,7 @@ impl Default for WriteReflog {
 pub struct Options {
     /// When log lines are written.
     pub write_reflog: WriteReflog,
-    /// Whether names are asked of `packed-refs` in composed form (`core.precomposeUnicode` of `git config`).
+    /// Whether lookups that ask records look for names in composed Unicode (`core.precomposeUnicode` of `git config`).
     pub precompose_unicode: bool,
     /// Whether components such as `CON` are faults.
     pub prohibit_windows_device_names: bool,

@@ -4,6 +4,8 @@
 #[cfg(test)]
 mod buffers;
 #[cfg(test)]
+mod composed;
+#[cfg(test)]
 mod edits;
 #[cfg(test)]
 mod find;

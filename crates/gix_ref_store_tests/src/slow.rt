@@ -25,82 +25,57 @@ const NAMES: [&str; 14] = [
     "tags/refs/heads/a",
 ];
 
-/// The names that are looked up, with the names that each is short for in the order of the lookup (`gitrevisions`), and the
-/// head of a remote.
-const ASKED: [(&str, &[&str], &str); 8] = [
-    (
-        "a",
-        &["refs/a", "refs/tags/a", "refs/heads/a", "refs/remotes/a"],
-        "refs/remotes/a/HEAD",
-    ),
-    (
-        "A",
-        &[
-            "A",
-            "refs/A",
-            "refs/tags/A",
-            "refs/heads/A",
-            "refs/remotes/A",
-        ],
-        "refs/remotes/A/HEAD",
-    ),
-    (
-        "HEAD",
-        &[
-            "HEAD",
-            "refs/HEAD",
-            "refs/tags/HEAD",
-            "refs/heads/HEAD",
-            "refs/remotes/HEAD",
-        ],
-        "",
-    ),
-    (
-        "a/b",
-        &[
-            "refs/a/b",
-            "refs/tags/a/b",
-            "refs/heads/a/b",
-            "refs/remotes/a/b",
-        ],
-        "refs/remotes/a/b/HEAD",
-    ),
-    (
-        "a/HEAD",
-        &[
-            "refs/a/HEAD",
-            "refs/tags/a/HEAD",
-            "refs/heads/a/HEAD",
-            "refs/remotes/a/HEAD",
-        ],
-        "refs/remotes/a/HEAD/HEAD",
-    ),
-    (
-        "heads/a",
-        &[
-            "refs/heads/a",
-            "refs/tags/heads/a",
-            "refs/heads/heads/a",
-            "refs/remotes/heads/a",
-        ],
-        "refs/remotes/heads/a/HEAD",
-    ),
-    (
-        "refs/heads/a",
-        &[
-            "refs/heads/a",
-            "tags/refs/heads/a",
-            "heads/refs/heads/a",
-            "remotes/refs/heads/a",
-        ],
-        "remotes/refs/heads/a/HEAD",
-    ),
-    (
-        "refs/A",
-        &["refs/A", "tags/refs/A", "heads/refs/A", "remotes/refs/A"],
-        "remotes/refs/A/HEAD",
-    ),
+/// The names that are looked up.
+const ASKED: [&str; 20] = [
+    "A",
+    "HEAD",
+    "a",
+    "a/b",
+    "a/HEAD",
+    "heads/A",
+    "heads/a",
+    "heads/heads/a",
+    "remotes/a",
+    "tags/a",
+    "refs/A",
+    "refs/a",
+    "refs/heads/A",
+    "refs/heads/a",
+    "refs/heads/a/b",
+    "refs/remotes/a",
+    "refs/remotes/a/HEAD",
+    "refs/tags/a",
+    "main-worktree/refs/heads/a",
+    "worktrees/w/refs/heads/a",
 ];
+
+/// What goes in front of a name, in the order of the lookup (`gitrevisions`).
+fn fronts(name: &str) -> &'static [&'static str] {
+    if name == "A" || name == "HEAD" {
+        &["", "refs/", "refs/tags/", "refs/heads/", "refs/remotes/"]
+    } else if is_rooted(name) {
+        &["", "tags/", "heads/", "remotes/"]
+    } else {
+        &["refs/", "refs/tags/", "refs/heads/", "refs/remotes/"]
+    }
+}
+
+/// Whether a name is looked up as it is first.
+fn is_rooted(name: &str) -> bool {
+    name.starts_with("refs/")
+        || name.starts_with("main-worktree/")
+        || name.starts_with("worktrees/")
+}
+
+/// The name of the file and of the record of a name that may begin with a worktree.
+fn shared(name: &str) -> &str {
+    for worktree in ["main-worktree/", "worktrees/w/"] {
+        if let Some(rest) = name.strip_prefix(worktree) {
+            return rest;
+        }
+    }
+    name
+}
 
 /// The next number of a linear congruence.
 fn next(number: u32) -> u32 {
@@ -123,11 +98,22 @@ fn has_bit(number: u32, bit: usize) -> bool {
     }
 }
 
+/// The files of a store: the text in front of all names, the names with loose files and those with records, and whether
+/// the records are sorted.
+#[derive(Clone, Copy)]
+struct Kept {
+    space: &'static str,
+    loose: u32,
+    packed: u32,
+    is_sorted: bool,
+}
+
 /// Puts a loose file for each name with a set bit, where no other file is in its path.
-fn put_loose(rt: &impl Abort, alloc: Global, memory: &mut Memory, bits: u32) {
+fn put_loose(rt: &impl Abort, alloc: Global, memory: &mut Memory, kept: Kept) {
+    let space = kept.space;
     for (i, name) in NAMES.iter().enumerate() {
-        if has_bit(bits, i) {
-            let path = format!(in alloc; "/r/{name}").expect(rt, "memory");
+        if has_bit(kept.loose, i) {
+            let path = format!(in alloc; "/r/{space}{name}").expect(rt, "memory");
             let text = digits(rt, alloc, i, '1');
             let _is_put = memory
                 .put(path.as_bytes(), text.as_bytes())
@@ -137,17 +123,22 @@ fn put_loose(rt: &impl Abort, alloc: Global, memory: &mut Memory, bits: u32) {
 }
 
 /// The records of the names with a set bit: behind a header, or the last name first without one.
-fn records(rt: &impl Abort, alloc: Global, bits: u32, is_sorted: bool) -> Vec<u8> {
+fn records(rt: &impl Abort, alloc: Global, kept: Kept) -> Vec<u8> {
     let mut text = Vec::new(alloc);
-    if is_sorted {
+    let space = kept.space;
+    if kept.is_sorted {
         text.extend_from_slice(b"# pack-refs with: peeled fully-peeled sorted \n")
             .expect(rt, "memory");
     }
     for i in 0..NAMES.len() {
-        let at = if is_sorted { i } else { NAMES.len() - 1 - i };
-        if has_bit(bits, at) {
+        let at = if kept.is_sorted {
+            i
+        } else {
+            NAMES.len() - 1 - i
+        };
+        if has_bit(kept.packed, at) {
             let id = digits(rt, alloc, at, '2');
-            let line = format!(in alloc; "{id} {}\n", NAMES[at]).expect(rt, "memory");
+            let line = format!(in alloc; "{id} {space}{}\n", NAMES[at]).expect(rt, "memory");
             text.extend_from_slice(line.as_bytes()).expect(rt, "memory");
         }
     }
@@ -155,10 +146,10 @@ fn records(rt: &impl Abort, alloc: Global, bits: u32, is_sorted: bool) -> Vec<u8
 }
 
 /// The files of a store.
-fn files(rt: &impl Abort, alloc: Global, loose: u32, packed: u32, is_sorted: bool) -> Memory {
+fn files(rt: &impl Abort, alloc: Global, kept: Kept) -> Memory {
     let mut memory = Memory::new(alloc);
-    put_loose(rt, alloc, &mut memory, loose);
-    let text = records(rt, alloc, packed, is_sorted);
+    put_loose(rt, alloc, &mut memory, kept);
+    let text = records(rt, alloc, kept);
     let done = memory.put(b"/r/packed-refs", &text).expect(rt, "memory");
     assert!(rt; done, "packed-refs");
     memory
@@ -176,29 +167,50 @@ fn record_of<'a>(text: &'a str, name: &str) -> Option<&'a str> {
     None
 }
 
-/// The digits of the reference of a name: in its loose file, or else in its record, which a name without a slash has not.
-fn plain<'a>(rt: &impl Abort, alloc: Global, memory: &'a Memory, name: &str) -> Option<&'a str> {
-    let path = format!(in alloc; "/r/{name}").expect(rt, "memory");
-    if let Some(text) = memory.get(path.as_bytes()) {
-        return str::from_utf8(text).ok();
-    }
+/// The text of the loose file of a name.
+fn loose<'a>(
+    rt: &impl Abort,
+    alloc: Global,
+    memory: &'a Memory,
+    space: &str,
+    name: &str,
+) -> Option<&'a str> {
+    let path = format!(in alloc; "/r/{space}{}", shared(name)).expect(rt, "memory");
+    str::from_utf8(memory.get(path.as_bytes())?).ok()
+}
+
+/// The digits of the record of a name, which a name without a slash has not.
+fn packed<'a>(
+    rt: &impl Abort,
+    alloc: Global,
+    memory: &'a Memory,
+    space: &str,
+    name: &str,
+) -> Option<&'a str> {
     if !name.contains('/') {
         return None;
     }
+    let key = format!(in alloc; "{space}{}", shared(name)).expect(rt, "memory");
     let text = memory.get(b"/r/packed-refs")?;
-    record_of(str::from_utf8(text).ok()?, name)
+    record_of(str::from_utf8(text).ok()?, key.as_str())
 }
 
-/// The first of these names that has a reference, and its digits.
+/// The first name that this name is short for and that has a reference: the name under which it is found, and its digits.
 fn first<'a>(
     rt: &impl Abort,
     alloc: Global,
     memory: &'a Memory,
-    names: &[&'static str],
-) -> Option<(&'static str, &'a str)> {
-    for name in names {
-        if let Some(digits) = plain(rt, alloc, memory, name) {
+    space: &str,
+    asked: &str,
+) -> Option<(String, &'a str)> {
+    for front in fronts(asked) {
+        let name = format!(in alloc; "{front}{asked}").expect(rt, "memory");
+        if let Some(digits) = loose(rt, alloc, memory, space, name.as_str()) {
             return Some((name, digits));
+        }
+        if let Some(digits) = packed(rt, alloc, memory, space, name.as_str()) {
+            let found = String::from_str(alloc, shared(name.as_str())).expect(rt, "memory");
+            return Some((found, digits));
         }
     }
     None
@@ -209,15 +221,20 @@ fn head<'a>(
     rt: &impl Abort,
     alloc: Global,
     memory: &'a Memory,
-    name: &'static str,
-) -> Option<(&'static str, &'a str)> {
-    let path = format!(in alloc; "/r/{name}").expect(rt, "memory");
-    let text = memory.get(path.as_bytes())?;
-    Some((name, str::from_utf8(text).ok()?))
+    space: &str,
+    asked: &str,
+) -> Option<(String, &'a str)> {
+    if asked == "HEAD" {
+        return None;
+    }
+    let refs = if is_rooted(asked) { "" } else { "refs/" };
+    let name = format!(in alloc; "{refs}remotes/{asked}/HEAD").expect(rt, "memory");
+    let digits = loose(rt, alloc, memory, space, name.as_str())?;
+    Some((name, digits))
 }
 
 /// Whether a lookup found what it is to find.
-fn is_same(found: &Result<Reference, existing::Error>, want: Option<(&str, &str)>) -> bool {
+fn is_same(found: &Result<Reference, existing::Error>, want: &Option<(String, &str)>) -> bool {
     match found {
         Ok(reference) => match want {
             Some((name, digits)) => {
@@ -232,17 +249,23 @@ fn is_same(found: &Result<Reference, existing::Error>, want: Option<(&str, &str)
 }
 
 /// Looks up each name in a store, and returns how many were found.
-fn compare(rt: &impl Abort, alloc: Global, loose: u32, packed: u32, is_sorted: bool) -> u32 {
-    let kept = files(rt, alloc, loose, packed, is_sorted);
-    let asked = files(rt, alloc, loose, packed, is_sorted);
-    let mut store = store(rt, alloc, asked, "", "");
+fn compare(rt: &impl Abort, alloc: Global, kept: Kept) -> u32 {
+    let memory = files(rt, alloc, kept);
+    let namespace = if kept.space.is_empty() { "" } else { "foo" };
+    let mut store = store(rt, alloc, files(rt, alloc, kept), "", namespace);
     let mut count = 0u32;
-    for (name, candidates, remote) in ASKED {
-        let want = first(rt, alloc, &kept, candidates).or(head(rt, alloc, &kept, remote));
+    for name in ASKED {
+        let mut want = first(rt, alloc, &memory, kept.space, name);
+        if want.is_none() {
+            want = head(rt, alloc, &memory, kept.space, name);
+        }
         let found = store.find(alloc, partial(rt, name));
         assert!(rt;
-            is_same(&found, want),
-            "{name}: {loose} {packed} {is_sorted}"
+            is_same(&found, &want),
+            "{name}: {} {} {}",
+            kept.space,
+            kept.loose,
+            kept.packed
         );
         count = count.saturating_add(u32::from(want.is_some()));
     }
@@ -250,17 +273,25 @@ fn compare(rt: &impl Abort, alloc: Global, loose: u32, packed: u32, is_sorted: b
 }
 
 #[test]
-fn three_hundred_stores(rt: HostRuntime) {
+fn two_thousand_stores(rt: HostRuntime) {
     let alloc = rt.alloc();
     let mut number = 1u32;
     let mut found = 0u32;
-    for _ in 0..300u32 {
+    for _ in 0..2000u32 {
         let loose = next(number);
         let packed = next(loose);
         number = next(packed);
-        let fewer = (loose >> 4) & (loose >> 13);
-        let count = compare(&rt, alloc, fewer, packed >> 9, number >> 31 == 0);
-        found = found.saturating_add(count);
+        let kept = Kept {
+            space: if (number >> 30) & 1 == 0 {
+                ""
+            } else {
+                "refs/namespaces/foo/"
+            },
+            loose: (loose >> 4) & (loose >> 13),
+            packed: packed >> 9,
+            is_sorted: number >> 31 == 0,
+        };
+        found = found.saturating_add(compare(&rt, alloc, kept));
     }
-    assert!(rt; found > 600 && found < 2100, "{found} of 2400 are found");
+    assert!(rt; found > 8000 && found < 35000, "{found} of 40000 are found");
 }

@@ -5,9 +5,9 @@ ghost use Rattle.gix_ref_base.specs.Names.{partial_ref_bytes};
 ghost use Rattle.gix_ref_base.specs.PackedRecords.{Record};
 ghost use Rattle.gix_ref_files.specs.Files.{Leaves};
 ghost use Rattle.gix_ref_files.specs.Calls.{Unchanged};
-ghost use Rattle.gix_ref_theory.specs.Lookups.{first_hit, hit_or_head};
+ghost use Rattle.gix_ref_theory.specs.Lookups.{first_hit, hit_or_head, lookup};
 ghost use Rattle.gix_ref_theory.specs.OnRealTrees.{view_of};
-ghost use Rattle.gix_ref_lookup.specs.Lookups.{meaning_in, packed_refs_in, AreAsked, AreHonest, AreStillAsked, Answers, IsSound, IsHit, Among, FailsAmong, to_list, lookup_of, asked_names};
+ghost use Rattle.gix_ref_lookup.specs.Lookups.{meaning_in, packed_refs_in, AreAsked, AreHonest, Answers, IsSound, IsHit, Among, FailsAmong, to_list, asked_names, AreStillAsked};
 
 use crate::find::Error;
 use crate::find::candidate::find_candidate;
@@ -96,8 +96,8 @@ fn find_head<F: Files>(
 }
 
 /// The reference that a partial name is short for: the first of its candidates that is there, or else the `HEAD` of a remote
-/// of this name, as a loose file alone (`gitrevisions`).
-pub fn find_reference<F: Files>(
+/// of this name, as a loose file alone (`gitrevisions`). The name is asked as it is.
+pub fn find_asked<F: Files>(
     alloc: Global,
     files: &mut F,
     settings: Settings<'_>,
@@ -107,9 +107,9 @@ pub fn find_reference<F: Files>(
     ensures found { F.honest → (rs : List Record) →
         AreAsked settings.entry.kind (packed_refs_in settings.entry (F.means files.old))
         records.old rs →
-        IfOk result (Answers (lookup_of (meaning_in settings.entry) (view_of (F.means
-        files.old).tree) rs
-        (partial_ref_bytes name.entry))) }
+        IfOk result (Answers (lookup (meaning_in settings.entry) (view_of (F.means files.old).tree)
+        rs (candidates (partial_ref_bytes name.entry)) (remote_head (partial_ref_bytes
+        name.entry)))) }
     ensures sound { F.honest → (rs : List Record) →
         AreAsked settings.entry.kind (packed_refs_in settings.entry (F.means files.old))
         records.old rs →

@@ -7,7 +7,7 @@ use crate::file::store::Store;
 use crate::raw::Reference;
 use gix_ref_base::name::PartialNameRef;
 use gix_ref_files::files::Files;
-use gix_ref_lookup::find::lookup::find_reference;
+use gix_ref_lookup::find::composed::find_reference;
 use gix_ref_lookup::find::records::Records;
 pub use gix_ref_lookup::find::{Error, ReadError, existing};
 use gix_ref_lookup::loose;
@@ -26,30 +26,39 @@ fn not_found(alloc: Global, partial: PartialNameRef<'_>) -> existing::Error
 }
 
 impl<F: Files> Store<F> {
-    ghost use Rattle.std.specs.Prelude.{◌≡◌, List, Some, IfOk, IfErr, OnOk};
+    ghost use Rattle.std.specs.Prelude.{◌≡◌, List, Some, IfOk, IfErr, OnOk, true, false, is_some};
     ghost use Rattle.gix_ref_base.specs.Names.{partial_ref_bytes};
     ghost use Rattle.gix_ref_base.specs.PackedRecords.{Record};
     ghost use Rattle.gix_ref_lookup.specs.Lookups.{IsSound, AreHonest};
     ghost use Rattle.gix_ref_lookup.specs.declared.find.records.Records.TheVariants.{Unopened};
     ghost use Rattle.gix_ref_store.specs.Store.{files_of};
-    ghost use Rattle.gix_ref_store.specs.Lookup.{AreRecordsIn, AreAskedIn, AreStillAskedIn, AreHeld, held, FindsAmong, FindsLoose, HitsIn, FailsIn, MissesIn, MissesAmong, MissesLoose, LooksUp};
+    ghost use Rattle.gix_ref_store.specs.Lookup.{AreRecordsIn, AreAskedIn, AreHeld, held, composes_in, FindsBy, FindsAmong, FindsHeld, FindsLoose, HitsIn, FailsIn, MissesIn, MissesBy, MissesAmong, MissesHeld, MissesLoose, LooksUp, AreStillAskedIn};
+
+    /// Whether names are composed in a lookup.
+    fn composes(&self, asks_records: bool) -> bool
+        ensures { result ≡ composes_in asks_records self.now }
+    {
+        self.precompose_unicode && asks_records
+    }
 
     /// The reference that a partial name is short for, where these records are asked.
     fn find_among(
         &mut self,
         alloc: Global,
         partial: PartialNameRef<'_>,
+        asks_records: bool,
         asked: &mut Records<'_, F::Reader>,
     ) -> Result<Option<Reference>, Error>
         ensures found { F.honest → (records : List Record) → AreAskedIn F.means self.old asked.old
             records →
-            IfOk result (FindsAmong F.means self.old records (partial_ref_bytes partial.entry)) }
+            IfOk result (FindsBy F.means asks_records self.old records (partial_ref_bytes
+            partial.entry)) }
         ensures sound { F.honest → (records : List Record) → AreAskedIn F.means self.old asked.old
             records →
             IfErr result IsSound }
         ensures hit { F.honest → AreHonest asked.old → IfOk result
-            (HitsIn F.means self.old asked.old (partial_ref_bytes partial.entry)) }
-        ensures failed { IfErr result (FailsIn F.honest F.means F.faults self.old self.new asked.old
+            (HitsIn F.means asks_records self.old asked.old (partial_ref_bytes partial.entry)) }
+        ensures failed { IfErr result (FailsIn F.honest F.means F.faults asks_records self.old self.new asked.old
             (partial_ref_bytes partial.entry)) }
         ensures asked { F.honest → OnOk result
             (AreStillAskedIn F.means self.old asked.old asked.new) }
@@ -57,13 +66,15 @@ impl<F: Files> Store<F> {
             (files_of self.old)) }
         ensures unchanged { LooksUp F.honest F.means self.old self.new }
     {
+        let composes = self.composes(asks_records);
         let settings = Settings {
             dirs: &self.dirs,
             namespace: &self.namespace,
             kind: self.object_hash,
             prohibit_windows_device_names: self.prohibit_windows_device_names,
+            precompose_unicode: self.precompose_unicode,
         };
-        find_reference(alloc, &mut self.files, settings, partial, asked)
+        find_reference(alloc, &mut self.files, settings, composes, partial, asked)
     }
 
     /// As `find`, where these records are asked: a caller with many lookups keeps them, and `packed-refs` is opened at most once.
@@ -71,18 +82,19 @@ impl<F: Files> Store<F> {
         &mut self,
         alloc: Global,
         partial: PartialNameRef<'_>,
+        asks_records: bool,
         asked: &mut Records<'_, F::Reader>,
     ) -> Result<Reference, existing::Error>
         ensures found { F.honest → (records : List Record) → AreAskedIn F.means self.old asked.old
             records →
-            IfOk result (λ r. FindsAmong F.means self.old records (partial_ref_bytes
+            IfOk result (λ r. FindsBy F.means asks_records self.old records (partial_ref_bytes
             partial.entry) (Some r)) }
         ensures sound { F.honest → (records : List Record) → AreAskedIn F.means self.old asked.old
             records →
-            IfErr result (MissesAmong F.means self.old records (partial_ref_bytes partial.entry)) }
-        ensures hit { F.honest → AreHonest asked.old → IfOk result (λ r. HitsIn F.means self.old
+            IfErr result (MissesBy F.means asks_records self.old records (partial_ref_bytes partial.entry)) }
+        ensures hit { F.honest → AreHonest asked.old → IfOk result (λ r. HitsIn F.means asks_records self.old
             asked.old (partial_ref_bytes partial.entry) (Some r)) }
-        ensures failed { IfErr result (MissesIn F.honest F.means F.faults self.old self.new
+        ensures failed { IfErr result (MissesIn F.honest F.means F.faults asks_records self.old self.new
             asked.old (partial_ref_bytes partial.entry)) }
         ensures asked { F.honest → OnOk result
             (AreStillAskedIn F.means self.old asked.old asked.new) }
@@ -90,7 +102,7 @@ impl<F: Files> Store<F> {
             (files_of self.old)) }
         ensures unchanged { LooksUp F.honest F.means self.old self.new }
     {
-        match self.find_among(alloc, partial, asked) {
+        match self.find_among(alloc, partial, asks_records, asked) {
             Ok(Some(reference)) => Ok(reference),
             Ok(None) => Err(not_found(alloc, partial)),
             Err(error) => Err(existing::Error::Find(error)),
@@ -105,6 +117,9 @@ impl<F: Files> Store<F> {
     ///
     /// A loose reference has the candidate's name, a packed one the name of its record less the namespace. A symbolic target
     /// is less the namespace.
+    ///
+    /// With `precompose_unicode`, a name that is UTF-8 is looked for in Unicode's Normalization Form C, and where that is
+    /// another name, the reference that is found has its name in Form D (`core.precomposeUnicode` of `git config`).
     ///
     /// `ReadFileContents` where a loose file cannot be read, or where its path has the name of a Windows device and the store
     /// prohibits these; `ReferenceCreation` where it holds no target; `PackedOpen` where `packed-refs` cannot be opened or
@@ -128,15 +143,15 @@ impl<F: Files> Store<F> {
             IfOk result (FindsAmong F.means self.old records (partial_ref_bytes partial.entry)) }
         ensures sound { F.honest → (records : List Record) → AreRecordsIn F.means self.old records →
             IfErr result IsSound }
-        ensures hit { F.honest → IfOk result (HitsIn {G = F.Reader.ReadAt} F.means self.old Unopened
+        ensures hit { F.honest → IfOk result (HitsIn {G = F.Reader.ReadAt} F.means true self.old Unopened
             (partial_ref_bytes partial.entry)) }
-        ensures failed { IfErr result (FailsIn {G = F.Reader.ReadAt} F.honest F.means F.faults
+        ensures failed { IfErr result (FailsIn {G = F.Reader.ReadAt} F.honest F.means F.faults true
             self.old self.new Unopened (partial_ref_bytes partial.entry)) }
         ensures no_fault { OnOk result (F.faults (files_of self.new) ≡ F.faults
             (files_of self.old)) }
         ensures unchanged { LooksUp F.honest F.means self.old self.new }
     {
-        self.find_among(alloc, partial, &mut Records::Unopened)
+        self.find_among(alloc, partial, true, &mut Records::Unopened)
     }
 
     /// As `try_find`, but where no reference is found this is `NotFound`, with the name.
@@ -150,10 +165,10 @@ impl<F: Files> Store<F> {
             partial.entry) (Some r)) }
         ensures sound { F.honest → (records : List Record) → AreRecordsIn F.means self.old records →
             IfErr result (MissesAmong F.means self.old records (partial_ref_bytes partial.entry)) }
-        ensures hit { F.honest → IfOk result (λ r. HitsIn {G = F.Reader.ReadAt} F.means self.old
+        ensures hit { F.honest → IfOk result (λ r. HitsIn {G = F.Reader.ReadAt} F.means true self.old
             Unopened
             (partial_ref_bytes partial.entry) (Some r)) }
-        ensures failed { IfErr result (MissesIn {G = F.Reader.ReadAt} F.honest F.means F.faults
+        ensures failed { IfErr result (MissesIn {G = F.Reader.ReadAt} F.honest F.means F.faults true
             self.old self.new Unopened (partial_ref_bytes partial.entry)) }
         ensures no_fault { OnOk result (F.faults (files_of self.new) ≡ F.faults
             (files_of self.old)) }
@@ -166,7 +181,7 @@ impl<F: Files> Store<F> {
         }
     }
 
-    /// As `try_find`, among loose files alone.
+    /// As `try_find`, among loose files alone: the name is looked for as it is, also with `precompose_unicode`.
     pub fn try_find_loose(
         &mut self,
         alloc: Global,
@@ -175,13 +190,13 @@ impl<F: Files> Store<F> {
         ensures found { F.honest → IfOk result
             (FindsLoose F.means self.old (partial_ref_bytes partial.entry)) }
         ensures sound { F.honest → IfErr result IsSound }
-        ensures failed { IfErr result (FailsIn {G = F.Reader.ReadAt} F.honest F.means F.faults
+        ensures failed { IfErr result (FailsIn {G = F.Reader.ReadAt} F.honest F.means F.faults false
             self.old self.new Records.None (partial_ref_bytes partial.entry)) }
         ensures no_fault { OnOk result (F.faults (files_of self.new) ≡ F.faults
             (files_of self.old)) }
         ensures unchanged { LooksUp F.honest F.means self.old self.new }
     {
-        match self.find_among(alloc, partial, &mut Records::None) {
+        match self.find_among(alloc, partial, false, &mut Records::None) {
             Ok(Some(reference)) => Ok(Some(loose::Reference::from(reference))),
             Ok(None) => Ok(None),
             Err(error) => Err(error),
@@ -198,7 +213,7 @@ impl<F: Files> Store<F> {
             (λ r. FindsLoose F.means self.old (partial_ref_bytes partial.entry) (Some r)) }
         ensures sound { F.honest → IfErr result
             (MissesLoose F.means self.old (partial_ref_bytes partial.entry)) }
-        ensures failed { IfErr result (MissesIn {G = F.Reader.ReadAt} F.honest F.means F.faults
+        ensures failed { IfErr result (MissesIn {G = F.Reader.ReadAt} F.honest F.means F.faults false
             self.old self.new Records.None (partial_ref_bytes partial.entry)) }
         ensures no_fault { OnOk result (F.faults (files_of self.new) ≡ F.faults
             (files_of self.old)) }
@@ -211,8 +226,8 @@ impl<F: Files> Store<F> {
         }
     }
 
-    /// As `try_find`, where the records of this buffer are asked in place of those of the file; none where it is `None`. So a
-    /// caller who holds the buffer opens no file but loose ones.
+    /// As `try_find`, where the records of this buffer are asked in place of those of the file; none where it is `None`, and
+    /// then the name is looked for as it is. So a caller who holds the buffer opens no file but loose ones.
     ///
     /// ```text
     /// let packed = store.open_packed_buffer(alloc)?;
@@ -227,20 +242,23 @@ impl<F: Files> Store<F> {
         packed: Option<&Buffer>,
     ) -> Result<Option<Reference>, Error>
         ensures found { F.honest → (records : List Record) → AreHeld packed.entry records →
-            IfOk result (FindsAmong F.means self.old records (partial_ref_bytes partial.entry)) }
+            IfOk result (FindsHeld F.means packed.entry self.old records (partial_ref_bytes
+            partial.entry)) }
         ensures sound { F.honest → (records : List Record) → AreHeld packed.entry records →
             IfErr result IsSound }
-        ensures hit { F.honest → IfOk result (HitsIn {G = F.Reader.ReadAt} F.means self.old
+        ensures hit { F.honest → IfOk result (HitsIn {G = F.Reader.ReadAt} F.means (is_some packed.entry) self.old
             (held packed.entry) (partial_ref_bytes partial.entry)) }
-        ensures failed { IfErr result (FailsIn {G = F.Reader.ReadAt} F.honest F.means F.faults
+        ensures failed { IfErr result (FailsIn {G = F.Reader.ReadAt} F.honest F.means F.faults (is_some packed.entry)
             self.old self.new (held packed.entry) (partial_ref_bytes partial.entry)) }
         ensures no_fault { OnOk result (F.faults (files_of self.new) ≡ F.faults
             (files_of self.old)) }
         ensures unchanged { LooksUp F.honest F.means self.old self.new }
     {
         match packed {
-            Some(buffer) => self.find_among(alloc, partial, &mut Records::Held(buffer)),
-            None => self.find_among(alloc, partial, &mut Records::None),
+            Some(buffer) => {
+                self.find_among(alloc, partial, true, &mut Records::Held(buffer))
+            }
+            None => self.find_among(alloc, partial, false, &mut Records::None),
         }
     }
 
@@ -252,13 +270,14 @@ impl<F: Files> Store<F> {
         packed: Option<&Buffer>,
     ) -> Result<Reference, existing::Error>
         ensures found { F.honest → (records : List Record) → AreHeld packed.entry records →
-            IfOk result (λ r. FindsAmong F.means self.old records (partial_ref_bytes
+            IfOk result (λ r. FindsHeld F.means packed.entry self.old records (partial_ref_bytes
             partial.entry) (Some r)) }
         ensures sound { F.honest → (records : List Record) → AreHeld packed.entry records →
-            IfErr result (MissesAmong F.means self.old records (partial_ref_bytes partial.entry)) }
-        ensures hit { F.honest → IfOk result (λ r. HitsIn {G = F.Reader.ReadAt} F.means self.old
+            IfErr result (MissesHeld F.means packed.entry self.old records (partial_ref_bytes
+            partial.entry)) }
+        ensures hit { F.honest → IfOk result (λ r. HitsIn {G = F.Reader.ReadAt} F.means (is_some packed.entry) self.old
             (held packed.entry) (partial_ref_bytes partial.entry) (Some r)) }
-        ensures failed { IfErr result (MissesIn {G = F.Reader.ReadAt} F.honest F.means F.faults
+        ensures failed { IfErr result (MissesIn {G = F.Reader.ReadAt} F.honest F.means F.faults (is_some packed.entry)
             self.old self.new (held packed.entry) (partial_ref_bytes partial.entry)) }
         ensures no_fault { OnOk result (F.faults (files_of self.new) ≡ F.faults
             (files_of self.old)) }

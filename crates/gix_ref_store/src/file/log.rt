@@ -45,6 +45,7 @@ impl<F: Files> Store<F> {
             namespace: &self.namespace,
             kind: self.object_hash,
             prohibit_windows_device_names: self.prohibit_windows_device_names,
+            precompose_unicode: self.precompose_unicode,
         };
         log_exists(alloc, &mut self.files, settings, name)
     }
@@ -83,6 +84,7 @@ impl<F: Files> Store<F> {
             namespace: &self.namespace,
             kind: self.object_hash,
             prohibit_windows_device_names: self.prohibit_windows_device_names,
+            precompose_unicode: self.precompose_unicode,
         };
         if read_log(alloc, &mut self.files, settings, name, buf)? {
             Ok(Some(forward(buf)))
@@ -132,6 +134,7 @@ impl<F: Files> Store<F> {
             namespace: &self.namespace,
             kind: self.object_hash,
             prohibit_windows_device_names: self.prohibit_windows_device_names,
+            precompose_unicode: self.precompose_unicode,
         };
         match open_log(alloc, &mut self.files, settings, name)? {
             None => Ok(None),

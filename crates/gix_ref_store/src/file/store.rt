@@ -24,7 +24,8 @@ pub struct Store<F> {
     pub namespace: Option<Namespace>,
     /// Whether references with a component such as `CON` are faults. Without effect on transactions yet.
     pub prohibit_windows_device_names: bool,
-    /// Whether names are asked of `packed-refs` in composed form. Without effect yet.
+    /// Whether lookups that ask records look for names in composed Unicode (`core.precomposeUnicode` of `git config`).
+    /// Without effect on transactions yet.
     pub precompose_unicode: bool,
     pub(crate) files: F,
     pub(crate) dirs: Dirs,

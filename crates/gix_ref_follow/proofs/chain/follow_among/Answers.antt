@@ -11,7 +11,7 @@ use Rattle.gix_ref_follow.proofs.chain.follow_among.Goals as goal
 
 pub returns-in-Some-clause-followed : goal.returns-in-Some-clause-followed
 returns-in-Some-clause-followed g c h records are =
-    let find = finds_in g.F.Files.means c.args.store.now records in
+    let find = finds_in g.F.Files.means c.args.asks_records c.args.store.now records in
     let i = c.loop.counter in
     let reached = names_of c.loop.reached.items in
     let at = at_of c.loop.reference in
@@ -27,16 +27,17 @@ returns-in-Err-clause-followed g c h records are =
     let honest = g.F.Files.honest in
     let means = g.F.Files.means in
     let first = c.args.store.now in
+    let asks = c.args.asks_records in
     let mid = c.loop.store in
-    let find = finds_in means first records in
+    let find = finds_in means asks first records in
     let i = c.loop.counter in
     let reached = names_of c.loop.reached.items in
     let start = at_of c.args.reference.now in
     let at = at_of c.loop.reference in
     let error = c.in-Err.error in
     let left : 5 - i ≡ suc (4 - i) = omega (arith, c.loop-test.true) in
-    let asked = asked_on {R = g.row.F-Reader.Denot} {G = g.F.Reader.ReadAt} honest means first mid c.args.asked.now c.loop.asked x.unchanged x.asked h records are in
-    let refused = subst (λ (f : Finds). RefusesStep f reached at error) (same_finds honest means first mid records x.unchanged h) (e.refused h records asked) in
+    let asked = asked_on {R = g.row.F-Reader.Denot} {G = g.F.Reader.ReadAt} honest means asks first mid c.args.asked.now c.loop.asked x.unchanged x.asked h records are in
+    let refused = subst (λ (f : Finds). RefusesStep f reached at error) (same_finds honest means asks first mid records x.unchanged h) (e.refused h records asked) in
     let ends = follows_refused find start at i (4 - i) reached error (omega (arith, c.loop-test.true)) (x.leads h records are) (x.followed h records are ∙ ap (λ n. follow find n reached at) left) refused in
     subst (λ (r : Reference). Follows find start (at_of r) (Err error)) (sym e.kept) ends
 
@@ -48,14 +49,15 @@ returns-in-Err-clause-failed g c =
     let means = g.F.Files.means in
     let faults = g.F.Files.faults in
     let first = c.args.store.now in
+    let asks = c.args.asks_records in
     let new = c.take_step.new.store in
     let error = c.in-Err.error in
-    subst (λ (r : Reference). IsNotFollowed {R = g.row.F-Reader.Denot} {G = g.F.Reader.ReadAt} honest means faults first new c.args.asked.now r error) (sym e.kept)
-    (not_followed_on {R = g.row.F-Reader.Denot} {G = g.F.Reader.ReadAt} honest means first c.loop.store c.args.asked.now c.loop.asked x.unchanged x.asked faults new c.loop.reference error x.no_fault e.failed)
+    subst (λ (r : Reference). IsNotFollowed {R = g.row.F-Reader.Denot} {G = g.F.Reader.ReadAt} honest means faults asks first new c.args.asked.now r error) (sym e.kept)
+    (not_followed_on {R = g.row.F-Reader.Denot} {G = g.F.Reader.ReadAt} honest means asks first c.loop.store c.args.asked.now c.loop.asked x.unchanged x.asked faults new c.loop.reference error x.no_fault e.failed)
 
 pub returns-clause-followed : goal.returns-clause-followed
 returns-clause-followed g c h records are =
-    let find = finds_in g.F.Files.means c.args.store.now records in
+    let find = finds_in g.F.Files.means c.args.asks_records c.args.store.now records in
     let reached = names_of c.loop.reached.items in
     let at = at_of c.loop.reference in
     let none : 5 - c.loop.counter ≡ 0 = omega (arith, c.loop-test.false) in
@@ -68,6 +70,7 @@ loop-preserved g c =
     let honest = g.F.Files.honest in
     let means = g.F.Files.means in
     let first = c.args.store.now in
+    let asks = c.args.asks_records in
     let mid = c.loop.store in
     let new = c.take_step.new.store in
     let i = c.loop.counter in
@@ -75,19 +78,19 @@ loop-preserved g c =
     let at = at_of c.loop.reference in
     let next = at_of c.take_step.new.reference in
     let left : 5 - i ≡ suc (5 - (i + 1)) = omega (arith, c.loop-test.true) in
-    let asked = asked_on {R = g.row.F-Reader.Denot} {G = g.F.Reader.ReadAt} honest means first mid c.args.asked.now c.loop.asked x.unchanged x.asked in
-    let step = λ (h : honest) (records : List Record) (are : AreAskedIn {R = g.row.F-Reader.Denot} {G = g.F.Reader.ReadAt} means first c.args.asked.now records). subst (λ (f : Finds). IsStep f at next) (same_finds honest means first mid records x.unchanged h) (e.moved h records (asked h records are)) in
+    let asked = asked_on {R = g.row.F-Reader.Denot} {G = g.F.Reader.ReadAt} honest means asks first mid c.args.asked.now c.loop.asked x.unchanged x.asked in
+    let step = λ (h : honest) (records : List Record) (are : AreAskedIn {R = g.row.F-Reader.Denot} {G = g.F.Reader.ReadAt} means first c.args.asked.now records). subst (λ (f : Finds). IsStep f at next) (same_finds honest means asks first mid records x.unchanged h) (e.moved h records (asked h records are)) in
     record {
       followed = λ h records are.
-          let find = finds_in means first records in
+          let find = finds_in means asks first records in
           x.followed h records are
           ∙ (ap (λ n. follow find n reached at) left
           ∙ (follow_on find (5 - (i + 1)) reached at next (step h records are) e.first
           ∙ ap (λ names. follow find (5 - (i + 1)) names next) (sym e.reached)));
-      leads = λ h records are. leads_more (IsStep (finds_in means first records)) i (at_of c.args.reference.now) at next (x.leads h records are) (step h records are);
-      hits = λ h readers. leads_more (HitsNext {R = g.row.F-Reader.Denot} {G = g.F.Reader.ReadAt} means first c.args.asked.now) i c.args.reference.now c.loop.reference c.take_step.new.reference (x.hits h readers)
-          (hits_on {R = g.row.F-Reader.Denot} {G = g.F.Reader.ReadAt} honest means first mid c.args.asked.now c.loop.asked x.unchanged x.asked h c.loop.reference c.take_step.new.reference (e.hit h ((x.asked h).readers readers)));
-      asked = λ h. still_on {R = g.row.F-Reader.Denot} {G = g.F.Reader.ReadAt} honest means first mid c.args.asked.now c.loop.asked x.unchanged x.asked c.take_step.new.asked h (e.asked h);
+      leads = λ h records are. leads_more (IsStep (finds_in means asks first records)) i (at_of c.args.reference.now) at next (x.leads h records are) (step h records are);
+      hits = λ h readers. leads_more (HitsNext {R = g.row.F-Reader.Denot} {G = g.F.Reader.ReadAt} means asks first c.args.asked.now) i c.args.reference.now c.loop.reference c.take_step.new.reference (x.hits h readers)
+          (hits_on {R = g.row.F-Reader.Denot} {G = g.F.Reader.ReadAt} honest means asks first mid c.args.asked.now c.loop.asked x.unchanged x.asked h c.loop.reference c.take_step.new.reference (e.hit h ((x.asked h).readers readers)));
+      asked = λ h. still_on {R = g.row.F-Reader.Denot} {G = g.F.Reader.ReadAt} honest means asks first mid c.args.asked.now c.loop.asked x.unchanged x.asked c.take_step.new.asked h (e.asked h);
       no_fault = e.no_fault ∙ x.no_fault;
       unchanged = looks_up honest means first mid new x.unchanged c.take_step.ensures.unchanged;
     }

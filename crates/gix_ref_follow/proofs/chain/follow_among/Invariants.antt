@@ -15,10 +15,10 @@ invariant-loop g l =
     let first = l.fn.store in
     record {
       followed : honest → (records : List Record) → AreAskedIn means first l.fn.asked records →
-          following (finds_in means first records) (at_of l.fn.reference) ≡ follow (finds_in means first records) (5 - l.counter) (names_of l.reached.items) (at_of l.reference);
+          following (finds_in means l.asks_records first records) (at_of l.fn.reference) ≡ follow (finds_in means l.asks_records first records) (5 - l.counter) (names_of l.reached.items) (at_of l.reference);
       leads : honest → (records : List Record) → AreAskedIn means first l.fn.asked records →
-          Leads (IsStep (finds_in means first records)) l.counter (at_of l.fn.reference) (at_of l.reference);
-      hits : honest → AreHonest l.fn.asked → Leads (HitsNext means first l.fn.asked) l.counter l.fn.reference l.reference;
+          Leads (IsStep (finds_in means l.asks_records first records)) l.counter (at_of l.fn.reference) (at_of l.reference);
+      hits : honest → AreHonest l.fn.asked → Leads (HitsNext means l.asks_records first l.fn.asked) l.counter l.fn.reference l.reference;
       asked : honest → AreStillAskedIn means first l.fn.asked l.asked;
       no_fault : g.F.Files.faults (files_of l.store) ≡ g.F.Files.faults (files_of first);
       unchanged : LooksUp honest means first l.store;

@@ -1,4 +1,4 @@
-use Rattle.std.proofs.Common.{List, ℕ, Some, None, sym, subst}
+use Rattle.std.proofs.Common.{List, ℕ, Some, None, true, sym, subst}
 use Rattle.gix_ref_base.specs.PackedRecords.{Record}
 use Rattle.gix_ref_lookup.specs.declared.find.records.Records.TheVariants.{Unopened}
 use Rattle.gix_ref_store.specs.Lookup.{AreRecordsIn, FindsAmong, HitsIn, FailsIn}
@@ -12,7 +12,7 @@ returns-in-Ok-Some-clause-outcome g c h =
     let old = c.args.store.now in
     let found = c.in-Ok-Some.reference in
     let hit = rw c.in-Ok-Some.field-0-is at (c.in-Ok-Some.ensures.hit h) in (
-      subst (λ (p : List ℕ). HitsIn {R = g.row.F-Reader.Denot} {G = g.F.Reader.ReadAt} F.means old Unopened p (Some found)) c.in-Ok.ensures.0 hit,
+      subst (λ (p : List ℕ). HitsIn {R = g.row.F-Reader.Denot} {G = g.F.Reader.ReadAt} F.means true old Unopened p (Some found)) c.in-Ok.ensures.0 hit,
       λ (records : List Record) (are : AreRecordsIn F.means old records).
           subst (λ (p : List ℕ). FindsAmong F.means old records p (Some found)) c.in-Ok.ensures.0 (rw c.in-Ok-Some.field-0-is at (c.in-Ok-Some.ensures.found h records are)),
     )
@@ -34,7 +34,7 @@ returns-in-Err-try_find-clause-outcome g c =
     let old = c.args.store.now in
     let refused = c.refused-in-Err-try_find.ensures in
     subst (λ (o : Outcome). ShowOutcome F.honest F.means F.faults g.F.Reader.ReadAt old c.try_find.new.self c.args.name.now o) (sym refused.1) (
-      subst (λ (p : List ℕ). FailsIn {R = g.row.F-Reader.Denot} {G = g.F.Reader.ReadAt} F.honest F.means F.faults old c.try_find.new.self Unopened p c.in-Err-try_find.error) c.in-Ok.ensures.0 c.in-Err-try_find.ensures.failed,
+      subst (λ (p : List ℕ). FailsIn {R = g.row.F-Reader.Denot} {G = g.F.Reader.ReadAt} F.honest F.means F.faults true old c.try_find.new.self Unopened p c.in-Err-try_find.error) c.in-Ok.ensures.0 c.in-Err-try_find.ensures.failed,
       λ h (records : List Record) (are : AreRecordsIn F.means old records). c.in-Err-try_find.ensures.sound h records are,
       refused.2,
     )

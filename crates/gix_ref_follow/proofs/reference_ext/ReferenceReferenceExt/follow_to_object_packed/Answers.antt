@@ -4,4 +4,4 @@ pub returns-in-Some-clause-hits : goal.returns-in-Some-clause-hits
 returns-in-Some-clause-hits g c h = rw c.in-Some.is (c.follow_among.ensures.hits h tt)
 
 pub returns-in-None-clause-followed : goal.returns-in-None-clause-followed
-returns-in-None-clause-followed g c h records are = c.follow_among-in-None.ensures.followed h records (rw c.in-None.is at are)
+returns-in-None-clause-followed g c h records are = rw c.in-None.is (c.follow_among-in-None.ensures.followed h records (rw c.in-None.is at are))

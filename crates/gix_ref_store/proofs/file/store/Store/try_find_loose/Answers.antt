@@ -1,20 +1,18 @@
-use Rattle.std.proofs.Common.{[], refl}
+use Rattle.std.proofs.Common.{[], false, refl}
 use Rattle.gix_ref_base.specs.Names.{partial_ref_bytes}
-use Rattle.gix_ref_lookup.specs.Lookups.{lookup_of}
-use Rattle.gix_ref_store.specs.Lookup.{view_in}
-use Rattle.gix_ref_store.specs.Store.{meaning_of}
+use Rattle.gix_ref_store.specs.Lookup.{hit_in}
 use Rattle.gix_ref_store.proofs.LooseAnswers.{loose_some, loose_none}
 use Rattle.gix_ref_store.proofs.file.store.Store.try_find_loose.Goals as goal
 
 pub returns-in-Ok-Some-clause-found : goal.returns-in-Ok-Some-clause-found
 returns-in-Ok-Some-clause-found g c h =
     let found = rw c.in-Ok-Some.field-0-is at (c.in-Ok-Some.ensures.found h [] refl) in
-    loose_some (lookup_of (meaning_of c.args.self.now) (view_in g.F.Files.means c.args.self.now) [] (partial_ref_bytes c.args.partial)) c.in-Ok-Some.reference c.from.result found c.from.ensures.0 c.from.ensures.1
+    loose_some (hit_in g.F.Files.means false c.args.self.now [] (partial_ref_bytes c.args.partial)) c.in-Ok-Some.reference c.from.result found c.from.ensures.0 c.from.ensures.1
 
 pub returns-in-Ok-None-clause-found : goal.returns-in-Ok-None-clause-found
 returns-in-Ok-None-clause-found g c h =
     let found = rw c.in-Ok-None.field-0-is at (c.in-Ok-None.ensures.found h [] refl) in
-    loose_none (lookup_of (meaning_of c.args.self.now) (view_in g.F.Files.means c.args.self.now) [] (partial_ref_bytes c.args.partial)) found
+    loose_none (hit_in g.F.Files.means false c.args.self.now [] (partial_ref_bytes c.args.partial)) found
 
 pub returns-clause-sound : goal.returns-clause-sound
 returns-clause-sound g c h = c.in-Err.ensures.sound h [] refl

@@ -8,7 +8,7 @@ use Rattle.gix_ref_lookup.specs.declared.find.records.Records.{Records}
 use Rattle.gix_ref_lookup.specs.declared.find.records.Records.TheVariants as sources
 use Rattle.gix_ref_lookup.proofs.Looking.{among_front, among_behind, among_wider, fails_front, fails_behind, fails_one, fails_from, hit_from, none_found}
 use Rattle.gix_ref_lookup.proofs.Opening.{if_ok, if_err, if_some}
-use Rattle.gix_ref_lookup.proofs.find.lookup.find_reference.Goals as goal
+use Rattle.gix_ref_lookup.proofs.find.lookup.find_asked.Goals as goal
 
 pub returns-in-Ok-None-clause-hit : goal.returns-in-Ok-None-clause-hit
 returns-in-Ok-None-clause-hit g c h honest =

@@ -1,0 +1,101 @@
+//! Lookups of names in composed Unicode (`core.precomposeUnicode` of `git config`).
+ghost use Rattle.std.specs.Prelude.{◌≡◌, ◌≢◌, ◌⊎◌, List, IfOk, IfErr, IfSome, OnOk, MatchOption};
+ghost use Rattle.gix_ref_base.specs.ComposedNames.{decomposed};
+ghost use Rattle.gix_ref_base.specs.Names.{full_bytes, partial_bytes, partial_ref_bytes};
+ghost use Rattle.gix_ref_base.specs.PackedRecords.{Record};
+ghost use Rattle.gix_ref_files.specs.Files.{Leaves};
+ghost use Rattle.gix_ref_files.specs.Calls.{Unchanged};
+ghost use Rattle.gix_ref_theory.specs.OnRealTrees.{view_of};
+ghost use Rattle.gix_ref_lookup.specs.Lookups.{meaning_in, packed_refs_in, AreAsked, AreHonest, Answers, IsSound, IsHitOf, IsGivenOf, FailsAmong, lookup_of, asked_names, name_asked, AreStillAsked};
+
+use crate::find::Error;
+use crate::find::lookup::find_asked;
+use crate::find::records::Records;
+use crate::settings::Settings;
+use gix_ref_base::name::compose::{compose, decompose};
+use gix_ref_base::name::{PartialName, PartialNameRef};
+use gix_ref_files::files::Files;
+use gix_ref_packed::raw::Reference;
+use std::alloc::{AllocError, Global};
+
+/// The composed name that is asked in place of a name; `None` where the name is asked as it is.
+fn composed_name(
+    alloc: Global,
+    composes: bool,
+    name: PartialNameRef<'_>,
+) -> Result<Option<PartialName>, AllocError>
+    ensures { let asked = name_asked composes (partial_ref_bytes name.entry) in
+        IfOk result (λ r. MatchOption r (asked ≡ partial_ref_bytes name.entry)
+        (λ n. (partial_bytes n ≡ asked) × (asked ≢ partial_ref_bytes name.entry))) }
+{
+    if composes { compose(alloc, name) } else { Ok(None) }
+}
+
+/// The same reference under its name in decomposed form.
+fn with_decomposed_name(alloc: Global, found: Reference) -> Result<Reference, AllocError>
+    ensures name { IfOk result (λ r. full_bytes r.name ≡ decomposed (full_bytes found.name)) }
+    ensures target { IfOk result (λ r. r.target ≡ found.target) }
+    ensures peeled { IfOk result (λ r. r.peeled ≡ found.peeled) }
+{
+    Ok(Reference {
+        name: decompose(alloc, found.name)?,
+        target: found.target,
+        peeled: found.peeled,
+    })
+}
+
+/// What is given of what a lookup of a composed name found.
+fn given(alloc: Global, found: Result<Option<Reference>, Error>) -> Result<Option<Reference>, Error>
+    ensures { IsGivenOf found result }
+{
+    match found {
+        Ok(Some(reference)) => Ok(Some(with_decomposed_name(alloc, reference)?)),
+        Ok(None) => Ok(None),
+        Err(error) => Err(error),
+    }
+}
+
+/// The reference that a partial name is short for (`gitrevisions`). Where names are composed, the name is asked in composed
+/// form, and where that is another name, the reference is given under its decomposed name (`core.precomposeUnicode` of
+/// `git config`).
+pub fn find_reference<F: Files>(
+    alloc: Global,
+    files: &mut F,
+    settings: Settings<'_>,
+    composes: bool,
+    name: PartialNameRef<'_>,
+    records: &mut Records<'_, F::Reader>,
+) -> Result<Option<Reference>, Error>
+    ensures found { F.honest → (rs : List Record) →
+        AreAsked settings.entry.kind (packed_refs_in settings.entry (F.means files.old))
+        records.old rs →
+        IfOk result (Answers (lookup_of composes
+        (meaning_in settings.entry) (view_of (F.means files.old).tree) rs
+        (partial_ref_bytes name.entry))) }
+    ensures sound { F.honest → (rs : List Record) →
+        AreAsked settings.entry.kind (packed_refs_in settings.entry (F.means files.old))
+        records.old rs →
+        IfErr result IsSound }
+    ensures hit { F.honest → AreHonest records.old → IfOk result (λ r. IfSome r
+        (IsHitOf composes settings.entry
+        (view_of (F.means files.old).tree) records.old (partial_ref_bytes name.entry))) }
+    ensures failed { IfErr result (λ error. (error ≡ Error.Memory) ⊎ FailsAmong F.honest
+        settings.entry
+        (F.means files.old).tree records.old (F.faults files.old) (F.faults files.new)
+        (asked_names (name_asked composes
+        (partial_ref_bytes name.entry))) error) }
+    ensures asked { F.honest → OnOk result (AreStillAsked settings.entry.kind
+        (packed_refs_in settings.entry (F.means files.old)) records.old records.new) }
+    ensures no_fault { OnOk result (F.faults files.new ≡ F.faults files.old) }
+    ensures leaves { F.honest → Leaves (F.means files.old) (F.means files.new)
+        (Unchanged (F.means files.old).tree) }
+{
+    match composed_name(alloc, composes, name) {
+        Ok(None) => find_asked(alloc, files, settings, name, records),
+        Ok(Some(composed)) => {
+            let found = find_asked(alloc, files, settings, composed.as_ref(), records);
+            given(alloc, found)
+        }
+        Err(_) => Err(Error::Memory),
+    }
+}

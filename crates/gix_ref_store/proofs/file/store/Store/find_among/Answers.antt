@@ -1,0 +1,24 @@
+use Rattle.std.proofs.Common.{Bool, List, ◌⊎◌, ◌≡◌, IfOk, IfErr, IfSome, subst}
+use Rattle.gix_ref_base.specs.Names.{partial_ref_bytes}
+use Rattle.gix_ref_lookup.specs.Lookups.{Answers, IsHitOf, FailsAmong, lookup_of, asked_names, name_asked}
+use Rattle.gix_ref_lookup.specs.declared.find.error.Error.TheVariants.{Memory}
+use Rattle.gix_ref_store.specs.Lookup.{settings_of, view_in}
+use Rattle.gix_ref_store.specs.Store.{files_of, meaning_of}
+use Rattle.gix_ref_store.proofs.file.store.Store.find_among.Goals as goal
+
+pub returns-clause-found : goal.returns-clause-found
+returns-clause-found g c h records are =
+    let store = c.args.self.now in
+    subst (λ (composes : Bool). IfOk c.find_reference.result (Answers (lookup_of composes (meaning_of store) (view_in g.F.Files.means store) records (partial_ref_bytes c.args.partial)))) c.composes-composes.ensures (c.find_reference.ensures.found h records are)
+
+pub returns-clause-hit : goal.returns-clause-hit
+returns-clause-hit g c h honest =
+    let store = c.args.self.now in
+    subst (λ (composes : Bool). IfOk c.find_reference.result (λ r. IfSome r (IsHitOf {R = g.row.F-Reader.Denot} {G = g.F.Reader.ReadAt} composes (settings_of store) (view_in g.F.Files.means store) c.args.asked.now (partial_ref_bytes c.args.partial)))) c.composes-composes.ensures (c.find_reference.ensures.hit h honest)
+
+pub returns-clause-failed : goal.returns-clause-failed
+returns-clause-failed g c =
+    let F = g.F.Files in
+    let store = c.args.self.now in
+    subst (λ (composes : Bool). IfErr c.find_reference.result (λ error. (error ≡ Memory) ⊎ FailsAmong {R = g.row.F-Reader.Denot} {G = g.F.Reader.ReadAt} F.honest (settings_of store) (F.means (files_of store)).tree c.args.asked.now (F.faults (files_of store)) (F.faults c.find_reference.new.files)
+    (asked_names (name_asked composes (partial_ref_bytes c.args.partial))) error)) c.composes-composes.ensures c.find_reference.ensures.failed
