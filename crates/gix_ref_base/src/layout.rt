@@ -117,7 +117,10 @@ fn path_in(
     ensures { IfOk result (λ path. path.items
         ≡ below folder.now (front.now ++ (namespace.now ++ name.now))) }
 {
-    let mut path = folder.to_vec(alloc)?;
+    let room = folder.len().saturating_add(1).saturating_add(front.len());
+    let rest = namespace.len().saturating_add(name.len());
+    let mut path = Vec::with_capacity(alloc, room.saturating_add(rest))?;
+    path.extend_from_slice(folder)?;
     path.push(b'/')?;
     path.extend_from_slice(front)?;
     path.extend_from_slice(namespace)?;
@@ -149,6 +152,16 @@ fn joined(mut text: Vec<u8>, tail: &[u8]) -> Result<Vec<u8>, AllocError>
     Ok(text)
 }
 
+/// Two texts, one after the other.
+fn concatenated(alloc: Global, front: &[u8], rest: &[u8]) -> Result<Vec<u8>, AllocError>
+    ensures { IfOk result (λ text. text.items ≡ front.now ++ rest.now) }
+{
+    let mut text = Vec::with_capacity(alloc, front.len().saturating_add(rest.len()))?;
+    text.extend_from_slice(front)?;
+    text.extend_from_slice(rest)?;
+    Ok(text)
+}
+
 /// The folders in which a store keeps its references, and its namespace: all that decides where a name is kept.
 #[derive(Clone, Copy, Debug)]
 pub struct RefLayout<'a> {
@@ -161,7 +174,8 @@ pub struct RefLayout<'a> {
 }
 
 impl<'a> RefLayout<'a> {
-    ghost use Rattle.std.specs.Prelude.{◌≡◌, IfOk, vec_items};
+    ghost use Rattle.std.specs.Prelude.{◌≡◌, IfOk, Some, vec_items};
+    ghost use Rattle.std.specs.Bool.{OnTrue};
     ghost use Rattle.std.specs.Option.{option_map};
     ghost use Rattle.gix_ref_base.specs.Names.{full_ref_bytes};
     ghost use Rattle.gix_ref_base.specs.Locations.{paths_at, paths_of};
@@ -204,6 +218,19 @@ impl<'a> RefLayout<'a> {
             name.entry)).key) }
     {
         self.key_in(alloc, location_or_common(name))
+    }
+
+    /// Whether `packed-refs` is asked for a name as it is. Where this is false, the record may still have the same name.
+    pub fn is_own_key(self, name: FullNameRef<'_>) -> bool
+        ensures { OnTrue result ((paths_at (layout_of self.entry) (full_ref_bytes name.entry)).key
+            ≡ Some (full_ref_bytes name.entry)) }
+    {
+        match location_or_common(name) {
+            Location::Common(key) => self.namespace.is_empty() && name.eq_bytes(key),
+            Location::ThisWorktree(_)
+            | Location::MainWorktree(_)
+            | Location::LinkedWorktree { .. } => false,
+        }
     }
 
     /// The path of the loose file of a location.
@@ -249,7 +276,7 @@ impl<'a> RefLayout<'a> {
             location.entry)).key) }
     {
         match location {
-            Location::Common(name) => Ok(Some(joined(self.namespace.to_vec(alloc)?, name)?)),
+            Location::Common(name) => Ok(Some(concatenated(alloc, self.namespace, name)?)),
             Location::ThisWorktree(_)
             | Location::MainWorktree(_)
             | Location::LinkedWorktree { .. } => Ok(None),

@@ -4,6 +4,7 @@ use Rattle.std.specs.Option.{option_map}
 use Rattle.std.specs.Cmp.Lexicographic.{pointwise}
 use Rattle.gix_ref_hash.specs.declared.hash.Kind.{Kind}
 use Rattle.gix_ref_base.specs.Names.{full_bytes}
+use Rattle.gix_ref_base.specs.NameGrammar.{IsFullName}
 use Rattle.gix_ref_base.specs.Namespaces.{stripped}
 use Rattle.gix_ref_base.specs.Candidates.{candidates, remote_head}
 use Rattle.gix_ref_base.specs.ComposedNames.{composed, decomposed}
@@ -179,6 +180,14 @@ IsByRecord s records name (Some r) =
     (full_bytes r.name ≡ hit_name s name (s.key name) None)
     × (reading_by s (s.key name) None records ≡ Is (target_value r.target))
     × (r.peeled ≡ hit_peeled (s.key name) None records)
+
+-- the name has this key
+abbrev pub HasKey : Store → List ℕ → (key : List ℕ) → Type 0
+HasKey s name key = s.key name ≡ Some key
+
+-- the name has no key that is a full name
+abbrev pub HasNoKey : Store → List ℕ → Type 0
+HasNoKey s name = (key : List ℕ) → s.key name ≡ Some key → IsFullName key → ⊥
 
 -- the name has this key, and it has this
 abbrev pub OfKey : Store → List ℕ → (List ℕ → Type 0) → Type 0

@@ -5,8 +5,8 @@ ghost use Rattle.gix_ref_base.specs.Layout.{below};
 
 use crate::folders::{Dirs, rest_below};
 use crate::layout::layout_in;
-use gix_ref_base::name::FullNameRef;
 use gix_ref_base::name::device::has_device_name;
+use gix_ref_base::name::{FullName, FullNameRef};
 use gix_ref_base::namespace::Namespace;
 use gix_ref_hash::hash::Kind;
 use std::alloc::{AllocError, Global};
@@ -37,12 +37,13 @@ pub struct Settings<'a> {
 }
 
 impl Settings<'_> {
-    ghost use Rattle.std.specs.Prelude.{◌≡◌, IfOk, vec_items};
+    ghost use Rattle.std.specs.Prelude.{◌≡◌, Some, IfOk, MatchOption, vec_items};
+    ghost use Rattle.std.specs.Bool.{OnTrue};
     ghost use Rattle.std.specs.Option.{option_map};
-    ghost use Rattle.gix_ref_base.specs.Names.{full_ref_bytes};
+    ghost use Rattle.gix_ref_base.specs.Names.{full_bytes, full_ref_bytes};
     ghost use Rattle.gix_ref_theory.specs.ConcreteStore.{below_folders};
     ghost use Rattle.gix_ref_lookup.specs.StoreLayout.{folders_of};
-    ghost use Rattle.gix_ref_lookup.specs.Lookups.{meaning_in};
+    ghost use Rattle.gix_ref_lookup.specs.Lookups.{meaning_in, HasNoKey};
 
     /// The path of the loose file of a name. The error reports that there was no memory for it.
     pub fn place(self, alloc: Global, name: FullNameRef<'_>) -> Result<Vec<u8>, AllocError>
@@ -73,6 +74,35 @@ impl Settings<'_> {
         layout_in(self.dirs, self.namespace).packed_key(alloc, name)
     }
 
+    /// Whether `packed-refs` is asked for a name as it is. Where this is false, the record may still have the same name.
+    pub fn is_own_key(self, name: FullNameRef<'_>) -> bool
+        ensures { OnTrue result ((meaning_in self.entry).key (full_ref_bytes name.entry) ≡ Some
+            (full_ref_bytes name.entry)) }
+    {
+        layout_in(self.dirs, self.namespace).is_own_key(name)
+    }
+
+    /// The key of a name, as a name; `None` where it has none, or one that is no full name. The error reports that there was
+    /// no memory for it.
+    pub fn key_name(
+        self,
+        alloc: Global,
+        name: FullNameRef<'_>,
+    ) -> Result<Option<FullName>, AllocError>
+        ensures { IfOk result (λ found. MatchOption found
+            (HasNoKey (meaning_in self.entry) (full_ref_bytes name.entry))
+            (λ key. (meaning_in self.entry).key (full_ref_bytes name.entry) ≡ Some
+            (full_bytes key))) }
+    {
+        let Some(key) = self.packed_key(alloc, name)? else {
+            return Ok(None);
+        };
+        match FullName::try_from(key) {
+            Ok(key) => Ok(Some(key)),
+            Err(_) => Ok(None),
+        }
+    }
+
     /// What lies below the common folder in a path, or else below the git folder, or else the path.
     fn below_folders(self, path: &[u8]) -> &[u8]
         ensures { result.now ≡ below_folders (folders_of self.entry.dirs.now
@@ -96,7 +126,9 @@ impl Settings<'_> {
     pub fn packed_refs_path(self, alloc: Global) -> Result<Vec<u8>, AllocError>
         ensures { IfOk result (λ path. path.items ≡ (meaning_in self.entry).packed_path) }
     {
-        let mut path = self.dirs.common().to_vec(alloc)?;
+        let common = self.dirs.common();
+        let mut path = Vec::with_capacity(alloc, common.len().saturating_add(12))?;
+        path.extend_from_slice(common)?;
         path.extend_from_slice(b"/packed-refs")?;
         Ok(path)
     }

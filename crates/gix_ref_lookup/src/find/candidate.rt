@@ -13,7 +13,7 @@ ghost use Rattle.gix_ref_lookup.specs.StoreLayout.{namespace_text};
 ghost use Rattle.gix_ref_packed.specs.Positions.{CannotRead};
 ghost use Rattle.gix_ref_packed.specs.Buffers.{IsRefusedFile};
 ghost use Rattle.gix_ref_packed.specs.OpenFiles.{HasReadFault};
-ghost use Rattle.gix_ref_lookup.specs.Lookups.{meaning_in, packed_refs_in, OfKey, IsByRecord, IsLooseTarget, IsNotRead, IsReady, AreAsked, IsOfKey, IsFaultOrMemory, IsNotPacked, AreHonest, IsSearched, IsHitOfKey, OfSearched, IsCandidate, IsSound, IsHit, CandidateFails};
+ghost use Rattle.gix_ref_lookup.specs.Lookups.{meaning_in, packed_refs_in, HasKey, OfKey, IsByRecord, IsLooseTarget, IsNotRead, IsReady, AreAsked, IsOfKey, IsFaultOrMemory, IsNotPacked, AreHonest, IsSearched, IsHitOfKey, OfSearched, IsCandidate, IsSound, IsHit, CandidateFails};
 
 use crate::find::loose::{Loose, loose_at};
 use crate::find::records::Records;
@@ -98,20 +98,23 @@ fn packed_reference(namespace: &Option<Namespace>, mut name: FullName, found: Fo
 
 /// The reference of a key among the records, once these are ready.
 fn find_key<R: ReadAt + Drop>(
+    alloc: Global,
     namespace: &Option<Namespace>,
     records: &mut Records<'_, R>,
-    key: Vec<u8>,
+    key: FullNameRef<'_>,
 ) -> Result<Option<Reference>, Error>
     requires { IsReady records.now }
     ensures found { (kind : Kind) (rs : List Record) → AreAsked kind None records.old rs →
-        IfOk result (IsOfKey (namespace_text namespace.now) rs key.items) }
+        IfOk result (IsOfKey (namespace_text namespace.now) rs (full_ref_bytes key.entry)) }
     ensures sound { (kind : Kind) (rs : List Record) → AreAsked kind None records.old rs →
         IfErr result IsFaultOrMemory }
     ensures hit { AreHonest records.old → (kind : Kind) → IfOk result (λ r. IfSome r
-        (IsHitOfKey kind None records.old (namespace_text namespace.now) key.items)) }
+        (IsHitOfKey kind None records.old (namespace_text namespace.now) (full_ref_bytes
+        key.entry))) }
     ensures failed { (kind : Kind) → IfErr result (IsNotPacked (AreHonest records.old)
         (HasReadFault R.faults)
-        (OfSearched kind None records.old (λ k text. CannotRead k text key.items)) (λ error. ⊥)) }
+        (OfSearched kind None records.old (λ k text. CannotRead k text (full_ref_bytes key.entry)))
+        (λ error. ⊥)) }
     ensures honest { AreHonest records.old → AreHonest records.new }
     ensures searched { (kind k : Kind) (text : List ℕ) → IsSearched kind None records.new k text →
         IsSearched kind None records.old k text }
@@ -119,12 +122,62 @@ fn find_key<R: ReadAt + Drop>(
         AreAsked kind None records.new rs }
     ensures ready { IsReady records.new }
 {
-    let Ok(key) = FullName::try_from(key) else {
-        return Ok(None);
-    };
-    match records.find(key.as_ref()) {
-        Ok(Some(found)) => Ok(Some(packed_reference(namespace, key, found))),
+    match records.find(key) {
+        Ok(Some(found)) => Ok(Some(packed_reference(namespace, key.to_owned(alloc)?, found))),
         Ok(None) => Ok(None),
+        Err(error) => Err(error),
+    }
+}
+
+/// The reference of a key, and so of each name that has it, among the records of `packed-refs`, which is opened if it is
+/// asked for the first time.
+fn find_at_key<F: Files>(
+    alloc: Global,
+    files: &mut F,
+    settings: Settings<'_>,
+    key: FullNameRef<'_>,
+    records: &mut Records<'_, F::Reader>,
+) -> Result<Option<Reference>, Error>
+    ensures found { F.honest → (rs : List Record) →
+        AreAsked settings.entry.kind (packed_refs_in settings.entry (F.means files.old))
+        records.old rs →
+        (name : List ℕ) → HasKey (meaning_in settings.entry) name (full_ref_bytes key.entry) →
+        IfOk result (IsByRecord (meaning_in settings.entry) rs name) }
+    ensures sound { F.honest → (rs : List Record) →
+        AreAsked settings.entry.kind (packed_refs_in settings.entry (F.means files.old))
+        records.old rs →
+        IfErr result IsFaultOrMemory }
+    ensures hit { F.honest → AreHonest records.old →
+        (name : List ℕ) → HasKey (meaning_in settings.entry) name (full_ref_bytes key.entry) →
+        IfOk result (λ r. IfSome r (λ r. OfKey (meaning_in settings.entry) name (λ key.
+        IsHitOfKey settings.entry.kind (packed_refs_in settings.entry (F.means files.old))
+        records.old (namespace_text settings.entry.namespace.now) key r))) }
+    ensures failed { (name : List ℕ) → HasKey (meaning_in settings.entry) name (full_ref_bytes
+        key.entry) →
+        IfErr result (IsNotPacked (F.honest × AreHonest records.old)
+        (HasRisen (F.faults files.old) (F.faults files.new) ⊎ HasReadFault F.Reader.faults)
+        (OfKey (meaning_in settings.entry) name (λ key.
+        OfSearched settings.entry.kind (packed_refs_in settings.entry (F.means files.old))
+        records.old (λ k text. CannotRead k text key)))
+        (IsRefusedFile settings.entry.kind ((F.means files.old).tree (meaning_in
+        settings.entry).packed_path))) }
+    ensures asked { F.honest → (rs : List Record) →
+        AreAsked settings.entry.kind (packed_refs_in settings.entry (F.means files.old))
+        records.old rs →
+        AreAsked settings.entry.kind (packed_refs_in settings.entry (F.means files.old))
+        records.new rs }
+    ensures honest { F.honest → AreHonest records.old → AreHonest records.new }
+    ensures searched { F.honest → (kind : Kind) (text : List ℕ) →
+        IsSearched settings.entry.kind (packed_refs_in settings.entry (F.means files.old))
+        records.new kind text →
+        IsSearched settings.entry.kind (packed_refs_in settings.entry (F.means files.old))
+        records.old kind text }
+    ensures no_fault { OnOk result (F.faults files.new ≡ F.faults files.old) }
+    ensures leaves { F.honest → Leaves (F.means files.old) (F.means files.new)
+        (Unchanged (F.means files.old).tree) }
+{
+    match records.open(alloc, files, settings) {
+        Ok(()) => find_key(alloc, settings.namespace, records, key),
         Err(error) => Err(error),
     }
 }
@@ -171,12 +224,12 @@ fn find_packed<F: Files>(
     ensures leaves { F.honest → Leaves (F.means files.old) (F.means files.new)
         (Unchanged (F.means files.old).tree) }
 {
-    let Some(key) = settings.packed_key(alloc, name)? else {
-        return Ok(None);
-    };
-    match records.open(alloc, files, settings) {
-        Ok(()) => find_key(settings.namespace, records, key),
-        Err(error) => Err(error),
+    if settings.is_own_key(name) {
+        return find_at_key(alloc, files, settings, name, records);
+    }
+    match settings.key_name(alloc, name)? {
+        Some(key) => find_at_key(alloc, files, settings, key.as_ref(), records),
+        None => Ok(None),
     }
 }
 

@@ -1,0 +1,46 @@
+use Rattle.std.proofs.Common.{◌⊎◌, inr, None}
+use Rattle.gix_ref_base.specs.Names.{full_ref_bytes}
+use Rattle.gix_ref_packed.specs.Positions.{CannotRead}
+use Rattle.gix_ref_lookup.specs.StoreLayout.{namespace_text}
+use Rattle.gix_ref_lookup.specs.Lookups.{meaning_in, packed_refs_in, AreHonest, OfSearched, OfKey}
+use Rattle.gix_ref_packed.specs.OpenFiles.{HasReadFault}
+use Rattle.gix_ref_packed.specs.Buffers.{IsRefusedFile}
+use Rattle.gix_ref_files.specs.Files.{HasRisen}
+use Rattle.gix_ref_lookup.proofs.NamedRecords.{of_key}
+use Rattle.gix_ref_lookup.proofs.Opening.{if_ok, if_some, if_err, hit_wider, searched_wider, not_packed_wider}
+use Rattle.gix_ref_lookup.proofs.find.candidate.find_at_key.Goals as goal
+
+pub returns-in-Ok-clause-found : goal.returns-in-Ok-clause-found
+returns-in-Ok-clause-found g c h rs are name keyed =
+    if_ok c.find_key.result (λ found is. of_key c.args.settings rs name (full_ref_bytes c.args.key) found keyed is) (c.find_key.ensures.found c.args.settings.kind rs (c.in-Ok.ensures.asked h rs are))
+
+pub returns-in-Ok-clause-hit : goal.returns-in-Ok-clause-hit
+returns-in-Ok-clause-hit g c h honest name keyed =
+    let settings = c.args.settings in
+    let key = full_ref_bytes c.args.key in
+    if_ok c.find_key.result
+    (λ found. if_some found (λ r hit.
+    (key, keyed, hit_wider settings.kind None (packed_refs_in settings (g.F.Files.means c.args.files.now)) c.open.new.self c.args.records.now (namespace_text settings.namespace.now) key r (c.in-Ok.ensures.searched h) hit)))
+    (c.find_key.ensures.hit (c.in-Ok.ensures.honest h honest) settings.kind)
+
+pub returns-in-Ok-clause-failed : goal.returns-in-Ok-clause-failed
+returns-in-Ok-clause-failed g c name keyed =
+    let settings = c.args.settings in
+    let s = meaning_in settings in
+    let old = c.args.records.now in
+    let new = c.open.new.self in
+    let before = g.F.Files.means c.args.files.now in
+    let file = packed_refs_in settings before in
+    let key = full_ref_bytes c.args.key in
+    let fault = HasReadFault g.F.Reader.ReadAt.faults in
+    let risen = HasRisen (g.F.Files.faults c.args.files.now) (g.F.Files.faults c.open.new.files) in
+    if_err c.find_key.result
+    (λ error why. not_packed_wider (AreHonest {R = g.row.F-Reader.Denot} {G = g.F.Reader.ReadAt} new) (g.F.Files.honest × AreHonest {R = g.row.F-Reader.Denot} {G = g.F.Reader.ReadAt} old)
+    fault (risen ⊎ fault)
+    (OfSearched {R = g.row.F-Reader.Denot} {G = g.F.Reader.ReadAt} settings.kind None new (λ k text. CannotRead k text key))
+    (OfKey s name (λ k. OfSearched {R = g.row.F-Reader.Denot} {G = g.F.Reader.ReadAt} settings.kind file old (λ of_kind text. CannotRead of_kind text k)))
+    (λ e. ⊥) (IsRefusedFile settings.kind (before.tree s.packed_path)) error
+    (λ k. c.in-Ok.ensures.honest k.0 k.1) (λ f. inr f)
+    (λ k bad. (key, keyed, searched_wider settings.kind None file new old (λ of_kind text. CannotRead of_kind text key) (c.in-Ok.ensures.searched k.0) bad))
+    (λ k e none. absurd none) why)
+    (c.find_key.ensures.failed settings.kind)
