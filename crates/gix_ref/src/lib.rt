@@ -1,21 +1,24 @@
 //! `gix_ref`, the references of a Git repository: every public item, under the paths of the Rust crate `gix-ref`.
 //!
 //! - `name`, `namespace`, `target`, `hash`: names of references, namespaces, targets and ids.
-//! - `file`: the store over files, its lookups and its transactions; `store`: its options; `transaction`: edits.
+//! - `file`: the store over files, its lookups and its transactions; `store`: its options; `transaction`: edits; `peel`: errors
+//!   of following and peeling references.
 //! - `packed`, `log`, `raw`, `actor`: `packed-refs`, reflogs, references as values, and signatures.
 //! - `object`: objects, and finders of objects.
 //! - `files`: the file system that a store is over, with `Disk` for the disk and `Memory` for tests; `lock`: lock files.
 //! - `layout`: where a name is kept; `theorems`: what is proved of definitions alone.
 #![tactic(auto)]
 
+pub mod file;
 pub mod files;
 pub mod theorems;
 
 pub use gix_ref_base::{layout, name, namespace, target};
 pub use gix_ref_edits::transaction;
 pub use gix_ref_files::{lock, steps};
+pub use gix_ref_follow::peel;
 pub use gix_ref_hash::hash;
 pub use gix_ref_log::{actor, log};
 pub use gix_ref_object::object;
 pub use gix_ref_packed::{packed, raw};
-pub use gix_ref_store::{file, store};
+pub use gix_ref_store::store;

@@ -92,7 +92,8 @@ fn arrive<F>(
     reached: &mut Vec<FullName>,
 ) -> Result<(), Error>
     ensures moved { OnOk result (reference.new ≡ next) }
-    ensures first { OnOk result (is_in (full_bytes next.name) (names_of reached.old.items) ≡ false) }
+    ensures first { OnOk result (is_in (full_bytes next.name) (names_of reached.old.items)
+        ≡ false) }
     ensures reached { OnOk result (names_of reached.new.items ≡ names_of reached.old.items
         ++ full_bytes next.name ∷ []) }
     ensures kept { OnErr result (reference.new ≡ reference.old) }

@@ -3,8 +3,7 @@ use crate::sealed::Sealed;
 use gix_ref_files::files::Files;
 use gix_ref_log::log::iter::{Forward, Reverse};
 use gix_ref_lookup::loose::Reference;
-use gix_ref_store::file::Store;
-use gix_ref_store::file::log;
+use gix_ref_store::file::{Store, log};
 use std::alloc::Global;
 
 impl Sealed for Reference {}
@@ -12,8 +11,7 @@ impl Sealed for Reference {}
 /// The reflog of a loose reference in a store.
 pub trait LooseReferenceExt: Sealed {
     /// Whether the reference has a reflog. As `Store::reflog_exists`.
-    fn log_exists<F: Files>(&self, alloc: Global, store: &mut Store<F>)
-    -> Result<bool, log::Error>;
+    fn log_exists<F: Files>(&self, alloc: Global, store: &mut Store<F>) -> Result<bool, log::Error>;
 
     /// The lines of its reflog, oldest first, from the buffer, into which the whole log is read; `None` where it has none. As
     /// `Store::reflog_iter`.
@@ -43,11 +41,7 @@ impl LooseReferenceExt for Reference {
     ghost use Rattle.gix_ref_store.specs.Reflogs.{reflog_at, is_log_prohibited, ReadsForward, ReadsBackward, IsNoReflog, IsNoReverse, EndsAtErrors};
     ghost use Rattle.gix_ref_store.specs.Store.{files_of};
 
-    fn log_exists<F: Files>(
-        &self,
-        alloc: Global,
-        store: &mut Store<F>,
-    ) -> Result<bool, log::Error>
+    fn log_exists<F: Files>(&self, alloc: Global, store: &mut Store<F>) -> Result<bool, log::Error>
         ensures exists { F.honest → IfOk result (λ exists.
             exists ≡ is_file (reflog_at F.means store.old (full_bytes self.now.name))) }
         ensures allowed { OnOk result (is_log_prohibited store.old (full_bytes self.now.name) ≡

@@ -2,12 +2,18 @@
 use gix_ref::hash::{hex_hash, hex_hash_any, newline};
 use gix_ref::namespace::expand;
 use gix_ref::{
-    actor, file, files, hash, layout, lock, log, name, namespace, object, packed, raw, steps,
+    actor, file, files, hash, layout, lock, log, name, namespace, object, packed, peel, raw, steps,
     store, target, transaction,
 };
 
 /// Names a type.
 fn named<T>() {}
+
+/// Names a reference with the calls of a store.
+fn leads<T: file::ReferenceExt>() {}
+
+/// Names a loose reference with the calls of a store.
+fn has_log<T: file::LooseReferenceExt>() {}
 
 /// Names a finder of objects.
 fn finds<T: object::Find>() {}
@@ -78,6 +84,11 @@ fn types_of_files_and_the_store() {
     named::<file::find::Error>();
     named::<file::find::ReadError>();
     named::<file::find::existing::Error>();
+    named::<file::log::Error>();
+    leads::<raw::Reference>();
+    has_log::<file::loose::Reference>();
+    named::<peel::to_object::Error>();
+    named::<peel::to_id::Error>();
     named::<file::transaction::PackedRefs>();
     named::<file::transaction::Refused>();
     named::<file::transaction::Done>();
