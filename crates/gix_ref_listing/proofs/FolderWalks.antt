@@ -1,15 +1,15 @@
 -- What the listing of one folder tells of the names in it.
-use Rattle.std.proofs.Common.{◌≡◌, ◌≢◌, ◌⊎◌, inl, inr, ⊎_elim, ℕ, ◌<◌, Bool, true, false, not, ◌&&◌, ◌||◌, ◌==◌, if◌then◌else◌, List, [], ◌∷◌, ◌++◌, length, refl, sym, ◌∙◌, ap, subst, append_assoc, append-nil, Option, Some, None, is_some, IsSome, nat_lt, ◌^◌, ◌-◌, ◌+◌, arith, le_refl, drop, take}
+use Rattle.std.proofs.Common.{◌≡◌, ◌≢◌, ◌⊎◌, inl, inr, ⊎_elim, ℕ, ◌<◌, Bool, true, false, ◌&&◌, ◌||◌, ◌==◌, if◌then◌else◌, List, [], ◌∷◌, ◌++◌, length, refl, sym, ◌∙◌, ap, subst, append_assoc, append-nil, Option, Some, None, is_some, IsSome, nat_lt, ◌^◌, ◌-◌, ◌+◌, arith, le_refl, drop, take}
 use Rattle.std.specs.Option.{option_map}
-use Rattle.std.specs.List.{All, Any, Contains, list_all}
+use Rattle.std.specs.List.{All, list_all}
 use Rattle.std.specs.Prelude.{Vec, slice_index_or, ◌≤◌}
 use Rattle.std.specs.declared.alloc.Global.{Global}
 use Rattle.std.proofs.Math.Seq.{take-append-add}
 use Rattle.std.proofs.lemmas.List.{get_or_default, drop_more, drop_all}
-use Rattle.gix_ref_hash.specs.Bytes.{BeginsWith, NoByte, is_empty}
+use Rattle.gix_ref_hash.specs.Bytes.{NoByte, is_empty}
 use Rattle.gix_ref_listing.proofs.WalkLemmas.{behind_slash}
-use Rattle.gix_ref_base.specs.NameGrammar.{IsPartialName, partial_error}
-use Rattle.gix_ref_base.proofs.PartialNames.{IsPath, IsComponent, rules_of, first_component, last_component}
+use Rattle.gix_ref_base.specs.NameGrammar.{IsPartialName}
+use Rattle.gix_ref_base.proofs.PartialNames.{IsPath, rules_of, first_component, last_component}
 use Rattle.gix_ref_base.proofs.LocationLemmas.{has_slash, cut_is, test_no_slash}
 use Rattle.gix_ref_base.specs.Locations.{cut_at_slash}
 use Rattle.gix_ref_files.specs.Tree.{Tree, Path, Content, IsShaped, is_folder, fronts, fronts_after}
@@ -22,7 +22,6 @@ use Rattle.gix_ref_files.specs.declared.files.Entry.{Entry as ListedEntry}
 use Rattle.gix_ref_files.specs.declared.files.FileError.{FileError}
 use Rattle.gix_ref_files.specs.declared.files.FileError.TheVariants.{Device, NotUtf8, Memory}
 use Rattle.gix_ref_theory.specs.OnRealTrees.{view_of, file_of}
-use Rattle.gix_ref_theory.specs.Views.{View}
 use Rattle.gix_ref_lookup.proofs.Opening.{risen}
 use Rattle.gix_ref_listing.specs.Walks.{Among, Entry, Holds, IsFileOf, IsTaken, IsFolderPath, IsBelow, IsOwnName, IsLooseName, IsRootPath}
 use Rattle.gix_ref_listing.specs.declared.walk.Root.{Root}

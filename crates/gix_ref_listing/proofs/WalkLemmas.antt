@@ -1,5 +1,5 @@
 -- What a walk keeps, and where it goes.
-use Rattle.std.proofs.Common.{◌≡◌, ◌⊎◌, inl, inr, ⊎_elim, ℕ, Bool, true, false, cond, List, [], ◌∷◌, ◌++◌, length, refl, sym, ◌∙◌, ap, subst, append_assoc, codes, Option, Some, None, is_some, ◌||◌, arith, append-nil, ◌<◌, ◌+◌, ◌≢◌}
+use Rattle.std.proofs.Common.{◌≡◌, ◌⊎◌, inl, inr, ⊎_elim, ℕ, Bool, true, false, cond, List, [], ◌∷◌, ◌++◌, length, refl, sym, ◌∙◌, ap, subst, append_assoc, codes, Some, is_some, ◌||◌, arith, append-nil, ◌<◌, ◌+◌, ◌≢◌}
 use Rattle.std.specs.List.{All}
 use Rattle.std.proofs.Common.{ne_eqb, IsTrue}
 use Rattle.std.specs.Map.{lookup}
@@ -14,7 +14,7 @@ use Rattle.gix_ref_hash.specs.Bytes.{BeginsWith, NoByte, is_slash}
 use Rattle.std.proofs.lemmas.List.Folds.{list_any-append}
 use Rattle.gix_ref_base.specs.NameGrammar.{IsPartialName, partial_error}
 use Rattle.gix_ref_base.proofs.LocationLemmas.{has_slash, no_slash_test, test_no_slash}
-use Rattle.gix_ref_base.proofs.PartialNames.{none_or, IsPath, IsComponent, rules_of, first_component, behind_component}
+use Rattle.gix_ref_base.proofs.PartialNames.{none_or, IsPath, rules_of, first_component, behind_component}
 use Rattle.std.specs.Prelude.{Vec, slice_index_or}
 use Rattle.std.specs.declared.alloc.Global.{Global}
 use Rattle.std.specs.Ordering.{nat_cmp}
@@ -105,9 +105,9 @@ pub leads : (folder c rest : List ℕ) → IsFolderPath folder → NoByte 47 c �
 leads folder c rest path none valid =
     let whole = (rules_of (folder ++ (c ++ 47 ∷ rest)) valid).0 in
     let behind : IsPath (c ++ 47 ∷ rest) =
-      ⊎_elim (λ (empty : folder ≡ []). subst (λ f. IsPath (f ++ (c ++ 47 ∷ rest))) empty whole)
-      (λ (ends : (front : List ℕ) × (folder ≡ front ++ 47 ∷ [])). behind_slash ends.0 (c ++ 47 ∷ rest)
-      (subst IsPath (append_assoc ends.0 (47 ∷ []) (c ++ 47 ∷ rest)) (subst (λ f. IsPath (f ++ (c ++ 47 ∷ rest))) ends.1 whole))) path in
+    ⊎_elim (λ (empty : folder ≡ []). subst (λ f. IsPath (f ++ (c ++ 47 ∷ rest))) empty whole)
+    (λ (ends : (front : List ℕ) × (folder ≡ front ++ 47 ∷ [])). behind_slash ends.0 (c ++ 47 ∷ rest)
+    (subst IsPath (append_assoc ends.0 (47 ∷ []) (c ++ 47 ∷ rest)) (subst (λ f. IsPath (f ++ (c ++ 47 ∷ rest))) ends.1 whole))) path in
     behind_component c (codes "x") (first_component c rest none behind).0 x_name
 
 -- two fronts of one text: one begins with the other

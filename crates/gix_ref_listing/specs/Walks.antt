@@ -4,7 +4,6 @@ use Rattle.std.specs.declared.alloc.Global.{Global}
 use Rattle.gix_ref_hash.specs.Bytes.{BeginsWith, NoByte}
 use Rattle.gix_ref_base.specs.NameGrammar.{IsPartialName}
 use Rattle.gix_ref_files.specs.declared.files.Entry.{Entry as ListedEntry}
-use Rattle.gix_ref_files.specs.declared.files.FileError.{FileError}
 use Rattle.gix_ref_files.specs.declared.files.FileError.TheVariants as faulty
 use Rattle.gix_ref_theory.specs.Views.{View}
 use Rattle.gix_ref_lookup.specs.Lookups.{meaning_in}

@@ -157,11 +157,14 @@ impl Root<'_> {
         component: &[u8],
         next: &mut Vec<Vec<u8>>,
     ) -> Result<(), AllocError>
-        ensures stays { (name : List ℕ) → IsBelow next.old.items name → IsBelow next.new.items name }
-        ensures leads { OnOk result (NoByte 47 component.now → IsFolderPath folder.now → (name : List ℕ) → IsOwnName self.entry name →
+        ensures stays { (name : List ℕ) → IsBelow next.old.items name → IsBelow next.new.items name
+            }
+        ensures leads { OnOk result (NoByte 47 component.now → IsFolderPath folder.now → (name :
+            List ℕ) → IsOwnName self.entry name →
             BeginsWith name (folder.now ++ (component.now ++ codes "/")) →
             IsBelow next.new.items name) }
-        ensures paths { All (λ f. IsFolderPath f.items) next.old.items → All (λ f. IsFolderPath f.items) next.new.items }
+        ensures paths { All (λ f. IsFolderPath f.items) next.old.items → All (λ f. IsFolderPath
+            f.items) next.new.items }
     {
         if !may_lead(alloc, component)? {
             return Ok(());
@@ -219,7 +222,8 @@ impl Root<'_> {
         ensures paths { OnOk result (All (λ f. IsFolderPath f.items) next.old.items →
             All (λ f. IsFolderPath f.items) next.new.items) }
         ensures files { OnOk result (All IsFile found.old.entries → All IsFile found.new.entries) }
-        ensures there { OnOk result ((view : View) → All (IsThere self.entry view) found.old.entries →
+        ensures there { OnOk result ((view : View) → All (IsThere self.entry view)
+            found.old.entries →
             All (IsFileOf self.entry view folder.now) entries.now →
             All (IsThere self.entry view) found.new.entries) }
     {
@@ -243,13 +247,15 @@ impl Root<'_> {
         ensures stays { OnOk result (StaysFound found.old.entries found.new.entries) }
         ensures stays_below { OnOk result ((name : List ℕ) → IsBelow next.old.items name →
             IsBelow next.new.items name) }
-        ensures reaches { F.honest → IfOk result (λ _. IsFolderPath folder.now → Reaches self.entry (view_of (F.means files.old).tree)
+        ensures reaches { F.honest → IfOk result (λ _. IsFolderPath folder.now → Reaches self.entry
+            (view_of (F.means files.old).tree)
             (λ name. BeginsWith name folder.now) found.new.entries next.new.items) }
         ensures paths { OnOk result (All (λ f. IsFolderPath f.items) next.old.items →
             All (λ f. IsFolderPath f.items) next.new.items) }
         ensures files { OnOk result (All IsFile found.old.entries → All IsFile found.new.entries
             ⊎ HasRisen (F.faults files.old) (F.faults files.new)) }
-        ensures there { F.honest → IfOk result (λ _. IsFolderPath folder.now → All (IsThere self.entry (view_of (F.means files.old).tree)) found.old.entries →
+        ensures there { F.honest → IfOk result (λ _. IsFolderPath folder.now → All (IsThere
+            self.entry (view_of (F.means files.old).tree)) found.old.entries →
             All (IsThere self.entry (view_of (F.means files.old).tree)) found.new.entries) }
         ensures rises { F.faults files.old ≤ F.faults files.new }
         ensures memory { IfErr result (λ error. error ≡ Memory) }

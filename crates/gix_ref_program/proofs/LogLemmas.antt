@@ -1,6 +1,6 @@
 -- The text of a log, item by item.
 use Rattle.std.proofs.Common.{◌≡◌, ℕ, List, [], ◌∷◌, ◌++◌, Option, Some, None, Result, true, false, refl, sym, ◌∙◌, ap, subst, append-nil}
-use Rattle.std.specs.Prelude.{◌||◌, Bool, if◌then◌else◌, ◌<◌, length}
+use Rattle.std.specs.Prelude.{◌||◌, Bool, if◌then◌else◌, length}
 use Rattle.std.specs.Option.{option_map}
 use Rattle.std.specs.Iterator.{Yields}
 use Rattle.std.specs.Iterator.Runs.{Trigger, YieldsRun, WholeRun}
@@ -62,9 +62,17 @@ pub whole_run : {S A : Type 0} (steps : S → Option A → S → Type 0) (s t u 
 unfolding Trigger YieldsRun
 whole_run steps s t u items gave last = (
   record {
-    from = s; items = items; whole = true; len = length items; at = slice_get items; seen = _; long = refl;
+    from = s;
+    items = items;
+    whole = true;
+    len = length items;
+    at = slice_get items;
+    seen = _;
+    long = refl;
     reads = λ k d below. ap (option_map (λ y. y)) (slice_get-get_or items k d below);
     gave = ((t, gave, λ _. (u, last)), λ k. refl);
   },
-  refl, refl, refl,
+  refl,
+  refl,
+  refl,
 )

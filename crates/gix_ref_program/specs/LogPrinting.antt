@@ -5,7 +5,7 @@ use Rattle.std.specs.Result.{is_err}
 use Rattle.hex.specs.Hex.{encode_lower}
 use Rattle.gix_ref_hash.specs.Ids.{id_bytes}
 use Rattle.gix_ref_files.specs.Tree.{Content, is_file, bytes_of}
-use Rattle.gix_ref_log.specs.LogItems.{IsRun, EndsAtError, items_from}
+use Rattle.gix_ref_log.specs.LogItems.{IsRun, items_from}
 use Rattle.gix_ref_log.specs.declared.log.line.Line.{Line}
 use Rattle.gix_ref_log.specs.declared.log.iter.error.ReverseError.{ReverseError}
 use Rattle.gix_ref_log.specs.declared.log.iter.error.ReverseError.TheVariants.{Io, Decode, BufferTooSmall, Memory}

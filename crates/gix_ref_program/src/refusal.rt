@@ -4,8 +4,8 @@ ghost use Rattle.gix_ref_program.specs.Outcomes.{name_word, prepare_word, commit
 
 use crate::update::UpdateError;
 use gix_ref_base::name;
-use gix_ref_store::file::{find, log};
 use gix_ref_store::file::transaction::{commit, prepare};
+use gix_ref_store::file::{find, log};
 
 /// Why a line is refused.
 #[derive(Debug, Drop)]

@@ -84,7 +84,8 @@ fn types_of_files_and_the_store() {
     named::<file::find::Error>();
     named::<file::find::ReadError>();
     named::<file::find::existing::Error>();
-    named::<file::log::Error>();
+    named::<log::Error>();
+    named::<log::iter::Platform<'_, '_, files::Memory>>();
     leads::<raw::Reference>();
     has_log::<file::loose::Reference>();
     named::<peel::to_object::Error>();

@@ -1,5 +1,4 @@
-use Rattle.std.proofs.Common.{inr, sym, ◌∙◌, subst}
-use Rattle.gix_ref_listing.specs.Walks.{IsFolderPath}
+use Rattle.std.proofs.Common.{inr}
 use Rattle.gix_ref_listing.proofs.FolderWalks.{cut_front}
 use Rattle.gix_ref_listing.proofs.walk.folder_of.Goals as goal
 

@@ -1,4 +1,4 @@
-use Rattle.std.proofs.Common.{sym, subst, refl, inr}
+use Rattle.std.proofs.Common.{sym, subst, inr}
 use Rattle.gix_ref_program.specs.Words.{line_of}
 use Rattle.gix_ref_program.specs.Runs.{LineRan, CommandRan, NotBegun}
 use Rattle.gix_ref_program.specs.Runs.Ran.{Said}

@@ -1,6 +1,5 @@
-use Rattle.std.proofs.Common.{ℕ, ◌≡◌, ◌<◌, ⊎_elim, subst, sym, List}
+use Rattle.std.proofs.Common.{subst, sym}
 use Rattle.std.specs.List.{slice_index_or}
-use Rattle.gix_ref_files.specs.declared.files.Entry.{Entry}
 use Rattle.gix_ref_listing.specs.Walks.{IsTaken, IsFileOf}
 use Rattle.gix_ref_listing.proofs.WalkLemmas.{stays_taken, one_more}
 use Rattle.gix_ref_listing.proofs.walk.Root.take_entries.Goals as goal

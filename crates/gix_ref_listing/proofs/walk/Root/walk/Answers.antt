@@ -1,8 +1,8 @@
-use Rattle.std.proofs.Common.{◌≡◌, ◌⊎◌, inl, inr, ⊎_elim, ℕ, List, sym, ◌∙◌, ap, subst, Vec, Global, le_trans}
+use Rattle.std.proofs.Common.{inl, ⊎_elim, ℕ, List, sym, subst, Vec, Global, le_trans}
 use Rattle.std.specs.List.{All}
 use Rattle.gix_ref_files.specs.Tree.{Tree}
 use Rattle.gix_ref_theory.specs.OnRealTrees.{view_of}
-use Rattle.gix_ref_listing.specs.Walks.{Among, Holds, IsThere, IsLooseName, IsFolderPath, IsBelow}
+use Rattle.gix_ref_listing.specs.Walks.{IsThere, IsLooseName, IsBelow}
 use Rattle.gix_ref_listing.proofs.FolderWalks.{files_still, unchanged_on}
 use Rattle.gix_ref_listing.proofs.walk.Root.walk.Goals as goal
 

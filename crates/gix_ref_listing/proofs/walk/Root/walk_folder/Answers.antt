@@ -1,7 +1,7 @@
 use Rattle.gix_ref_files.specs.declared.files.FileError.TheVariants.{Memory}
-use Rattle.std.proofs.Common.{◌≡◌, ◌≢◌, ◌⊎◌, inl, inr, ℕ, List, sym, ◌∙◌, ap, subst, false, rules}
+use Rattle.std.proofs.Common.{◌≡◌, ◌≢◌, inl, inr, sym, ◌∙◌, subst, false, rules}
 use Rattle.gix_ref_files.specs.Tree.{is_folder}
-use Rattle.gix_ref_files.specs.Calls.{Lists, IsListing}
+use Rattle.gix_ref_files.specs.Calls.{IsListing}
 use Rattle.gix_ref_theory.specs.OnRealTrees.{view_of}
 use Rattle.gix_ref_listing.proofs.FolderWalks.{path_of_folder, entries_there, entries_reach, folder_is_there, fault_rises, counts_up}
 use Rattle.gix_ref_listing.proofs.WalkLemmas.{not_both}
@@ -42,13 +42,13 @@ pub returns-in-Ok-keep_unlisted : goal.returns-in-Ok-keep_unlisted
 returns-in-Ok-keep_unlisted g c =
     let other : c.in-Err.error ≢ Memory = search rules in
     record {
-  stays = c.keep_unlisted.ensures.stays;
-  stays_below = λ name had. had;
-  reaches = λ h path name loose begins. inl (c.in-Ok-keep_unlisted.ensures.holds name begins);
-  paths = λ all. all;
-  files = λ all. inr (fault_rises c.in-Err.error _ _ other c.in-Err.ensures.count);
-  there = λ h at all. c.keep_unlisted.ensures.there c.args.self (view_of (g.F.Files.means c.args.files.now).tree) all other;
-  rises = counts_up c.in-Err.error _ _ c.in-Err.ensures.count;
-  memory = _;
-  leaves = c.list.ensures.leaves;
-}
+      stays = c.keep_unlisted.ensures.stays;
+      stays_below = λ name had. had;
+      reaches = λ h path name loose begins. inl (c.in-Ok-keep_unlisted.ensures.holds name begins);
+      paths = λ all. all;
+      files = λ all. inr (fault_rises c.in-Err.error _ _ other c.in-Err.ensures.count);
+      there = λ h at all. c.keep_unlisted.ensures.there c.args.self (view_of (g.F.Files.means c.args.files.now).tree) all other;
+      rises = counts_up c.in-Err.error _ _ c.in-Err.ensures.count;
+      memory = _;
+      leaves = c.list.ensures.leaves;
+    }

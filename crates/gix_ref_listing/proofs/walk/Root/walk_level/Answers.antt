@@ -1,9 +1,9 @@
-use Rattle.std.proofs.Common.{◌≡◌, ◌⊎◌, ◌≤◌, length, inl, inr, ⊎_elim, ℕ, List, sym, ◌∙◌, ap, subst, Vec, Global, drop, le_trans, ◌+◌, arith}
+use Rattle.std.proofs.Common.{◌⊎◌, ◌≤◌, length, inl, inr, ⊎_elim, ℕ, sym, subst, Vec, Global, drop, le_trans, ◌+◌, arith}
 use Rattle.std.specs.List.{All}
 use Rattle.gix_ref_hash.specs.Bytes.{BeginsWith}
 use Rattle.gix_ref_files.specs.Tree.{Tree}
 use Rattle.gix_ref_theory.specs.OnRealTrees.{view_of}
-use Rattle.gix_ref_listing.specs.Walks.{Among, Holds, IsThere, IsFile, IsLooseName, IsFolderPath, IsBelow}
+use Rattle.gix_ref_listing.specs.Walks.{Among, Holds, IsThere, IsLooseName, IsFolderPath, IsBelow}
 use Rattle.gix_ref_listing.proofs.FolderWalks.{files_still, unchanged_on, among_next, among_none}
 use Rattle.gix_ref_listing.proofs.walk.Root.walk_level.Goals as goal
 
@@ -27,7 +27,7 @@ loop-folder-preserved g c =
       reaches = λ h name loose below.
           let in_mid : IsLooseName root (view_of mid.tree) name = subst (λ (T : Tree). IsLooseName root (view_of T) name) (sym (before.leaves h).tree) loose in
           let here : BeginsWith name folder.items → Among (Holds name) found ⊎ (IsBelow next name ⊎ IsBelow (drop (i + 1) folders) name) =
-            λ begins. ⊎_elim (λ is. inl is) (λ later. inr (inl later)) (done.reaches h at name in_mid (subst (BeginsWith name) (sym c.deref.ensures.value) begins)) in
+          λ begins. ⊎_elim (λ is. inl is) (λ later. inr (inl later)) (done.reaches h at name in_mid (subst (BeginsWith name) (sym c.deref.ensures.value) begins)) in
           ⊎_elim (λ is. inl (done.stays name is))
           (λ more. ⊎_elim (λ later. inr (inl (done.stays_below name later)))
           (λ rest. ⊎_elim here (λ others. inr (inr others)) (among_next (λ (f : Vec ℕ Global). BeginsWith name f.items) folders i folder c.loop-folder-test.true c.folder-item.is rest)) more)

@@ -3,7 +3,7 @@ use Rattle.std.specs.List.{All}
 use Rattle.gix_ref_files.specs.Calls.{Unchanged}
 use Rattle.gix_ref_files.specs.Files.{Leaves, HasRisen}
 use Rattle.gix_ref_theory.specs.OnRealTrees.{view_of}
-use Rattle.gix_ref_listing.specs.Walks.{IsThere, IsFile, StaysFound, IsFolderPath, IsBelow, Reaches, Among, Holds, IsLooseName}
+use Rattle.gix_ref_listing.specs.Walks.{IsThere, IsFile, StaysFound, IsFolderPath, IsBelow, Among, Holds, IsLooseName}
 use Rattle.gix_ref_listing.proofs.walk.Root.walk_level.Given as goal
 
 -- the names below the folders that were seen are found, or are below a folder of the next level
