@@ -54,7 +54,8 @@ pub(crate) fn find_next<F: Files>(
     asked: &mut Records<'_, F::Reader>,
 ) -> Option<Result<Reference, existing::Error>>
     ensures found { F.honest → (records : List Record) → AreAskedIn F.means store.old asked.old
-        records → StepFinds F.means asks_records store.old records (target_value reference.now.target) result }
+        records → StepFinds F.means asks_records store.old records (target_value
+        reference.now.target) result }
     ensures hit { F.honest → AreHonest asked.old → StepHits F.means asks_records store.old asked.old
         (target_value reference.now.target) result }
     ensures failed { StepFails F.honest F.means F.faults asks_records store.old store.new asked.old
@@ -68,7 +69,12 @@ pub(crate) fn find_next<F: Files>(
     match &reference.target {
         Target::Object(_) => None,
         Target::Symbolic(name) => {
-            Some(store.find_existing_among(alloc, name.as_ref().as_partial_name(), asks_records, asked))
+            Some(store.find_existing_among(
+                alloc,
+                name.as_ref().as_partial_name(),
+                asks_records,
+                asked,
+            ))
         }
     }
 }
@@ -120,7 +126,8 @@ fn take_step<F: Files>(
     requires { target_kind (target_value reference.old.target) ≡ Symbolic }
     ensures moved { F.honest → (records : List Record) → AreAskedIn F.means store.old asked.old
         records →
-        OnOk result (IsStep (finds_in F.means asks_records store.old records) (at_of reference.old) (at_of
+        OnOk result (IsStep (finds_in F.means asks_records store.old records) (at_of reference.old)
+        (at_of
         reference.new)) }
     ensures first { OnOk result (is_in (full_bytes reference.new.name)
         (names_of reached.old.items) ≡ false) }
@@ -130,7 +137,8 @@ fn take_step<F: Files>(
         (names_of reached.old.items) (at_of reference.old)) }
     ensures hit { F.honest → AreHonest asked.old →
         OnOk result (HitsNext F.means asks_records store.old asked.old reference.old reference.new) }
-    ensures failed { IfErr result (IsNotFollowed F.honest F.means F.faults asks_records store.old store.new
+    ensures failed { IfErr result (IsNotFollowed F.honest F.means F.faults asks_records store.old
+        store.new
         asked.old reference.old) }
     ensures reached { OnOk result (names_of reached.new.items ≡ names_of reached.old.items
         ++ full_bytes reference.new.name ∷ []) }
@@ -158,12 +166,14 @@ pub(crate) fn follow_among<F: Files>(
 ) -> Result<ObjectId, Error>
     ensures followed { F.honest → (records : List Record) → AreAskedIn F.means store.old asked.old
         records →
-        Follows (finds_in F.means asks_records store.old records) (at_of reference.old) (at_of reference.new)
+        Follows (finds_in F.means asks_records store.old records) (at_of reference.old) (at_of
+        reference.new)
         result }
     ensures hits { F.honest → AreHonest asked.old →
         Passes (HitsNext F.means asks_records store.old asked.old) reference.old reference.new }
     ensures object { IfOk result (λ id. target_value reference.new.target ≡ object_id id) }
-    ensures failed { IfErr result (IsNotFollowed F.honest F.means F.faults asks_records store.old store.new
+    ensures failed { IfErr result (IsNotFollowed F.honest F.means F.faults asks_records store.old
+        store.new
         asked.old reference.new) }
     ensures no_fault { OnOk result (F.faults (files_of store.new) ≡ F.faults
         (files_of store.old)) }

@@ -182,7 +182,8 @@ impl ReferenceExt for Reference {
             × (self.new.peeled ≡ Some id)) }
         ensures hits { F.honest → HasPassed {G = F.Reader.ReadAt} F.means true store.old Unopened
             self.old self.new }
-        ensures failed { IfErr result (IsNotPeeled {G = F.Reader.ReadAt} F.honest F.means F.faults true
+        ensures failed { IfErr result (IsNotPeeled {G = F.Reader.ReadAt} F.honest F.means F.faults
+            true
             store.old store.new Unopened self.new) }
         ensures no_fault { OnOk result (F.faults (files_of store.new) ≡ F.faults
             (files_of store.old)) }
@@ -207,7 +208,8 @@ impl ReferenceExt for Reference {
             × (self.new.peeled ≡ Some id)) }
         ensures hits { F.honest → HasPassed {G = F.Reader.ReadAt} F.means true store.old Unopened
             self.old self.new }
-        ensures failed { IfErr result (IsNotPeeled {G = F.Reader.ReadAt} F.honest F.means F.faults true
+        ensures failed { IfErr result (IsNotPeeled {G = F.Reader.ReadAt} F.honest F.means F.faults
+            true
             store.old store.new Unopened self.new) }
         ensures no_fault { OnOk result (F.faults (files_of store.new) ≡ F.faults
             (files_of store.old)) }
@@ -225,22 +227,32 @@ impl ReferenceExt for Reference {
     ) -> Result<ObjectId, to_id::Error>
         ensures peeled { F.honest → T.claims objects.now → (records : List Record) →
             AreHeld packed.entry records →
-            Peels (finds_in F.means (is_some packed.entry) store.old records) (T.meaning objects.now) (at_of self.old)
+            Peels (finds_in F.means (is_some packed.entry) store.old records) (T.meaning
+            objects.now) (at_of self.old)
             (at_of self.new) result }
         ensures at_once { IfSome self.old.peeled (λ id. (result ≡ Ok id)
             × (at_of self.new ≡ peeled_to (at_of self.old) id)) }
         ensures done { IfOk result (λ id. (target_value self.new.target ≡ object_id id)
             × (self.new.peeled ≡ Some id)) }
-        ensures hits { F.honest → HasPassed {G = F.Reader.ReadAt} F.means (is_some packed.entry) store.old
+        ensures hits { F.honest → HasPassed {G = F.Reader.ReadAt} F.means (is_some packed.entry)
+            store.old
             (held packed.entry) self.old self.new }
-        ensures failed { IfErr result (IsNotPeeled {G = F.Reader.ReadAt} F.honest F.means F.faults (is_some packed.entry)
+        ensures failed { IfErr result (IsNotPeeled {G = F.Reader.ReadAt} F.honest F.means F.faults
+            (is_some packed.entry)
             store.old store.new (held packed.entry) self.new) }
         ensures no_fault { OnOk result (F.faults (files_of store.new) ≡ F.faults
             (files_of store.old)) }
         ensures unchanged { LooksUp F.honest F.means store.old store.new }
     {
         match packed {
-            Some(buffer) => peel_among(self, alloc, store, objects, true, &mut Records::Held(buffer)),
+            Some(buffer) => peel_among(
+                self,
+                alloc,
+                store,
+                objects,
+                true,
+                &mut Records::Held(buffer),
+            ),
             None => peel_among(self, alloc, store, objects, false, &mut Records::None),
         }
     }
@@ -254,15 +266,18 @@ impl ReferenceExt for Reference {
     ) -> Result<ObjectId, to_id::Error>
         ensures peeled { F.honest → T.claims objects.now → (records : List Record) →
             AreHeld packed.entry records →
-            Peels (finds_in F.means (is_some packed.entry) store.old records) (T.meaning objects.now) (at_of self.old)
+            Peels (finds_in F.means (is_some packed.entry) store.old records) (T.meaning
+            objects.now) (at_of self.old)
             (at_of self.new) result }
         ensures at_once { IfSome self.old.peeled (λ id. (result ≡ Ok id)
             × (at_of self.new ≡ peeled_to (at_of self.old) id)) }
         ensures done { IfOk result (λ id. (target_value self.new.target ≡ object_id id)
             × (self.new.peeled ≡ Some id)) }
-        ensures hits { F.honest → HasPassed {G = F.Reader.ReadAt} F.means (is_some packed.entry) store.old
+        ensures hits { F.honest → HasPassed {G = F.Reader.ReadAt} F.means (is_some packed.entry)
+            store.old
             (held packed.entry) self.old self.new }
-        ensures failed { IfErr result (IsNotPeeled {G = F.Reader.ReadAt} F.honest F.means F.faults (is_some packed.entry)
+        ensures failed { IfErr result (IsNotPeeled {G = F.Reader.ReadAt} F.honest F.means F.faults
+            (is_some packed.entry)
             store.old store.new (held packed.entry) self.new) }
         ensures no_fault { OnOk result (F.faults (files_of store.new) ≡ F.faults
             (files_of store.old)) }
@@ -278,11 +293,14 @@ impl ReferenceExt for Reference {
         packed: Option<&Buffer>,
     ) -> Result<ObjectId, to_object::Error>
         ensures followed { F.honest → (records : List Record) → AreHeld packed.entry records →
-            Follows (finds_in F.means (is_some packed.entry) store.old records) (at_of self.old) (at_of self.new) result }
-        ensures hits { F.honest → Passes (HitsNext {G = F.Reader.ReadAt} F.means (is_some packed.entry) store.old
+            Follows (finds_in F.means (is_some packed.entry) store.old records) (at_of self.old)
+            (at_of self.new) result }
+        ensures hits { F.honest → Passes (HitsNext {G = F.Reader.ReadAt} F.means (is_some
+            packed.entry) store.old
             (held packed.entry)) self.old self.new }
         ensures object { IfOk result (λ id. target_value self.new.target ≡ object_id id) }
-        ensures failed { IfErr result (IsNotFollowed {G = F.Reader.ReadAt} F.honest F.means F.faults (is_some packed.entry)
+        ensures failed { IfErr result (IsNotFollowed {G = F.Reader.ReadAt} F.honest F.means
+            F.faults (is_some packed.entry)
             store.old store.new (held packed.entry) self.new) }
         ensures no_fault { OnOk result (F.faults (files_of store.new) ≡ F.faults
             (files_of store.old)) }
@@ -301,11 +319,14 @@ impl ReferenceExt for Reference {
         packed: Option<&Buffer>,
     ) -> Result<ObjectId, to_object::Error>
         ensures followed { F.honest → (records : List Record) → AreHeld packed.entry records →
-            Follows (finds_in F.means (is_some packed.entry) store.old records) (at_of self.old) (at_of self.new) result }
-        ensures hits { F.honest → Passes (HitsNext {G = F.Reader.ReadAt} F.means (is_some packed.entry) store.old
+            Follows (finds_in F.means (is_some packed.entry) store.old records) (at_of self.old)
+            (at_of self.new) result }
+        ensures hits { F.honest → Passes (HitsNext {G = F.Reader.ReadAt} F.means (is_some
+            packed.entry) store.old
             (held packed.entry)) self.old self.new }
         ensures object { IfOk result (λ id. target_value self.new.target ≡ object_id id) }
-        ensures failed { IfErr result (IsNotFollowed {G = F.Reader.ReadAt} F.honest F.means F.faults (is_some packed.entry)
+        ensures failed { IfErr result (IsNotFollowed {G = F.Reader.ReadAt} F.honest F.means
+            F.faults (is_some packed.entry)
             store.old store.new (held packed.entry) self.new) }
         ensures no_fault { OnOk result (F.faults (files_of store.new) ≡ F.faults
             (files_of store.old)) }
@@ -339,10 +360,13 @@ impl ReferenceExt for Reference {
         packed: Option<&Buffer>,
     ) -> Option<Result<Reference, existing::Error>>
         ensures found { F.honest → (records : List Record) → AreHeld packed.entry records
-            → StepFinds F.means (is_some packed.entry) store.old records (target_value self.now.target) result }
-        ensures hit { F.honest → StepHits {G = F.Reader.ReadAt} F.means (is_some packed.entry) store.old
+            → StepFinds F.means (is_some packed.entry) store.old records (target_value
+            self.now.target) result }
+        ensures hit { F.honest → StepHits {G = F.Reader.ReadAt} F.means (is_some packed.entry)
+            store.old
             (held packed.entry) (target_value self.now.target) result }
-        ensures failed { StepFails {G = F.Reader.ReadAt} F.honest F.means F.faults (is_some packed.entry) store.old
+        ensures failed { StepFails {G = F.Reader.ReadAt} F.honest F.means F.faults (is_some
+            packed.entry) store.old
             store.new (held packed.entry) (target_value self.now.target) result }
         ensures no_fault { OnStep result (F.faults (files_of store.new) ≡ F.faults
             (files_of store.old)) }

@@ -75,7 +75,8 @@ pub(crate) fn peel_among<F: Files, T: Find>(
 ) -> Result<ObjectId, Error>
     ensures peeled { F.honest → T.claims objects.now → (records : List Record) →
         AreAskedIn F.means store.old asked.old records →
-        Peels (finds_in F.means asks_records store.old records) (T.meaning objects.now) (at_of reference.old)
+        Peels (finds_in F.means asks_records store.old records) (T.meaning objects.now) (at_of
+        reference.old)
         (at_of reference.new) result }
     ensures at_once { IfSome reference.old.peeled (λ id. (result ≡ Ok id)
         × (at_of reference.new ≡ peeled_to (at_of reference.old) id)) }
@@ -83,7 +84,8 @@ pub(crate) fn peel_among<F: Files, T: Find>(
         × (reference.new.peeled ≡ Some id)) }
     ensures hits { F.honest → AreHonest asked.old →
         HasPassed F.means asks_records store.old asked.old reference.old reference.new }
-    ensures failed { IfErr result (IsNotPeeled F.honest F.means F.faults asks_records store.old store.new
+    ensures failed { IfErr result (IsNotPeeled F.honest F.means F.faults asks_records store.old
+        store.new
         asked.old reference.new) }
     ensures no_fault { OnOk result (F.faults (files_of store.new) ≡ F.faults
         (files_of store.old)) }

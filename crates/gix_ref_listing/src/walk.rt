@@ -157,8 +157,7 @@ impl Root<'_> {
         component: &[u8],
         next: &mut Vec<Vec<u8>>,
     ) -> Result<(), AllocError>
-        ensures stays { (name : List ℕ) → IsBelow next.old.items name → IsBelow next.new.items name
-            }
+        ensures stays { (name : List ℕ) → IsBelow next.old.items name → IsBelow next.new.items name }
         ensures leads { OnOk result (NoByte 47 component.now → IsFolderPath folder.now → (name :
             List ℕ) → IsOwnName self.entry name →
             BeginsWith name (folder.now ++ (component.now ++ codes "/")) →

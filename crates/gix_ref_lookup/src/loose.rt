@@ -73,7 +73,8 @@ impl Reference {
 impl From<Reference> for raw::Reference {
     ghost use Rattle.std.specs.Prelude.{◌≡◌, None};
 
-    ghost from_gives = { λ loose raw. (raw.name ≡ loose.name) × (raw.target ≡ loose.target) × (raw.peeled ≡ None) };
+    ghost from_gives = { λ loose raw. (raw.name ≡ loose.name) × (raw.target ≡ loose.target) ×
+        (raw.peeled ≡ None) };
 
     fn from(loose: Reference) -> raw::Reference {
         let Reference { name, target } = loose;
@@ -105,7 +106,8 @@ impl From<raw::Reference> for Reference {
 impl Clone for Reference {
     ghost use Rattle.gix_ref_base.specs.Names.{full_bytes};
 
-    ghost is_clone = { λ r copy. (full_bytes copy.name ≡ full_bytes r.name) × (target_value copy.target ≡ target_value r.target) };
+    ghost is_clone = { λ r copy. (full_bytes copy.name ≡ full_bytes r.name) × (target_value
+        copy.target ≡ target_value r.target) };
 
     fn clone(&self) -> Result<Reference, AllocError> {
         Ok(Reference {

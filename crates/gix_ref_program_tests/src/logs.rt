@@ -7,13 +7,17 @@ use std::process::Abort;
 const LOG: &str = "/r/logs/refs/heads/a";
 
 /// Two lines of a log, and what is printed of each.
-const FIRST: &str = "0000000000000000000000000000000000000000 1111111111111111111111111111111111111111 C <c@example.com> 1234 +0800\tm\n";
+const FIRST: &str =
+    "0000000000000000000000000000000000000000 1111111111111111111111111111111111111111 C <c@example.com> 1234 +0800\tm\n";
 
-const SECOND: &str = "1111111111111111111111111111111111111111 2222222222222222222222222222222222222222 C <c@example.com> 1234 +0800\tn\n";
+const SECOND: &str =
+    "1111111111111111111111111111111111111111 2222222222222222222222222222222222222222 C <c@example.com> 1234 +0800\tn\n";
 
-const FIRST_PRINTED: &str = "0000000000000000000000000000000000000000 1111111111111111111111111111111111111111 m\n";
+const FIRST_PRINTED: &str =
+    "0000000000000000000000000000000000000000 1111111111111111111111111111111111111111 m\n";
 
-const SECOND_PRINTED: &str = "1111111111111111111111111111111111111111 2222222222222222222222222222222222222222 n\n";
+const SECOND_PRINTED: &str =
+    "1111111111111111111111111111111111111111 2222222222222222222222222222222222222222 n\n";
 
 /// The texts, one behind the other.
 fn joined(rt: &impl Abort, alloc: Global, texts: &[&str]) -> String {
@@ -28,7 +32,10 @@ fn joined(rt: &impl Abort, alloc: Global, texts: &[&str]) -> String {
 fn check(rt: &impl Abort, alloc: Global, log: &[&str], printed: &[&str], status: u8) {
     let memory = with_file(rt, alloc, LOG, &joined(rt, alloc, log));
     let ran = run_words(rt, alloc, memory, &["/r", "log", "refs/heads/a"]);
-    assert_eq!(rt; ran.output.as_slice(), joined(rt, alloc, printed).as_bytes());
+    assert_eq!(rt;
+        ran.output.as_slice(),
+        joined(rt, alloc, printed).as_bytes()
+    );
     assert_eq!(rt; ran.status, status);
 }
 
@@ -37,9 +44,27 @@ fn logs(rt: HostRuntime) {
     let alloc = rt.alloc();
     check(&rt, alloc, &[], &[], 0);
     check(&rt, alloc, &[FIRST], &[FIRST_PRINTED], 0);
-    check(&rt, alloc, &[FIRST, SECOND], &[SECOND_PRINTED, FIRST_PRINTED], 0);
-    check(&rt, alloc, &["x\n", FIRST], &[FIRST_PRINTED, "fault: Decode\n"], 1);
-    check(&rt, alloc, &[FIRST, "x"], &["fault: Decode\n", FIRST_PRINTED], 1);
+    check(
+        &rt,
+        alloc,
+        &[FIRST, SECOND],
+        &[SECOND_PRINTED, FIRST_PRINTED],
+        0,
+    );
+    check(
+        &rt,
+        alloc,
+        &["x\n", FIRST],
+        &[FIRST_PRINTED, "fault: Decode\n"],
+        1,
+    );
+    check(
+        &rt,
+        alloc,
+        &[FIRST, "x"],
+        &["fault: Decode\n", FIRST_PRINTED],
+        1,
+    );
 }
 
 /// A line of this many bytes, its LF not counted.

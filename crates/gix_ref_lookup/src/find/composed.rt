@@ -28,7 +28,11 @@ fn composed_name(
         IfOk result (λ r. MatchOption r (asked ≡ partial_ref_bytes name.entry)
         (λ n. (partial_bytes n ≡ asked) × (asked ≢ partial_ref_bytes name.entry))) }
 {
-    if composes { compose(alloc, name) } else { Ok(None) }
+    if composes {
+        compose(alloc, name)
+    } else {
+        Ok(None)
+    }
 }
 
 /// The same reference under its name in decomposed form.

@@ -184,7 +184,8 @@ impl<R: ReadAt + Drop> Records<'_, R> {
         requires { IsReady self.now }
         ensures found { (kind : Kind) (records : List Record) →
             AreAsked kind None self.old records →
-            MatchResult result (AreFound (record_named (full_ref_bytes key.entry) records)) IsFaultOrMemory }
+            MatchResult result (AreFound (record_named (full_ref_bytes key.entry) records))
+            IsFaultOrMemory }
         ensures hit { AreHonest self.old → (kind : Kind) →
             IfOk result (λ found. IfSome found (λ f.
             OfSearched kind None self.old (λ k text. HitsRecord k text (full_ref_bytes key.entry)

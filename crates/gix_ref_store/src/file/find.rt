@@ -58,7 +58,8 @@ impl<F: Files> Store<F> {
             IfErr result IsSound }
         ensures hit { F.honest → AreHonest asked.old → IfOk result
             (HitsIn F.means asks_records self.old asked.old (partial_ref_bytes partial.entry)) }
-        ensures failed { IfErr result (FailsIn F.honest F.means F.faults asks_records self.old self.new asked.old
+        ensures failed { IfErr result (FailsIn F.honest F.means F.faults asks_records self.old
+            self.new asked.old
             (partial_ref_bytes partial.entry)) }
         ensures asked { F.honest → OnOk result
             (AreStillAskedIn F.means self.old asked.old asked.new) }
@@ -91,10 +92,13 @@ impl<F: Files> Store<F> {
             partial.entry) (Some r)) }
         ensures sound { F.honest → (records : List Record) → AreAskedIn F.means self.old asked.old
             records →
-            IfErr result (MissesBy F.means asks_records self.old records (partial_ref_bytes partial.entry)) }
-        ensures hit { F.honest → AreHonest asked.old → IfOk result (λ r. HitsIn F.means asks_records self.old
+            IfErr result (MissesBy F.means asks_records self.old records (partial_ref_bytes
+            partial.entry)) }
+        ensures hit { F.honest → AreHonest asked.old → IfOk result (λ r. HitsIn F.means
+            asks_records self.old
             asked.old (partial_ref_bytes partial.entry) (Some r)) }
-        ensures failed { IfErr result (MissesIn F.honest F.means F.faults asks_records self.old self.new
+        ensures failed { IfErr result (MissesIn F.honest F.means F.faults asks_records self.old
+            self.new
             asked.old (partial_ref_bytes partial.entry)) }
         ensures asked { F.honest → OnOk result
             (AreStillAskedIn F.means self.old asked.old asked.new) }
@@ -143,7 +147,8 @@ impl<F: Files> Store<F> {
             IfOk result (FindsAmong F.means self.old records (partial_ref_bytes partial.entry)) }
         ensures sound { F.honest → (records : List Record) → AreRecordsIn F.means self.old records →
             IfErr result IsSound }
-        ensures hit { F.honest → IfOk result (HitsIn {G = F.Reader.ReadAt} F.means true self.old Unopened
+        ensures hit { F.honest → IfOk result (HitsIn {G = F.Reader.ReadAt} F.means true self.old
+            Unopened
             (partial_ref_bytes partial.entry)) }
         ensures failed { IfErr result (FailsIn {G = F.Reader.ReadAt} F.honest F.means F.faults true
             self.old self.new Unopened (partial_ref_bytes partial.entry)) }
@@ -165,7 +170,8 @@ impl<F: Files> Store<F> {
             partial.entry) (Some r)) }
         ensures sound { F.honest → (records : List Record) → AreRecordsIn F.means self.old records →
             IfErr result (MissesAmong F.means self.old records (partial_ref_bytes partial.entry)) }
-        ensures hit { F.honest → IfOk result (λ r. HitsIn {G = F.Reader.ReadAt} F.means true self.old
+        ensures hit { F.honest → IfOk result (λ r. HitsIn {G = F.Reader.ReadAt} F.means true
+            self.old
             Unopened
             (partial_ref_bytes partial.entry) (Some r)) }
         ensures failed { IfErr result (MissesIn {G = F.Reader.ReadAt} F.honest F.means F.faults true
@@ -213,7 +219,8 @@ impl<F: Files> Store<F> {
             (λ r. FindsLoose F.means self.old (partial_ref_bytes partial.entry) (Some r)) }
         ensures sound { F.honest → IfErr result
             (MissesLoose F.means self.old (partial_ref_bytes partial.entry)) }
-        ensures failed { IfErr result (MissesIn {G = F.Reader.ReadAt} F.honest F.means F.faults false
+        ensures failed { IfErr result (MissesIn {G = F.Reader.ReadAt} F.honest F.means F.faults
+            false
             self.old self.new Records.None (partial_ref_bytes partial.entry)) }
         ensures no_fault { OnOk result (F.faults (files_of self.new) ≡ F.faults
             (files_of self.old)) }
@@ -246,18 +253,18 @@ impl<F: Files> Store<F> {
             partial.entry)) }
         ensures sound { F.honest → (records : List Record) → AreHeld packed.entry records →
             IfErr result IsSound }
-        ensures hit { F.honest → IfOk result (HitsIn {G = F.Reader.ReadAt} F.means (is_some packed.entry) self.old
+        ensures hit { F.honest → IfOk result (HitsIn {G = F.Reader.ReadAt} F.means (is_some
+            packed.entry) self.old
             (held packed.entry) (partial_ref_bytes partial.entry)) }
-        ensures failed { IfErr result (FailsIn {G = F.Reader.ReadAt} F.honest F.means F.faults (is_some packed.entry)
+        ensures failed { IfErr result (FailsIn {G = F.Reader.ReadAt} F.honest F.means F.faults
+            (is_some packed.entry)
             self.old self.new (held packed.entry) (partial_ref_bytes partial.entry)) }
         ensures no_fault { OnOk result (F.faults (files_of self.new) ≡ F.faults
             (files_of self.old)) }
         ensures unchanged { LooksUp F.honest F.means self.old self.new }
     {
         match packed {
-            Some(buffer) => {
-                self.find_among(alloc, partial, true, &mut Records::Held(buffer))
-            }
+            Some(buffer) => { self.find_among(alloc, partial, true, &mut Records::Held(buffer)) }
             None => self.find_among(alloc, partial, false, &mut Records::None),
         }
     }
@@ -275,9 +282,11 @@ impl<F: Files> Store<F> {
         ensures sound { F.honest → (records : List Record) → AreHeld packed.entry records →
             IfErr result (MissesHeld F.means packed.entry self.old records (partial_ref_bytes
             partial.entry)) }
-        ensures hit { F.honest → IfOk result (λ r. HitsIn {G = F.Reader.ReadAt} F.means (is_some packed.entry) self.old
+        ensures hit { F.honest → IfOk result (λ r. HitsIn {G = F.Reader.ReadAt} F.means (is_some
+            packed.entry) self.old
             (held packed.entry) (partial_ref_bytes partial.entry) (Some r)) }
-        ensures failed { IfErr result (MissesIn {G = F.Reader.ReadAt} F.honest F.means F.faults (is_some packed.entry)
+        ensures failed { IfErr result (MissesIn {G = F.Reader.ReadAt} F.honest F.means F.faults
+            (is_some packed.entry)
             self.old self.new (held packed.entry) (partial_ref_bytes partial.entry)) }
         ensures no_fault { OnOk result (F.faults (files_of self.new) ≡ F.faults
             (files_of self.old)) }
