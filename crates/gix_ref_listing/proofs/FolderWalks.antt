@@ -23,7 +23,7 @@ use Rattle.gix_ref_files.specs.declared.files.FileError.{FileError}
 use Rattle.gix_ref_files.specs.declared.files.FileError.TheVariants.{Device, NotUtf8, Memory}
 use Rattle.gix_ref_theory.specs.OnRealTrees.{view_of, file_of}
 use Rattle.gix_ref_lookup.proofs.Opening.{risen}
-use Rattle.gix_ref_listing.specs.Walks.{Among, Entry, Holds, IsFileOf, IsTaken, IsFolderPath, IsBelow, IsOwnName, IsLooseName, IsRootPath}
+use Rattle.gix_ref_listing.specs.Walks.{Among, FoundEntry, Holds, IsFileOf, IsTaken, IsFolderPath, IsBelow, IsListedName, IsLooseName, IsRootPath}
 use Rattle.gix_ref_listing.specs.declared.walk.Root.{Root}
 
 all_behind : (P : Path → Bool) (front : Path) (b : Bool) (rest : List Path) → list_all P (if b then front ∷ rest else rest) ≡ true → list_all P rest ≡ true
@@ -116,7 +116,7 @@ module _ (root : Root) (T : Tree) (folder path : List ℕ) (shaped : IsShaped T)
   place = ap (λ n. root.path.now ++ n) whole_name ∙ path_below root.path.now folder path rest is
 
   a_path : IsPath rest
-  a_path = behind_folder folder rest at (subst IsPartialName whole_name loose.0.valid)
+  a_path = behind_folder folder rest at (subst IsPartialName whole_name loose.0.0.valid)
 
   file : (is_some (T (path ++ 47 ∷ rest)) ≡ true) × (is_folder (T (path ++ 47 ∷ rest)) ≡ false)
   file = file_there (T (path ++ 47 ∷ rest)) (subst (λ p. is_some (file_of (T p)) ≡ true) place loose.1)
@@ -125,7 +125,7 @@ module _ (root : Root) (T : Tree) (folder path : List ℕ) (shaped : IsShaped T)
   pub folder_is_there : is_folder (T path) ≡ true
   folder_is_there = folder_above T path rest shaped some file.0
 
-  module _ (entries : List ListedEntry) (listing : IsListing T path entries) (found : List Entry) (next : List (Vec ℕ Global)) (taken : All (IsTaken root folder found next) entries) where
+  module _ (entries : List ListedEntry) (listing : IsListing T path entries) (found : List FoundEntry) (next : List (Vec ℕ Global)) (taken : All (IsTaken root folder found next) entries) where
     -- the entry of a file or folder
     entry_of : (c : List ℕ) → IsName c → is_some (T (path ++ 47 ∷ c)) ≡ true → (entry : ListedEntry) × (entry_name entry ≡ c) × IsTaken root folder found next entry × (entry.is_folder ≡ is_folder (T (path ++ 47 ∷ c)))
     entry_of c named there =
@@ -138,7 +138,7 @@ module _ (root : Root) (T : Tree) (folder path : List ℕ) (shaped : IsShaped T)
     in_this none =
         let e = entry_of rest (a_name rest (last_component rest none a_path).some none) file.0 in
         let whole : folder ++ entry_name e.0 ≡ name = ap (λ n. folder ++ n) e.1 ∙ sym whole_name in
-        inl (subst (λ n. Among (Holds n) found) whole (e.2.file (e.3 ∙ file.1) (subst (IsOwnName root) (sym whole) loose.0)))
+        inl (subst (λ n. Among (Holds n) found) whole (e.2.file (e.3 ∙ file.1) (subst (IsListedName root) (sym whole) loose.0)))
 
     in_folder : (c more : List ℕ) → rest ≡ c ++ 47 ∷ more → NoByte 47 c → Among (Holds name) found ⊎ IsBelow next name
     in_folder c more split none =

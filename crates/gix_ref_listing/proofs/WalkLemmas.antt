@@ -24,7 +24,7 @@ use Rattle.gix_ref_files.specs.declared.files.Entry.{Entry as ListedEntry}
 use Rattle.gix_ref_files.specs.declared.files.FileError.{FileError}
 use Rattle.gix_ref_files.specs.declared.files.FileError.TheVariants.{Memory as no_memory}
 use Rattle.gix_ref_theory.specs.Views.{View}
-use Rattle.gix_ref_listing.specs.Walks.{Among, IsFolderPath, Entry, Holds, IsThere, IsFile, IsLooseName, StaysFound, IsTaken, IsBelow}
+use Rattle.gix_ref_listing.specs.Walks.{Among, IsFolderPath, FoundEntry, Holds, IsThere, IsThereOr, IsFile, IsFileOfName, StaysFound, IsTaken, IsBelow}
 use Rattle.gix_ref_listing.specs.declared.found.Found.{Found}
 use Rattle.gix_ref_listing.specs.declared.found.Found.TheVariants.{File, Unlisted}
 use Rattle.gix_ref_listing.specs.declared.walk.Root.{Root}
@@ -127,57 +127,64 @@ pub same_key : (a b : Vec ℕ Global) → key_cmp a b ≡ Equal → a.items ≡ 
 same_key a b h = exact_bytes a.items b.items h
 
 -- a folder that could not be listed holds what was found under its key
-holds_more : (name : List ℕ) (key : Vec ℕ Global) (found : Found) (error : FileError) → Holds name (key, found) → Holds name (key, Unlisted error)
-holds_more name key File error is = ([], sym is ∙ sym (append-nil key.items))
-holds_more name key (Unlisted other) error begins = begins
+holds_more : (name : List ℕ) (key : Vec ℕ Global) (found : Found) (path : Vec ℕ Global) (error : FileError) → Holds name (key, found) → Holds name (key, Unlisted path error)
+holds_more name key (File at) path error is = ([], sym is ∙ sym (append-nil key.items))
+holds_more name key (Unlisted at other) path error begins = begins
 
 -- and what was found under a key that is the name holds that name
 holds_key : (name : List ℕ) (key : Vec ℕ Global) (found : Found) → name ≡ key.items → Holds name (key, found)
-holds_key name key File is = sym is
-holds_key name key (Unlisted error) is = ([], is ∙ sym (append-nil key.items))
+holds_key name key (File path) is = sym is
+holds_key name key (Unlisted path error) is = ([], is ∙ sym (append-nil key.items))
 
--- a folder that could not be listed is kept
-pub unlisted_stays : (es new : List Entry) (key : Vec ℕ Global) (error : FileError) → new ≡ insert_entry key_cmp es key (Unlisted error) → StaysFound es new
-unlisted_stays es new key error is name had = subst (Among (Holds name)) (sym is) (among_insert key_cmp (Holds name) key (Unlisted error) es (λ e same held. holds_more name e.0 e.1 error held) had)
+module _ (es new : List FoundEntry) (key path : Vec ℕ Global) (error : FileError) (is : new ≡ insert_entry key_cmp es key (Unlisted path error)) where
+  -- a folder that could not be listed is kept
+  pub unlisted_stays : StaysFound es new
+  unlisted_stays name had = subst (Among (Holds name)) (sym is) (among_insert key_cmp (Holds name) key (Unlisted path error) es (λ e same held. holds_more name e.0 e.1 path error held) had)
 
-pub unlisted_holds : (es new : List Entry) (key : Vec ℕ Global) (error : FileError) (name : List ℕ) → new ≡ insert_entry key_cmp es key (Unlisted error) → BeginsWith name key.items → Among (Holds name) new
-unlisted_holds es new key error name is begins = subst (Among (Holds name)) (sym is) (inserted key_cmp (Holds name) key (Unlisted error) es begins (λ e same. (begins.0, begins.1 ∙ ap (λ k. k ++ begins.0) (same_key key e.0 same))))
+  pub unlisted_holds : (name : List ℕ) → BeginsWith name key.items → Among (Holds name) new
+  unlisted_holds name begins = subst (Among (Holds name)) (sym is) (inserted key_cmp (Holds name) key (Unlisted path error) es begins (λ e same. (begins.0, begins.1 ∙ ap (λ k. k ++ begins.0) (same_key key e.0 same))))
 
-pub unlisted_there : (root : Root) (view : View) (es new : List Entry) (key : Vec ℕ Global) (error : FileError) → new ≡ insert_entry key_cmp es key (Unlisted error) → All (IsThere root view) es → error ≢ no_memory → All (IsThere root view) new
-unlisted_there root view es new key error is all other = subst (All (IsThere root view)) (sym is) (all_insert key_cmp (IsThere root view) key (Unlisted error) es all other (λ e same. other))
+  pub unlisted_there : (others : List FoundEntry) (root : Root) (view : View) → All (IsThereOr others root view) es → error ≢ no_memory → path.items ++ 47 ∷ [] ≡ root.path.now ++ key.items → All (IsThereOr others root view) new
+  unlisted_there others root view all other at =
+      subst (All (IsThereOr others root view)) (sym is)
+      (all_insert key_cmp (IsThereOr others root view) key (Unlisted path error) es all (inr (other, at)) (λ e same. inr (other, at ∙ ap (λ k. root.path.now ++ k) (same_key key e.0 same))))
 
 -- a file is found, where nothing was found under its name
-absent_step : (name : List ℕ) (key : Vec ℕ Global) (e : Entry) (es rest : List Entry) (o : Ordering) → is_some (cond (is_eq o) (Some e.1) (lookup (is_at (key_cmp key)) es)) ≡ false →
-    (is_some (lookup (is_at (key_cmp key)) es) ≡ false → Among (Holds name) es → Among (Holds name) rest) → Among (Holds name) (e ∷ es) → Among (Holds name) (match_ordering o ((key, File) ∷ e ∷ es) ((e.0, File) ∷ es) (e ∷ rest))
-absent_step name key e es rest Less absent later had = inr had
-absent_step name key e es rest Equal absent later had = absurd (cc)
-absent_step name key e es rest Greater absent later had = ⊎_elim (λ here. inl here) (λ there. inr (later absent there)) had
+module _ (key path : Vec ℕ Global) where
+  absent_step : (name : List ℕ) (e : FoundEntry) (es rest : List FoundEntry) (o : Ordering) → is_some (cond (is_eq o) (Some e.1) (lookup (is_at (key_cmp key)) es)) ≡ false →
+      (is_some (lookup (is_at (key_cmp key)) es) ≡ false → Among (Holds name) es → Among (Holds name) rest) → Among (Holds name) (e ∷ es) → Among (Holds name) (match_ordering o ((key, File path) ∷ e ∷ es) ((e.0, File path) ∷ es) (e ∷ rest))
+  absent_step name e es rest Less absent later had = inr had
+  absent_step name e es rest Equal absent later had = absurd (cc)
+  absent_step name e es rest Greater absent later had = ⊎_elim (λ here. inl here) (λ there. inr (later absent there)) had
 
-absent_stays : (name : List ℕ) (key : Vec ℕ Global) (es : List Entry) → is_some (lookup (is_at (key_cmp key)) es) ≡ false → Among (Holds name) es → Among (Holds name) (insert_entry key_cmp es key File)
-absent_stays name key [] absent had = absurd had
-absent_stays name key (e ∷ es) absent had = absent_step name key e es (insert_entry key_cmp es key File) (key_cmp key e.0) absent (absent_stays name key es) had
+  absent_stays : (name : List ℕ) (es : List FoundEntry) → is_some (lookup (is_at (key_cmp key)) es) ≡ false → Among (Holds name) es → Among (Holds name) (insert_entry key_cmp es key (File path))
+  absent_stays name [] absent had = absurd had
+  absent_stays name (e ∷ es) absent had = absent_step name e es (insert_entry key_cmp es key (File path)) (key_cmp key e.0) absent (absent_stays name es) had
 
-pub file_stays : (es new : List Entry) (key : Vec ℕ Global) → new ≡ insert_entry key_cmp es key File → is_some (lookup (is_at (key_cmp key)) es) ≡ false → StaysFound es new
-file_stays es new key is absent name had = subst (Among (Holds name)) (sym is) (absent_stays name key es absent had)
+  module _ (es new : List FoundEntry) (is : new ≡ insert_entry key_cmp es key (File path)) where
+    pub file_stays : is_some (lookup (is_at (key_cmp key)) es) ≡ false → StaysFound es new
+    file_stays absent name had = subst (Among (Holds name)) (sym is) (absent_stays name es absent had)
 
-pub file_holds : (es new : List Entry) (key : Vec ℕ Global) → new ≡ insert_entry key_cmp es key File → Among (Holds key.items) new
-file_holds es new key is = subst (Among (Holds key.items)) (sym is) (inserted key_cmp (Holds key.items) key File es refl (λ e same. sym (same_key key e.0 same)))
+    pub file_holds : Among (Holds key.items) new
+    file_holds = subst (Among (Holds key.items)) (sym is) (inserted key_cmp (Holds key.items) key (File path) es refl (λ e same. sym (same_key key e.0 same)))
+
+    pub file_there : (others : List FoundEntry) (root : Root) (view : View) → All (IsThereOr others root view) es → IsFileOfName root view key.items path.items → All (IsThereOr others root view) new
+    file_there others root view all there =
+        subst (All (IsThereOr others root view)) (sym is)
+        (all_insert key_cmp (IsThereOr others root view) key (File path) es all (inr there) (λ e same. inr (subst (λ k. IsFileOfName root view k path.items) (same_key key e.0 same) there)))
+
+    pub file_is_file : All IsFile es → All IsFile new
+    file_is_file all = subst (All IsFile) (sym is) (all_insert key_cmp IsFile key (File path) es all _ (λ e same. _))
 
 -- and where something was found there, the name is held
-pub known_holds : (es : List Entry) (key : Vec ℕ Global) → is_some (lookup (is_at (key_cmp key)) es) ≡ true → Among (Holds key.items) es
+pub known_holds : (es : List FoundEntry) (key : Vec ℕ Global) → is_some (lookup (is_at (key_cmp key)) es) ≡ true → Among (Holds key.items) es
 known_holds es key found = contained key_cmp (Holds key.items) key es (λ e same. holds_key key.items e.0 e.1 (same_key key e.0 same)) found
-
-pub file_there : (root : Root) (view : View) (es new : List Entry) (key : Vec ℕ Global) → new ≡ insert_entry key_cmp es key File → All (IsThere root view) es → IsLooseName root view key.items → All (IsThere root view) new
-file_there root view es new key is all loose = subst (All (IsThere root view)) (sym is) (all_insert key_cmp (IsThere root view) key File es all loose (λ e same. subst (IsLooseName root view) (same_key key e.0 same) loose))
-
-pub file_is_file : (es new : List Entry) (key : Vec ℕ Global) → new ≡ insert_entry key_cmp es key File → All IsFile es → All IsFile new
-file_is_file es new key is all = subst (All IsFile) (sym is) (all_insert key_cmp IsFile key File es all _ (λ e same. _))
 
 pub not_both : (b : Bool) → IsTrue b → b ≡ false → ⊥
 not_both b is is_not = let bad : false ≡ true = sym is_not ∙ is in absurd cc
 
 -- what was taken stays taken
-pub stays_taken : (root : Root) (folder : List ℕ) (found more : List Entry) (next later : List (Vec ℕ Global)) (entry : ListedEntry) → StaysFound found more → ((name : List ℕ) → IsBelow next name → IsBelow later name) →
+pub stays_taken : (root : Root) (folder : List ℕ) (found more : List FoundEntry) (next later : List (Vec ℕ Global)) (entry : ListedEntry) → StaysFound found more → ((name : List ℕ) → IsBelow next name → IsBelow later name) →
     IsTaken root folder found next entry → IsTaken root folder more later entry
 stays_taken root folder found more next later entry stays below taken = record {
   file = λ is_file own. stays (folder ++ entry.name.items) (taken.file is_file own);

@@ -6,7 +6,7 @@ use Rattle.gix_ref_base.specs.NameGrammar.{IsPartialName}
 use Rattle.gix_ref_files.specs.declared.files.Entry.{Entry as ListedEntry}
 use Rattle.gix_ref_files.specs.declared.files.FileError.TheVariants as faulty
 use Rattle.gix_ref_theory.specs.Views.{View}
-use Rattle.gix_ref_lookup.specs.Lookups.{meaning_in}
+use Rattle.gix_ref_lookup.specs.Lookups.{meaning_in, name_asked}
 use Rattle.gix_ref_listing.specs.declared.found.Found.{Found}
 use Rattle.gix_ref_listing.specs.declared.found.Found.TheVariants.{File, Unlisted}
 use Rattle.gix_ref_listing.specs.declared.walk.Root.{Root}
@@ -21,9 +21,21 @@ pub record IsOwnName (root : Root) (name : List ℕ) : Type 0 where
   pub begins : BeginsWith name root.prefix.now
   pub own : (meaning_in root.settings).place name ≡ root.path.now ++ name
 
+-- and which is composed, where names are composed
+abbrev pub IsListedName : Root → List ℕ → Type 0
+IsListedName root name = IsOwnName root name × (name_asked root.settings.precompose_unicode name ≡ name)
+
 -- and a file is there
 abbrev pub IsLooseName : Root → View → List ℕ → Type 0
-IsLooseName root view name = IsOwnName root name × IsSome (view (root.path.now ++ name))
+IsLooseName root view name = IsListedName root name × IsSome (view (root.path.now ++ name))
+
+-- A file is there, at this path. The name is the one that it has on disk, composed where names are composed.
+pub record IsFileOfName (root : Root) (view : View) (name path : List ℕ) : Type 0 where
+  pub own : IsOwnName root name
+  pub disk : List ℕ
+  pub is : path ≡ root.path.now ++ disk
+  pub asked : name ≡ name_asked root.settings.precompose_unicode disk
+  pub there : IsSome (view path)
 
 -- one of these has it
 abbrev pub Among : {A : Type 0} → (A → Type 0) → List A → Type 0
@@ -31,30 +43,34 @@ Among P [] = ⊥
 Among P (x ∷ xs) = P x ⊎ Among P xs
 
 -- what was found under a key: a file, and the key is its name; or a folder that could not be listed
-abbrev pub Entry : Type 0
-Entry = Vec ℕ Global × Found
+abbrev pub FoundEntry : Type 0
+FoundEntry = Vec ℕ Global × Found
 
 -- the name was found, or it is in a folder that could not be listed
-abbrev pub Holds : List ℕ → Entry → Type 0
-Holds name (key, File) = key.items ≡ name
-Holds name (key, Unlisted error) = BeginsWith name key.items
+abbrev pub Holds : List ℕ → FoundEntry → Type 0
+Holds name (key, File path) = key.items ≡ name
+Holds name (key, Unlisted path error) = BeginsWith name key.items
 
 -- what was found is there; want of memory is no reason for a folder
-abbrev pub IsThere : Root → View → Entry → Type 0
-IsThere root view (key, File) = IsLooseName root view key.items
-IsThere root view (key, Unlisted error) = error ≢ faulty.Memory
+abbrev pub IsThere : Root → View → FoundEntry → Type 0
+IsThere root view (key, File path) = IsFileOfName root view key.items path.items
+IsThere root view (key, Unlisted path error) = (error ≢ faulty.Memory) × (path.items ++ 47 ∷ [] ≡ root.path.now ++ key.items)
+
+-- it is one of these, or it is there
+abbrev pub IsThereOr : List FoundEntry → Root → View → FoundEntry → Type 0
+IsThereOr others root view e = Among (λ o. o ≡ e) others ⊎ IsThere root view e
 
 -- it is a file
-abbrev pub IsFile : Entry → Type 0
-IsFile (key, File) = Unit {0}
-IsFile (key, Unlisted error) = ⊥
+abbrev pub IsFile : FoundEntry → Type 0
+IsFile (key, File path) = Unit {0}
+IsFile (key, Unlisted path error) = ⊥
 
 -- an entry of a folder is there, if it is a file
 abbrev pub IsFileOf : Root → View → (folder : List ℕ) → ListedEntry → Type 0
 IsFileOf root view folder entry = entry.is_folder ≡ false → IsSome (view (root.path.now ++ (folder ++ entry.name.items)))
 
 -- each name that was found stays found
-abbrev pub StaysFound : (old new : List Entry) → Type 0
+abbrev pub StaysFound : (old new : List FoundEntry) → Type 0
 StaysFound old new = (name : List ℕ) → Among (Holds name) old → Among (Holds name) new
 
 -- the path of a folder below another one: nothing, or it ends in a slash
@@ -67,12 +83,12 @@ IsBelow folders name = Among (λ folder. BeginsWith name folder.items) folders
 
 -- An entry of a folder was taken: a file is found, where it is the file of a name; and a folder is to be walked, where names
 -- may be in it.
-pub record IsTaken (root : Root) (folder : List ℕ) (found : List Entry) (next : List (Vec ℕ Global)) (entry : ListedEntry) : Type 0 where
-  pub file : entry.is_folder ≡ false → IsOwnName root (folder ++ entry.name.items) → Among (Holds (folder ++ entry.name.items)) found
-  pub leads : entry.is_folder ≡ true → NoByte 47 entry.name.items → IsFolderPath folder → (name : List ℕ) → IsOwnName root name →
+pub record IsTaken (root : Root) (folder : List ℕ) (found : List FoundEntry) (next : List (Vec ℕ Global)) (entry : ListedEntry) : Type 0 where
+  pub file : entry.is_folder ≡ false → IsListedName root (folder ++ entry.name.items) → Among (Holds (folder ++ entry.name.items)) found
+  pub leads : entry.is_folder ≡ true → NoByte 47 entry.name.items → IsFolderPath folder → (name : List ℕ) → IsListedName root name →
       BeginsWith name (folder ++ (entry.name.items ++ codes "/")) → IsBelow next name
 
 -- Of the names that are to be listed and have this, each is found, is in a folder that could not be listed, or is below one
 -- that is to be walked.
-abbrev pub Reaches : Root → View → (List ℕ → Type 0) → List Entry → List (Vec ℕ Global) → Type 0
+abbrev pub Reaches : Root → View → (List ℕ → Type 0) → List FoundEntry → List (Vec ℕ Global) → Type 0
 Reaches root view Has found next = (name : List ℕ) → IsLooseName root view name → Has name → Among (Holds name) found ⊎ IsBelow next name

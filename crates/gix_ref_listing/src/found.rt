@@ -5,13 +5,13 @@ use gix_ref_files::files::FileError;
 use std::collections::BTreeMap;
 
 /// What a walk found under a key.
-#[derive(Clone, Copy, Debug)]
+#[derive(Debug, Drop)]
 pub enum Found {
-    /// The file of the name that is the key.
-    File,
-    /// A folder that could not be listed, for this reason. The key is the front, with its last slash, that the names below
-    /// the folder have.
-    Unlisted(FileError),
+    /// The file at this path, whose name is the key.
+    File(Vec<u8>),
+    /// The folder at this path, which could not be listed. The key is the front, with its last slash, that the names below the
+    /// folder have.
+    Unlisted { path: Vec<u8>, source: FileError },
 }
 
 /// What a walk found, by ascending keys.

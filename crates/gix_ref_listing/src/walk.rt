@@ -1,5 +1,5 @@
 //! The files of names below a folder of a store, found level by level.
-ghost use Rattle.std.specs.Prelude.{◌≡◌, ◌≢◌, [], ◌++◌, ◌⊎◌, ◌≤◌, List, ℕ, IfOk, IfErr, OnOk, IsTrue, ◌↔◌, codes, ◌∷◌, IsSome, Vec};
+ghost use Rattle.std.specs.Prelude.{◌≡◌, ◌≢◌, [], ◌++◌, ◌⊎◌, ◌≤◌, List, ℕ, IfOk, IfErr, OnOk, MatchOption, IsTrue, ◌↔◌, codes, ◌∷◌, IsSome, Vec};
 ghost use Rattle.std.specs.declared.alloc.Global.{Global};
 ghost use Rattle.std.specs.List.{All};
 ghost use Rattle.gix_ref_hash.specs.Bytes.{BeginsWith, NoByte};
@@ -9,12 +9,14 @@ ghost use Rattle.gix_ref_files.specs.Calls.{Unchanged, IsListing};
 ghost use Rattle.gix_ref_files.specs.declared.files.FileError.TheVariants.{Memory};
 ghost use Rattle.gix_ref_theory.specs.OnRealTrees.{view_of};
 ghost use Rattle.gix_ref_theory.specs.Views.{View};
-ghost use Rattle.gix_ref_listing.specs.Walks.{IsOwnName, IsLooseName, Among, Holds, IsThere, IsFile, IsFileOf, IsTaken, StaysFound, IsFolderPath, IsBelow, IsRootPath, Reaches};
+ghost use Rattle.gix_ref_lookup.specs.Lookups.{name_asked};
+ghost use Rattle.gix_ref_listing.specs.Walks.{FoundEntry, IsListedName, IsThereOr, IsOwnName, IsLooseName, Among, Holds, IsThere, IsFile, IsFileOf, IsTaken, StaysFound, IsFolderPath, IsBelow, IsRootPath, Reaches};
 
 use crate::found::{Found, FoundByKey};
 use gix_ref_base::name::{FullNameRef, PartialNameRef};
 use gix_ref_files::files::{Entry, FileError, Files};
 use gix_ref_hash::bytes::{begins_with, cut_last, strip_front};
+use gix_ref_lookup::find::composed::composed_name;
 use gix_ref_lookup::settings::Settings;
 use std::alloc::{AllocError, Global};
 
@@ -57,6 +59,31 @@ fn may_lead(alloc: Global, component: &[u8]) -> Result<bool, AllocError>
     Ok(PartialNameRef::try_from(&name).is_ok())
 }
 
+/// The name of a file with this name on disk: the same, composed where names are composed. `None` where that is no valid
+/// partial name.
+fn name_on_disk(
+    alloc: Global,
+    composes: bool,
+    disk: &[u8],
+) -> Result<Option<Vec<u8>>, AllocError>
+    ensures { IfOk result (λ r. MatchOption r (IsPartialName disk.now → ⊥)
+        (λ name. name.items ≡ name_asked composes disk.now)) }
+{
+    let Ok(name) = PartialNameRef::try_from(disk) else {
+        return Ok(None);
+    };
+    match composed_name(alloc, composes, name)? {
+        Some(composed) => Ok(Some(composed.as_ref().to_partial_path().to_vec(alloc)?)),
+        None => Ok(Some(disk.to_vec(alloc)?)),
+    }
+}
+
+/// The file of a name.
+struct OwnFile {
+    name: Vec<u8>,
+    path: Vec<u8>,
+}
+
 /// Whether one of two texts begins with the other.
 fn is_front(left: &[u8], right: &[u8]) -> bool
     ensures { IsTrue result ↔ (BeginsWith left.now right.now ⊎ BeginsWith right.now left.now) }
@@ -95,20 +122,24 @@ fn one_folder(alloc: Global, folder: &[u8]) -> Result<Vec<Vec<u8>>, AllocError>
     Ok(folders)
 }
 
-/// Keeps a folder that could not be listed.
+/// Keeps a folder that could not be listed, at this path.
 fn keep_unlisted(
     alloc: Global,
     folder: &[u8],
+    path: Vec<u8>,
     error: FileError,
     found: &mut FoundByKey,
 ) -> Result<(), AllocError>
     ensures stays { StaysFound found.old.entries found.new.entries }
     ensures holds { OnOk result ((name : List ℕ) → BeginsWith name folder.now →
         Among (Holds name) found.new.entries) }
-    ensures there { (root : Root) (view : View) → All (IsThere root view) found.old.entries →
-        error ≢ Memory → All (IsThere root view) found.new.entries }
+    ensures there { (others : List FoundEntry) (root : Root) (view : View) → All (IsThereOr others root view)
+        found.old.entries →
+        error ≢ Memory → path.items ++ 47 ∷ [] ≡ root.path.now ++ folder.now →
+        All (IsThereOr others root view) found.new.entries }
 {
-    found.insert(folder.to_vec(alloc)?, Found::Unlisted(error))?;
+    let source = error;
+    found.insert(folder.to_vec(alloc)?, Found::Unlisted { path, source })?;
     Ok(())
 }
 
@@ -128,23 +159,44 @@ impl Root<'_> {
         Ok(is_joined(&place, self.path, name))
     }
 
+    /// The name and the path of a file with this name on disk, where it is the file of a name.
+    fn own_file(self, alloc: Global, disk: &[u8]) -> Result<Option<OwnFile>, AllocError>
+        ensures { IfOk result (λ r. MatchOption r (IsListedName self.entry disk.now → ⊥)
+            (λ own. IsOwnName self.entry own.name.items
+            × (own.name.items ≡ name_asked self.entry.settings.precompose_unicode disk.now)
+            × (own.path.items ≡ self.entry.path.now ++ disk.now))) }
+    {
+        let Some(name) = name_on_disk(alloc, self.settings.precompose_unicode, disk)? else {
+            return Ok(None);
+        };
+        if !self.is_own(alloc, &name)? {
+            return Ok(None);
+        }
+        let path = joined(alloc, self.path, disk)?;
+        Ok(Some(OwnFile { name, path }))
+    }
+
     /// Takes a file of a folder: it is found, where it is the file of a name.
     fn take_file(
         self,
         alloc: Global,
-        name: Vec<u8>,
+        disk: &[u8],
         found: &mut FoundByKey,
     ) -> Result<(), AllocError>
         ensures stays { StaysFound found.old.entries found.new.entries }
-        ensures holds { OnOk result (IsOwnName self.entry name.items →
-            Among (Holds name.items) found.new.entries) }
+        ensures holds { OnOk result (IsListedName self.entry disk.now →
+            Among (Holds disk.now) found.new.entries) }
         ensures files { All IsFile found.old.entries → All IsFile found.new.entries }
-        ensures there { (view : View) → All (IsThere self.entry view) found.old.entries →
-            IsSome (view (self.entry.path.now ++ name.items)) →
-            All (IsThere self.entry view) found.new.entries }
+        ensures there { (others : List FoundEntry) (view : View) →
+            All (IsThereOr others self.entry view) found.old.entries →
+            IsSome (view (self.entry.path.now ++ disk.now)) →
+            All (IsThereOr others self.entry view) found.new.entries }
     {
-        if self.is_own(alloc, &name)? && !found.contains_key(&name) {
-            found.insert(name, Found::File)?;
+        let Some(OwnFile { name, path }) = self.own_file(alloc, disk)? else {
+            return Ok(());
+        };
+        if !found.contains_key(&name) {
+            found.insert(name, Found::File(path))?;
         }
         Ok(())
     }
@@ -159,7 +211,7 @@ impl Root<'_> {
     ) -> Result<(), AllocError>
         ensures stays { (name : List ℕ) → IsBelow next.old.items name → IsBelow next.new.items name }
         ensures leads { OnOk result (NoByte 47 component.now → IsFolderPath folder.now → (name :
-            List ℕ) → IsOwnName self.entry name →
+            List ℕ) → IsListedName self.entry name →
             BeginsWith name (folder.now ++ (component.now ++ codes "/")) →
             IsBelow next.new.items name) }
         ensures paths { All (λ f. IsFolderPath f.items) next.old.items → All (λ f. IsFolderPath
@@ -170,7 +222,7 @@ impl Root<'_> {
         }
         let mut path = joined(alloc, folder, component)?;
         path.push(b'/')?;
-        if is_front(&path, self.prefix) {
+        if self.settings.precompose_unicode || is_front(&path, self.prefix) {
             next.push(path)?;
         }
         Ok(())
@@ -193,15 +245,16 @@ impl Root<'_> {
         ensures paths { All (λ f. IsFolderPath f.items) next.old.items →
             All (λ f. IsFolderPath f.items) next.new.items }
         ensures files { All IsFile found.old.entries → All IsFile found.new.entries }
-        ensures there { (view : View) → All (IsThere self.entry view) found.old.entries →
+        ensures there { (others : List FoundEntry) (view : View) →
+            All (IsThereOr others self.entry view) found.old.entries →
             IsFileOf self.entry view folder.now entry.now →
-            All (IsThere self.entry view) found.new.entries }
+            All (IsThereOr others self.entry view) found.new.entries }
     {
         if entry.is_folder {
             return self.take_folder(alloc, folder, &entry.name, next);
         }
-        let name = joined(alloc, folder, &entry.name)?;
-        self.take_file(alloc, name, found)
+        let disk = joined(alloc, folder, &entry.name)?;
+        self.take_file(alloc, &disk, found)
     }
 
     /// Takes the entries of a folder.
@@ -221,10 +274,10 @@ impl Root<'_> {
         ensures paths { OnOk result (All (λ f. IsFolderPath f.items) next.old.items →
             All (λ f. IsFolderPath f.items) next.new.items) }
         ensures files { OnOk result (All IsFile found.old.entries → All IsFile found.new.entries) }
-        ensures there { OnOk result ((view : View) → All (IsThere self.entry view)
-            found.old.entries →
+        ensures there { OnOk result ((others : List FoundEntry) (view : View) →
+            All (IsThereOr others self.entry view) found.old.entries →
             All (IsFileOf self.entry view folder.now) entries.now →
-            All (IsThere self.entry view) found.new.entries) }
+            All (IsThereOr others self.entry view) found.new.entries) }
     {
         for entry in entries {
             self.take_entry(alloc, folder, entry, found, next)?;
@@ -253,9 +306,9 @@ impl Root<'_> {
             All (λ f. IsFolderPath f.items) next.new.items) }
         ensures files { OnOk result (All IsFile found.old.entries → All IsFile found.new.entries
             ⊎ HasRisen (F.faults files.old) (F.faults files.new)) }
-        ensures there { F.honest → IfOk result (λ _. IsFolderPath folder.now → All (IsThere
-            self.entry (view_of (F.means files.old).tree)) found.old.entries →
-            All (IsThere self.entry (view_of (F.means files.old).tree)) found.new.entries) }
+        ensures there { F.honest → IfOk result (λ _. IsFolderPath folder.now → (others : List FoundEntry) →
+            All (IsThereOr others self.entry (view_of (F.means files.old).tree)) found.old.entries →
+            All (IsThereOr others self.entry (view_of (F.means files.old).tree)) found.new.entries) }
         ensures rises { F.faults files.old ≤ F.faults files.new }
         ensures memory { IfErr result (λ error. error ≡ Memory) }
         ensures leaves { F.honest → Leaves (F.means files.old) (F.means files.new)
@@ -271,7 +324,7 @@ impl Root<'_> {
             },
             Ok(None) => Ok(()),
             Err(FileError::Memory) => Err(FileError::Memory),
-            Err(error) => match keep_unlisted(alloc, folder, error, found) {
+            Err(error) => match keep_unlisted(alloc, folder, path, error, found) {
                 Ok(()) => Ok(()),
                 Err(_) => Err(FileError::Memory),
             },
@@ -294,9 +347,9 @@ impl Root<'_> {
         ensures paths { IfOk result (λ next. All (λ f. IsFolderPath f.items) next.items) }
         ensures files { OnOk result (All IsFile found.old.entries → All IsFile found.new.entries
             ⊎ HasRisen (F.faults files.old) (F.faults files.new)) }
-        ensures there { F.honest → OnOk result (
-            All (IsThere self.entry (view_of (F.means files.old).tree)) found.old.entries →
-            All (IsThere self.entry (view_of (F.means files.old).tree)) found.new.entries) }
+        ensures there { F.honest → OnOk result ((others : List FoundEntry) →
+            All (IsThereOr others self.entry (view_of (F.means files.old).tree)) found.old.entries →
+            All (IsThereOr others self.entry (view_of (F.means files.old).tree)) found.new.entries) }
         ensures rises { F.faults files.old ≤ F.faults files.new }
         ensures memory { IfErr result (λ error. error ≡ Memory) }
         ensures leaves { F.honest → Leaves (F.means files.old) (F.means files.new)
@@ -324,9 +377,9 @@ impl Root<'_> {
             (view_of (F.means files.old).tree) name → Among (Holds name) found.new.entries) }
         ensures files { OnOk result (All IsFile found.old.entries → All IsFile found.new.entries
             ⊎ HasRisen (F.faults files.old) (F.faults files.new)) }
-        ensures there { F.honest → OnOk result (
-            All (IsThere self.entry (view_of (F.means files.old).tree)) found.old.entries →
-            All (IsThere self.entry (view_of (F.means files.old).tree)) found.new.entries) }
+        ensures there { F.honest → OnOk result ((others : List FoundEntry) →
+            All (IsThereOr others self.entry (view_of (F.means files.old).tree)) found.old.entries →
+            All (IsThereOr others self.entry (view_of (F.means files.old).tree)) found.new.entries) }
         ensures rises { F.faults files.old ≤ F.faults files.new }
         ensures memory { IfErr result (λ error. error ≡ Memory) }
         ensures leaves { F.honest → Leaves (F.means files.old) (F.means files.new)

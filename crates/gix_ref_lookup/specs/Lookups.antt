@@ -141,17 +141,21 @@ abbrev pub IsLooseTarget : Store → Option (List ℕ) → Option Target → Typ
 IsLooseTarget s file None = file ≡ None
 IsLooseTarget s file (Some target) = (bytes : List ℕ) × (file ≡ Some bytes) × (reading_of_loose s (s.target_of bytes) ≡ Is (target_value target))
 
--- Why the loose file of a candidate gives no target: it could not be read, only where the count of faults rose; its path has
--- the name of a device, and the store prohibits these; it holds none, with the reason; no memory.
+-- Why the file at a path gives no target for a name: it could not be read, only where the count of faults rose; the path has
+-- the name of a device, and the store prohibits these; the file holds none, with the reason; no memory.
+abbrev pub IsNotReadAt : (honest : Type 0) → Kind → Store → View → (before now : ℕ) → (name path : List ℕ) → Error → Type 0
+IsNotReadAt honest kind s view before now name at (ReadFileContents (File source) path) =
+    HasRisen before now × (source ≢ no_memory) × (path.items ≡ at)
+IsNotReadAt honest kind s view before now name at (ReadFileContents DeviceName path) =
+    (s.is_prohibited at ≡ true) × (path.items ≡ at)
+IsNotReadAt honest kind s view before now name at (ReferenceCreation source path) =
+    (path.items ≡ name) × (honest → IsUndecodable kind (view at) source)
+IsNotReadAt honest kind s view before now name at Memory = Unit {0}
+IsNotReadAt honest kind s view before now name at other = ⊥
+
+-- why the loose file of a candidate gives none
 abbrev pub IsNotRead : (honest : Type 0) → Kind → Store → View → (before now : ℕ) → List ℕ → Error → Type 0
-IsNotRead honest kind s view before now name (ReadFileContents (File source) path) =
-    HasRisen before now × (source ≢ no_memory) × (path.items ≡ s.place name)
-IsNotRead honest kind s view before now name (ReadFileContents DeviceName path) =
-    (s.is_prohibited (s.place name) ≡ true) × (path.items ≡ s.place name)
-IsNotRead honest kind s view before now name (ReferenceCreation source path) =
-    (path.items ≡ name) × (honest → IsUndecodable kind (view (s.place name)) source)
-IsNotRead honest kind s view before now name Memory = Unit {0}
-IsNotRead honest kind s view before now name other = ⊥
+IsNotRead honest kind s view before now name error = IsNotReadAt honest kind s view before now name (s.place name) error
 
 -- the reference of a key among these records as a result, in this namespace
 abbrev pub IsOfKey : (namespace : List ℕ) → List Record → (key : List ℕ) → Option Reference → Type 0

@@ -13,7 +13,7 @@ ghost use Rattle.gix_ref_lookup.specs.StoreLayout.{namespace_text};
 ghost use Rattle.gix_ref_packed.specs.Positions.{CannotRead};
 ghost use Rattle.gix_ref_packed.specs.Buffers.{IsRefusedFile};
 ghost use Rattle.gix_ref_packed.specs.OpenFiles.{HasReadFault};
-ghost use Rattle.gix_ref_lookup.specs.Lookups.{meaning_in, packed_refs_in, HasKey, OfKey, IsByRecord, IsLooseTarget, IsNotRead, IsReady, AreAsked, IsOfKey, IsFaultOrMemory, IsNotPacked, AreHonest, IsSearched, IsHitOfKey, OfSearched, IsCandidate, IsSound, IsHit, CandidateFails};
+ghost use Rattle.gix_ref_lookup.specs.Lookups.{meaning_in, packed_refs_in, HasKey, OfKey, IsByRecord, IsLooseTarget, IsNotRead, IsNotReadAt, IsReady, AreAsked, IsOfKey, IsFaultOrMemory, IsNotPacked, AreHonest, IsSearched, IsHitOfKey, OfSearched, IsCandidate, IsSound, IsHit, CandidateFails};
 
 use crate::find::loose::{Loose, loose_at};
 use crate::find::records::Records;
@@ -26,6 +26,50 @@ use gix_ref_files::files::{FileError, Files, ReadAt};
 use gix_ref_packed::packed::Found;
 use gix_ref_packed::raw::Reference;
 use std::alloc::Global;
+
+/// The target in the file at this path, which is read for a name, less the namespace; `None` where there is no file.
+/// `ReadFileContents` where it cannot be read, or has the name of a device and the store prohibits these;
+/// `ReferenceCreation` where it holds no target; and `Memory`.
+pub fn read_at<F: Files>(
+    alloc: Global,
+    files: &mut F,
+    settings: Settings<'_>,
+    name: FullNameRef<'_>,
+    path: Vec<u8>,
+) -> Result<Option<Target>, Error>
+    ensures found { F.honest → IfOk result (IsLooseTarget (meaning_in settings.entry)
+        (view_of (F.means files.old).tree path.items)) }
+    ensures allowed { OnOk result ((meaning_in settings.entry).is_prohibited path.items ≡ false) }
+    ensures failed { IfErr result (IsNotReadAt F.honest settings.entry.kind
+        (meaning_in settings.entry) (view_of (F.means files.old).tree) (F.faults files.old)
+        (F.faults files.new) (full_ref_bytes name.entry) path.items) }
+    ensures no_fault { OnOk result (F.faults files.new ≡ F.faults files.old) }
+    ensures leaves { F.honest → Leaves (F.means files.old) (F.means files.new)
+        (Unchanged (F.means files.old).tree) }
+{
+    if settings.is_prohibited(&path) {
+        return Err(Error::ReadFileContents {
+            source: ReadError::DeviceName,
+            path,
+        });
+    }
+    match loose_at(alloc, files, &path, settings.kind) {
+        Ok(Loose::Absent) => Ok(None),
+        Ok(Loose::Holds(mut target)) => {
+            strip(&mut target, settings.namespace);
+            Ok(Some(target))
+        }
+        Ok(Loose::Undecodable(source)) => Err(Error::ReferenceCreation {
+            source,
+            relative_path: name.to_path().to_vec(alloc)?,
+        }),
+        Err(FileError::Memory) => Err(Error::Memory),
+        Err(error) => Err(Error::ReadFileContents {
+            source: ReadError::File(error),
+            path,
+        }),
+    }
+}
 
 /// The target in the loose file of a name, less the namespace; `None` where there is no such file.
 fn read_loose<F: Files>(
@@ -48,28 +92,7 @@ fn read_loose<F: Files>(
         (Unchanged (F.means files.old).tree) }
 {
     let place = settings.place(alloc, name)?;
-    if settings.is_prohibited(&place) {
-        return Err(Error::ReadFileContents {
-            source: ReadError::DeviceName,
-            path: place,
-        });
-    }
-    match loose_at(alloc, files, &place, settings.kind) {
-        Ok(Loose::Absent) => Ok(None),
-        Ok(Loose::Holds(mut target)) => {
-            strip(&mut target, settings.namespace);
-            Ok(Some(target))
-        }
-        Ok(Loose::Undecodable(source)) => Err(Error::ReferenceCreation {
-            source,
-            relative_path: name.to_path().to_vec(alloc)?,
-        }),
-        Err(FileError::Memory) => Err(Error::Memory),
-        Err(error) => Err(Error::ReadFileContents {
-            source: ReadError::File(error),
-            path: place,
-        }),
-    }
+    read_at(alloc, files, settings, name, place)
 }
 
 /// Takes the namespace off a name.

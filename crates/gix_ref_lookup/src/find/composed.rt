@@ -18,8 +18,9 @@ use gix_ref_files::files::Files;
 use gix_ref_packed::raw::Reference;
 use std::alloc::{AllocError, Global};
 
-/// The composed name that is asked in place of a name; `None` where the name is asked as it is.
-fn composed_name(
+/// The composed name that is asked in place of a name, where names are composed; `None` where the name is asked as it is.
+/// The error says that there was no memory for it.
+pub fn composed_name(
     alloc: Global,
     composes: bool,
     name: PartialNameRef<'_>,

@@ -18,5 +18,5 @@ loop-entry-preserved c =
           c.loop-entry-test.true c.entry-item.is c.in_ok-take_entry.ensures.taken;
       paths = λ all. step.paths (before.paths all);
       files = λ all. step.files (before.files all);
-      there = λ view all of. step.there view (before.there view all of) (subst (IsFileOf c.args.self view c.args.folder.now) (sym c.entry-item.is) (of i c.entry-item.result c.loop-entry-test.true));
+      there = λ others view all of. step.there others view (before.there others view all of) (subst (IsFileOf c.args.self view c.args.folder.now) (sym c.entry-item.is) (of i c.entry-item.result c.loop-entry-test.true));
     }

@@ -1,22 +1,32 @@
-use Rattle.std.proofs.Common.{sym, ◌∙◌, subst}
-use Rattle.gix_ref_listing.specs.Walks.{IsOwnName}
-use Rattle.gix_ref_listing.proofs.WalkLemmas.{file_stays, file_holds, known_holds, not_both, file_is_file, file_there}
+use Rattle.std.proofs.Common.{◌≡◌, sym, ◌∙◌, subst, ap, ◌++◌, IsSome}
+use Rattle.gix_ref_listing.specs.Walks.{Among, Holds, IsFileOfName}
+use Rattle.gix_ref_listing.proofs.WalkLemmas.{file_stays, file_holds, known_holds, file_is_file, file_there}
 use Rattle.gix_ref_listing.proofs.walk.Root.take_file.Goals as goal
-use Rattle.gix_ref_listing.proofs.walk.Root.take_file.Goals.{else-branch-via-then-branch+else-not-contains_key, else-branch-via-else-branch}
 
 pub returns-in_ok-insert-clause-stays : goal.returns-in_ok-insert-clause-stays
-returns-in_ok-insert-clause-stays c = file_stays c.args.found.now.entries c.insert.new.self.entries c.args.name c.in_ok-insert.ensures.entries (sym c.contains_key.ensures ∙ c.if-not-contains_key.true)
+returns-in_ok-insert-clause-stays c = file_stays c.in-Some.field-0.name c.in-Some.field-0.path c.args.found.now.entries c.insert.new.self.entries c.in_ok-insert.ensures.entries (sym c.contains_key.ensures ∙ c.if-not-contains_key.true)
 
 pub returns-in_ok-insert-clause-holds : goal.returns-in_ok-insert-clause-holds
-returns-in_ok-insert-clause-holds c own = file_holds c.args.found.now.entries c.insert.new.self.entries c.args.name c.in_ok-insert.ensures.entries
+returns-in_ok-insert-clause-holds c listed =
+    let own = rw c.in-Some.is at c.in_ok-name.ensures in
+    subst (λ n. Among (Holds n) c.insert.new.self.entries) (own.1 ∙ listed.1) (file_holds c.in-Some.field-0.name c.in-Some.field-0.path c.args.found.now.entries c.insert.new.self.entries c.in_ok-insert.ensures.entries)
 
-pub returns-else-branch-clause-holds : goal.returns-else-branch-clause-holds
-returns-else-branch-clause-holds c own = elim c.else-branch.branch [ else-branch-via-then-branch+else-not-contains_key w ↦ known_holds c.args.found.now.entries c.args.name (sym w.contains_key.ensures ∙ w.if-not-contains_key.false) | else-branch-via-else-branch w ↦ absurd (not_both _ (c.in_ok-is_own.ensures.1 (subst (IsOwnName c.args.self) (sym c.deref.ensures.value) own)) w.if-branch.false) ]
+pub returns-else-not-contains_key-clause-holds : goal.returns-else-not-contains_key-clause-holds
+returns-else-not-contains_key-clause-holds c listed =
+    let own = rw c.in-Some.is at c.in_ok-name.ensures in
+    subst (λ n. Among (Holds n) c.args.found.now.entries) (own.1 ∙ listed.1) (known_holds c.args.found.now.entries c.in-Some.field-0.name (sym c.contains_key.ensures ∙ c.if-not-contains_key.false))
 
 pub returns-in_ok-insert-clause-files : goal.returns-in_ok-insert-clause-files
-returns-in_ok-insert-clause-files c all = file_is_file c.args.found.now.entries c.insert.new.self.entries c.args.name c.in_ok-insert.ensures.entries all
+returns-in_ok-insert-clause-files c all = file_is_file c.in-Some.field-0.name c.in-Some.field-0.path c.args.found.now.entries c.insert.new.self.entries c.in_ok-insert.ensures.entries all
 
 pub returns-in_ok-insert-clause-there : goal.returns-in_ok-insert-clause-there
-returns-in_ok-insert-clause-there c view all there =
-    let own = subst (IsOwnName c.args.self) c.deref.ensures.value (c.in_ok-is_own.ensures.0 c.if-branch.true) in
-    file_there c.args.self view c.args.found.now.entries c.insert.new.self.entries c.args.name c.in_ok-insert.ensures.entries all (own, there)
+returns-in_ok-insert-clause-there c others view all there =
+    let own = rw c.in-Some.is at c.in_ok-name.ensures in
+    let file : IsFileOfName c.args.self view c.in-Some.field-0.name.items c.in-Some.field-0.path.items = record {
+      own = own.0;
+      disk = c.args.disk.now;
+      is = own.2;
+      asked = own.1;
+      there = subst (λ p. IsSome (view p)) (sym own.2) there;
+    } in
+    file_there c.in-Some.field-0.name c.in-Some.field-0.path c.args.found.now.entries c.insert.new.self.entries c.in_ok-insert.ensures.entries others c.args.self view all file

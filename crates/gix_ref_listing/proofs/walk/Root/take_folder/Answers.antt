@@ -10,7 +10,7 @@ returns-then-not-branch-clause-leads c none path name own begins =
     let folder = c.args.folder.now in
     let part = c.args.component.now in
     let rest = begins.0 in
-    let valid : IsPartialName (folder ++ (part ++ 47 ∷ rest)) = subst IsPartialName (begins.1 ∙ (append_assoc folder (part ++ 47 ∷ []) rest ∙ ap (λ t. folder ++ t) (append_assoc part (47 ∷ []) rest))) own.valid in
+    let valid : IsPartialName (folder ++ (part ++ 47 ∷ rest)) = subst IsPartialName (begins.1 ∙ (append_assoc folder (part ++ 47 ∷ []) rest ∙ ap (λ t. folder ++ t) (append_assoc part (47 ∷ []) rest))) own.0.valid in
     absurd (not_both _ (c.in_ok-may_lead.ensures.1 (leads folder part rest path none valid)) c.if-not-branch.true)
 
 pub returns-in_ok-push-2-clause-stays : goal.returns-in_ok-push-2-clause-stays
@@ -28,5 +28,5 @@ returns-else-is_front-clause-leads c none path name own begins =
     let folder = c.args.folder.now in
     let part = c.args.component.now in
     let pushed : c.push.new.self.items ≡ folder ++ (part ++ 47 ∷ []) = c.in_ok-push.ensures.items ∙ (ap (λ t. t ++ 47 ∷ []) c.in_ok-path.ensures ∙ append_assoc folder part (47 ∷ [])) in
-    let front : c.deref.result.now ++ begins.0 ≡ c.args.self.prefix.now ++ own.begins.0 = ap (λ t. t ++ begins.0) (c.deref.ensures.value ∙ pushed) ∙ (sym begins.1 ∙ own.begins.1) in
-    absurd (not_both _ (c.is_front.ensures.1 (fronts_nest c.deref.result.now c.args.self.prefix.now begins.0 own.begins.0 front)) c.if-is_front.false)
+    let front : c.deref.result.now ++ begins.0 ≡ c.args.self.prefix.now ++ own.0.begins.0 = ap (λ t. t ++ begins.0) (c.deref.ensures.value ∙ pushed) ∙ (sym begins.1 ∙ own.0.begins.1) in
+    absurd (not_both _ (c.is_front.ensures.1 (fronts_nest c.deref.result.now c.args.self.prefix.now begins.0 own.0.begins.0 front)) c.if-is_front.false)

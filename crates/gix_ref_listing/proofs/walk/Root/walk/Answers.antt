@@ -2,7 +2,7 @@ use Rattle.std.proofs.Common.{inl, ⊎_elim, ℕ, List, sym, subst, Vec, Global,
 use Rattle.std.specs.List.{All}
 use Rattle.gix_ref_files.specs.Tree.{Tree}
 use Rattle.gix_ref_theory.specs.OnRealTrees.{view_of}
-use Rattle.gix_ref_listing.specs.Walks.{IsThere, IsLooseName, IsBelow}
+use Rattle.gix_ref_listing.specs.Walks.{IsThereOr, IsLooseName, IsBelow}
 use Rattle.gix_ref_listing.proofs.FolderWalks.{files_still, unchanged_on}
 use Rattle.gix_ref_listing.proofs.walk.Root.walk.Goals as goal
 
@@ -25,7 +25,7 @@ loop-preserved g c =
           (before.reaches h name loose);
       paths = done.paths;
       files = files_still (F.faults c.args.files.now) (F.faults c.loop.files) (F.faults c.walk_level.new.files) before.rises step.rises before.files done.files;
-      there = λ h all. subst (λ (T : Tree). All (IsThere root (view_of T)) found) (before.leaves h).tree (done.there h (subst (λ (T : Tree). All (IsThere root (view_of T)) c.loop.found.entries) (sym (before.leaves h).tree) (before.there h all)));
+      there = λ h others all. subst (λ (T : Tree). All (IsThereOr others root (view_of T)) found) (before.leaves h).tree (done.there h others (subst (λ (T : Tree). All (IsThereOr others root (view_of T)) c.loop.found.entries) (sym (before.leaves h).tree) (before.there h others all)));
       rises = le_trans before.rises step.rises;
       leaves = λ h. unchanged_on first mid (F.means c.walk_level.new.files) (before.leaves h) (step.leaves h);
     }

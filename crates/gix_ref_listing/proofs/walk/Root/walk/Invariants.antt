@@ -3,7 +3,7 @@ use Rattle.std.specs.List.{All}
 use Rattle.gix_ref_files.specs.Calls.{Unchanged}
 use Rattle.gix_ref_files.specs.Files.{Leaves, HasRisen}
 use Rattle.gix_ref_theory.specs.OnRealTrees.{view_of}
-use Rattle.gix_ref_listing.specs.Walks.{IsThere, IsFile, StaysFound, IsFolderPath, IsBelow, Among, Holds, IsLooseName}
+use Rattle.gix_ref_listing.specs.Walks.{IsThereOr, FoundEntry, IsFile, StaysFound, IsFolderPath, IsBelow, Among, Holds, IsLooseName}
 use Rattle.gix_ref_listing.proofs.walk.Root.walk.Given as goal
 
 -- each name is found, or is below a folder of the level that comes next
@@ -16,7 +16,7 @@ invariant-loop g l =
       reaches : F.honest → (name : List ℕ) → IsLooseName l.self view name → Among (Holds name) l.found.entries ⊎ IsBelow l.folders.items name;
       paths : All (λ f. IsFolderPath f.items) l.folders.items;
       files : All IsFile l.fn.found.entries → All IsFile l.found.entries ⊎ HasRisen (F.faults l.fn.files) (F.faults l.files);
-      there : F.honest → All (IsThere l.self view) l.fn.found.entries → All (IsThere l.self view) l.found.entries;
+      there : F.honest → (others : List FoundEntry) → All (IsThereOr others l.self view) l.fn.found.entries → All (IsThereOr others l.self view) l.found.entries;
       rises : F.faults l.fn.files ≤ F.faults l.files;
       leaves : F.honest → Leaves (F.means l.fn.files) (F.means l.files) (Unchanged (F.means l.fn.files).tree);
     }

@@ -1,5 +1,5 @@
 use Rattle.gix_ref_files.specs.declared.files.FileError.TheVariants.{Memory}
-use Rattle.std.proofs.Common.{◌≡◌, ◌≢◌, inl, inr, sym, ◌∙◌, subst, false, rules}
+use Rattle.std.proofs.Common.{◌≡◌, ◌≢◌, inl, inr, sym, ◌∙◌, ap, ◌++◌, ◌∷◌, [], subst, false, rules}
 use Rattle.gix_ref_files.specs.Tree.{is_folder}
 use Rattle.gix_ref_files.specs.Calls.{IsListing}
 use Rattle.gix_ref_theory.specs.OnRealTrees.{view_of}
@@ -19,7 +19,7 @@ returns-in-Ok-take_entries-clause-reaches g c h at name loose begins =
     entries_reach c.args.self T c.args.folder.now way.0 (g.met.F.Files.shaped c.args.files.now h) way.2 way.1 at name loose begins.0 begins.1 entries listing c.take_entries.new.found.entries c.take_entries.new.next.items c.in-Ok-take_entries.ensures.taken
 
 pub returns-in-Ok-take_entries-clause-there : goal.returns-in-Ok-take_entries-clause-there
-returns-in-Ok-take_entries-clause-there g c h at all =
+returns-in-Ok-take_entries-clause-there g c h at others all =
     let F = g.F.Files in
     let T = (F.means c.args.files.now).tree in
     let way = path_of_folder c.args.self.path.now c.args.folder.now c.requires at in
@@ -27,7 +27,7 @@ returns-in-Ok-take_entries-clause-there g c h at all =
     let here : c.deref.result.now ≡ way.0 = c.deref.ensures.value ∙ c.in-Ok.ensures way.0 way.2 in
     let entries = c.deref-in-Ok-Some.result.now in
     let listing : IsListing T way.0 entries = subst (IsListing T way.0) (sym c.deref-in-Ok-Some.ensures.value) (subst (λ p. IsListing T p c.in-Ok-Some.entries.items) here listed.1) in
-    c.in-Ok-take_entries.ensures.there (view_of T) all (entries_there c.args.self T c.args.folder.now way.0 entries way.2 listing)
+    c.in-Ok-take_entries.ensures.there others (view_of T) all (entries_there c.args.self T c.args.folder.now way.0 entries way.2 listing)
 
 pub returns-in-Ok-None-clause-reaches : goal.returns-in-Ok-None-clause-reaches
 returns-in-Ok-None-clause-reaches g c h at name loose begins =
@@ -47,7 +47,7 @@ returns-in-Ok-keep_unlisted g c =
       reaches = λ h path name loose begins. inl (c.in-Ok-keep_unlisted.ensures.holds name begins);
       paths = λ all. all;
       files = λ all. inr (fault_rises c.in-Err.error _ _ other c.in-Err.ensures.count);
-      there = λ h at all. c.keep_unlisted.ensures.there c.args.self (view_of (g.F.Files.means c.args.files.now).tree) all other;
+      there = λ h at others all. let way = path_of_folder c.args.self.path.now c.args.folder.now c.requires at in c.keep_unlisted.ensures.there others c.args.self (view_of (g.F.Files.means c.args.files.now).tree) all other (ap (λ p. p ++ 47 ∷ []) (c.in-Ok.ensures way.0 way.2) ∙ sym way.2);
       rises = counts_up c.in-Err.error _ _ c.in-Err.ensures.count;
       memory = _;
       leaves = c.list.ensures.leaves;

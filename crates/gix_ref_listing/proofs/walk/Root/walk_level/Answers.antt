@@ -3,7 +3,7 @@ use Rattle.std.specs.List.{All}
 use Rattle.gix_ref_hash.specs.Bytes.{BeginsWith}
 use Rattle.gix_ref_files.specs.Tree.{Tree}
 use Rattle.gix_ref_theory.specs.OnRealTrees.{view_of}
-use Rattle.gix_ref_listing.specs.Walks.{Among, Holds, IsThere, IsLooseName, IsFolderPath, IsBelow}
+use Rattle.gix_ref_listing.specs.Walks.{Among, Holds, IsThereOr, IsLooseName, IsFolderPath, IsBelow}
 use Rattle.gix_ref_listing.proofs.FolderWalks.{files_still, unchanged_on, among_next, among_none}
 use Rattle.gix_ref_listing.proofs.walk.Root.walk_level.Goals as goal
 
@@ -34,7 +34,7 @@ loop-folder-preserved g c =
           (before.reaches h name loose below);
       paths = done.paths before.paths;
       files = files_still (F.faults c.args.files.now) (F.faults c.loop-folder.files) (F.faults c.walk_folder.new.files) before.rises step.rises before.files done.files;
-      there = λ h all. subst (λ (T : Tree). All (IsThere root (view_of T)) found) (before.leaves h).tree (done.there h at (subst (λ (T : Tree). All (IsThere root (view_of T)) c.loop-folder.found.entries) (sym (before.leaves h).tree) (before.there h all)));
+      there = λ h others all. subst (λ (T : Tree). All (IsThereOr others root (view_of T)) found) (before.leaves h).tree (done.there h at others (subst (λ (T : Tree). All (IsThereOr others root (view_of T)) c.loop-folder.found.entries) (sym (before.leaves h).tree) (before.there h others all)));
       rises = le_trans before.rises step.rises;
       leaves = λ h. unchanged_on first mid (F.means c.walk_folder.new.files) (before.leaves h) (step.leaves h);
     }
