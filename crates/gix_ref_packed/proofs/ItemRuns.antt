@@ -2,7 +2,6 @@
 use Rattle.std.proofs.Common.{◌≡◌, ⊎_elim, ℕ, true, false, List, [], ◌∷◌, length, refl, sym, ◌∙◌, ap, subst, arith, None, Option, Result, Ok, Err}
 use Rattle.std.specs.Iterator.{Yields}
 use Rattle.std.specs.Iterator.Runs.{YieldsRun, EachRunFrom}
-use Rattle.std.specs.List.{take_while}
 use Rattle.std.proofs.lemmas.List.Sums.{take_while-cons}
 use Rattle.std.proofs.lemmas.Bool.{cond-true, cond-false}
 use Rattle.gix_ref_hash.specs.declared.hash.Kind.{Kind}
@@ -14,6 +13,7 @@ use Rattle.gix_ref_base.specs.PackedRecords.{Record}
 use Rattle.gix_ref_packed.specs.RecordGrammar.{Takes, Records}
 use Rattle.gix_ref_packed.specs.Views.{record_of}
 use Rattle.gix_ref_packed.specs.Items.{Unread, AreItems, AreRecords, ItemStep, unread, has_prefix}
+use Rattle.gix_ref_packed.specs.YetToGive.{asked_of}
 use Rattle.gix_ref_packed.proofs.OneReading.{same_record}
 use Rattle.gix_ref_packed.proofs.RecordPlaces.{shorter_record as shorter}
 
@@ -31,19 +31,15 @@ each_run s from is p seen begins =
     let start : Yields ItemStep s p.items gave.0 = subst (λ (x : Iter). Yields ItemStep x p.items gave.0) begins gave.1 in
     subst (λ (u : Unread). AreItems (p.whole ≡ true) u p.items) is (items_law (p.whole ≡ true) p.items s gave.0 start gave.2)
 
-none_taken : (k : Kind) (t : List ℕ) (r : Record) (rest : List ℕ) → t ≡ [] → Takes k t r rest → ⊥
+pub none_taken : (k : Kind) (t : List ℕ) (r : Record) (rest : List ℕ) → t ≡ [] → Takes k t r rest → ⊥
 none_taken k t r rest none takes =
     let less = shorter k t r rest takes in
     let len : length t ≡ 0 = ap length none in omega arith
 
--- the records that are asked for, from the first on
-abbrev pub asked_of : Option (List ℕ) → List Record → List Record
-asked_of prefix rs = take_while (λ r. has_prefix prefix r.name) rs
-
-asked_more : (prefix : Option (List ℕ)) (r : Record) (rs : List Record) → has_prefix prefix r.name ≡ true → asked_of prefix (r ∷ rs) ≡ r ∷ asked_of prefix rs
+pub asked_more : (prefix : Option (List ℕ)) (r : Record) (rs : List Record) → has_prefix prefix r.name ≡ true → asked_of prefix (r ∷ rs) ≡ r ∷ asked_of prefix rs
 asked_more prefix r rs has = take_while-cons (λ x. has_prefix prefix x.name) r rs ∙ cond-true (has_prefix prefix r.name) _ _ has
 
-asked_end : (prefix : Option (List ℕ)) (r : Record) (rs : List Record) → has_prefix prefix r.name ≡ false → asked_of prefix (r ∷ rs) ≡ []
+pub asked_end : (prefix : Option (List ℕ)) (r : Record) (rs : List Record) → has_prefix prefix r.name ≡ false → asked_of prefix (r ∷ rs) ≡ []
 asked_end prefix r rs no_prefix = take_while-cons (λ x. has_prefix prefix x.name) r rs ∙ cond-false (has_prefix prefix r.name) _ _ no_prefix
 
 -- where the text is records, the items are those that are asked for

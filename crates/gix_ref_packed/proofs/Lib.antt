@@ -7,6 +7,7 @@ pub mod LineLemmas
 pub mod LowerBounds
 pub mod MemorySearches
 pub mod NamesInTurn
+pub mod OneItem
 pub mod OneReading
 pub mod PrefixRuns
 pub mod ReadBack

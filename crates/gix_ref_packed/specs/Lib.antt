@@ -21,3 +21,4 @@ pub mod Shown
 pub mod Views
 pub mod Windows
 pub mod WrittenText
+pub mod YetToGive

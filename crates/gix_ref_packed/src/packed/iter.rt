@@ -115,6 +115,7 @@ impl Buffer {
     ghost use Rattle.gix_ref_packed.specs.Prefixes.{records_prefixed, IsListStart};
     ghost use Rattle.gix_ref_packed.specs.Buffers.{buffer_text, buffer_kind, buffer_line};
     ghost use Rattle.gix_ref_packed.specs.Items.{ItemStep, AreItems, AreRecords, unread_buffer, unread_from};
+    ghost use Rattle.gix_ref_packed.specs.YetToGive.{IsYet};
 
     /// The records of the buffer, in the order of their names. Lines are numbered as in the file that was opened.
     ///
@@ -133,6 +134,10 @@ impl Buffer {
         ensures records { (rs : List Record)
             → Records (buffer_kind self.now) (buffer_text self.now) rs →
             EachRunFrom ItemStep result (λ run. AreRecords (run.whole ≡ true) rs run.items) }
+
+        // The same for a caller that takes one item at a time: it is yet to give these.
+        ensures yet { (rs : List Record)
+            → Records (buffer_kind self.now) (buffer_text self.now) rs → IsYet result rs }
     {
         Iter::from(self.as_bytes(), self.kind(), self.first_line())
     }
@@ -157,6 +162,11 @@ impl Buffer {
             → Records (buffer_kind self.now) (buffer_text self.now) rs → Rising rs →
             EachRunFrom ItemStep result
             (λ run. AreRecords (run.whole ≡ true) (records_prefixed prefix.items rs) run.items) }
+
+        // The same for a caller that takes one item at a time: it is yet to give those of the prefix.
+        ensures yet { (rs : List Record)
+            → Records (buffer_kind self.now) (buffer_text self.now) rs → Rising rs →
+            IsYet result (records_prefixed prefix.items rs) }
     {
         let text = self.as_bytes();
         let start = lower_bound(text, self.kind(), prefix.as_slice());

@@ -3,6 +3,7 @@ ghost use Rattle.gix_ref_packed.specs.WrittenText.{WrittenTextReadsBack, PackedT
 ghost use Rattle.gix_ref_packed.specs.Buffers.{OpenedHoldsRecords};
 ghost use Rattle.gix_ref_packed.specs.OpenFiles.{OpenedFileHoldsRecords};
 ghost use Rattle.gix_ref_packed.specs.RecordsOfText.{RecordsAreComputed, TextsAreRead};
+ghost use Rattle.gix_ref_packed.specs.YetToGive.{NextGivesTheFirst, FaultsAreLines, EndedStaysEnded};
 
 use crate::packed::file::PackedFile;
 use gix_ref_files::files::ReadAt;
@@ -24,4 +25,12 @@ pub fn opened_holds_records<R: ReadAt + Drop>(_file: &PackedFile<R>)
 pub fn records_are_computed()
     ensures computed { RecordsAreComputed }
     ensures read { TextsAreRead }
+{}
+
+/// One call of `next` of an `Iter`: where records are left it gives the first of them; each of its faults is a line, not
+/// a header; and after its end it gives nothing more. For a caller that keeps an `Iter` and takes one item at a time.
+pub fn next_gives_the_first()
+    ensures first { NextGivesTheFirst }
+    ensures lines { FaultsAreLines }
+    ensures ended { EndedStaysEnded }
 {}

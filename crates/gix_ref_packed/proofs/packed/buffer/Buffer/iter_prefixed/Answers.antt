@@ -4,7 +4,7 @@ use Rattle.std.proofs.lemmas.List.{take_rest}
 use Rattle.gix_ref_packed.specs.Items.{line_feeds}
 use Rattle.gix_ref_packed.specs.Buffers.{buffer_text, buffer_kind, buffer_line}
 use Rattle.gix_ref_packed.proofs.ItemRuns.{each_run}
-use Rattle.gix_ref_packed.proofs.PrefixRuns.{prefix_records}
+use Rattle.gix_ref_packed.proofs.PrefixRuns.{prefix_records, prefix_yet}
 use Rattle.gix_ref_packed.proofs.packed.buffer.Buffer.iter_prefixed.Goals as goal
 
 pub returns-clause-items : goal.returns-clause-items
@@ -22,5 +22,13 @@ returns-clause-records c = λ rs h up.
     let text = buffer_text c.args.self.now in
     let start = c.lower_bound-start.result in
     prefix_records _ (buffer_kind c.args.self.now) c.kind.result text c.as_bytes-text.result.now c.args.prefix.items c.as_slice.result.now _ start rs c.kind.ensures c.as_bytes-text.ensures c.as_slice.ensures.value
+    (λ i. record { kind = c.kind-2.ensures i; prefix = Some c.args.prefix.items; number = c.first_line.ensures.line i + line_feeds (take start (c.as_bytes-text.ensures i)); text = (take_rest c.as_bytes-text.result.now start ∙ ap (drop start) c.as_bytes-text.ensures) i })
+    c.lower_bound-start.ensures.splits h up
+
+pub returns-clause-yet : goal.returns-clause-yet
+returns-clause-yet c = λ rs h up.
+    let text = buffer_text c.args.self.now in
+    let start = c.lower_bound-start.result in
+    prefix_yet _ (buffer_kind c.args.self.now) c.kind.result text c.as_bytes-text.result.now c.args.prefix.items c.as_slice.result.now _ start rs c.kind.ensures c.as_bytes-text.ensures c.as_slice.ensures.value
     (λ i. record { kind = c.kind-2.ensures i; prefix = Some c.args.prefix.items; number = c.first_line.ensures.line i + line_feeds (take start (c.as_bytes-text.ensures i)); text = (take_rest c.as_bytes-text.result.now start ∙ ap (drop start) c.as_bytes-text.ensures) i })
     c.lower_bound-start.ensures.splits h up
