@@ -1,2 +1,3 @@
 pub mod FolderWalks
+pub mod OwnLemmas
 pub mod WalkLemmas

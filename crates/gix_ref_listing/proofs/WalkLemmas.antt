@@ -13,6 +13,8 @@ use Rattle.std.proofs.lemmas.List.Elements.{All-cons, All-head, All-tail}
 use Rattle.gix_ref_hash.specs.Bytes.{BeginsWith, NoByte, is_slash}
 use Rattle.std.proofs.lemmas.List.Folds.{list_any-append}
 use Rattle.gix_ref_base.specs.NameGrammar.{IsPartialName, partial_error}
+use Rattle.gix_ref_base.specs.Names.{full_bytes}
+use Rattle.gix_ref_base.specs.declared.name.FullName.{FullName}
 use Rattle.gix_ref_base.proofs.LocationLemmas.{has_slash, no_slash_test, test_no_slash}
 use Rattle.gix_ref_base.proofs.PartialNames.{none_or, IsPath, rules_of, first_component, behind_component}
 use Rattle.std.specs.Prelude.{Vec, slice_index_or}
@@ -128,12 +130,12 @@ same_key a b h = exact_bytes a.items b.items h
 
 -- a folder that could not be listed holds what was found under its key
 holds_more : (name : List ℕ) (key : Vec ℕ Global) (found : Found) (path : Vec ℕ Global) (error : FileError) → Holds name (key, found) → Holds name (key, Unlisted path error)
-holds_more name key (File at) path error is = ([], sym is ∙ sym (append-nil key.items))
+holds_more name key (File n at) path error is = ([], sym is ∙ sym (append-nil key.items))
 holds_more name key (Unlisted at other) path error begins = begins
 
 -- and what was found under a key that is the name holds that name
 holds_key : (name : List ℕ) (key : Vec ℕ Global) (found : Found) → name ≡ key.items → Holds name (key, found)
-holds_key name key (File path) is = sym is
+holds_key name key (File n path) is = sym is
 holds_key name key (Unlisted path error) is = ([], is ∙ sym (append-nil key.items))
 
 module _ (es new : List FoundEntry) (key path : Vec ℕ Global) (error : FileError) (is : new ≡ insert_entry key_cmp es key (Unlisted path error)) where
@@ -150,31 +152,31 @@ module _ (es new : List FoundEntry) (key path : Vec ℕ Global) (error : FileErr
       (all_insert key_cmp (IsThereOr others root view) key (Unlisted path error) es all (inr (other, at)) (λ e same. inr (other, at ∙ ap (λ k. root.path.now ++ k) (same_key key e.0 same))))
 
 -- a file is found, where nothing was found under its name
-module _ (key path : Vec ℕ Global) where
+module _ (key : Vec ℕ Global) (of : FullName) (path : Vec ℕ Global) where
   absent_step : (name : List ℕ) (e : FoundEntry) (es rest : List FoundEntry) (o : Ordering) → is_some (cond (is_eq o) (Some e.1) (lookup (is_at (key_cmp key)) es)) ≡ false →
-      (is_some (lookup (is_at (key_cmp key)) es) ≡ false → Among (Holds name) es → Among (Holds name) rest) → Among (Holds name) (e ∷ es) → Among (Holds name) (match_ordering o ((key, File path) ∷ e ∷ es) ((e.0, File path) ∷ es) (e ∷ rest))
+      (is_some (lookup (is_at (key_cmp key)) es) ≡ false → Among (Holds name) es → Among (Holds name) rest) → Among (Holds name) (e ∷ es) → Among (Holds name) (match_ordering o ((key, File of path) ∷ e ∷ es) ((e.0, File of path) ∷ es) (e ∷ rest))
   absent_step name e es rest Less absent later had = inr had
   absent_step name e es rest Equal absent later had = absurd (cc)
   absent_step name e es rest Greater absent later had = ⊎_elim (λ here. inl here) (λ there. inr (later absent there)) had
 
-  absent_stays : (name : List ℕ) (es : List FoundEntry) → is_some (lookup (is_at (key_cmp key)) es) ≡ false → Among (Holds name) es → Among (Holds name) (insert_entry key_cmp es key (File path))
+  absent_stays : (name : List ℕ) (es : List FoundEntry) → is_some (lookup (is_at (key_cmp key)) es) ≡ false → Among (Holds name) es → Among (Holds name) (insert_entry key_cmp es key (File of path))
   absent_stays name [] absent had = absurd had
-  absent_stays name (e ∷ es) absent had = absent_step name e es (insert_entry key_cmp es key (File path)) (key_cmp key e.0) absent (absent_stays name es) had
+  absent_stays name (e ∷ es) absent had = absent_step name e es (insert_entry key_cmp es key (File of path)) (key_cmp key e.0) absent (absent_stays name es) had
 
-  module _ (es new : List FoundEntry) (is : new ≡ insert_entry key_cmp es key (File path)) where
+  module _ (es new : List FoundEntry) (is : new ≡ insert_entry key_cmp es key (File of path)) where
     pub file_stays : is_some (lookup (is_at (key_cmp key)) es) ≡ false → StaysFound es new
     file_stays absent name had = subst (Among (Holds name)) (sym is) (absent_stays name es absent had)
 
     pub file_holds : Among (Holds key.items) new
-    file_holds = subst (Among (Holds key.items)) (sym is) (inserted key_cmp (Holds key.items) key (File path) es refl (λ e same. sym (same_key key e.0 same)))
+    file_holds = subst (Among (Holds key.items)) (sym is) (inserted key_cmp (Holds key.items) key (File of path) es refl (λ e same. sym (same_key key e.0 same)))
 
-    pub file_there : (others : List FoundEntry) (root : Root) (view : View) → All (IsThereOr others root view) es → IsFileOfName root view key.items path.items → All (IsThereOr others root view) new
-    file_there others root view all there =
+    pub file_there : (others : List FoundEntry) (root : Root) (view : View) → All (IsThereOr others root view) es → full_bytes of ≡ key.items → IsFileOfName root view key.items path.items → All (IsThereOr others root view) new
+    file_there others root view all named there =
         subst (All (IsThereOr others root view)) (sym is)
-        (all_insert key_cmp (IsThereOr others root view) key (File path) es all (inr there) (λ e same. inr (subst (λ k. IsFileOfName root view k path.items) (same_key key e.0 same) there)))
+        (all_insert key_cmp (IsThereOr others root view) key (File of path) es all (inr (named, there)) (λ e same. let k = same_key key e.0 same in inr (named ∙ k, subst (λ n. IsFileOfName root view n path.items) k there)))
 
     pub file_is_file : All IsFile es → All IsFile new
-    file_is_file all = subst (All IsFile) (sym is) (all_insert key_cmp IsFile key (File path) es all _ (λ e same. _))
+    file_is_file all = subst (All IsFile) (sym is) (all_insert key_cmp IsFile key (File of path) es all _ (λ e same. _))
 
 -- and where something was found there, the name is held
 pub known_holds : (es : List FoundEntry) (key : Vec ℕ Global) → is_some (lookup (is_at (key_cmp key)) es) ≡ true → Among (Holds key.items) es

@@ -1,1 +1,2 @@
+pub mod OwnRecords
 pub mod Walks

@@ -3,6 +3,7 @@ use Rattle.std.specs.Prelude.{◌≡◌, ◌≢◌, ◌⊎◌, ℕ, List, [], �
 use Rattle.std.specs.declared.alloc.Global.{Global}
 use Rattle.gix_ref_hash.specs.Bytes.{BeginsWith, NoByte}
 use Rattle.gix_ref_base.specs.NameGrammar.{IsPartialName}
+use Rattle.gix_ref_base.specs.Names.{full_bytes}
 use Rattle.gix_ref_files.specs.declared.files.Entry.{Entry as ListedEntry}
 use Rattle.gix_ref_files.specs.declared.files.FileError.TheVariants as faulty
 use Rattle.gix_ref_theory.specs.Views.{View}
@@ -48,12 +49,12 @@ FoundEntry = Vec ℕ Global × Found
 
 -- the name was found, or it is in a folder that could not be listed
 abbrev pub Holds : List ℕ → FoundEntry → Type 0
-Holds name (key, File path) = key.items ≡ name
+Holds name (key, File n path) = key.items ≡ name
 Holds name (key, Unlisted path error) = BeginsWith name key.items
 
 -- what was found is there; want of memory is no reason for a folder
 abbrev pub IsThere : Root → View → FoundEntry → Type 0
-IsThere root view (key, File path) = IsFileOfName root view key.items path.items
+IsThere root view (key, File name path) = (full_bytes name ≡ key.items) × IsFileOfName root view key.items path.items
 IsThere root view (key, Unlisted path error) = (error ≢ faulty.Memory) × (path.items ++ 47 ∷ [] ≡ root.path.now ++ key.items)
 
 -- it is one of these, or it is there
@@ -62,7 +63,7 @@ IsThereOr others root view e = Among (λ o. o ≡ e) others ⊎ IsThere root vie
 
 -- it is a file
 abbrev pub IsFile : FoundEntry → Type 0
-IsFile (key, File path) = Unit {0}
+IsFile (key, File name path) = Unit {0}
 IsFile (key, Unlisted path error) = ⊥
 
 -- an entry of a folder is there, if it is a file

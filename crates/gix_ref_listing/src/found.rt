@@ -1,14 +1,15 @@
 //! What a walk found.
 ghost use Rattle.std.specs.Prelude.{◌≡◌};
 
+use gix_ref_base::name::FullName;
 use gix_ref_files::files::FileError;
 use std::collections::BTreeMap;
 
 /// What a walk found under a key.
 #[derive(Debug, Drop)]
 pub enum Found {
-    /// The file at this path, whose name is the key.
-    File(Vec<u8>),
+    /// The file of a name, at this path. The key is the bytes of the name.
+    File { name: FullName, path: Vec<u8> },
     /// The folder at this path, which could not be listed. The key is the front, with its last slash, that the names below the
     /// folder have.
     Unlisted { path: Vec<u8>, source: FileError },

@@ -3,4 +3,5 @@
 #![tactic(auto)]
 
 pub mod found;
+pub mod own_records;
 pub mod walk;

@@ -4,6 +4,7 @@ ghost use Rattle.std.specs.declared.alloc.Global.{Global};
 ghost use Rattle.std.specs.List.{All};
 ghost use Rattle.gix_ref_hash.specs.Bytes.{BeginsWith, NoByte};
 ghost use Rattle.gix_ref_base.specs.NameGrammar.{IsPartialName};
+ghost use Rattle.gix_ref_base.specs.Names.{full_bytes, full_ref_bytes};
 ghost use Rattle.gix_ref_files.specs.Files.{Leaves, HasRisen};
 ghost use Rattle.gix_ref_files.specs.Calls.{Unchanged, IsListing};
 ghost use Rattle.gix_ref_files.specs.declared.files.FileError.TheVariants.{Memory};
@@ -13,7 +14,7 @@ ghost use Rattle.gix_ref_lookup.specs.Lookups.{name_asked};
 ghost use Rattle.gix_ref_listing.specs.Walks.{FoundEntry, IsListedName, IsThereOr, IsOwnName, IsLooseName, Among, Holds, IsThere, IsFile, IsFileOf, IsTaken, StaysFound, IsFolderPath, IsBelow, IsRootPath, Reaches};
 
 use crate::found::{Found, FoundByKey};
-use gix_ref_base::name::{FullNameRef, PartialNameRef};
+use gix_ref_base::name::{FullName, FullNameRef, PartialNameRef};
 use gix_ref_files::files::{Entry, FileError, Files};
 use gix_ref_hash::bytes::{begins_with, cut_last, strip_front};
 use gix_ref_lookup::find::composed::composed_name;
@@ -65,22 +66,27 @@ fn name_on_disk(
     alloc: Global,
     composes: bool,
     disk: &[u8],
-) -> Result<Option<Vec<u8>>, AllocError>
+) -> Result<Option<FullName>, AllocError>
     ensures { IfOk result (λ r. MatchOption r (IsPartialName disk.now → ⊥)
-        (λ name. name.items ≡ name_asked composes disk.now)) }
+        (λ name. full_bytes name ≡ name_asked composes disk.now)) }
 {
-    let Ok(name) = PartialNameRef::try_from(disk) else {
+    let Ok(partial) = PartialNameRef::try_from(disk) else {
         return Ok(None);
     };
-    match composed_name(alloc, composes, name)? {
-        Some(composed) => Ok(Some(composed.as_ref().to_partial_path().to_vec(alloc)?)),
-        None => Ok(Some(disk.to_vec(alloc)?)),
+    let composed = composed_name(alloc, composes, partial)?;
+    let name = match &composed {
+        Some(composed) => FullNameRef::from_path(composed.as_ref().to_partial_path()),
+        None => FullNameRef::from_path(disk),
+    };
+    match name {
+        Some(name) => Ok(Some(name.to_owned(alloc)?)),
+        None => Ok(None),
     }
 }
 
 /// The file of a name.
 struct OwnFile {
-    name: Vec<u8>,
+    name: FullName,
     path: Vec<u8>,
 }
 
@@ -144,32 +150,28 @@ fn keep_unlisted(
 }
 
 impl Root<'_> {
-    /// Whether a name is to be listed where a file is there: it is valid, has the prefix, and its own place is in this
-    /// folder.
-    fn is_own(self, alloc: Global, name: &[u8]) -> Result<bool, AllocError>
-        ensures { IfOk result (λ own. IsTrue own ↔ IsOwnName self.entry name.now) }
+    /// Whether a name is to be listed where a file is there: it has the prefix, and its own place is in this folder.
+    fn is_own(self, alloc: Global, name: FullNameRef<'_>) -> Result<bool, AllocError>
+        ensures { IfOk result (λ own. IsTrue own ↔ IsOwnName self.entry (full_ref_bytes name.entry)) }
     {
-        if !begins_with(name, self.prefix) {
+        if !begins_with(name.to_path(), self.prefix) {
             return Ok(false);
         }
-        let Some(listed) = FullNameRef::from_path(name) else {
-            return Ok(false);
-        };
-        let place = self.settings.place(alloc, listed)?;
-        Ok(is_joined(&place, self.path, name))
+        let place = self.settings.place(alloc, name)?;
+        Ok(is_joined(&place, self.path, name.to_path()))
     }
 
     /// The name and the path of a file with this name on disk, where it is the file of a name.
     fn own_file(self, alloc: Global, disk: &[u8]) -> Result<Option<OwnFile>, AllocError>
         ensures { IfOk result (λ r. MatchOption r (IsListedName self.entry disk.now → ⊥)
-            (λ own. IsOwnName self.entry own.name.items
-            × (own.name.items ≡ name_asked self.entry.settings.precompose_unicode disk.now)
+            (λ own. IsOwnName self.entry (full_bytes own.name)
+            × (full_bytes own.name ≡ name_asked self.entry.settings.precompose_unicode disk.now)
             × (own.path.items ≡ self.entry.path.now ++ disk.now))) }
     {
         let Some(name) = name_on_disk(alloc, self.settings.precompose_unicode, disk)? else {
             return Ok(None);
         };
-        if !self.is_own(alloc, &name)? {
+        if !self.is_own(alloc, name.as_ref())? {
             return Ok(None);
         }
         let path = joined(alloc, self.path, disk)?;
@@ -195,8 +197,9 @@ impl Root<'_> {
         let Some(OwnFile { name, path }) = self.own_file(alloc, disk)? else {
             return Ok(());
         };
-        if !found.contains_key(&name) {
-            found.insert(name, Found::File(path))?;
+        let key = name.to_path().to_vec(alloc)?;
+        if !found.contains_key(&key) {
+            found.insert(key, Found::File { name, path })?;
         }
         Ok(())
     }

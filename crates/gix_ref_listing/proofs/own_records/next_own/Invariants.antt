@@ -1,0 +1,15 @@
+use Rattle.std.proofs.Common.{List, ◌≡◌, ◌≤◌}
+use Rattle.gix_ref_base.specs.PackedRecords.{Record}
+use Rattle.gix_ref_packed.specs.YetToGive.{IsYet}
+use Rattle.gix_ref_listing.specs.OwnRecords.{own_records, records_left}
+use Rattle.gix_ref_listing.proofs.own_records.next_own.Given as goal
+
+abbrev pub decreases-loop-item : goal.decreases-loop-item
+decreases-loop-item l = records_left l.records
+
+-- the records that were passed over are none that a listing gives
+abbrev pub invariant-loop-item : goal.invariant-loop-item
+invariant-loop-item l = record {
+  yet : (rs : List Record) → IsYet l.fn.records rs → (more : List Record) × (own_records l.settings rs ≡ own_records l.settings more) × IsYet l.records more;
+  less : records_left l.records ≤ records_left l.fn.records;
+}

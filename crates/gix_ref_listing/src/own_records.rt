@@ -1,0 +1,157 @@
+//! The records of `packed-refs` that a listing gives, with their names.
+ghost use Rattle.std.specs.Prelude.{◌≡◌, ◌≤◌, ◌+◌, ◌++◌, ℕ, List, MatchOption};
+ghost use Rattle.std.specs.Option.{option_map, option_len};
+ghost use Rattle.gix_ref_base.specs.Names.{full_ref_bytes};
+ghost use Rattle.gix_ref_base.specs.NameGrammar.{IsPartialName};
+ghost use Rattle.gix_ref_base.specs.PackedRecords.{Record};
+ghost use Rattle.gix_ref_lookup.specs.StoreLayout.{namespace_text};
+ghost use Rattle.gix_ref_packed.specs.YetToGive.{IsYet};
+ghost use Rattle.gix_ref_lookup.specs.Lookups.{meaning_in};
+ghost use Rattle.gix_ref_listing.specs.OwnRecords.{is_key, own_name, own_records, records_left, GivesOwn};
+
+use gix_ref_base::layout::packed_key;
+use gix_ref_base::name::FullNameRef;
+use gix_ref_base::namespace::Namespace;
+use gix_ref_hash::bytes::strip_front;
+use gix_ref_lookup::settings::Settings;
+use gix_ref_packed::packed::iter::{Error, Iter};
+use gix_ref_packed::packed::Reference;
+
+/// A record that a listing gives.
+#[derive(Clone, Copy, Debug)]
+pub struct OwnRecord<'p> {
+    /// The name: that of the record less the namespace.
+    pub name: FullNameRef<'p>,
+    /// The record in `packed-refs`.
+    pub record: Reference<'p>,
+}
+
+/// What follows the namespace, if there is one, in a key.
+fn behind_namespace<'a>(namespace: &Option<Namespace>, key: &'a [u8]) -> Option<&'a [u8]>
+    ensures { MatchOption result
+        ((rest : List ℕ) → key.now ≡ namespace_text namespace.now ++ rest → ⊥)
+        (λ rest. key.now ≡ namespace_text namespace.now ++ rest.now) }
+{
+    match namespace {
+        Some(namespace) => strip_front(key, namespace.to_path()),
+        None => Some(key),
+    }
+}
+
+/// Whether `packed-refs` is asked for this key where it is asked for the name.
+fn has_key(settings: Settings<'_>, name: FullNameRef<'_>, key: &[u8]) -> bool
+    ensures { result ≡ is_key ((meaning_in settings.entry).key (full_ref_bytes name.entry)) key.now }
+{
+    let Some(own) = packed_key(name) else {
+        return false;
+    };
+    match behind_namespace(settings.namespace, key) {
+        Some(rest) => own == rest,
+        None => false,
+    }
+}
+
+/// The name inside of the namespace, if there is one.
+fn inside_namespace<'a>(
+    namespace: &Option<Namespace>,
+    key: FullNameRef<'a>,
+) -> Option<FullNameRef<'a>>
+    ensures { MatchOption result
+        ((rest : List ℕ) → IsPartialName rest →
+        full_ref_bytes key.entry ≡ namespace_text namespace.now ++ rest → ⊥)
+        (λ name. full_ref_bytes key.entry ≡ namespace_text namespace.now ++ full_ref_bytes name) }
+{
+    match namespace {
+        Some(namespace) => key.without_namespace(namespace),
+        None => Some(key),
+    }
+}
+
+/// The name that has this key, where the key is the namespace and the name.
+fn name_of_key<'a>(settings: Settings<'_>, key: FullNameRef<'a>) -> Option<FullNameRef<'a>>
+    ensures { option_map (λ name. full_ref_bytes name) result
+        ≡ own_name settings.entry (full_ref_bytes key.entry) }
+{
+    let Some(name) = inside_namespace(settings.namespace, key) else {
+        return None;
+    };
+    if has_key(settings, name, key.to_path()) {
+        Some(name)
+    } else {
+        None
+    }
+}
+
+/// The next record that a listing gives, or the next line that is no record.
+fn next_own<'p>(
+    settings: Settings<'_>,
+    records: &mut Iter<'p>,
+) -> Option<Result<OwnRecord<'p>, Error<'p>>>
+    ensures gives { (rs : List Record) → IsYet records.old rs →
+        GivesOwn settings.entry rs result records.new }
+    ensures left { option_len result + records_left records.new ≤ records_left records.old }
+{
+    while let Some(item) = records.next() {
+        let record = match item {
+            Ok(record) => record,
+            Err(error) => return Some(Err(error)),
+        };
+        if let Some(name) = name_of_key(settings, record.name) {
+            return Some(Ok(OwnRecord { name, record }));
+        }
+    }
+    None
+}
+
+/// The records that a listing gives, one after the other. The first is read ahead.
+pub struct OwnRecords<'p> {
+    pub(crate) settings: Settings<'p>,
+    pub(crate) records: Option<Iter<'p>>,
+    pub(crate) first: Option<Result<OwnRecord<'p>, Error<'p>>>,
+}
+
+impl<'p> OwnRecords<'p> {
+    ghost use Rattle.std.specs.Prelude.{◌≡◌, ◌≤◌, ◌+◌, [], List};
+    ghost use Rattle.std.specs.Option.{option_len};
+    ghost use Rattle.gix_ref_base.specs.PackedRecords.{Record};
+    ghost use Rattle.gix_ref_listing.specs.OwnRecords.{own_records, Own, YetOf, AreAhead, TakesOwn, ahead_left, left_of};
+
+    /// Those of the records that the iterator is yet to give, if there is one.
+    pub fn of(settings: Settings<'p>, records: Option<Iter<'p>>) -> OwnRecords<'p>
+        ensures { (rs : List Record) → YetOf records.entry rs →
+            AreAhead result (own_records settings.entry rs) }
+    {
+        let mut own = OwnRecords {
+            settings,
+            records,
+            first: None,
+        };
+        own.load();
+        own
+    }
+
+    /// Reads the next one ahead.
+    fn load(&mut self)
+        ensures ahead { (rs : List Record) → YetOf self.old.records rs →
+            AreAhead self.new (own_records self.old.settings rs) }
+        ensures left { ahead_left self.new ≤ left_of self.old.records }
+    {
+        self.first = match &mut self.records {
+            Some(records) => next_own(self.settings, records),
+            None => None,
+        };
+    }
+
+    /// The next one, or the next line that is no record.
+    pub fn take(&mut self) -> Option<Result<OwnRecord<'p>, Error<'p>>>
+        ensures takes { (owns : List Own) → AreAhead self.old owns →
+            TakesOwn owns result self.new }
+        ensures left { option_len result + ahead_left self.new ≤ ahead_left self.old }
+    {
+        let Some(first) = self.first else {
+            return None;
+        };
+        self.load();
+        Some(first)
+    }
+}
