@@ -1,3 +1,4 @@
 pub mod FolderWalks
+pub mod MergeLemmas
 pub mod OwnLemmas
 pub mod WalkLemmas

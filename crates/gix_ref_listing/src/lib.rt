@@ -3,5 +3,6 @@
 #![tactic(auto)]
 
 pub mod found;
+pub mod merge;
 pub mod own_records;
 pub mod walk;

@@ -1,0 +1,72 @@
+//! What a walk found and the records of `packed-refs`, in the order of their names.
+ghost use Rattle.std.specs.Prelude.{◌≡◌};
+
+use crate::found::{Found, FoundByKey};
+use crate::own_records::{OwnRecord, OwnRecords};
+use gix_ref_packed::packed::iter::Error;
+use std::cmp::Ordering;
+
+/// The next of a listing.
+pub enum Taken<'p> {
+    /// What a walk found.
+    Walked(Found),
+    /// A record of `packed-refs`, or a line that is none.
+    Packed(Result<OwnRecord<'p>, Error<'p>>),
+}
+
+/// What a walk found and the records of `packed-refs`, by ascending names. Where a name has both, the record is passed over.
+pub struct Merge<'p> {
+    pub(crate) found: FoundByKey,
+    pub(crate) packed: OwnRecords<'p>,
+}
+
+impl<'p> Merge<'p> {
+    ghost use Rattle.std.specs.Prelude.{◌≡◌, ◌≤◌, ◌+◌, List};
+    ghost use Rattle.std.specs.Option.{option_len};
+    ghost use Rattle.gix_ref_listing.specs.OwnRecords.{Own, AreAhead};
+    ghost use Rattle.gix_ref_listing.specs.Listings.{merged, order_of, TakesFirst, TakesListed, merge_left};
+
+    /// Whether what was found comes before the next record, is of the same name, or comes after it.
+    fn order(&self) -> Ordering
+        ensures { result ≡ order_of self.now.found.entries self.now.packed.first }
+    {
+        let Some((key, _)) = self.found.first_key_value() else {
+            return Ordering::Greater;
+        };
+        match &self.packed.first {
+            Some(Ok(own)) => key.as_slice().cmp(own.name.to_path()),
+            Some(Err(_)) => Ordering::Greater,
+            None => Ordering::Less,
+        }
+    }
+
+    /// Takes the first that was found.
+    fn take_found(&mut self) -> Option<Taken<'p>>
+        ensures takes { TakesFirst self.old.found.entries result self.new.found.entries }
+        ensures packed { self.new.packed ≡ self.old.packed }
+    {
+        match self.found.pop_first() {
+            Some((_, found)) => Some(Taken::Walked(found)),
+            None => None,
+        }
+    }
+
+    /// The next of the listing.
+    pub fn take(&mut self) -> Option<Taken<'p>>
+        ensures takes { (owns : List Own) → AreAhead self.old.packed owns →
+            TakesListed (merged self.old.found.entries owns) result self.new }
+        ensures left { option_len result + merge_left self.new ≤ merge_left self.old }
+    {
+        match self.order() {
+            Ordering::Less => self.take_found(),
+            Ordering::Equal => {
+                self.packed.take();
+                self.take_found()
+            }
+            Ordering::Greater => match self.packed.take() {
+                Some(item) => Some(Taken::Packed(item)),
+                None => None,
+            },
+        }
+    }
+}
