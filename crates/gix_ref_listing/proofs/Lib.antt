@@ -1,4 +1,5 @@
 pub mod FolderWalks
+pub mod ItemLemmas
 pub mod MergeLemmas
 pub mod OwnLemmas
 pub mod WalkLemmas

@@ -61,3 +61,8 @@ equal_takes old mid new item (Some (taking.Packed other)) owns order took kept t
 equal_takes old mid new item (Some (taking.Walked one)) owns order took kept (e, is_one, is) same ahead =
     let step = equal_is old.packed.settings old.found.entries new.found.entries e old.packed.first item old.packed.records mid.packed owns (ap (λ f. f.entries) (sym kept) ∙ is) order ahead took in
     (e, is_one, step.0, subst (λ (p : OwnRecords). AreAhead p step.0) (sym same) step.1, step.2)
+
+-- what comes after all that was found, where no record is left
+pub none_left : (es : List FoundEntry) (first : Option (Result OwnRecord Error)) → order_of es first ≡ Greater → first ≡ None → es ≡ []
+none_left [] first order none = refl
+none_left (e ∷ es) first order none = let bad : Less ≡ Greater = sym (ap (order_of (e ∷ es)) none) ∙ order in absurd (cc)

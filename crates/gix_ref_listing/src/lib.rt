@@ -2,7 +2,10 @@
 //! (`git for-each-ref`).
 #![tactic(auto)]
 
+pub mod error;
 pub mod found;
+mod item;
+pub mod iter;
 pub mod merge;
 pub mod own_records;
 pub mod walk;

@@ -7,6 +7,7 @@ use gix_ref_packed::packed::iter::Error;
 use std::cmp::Ordering;
 
 /// The next of a listing.
+#[derive(Drop)]
 pub enum Taken<'p> {
     /// What a walk found.
     Walked(Found),
@@ -15,16 +16,18 @@ pub enum Taken<'p> {
 }
 
 /// What a walk found and the records of `packed-refs`, by ascending names. Where a name has both, the record is passed over.
+#[derive(Drop)]
 pub struct Merge<'p> {
     pub(crate) found: FoundByKey,
     pub(crate) packed: OwnRecords<'p>,
 }
 
 impl<'p> Merge<'p> {
-    ghost use Rattle.std.specs.Prelude.{◌≡◌, ◌≤◌, ◌+◌, List};
+    ghost use Rattle.std.specs.Prelude.{◌≡◌, ◌≤◌, ◌+◌, List, IfNone, None};
     ghost use Rattle.std.specs.Option.{option_len};
     ghost use Rattle.gix_ref_listing.specs.OwnRecords.{Own, AreAhead};
     ghost use Rattle.gix_ref_listing.specs.Listings.{merged, order_of, TakesFirst, TakesListed, merge_left};
+    ghost use Rattle.gix_ref_listing.specs.Steps.{IsDrained};
 
     /// Whether what was found comes before the next record, is of the same name, or comes after it.
     fn order(&self) -> Ordering
@@ -56,6 +59,8 @@ impl<'p> Merge<'p> {
         ensures takes { (owns : List Own) → AreAhead self.old.packed owns →
             TakesListed (merged self.old.found.entries owns) result self.new }
         ensures left { option_len result + merge_left self.new ≤ merge_left self.old }
+        ensures ends { IfNone result (IsDrained self.new) }
+        ensures stays_ended { IsDrained self.old → result ≡ None }
     {
         match self.order() {
             Ordering::Less => self.take_found(),

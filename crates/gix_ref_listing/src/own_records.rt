@@ -104,6 +104,7 @@ fn next_own<'p>(
 }
 
 /// The records that a listing gives, one after the other. The first is read ahead.
+#[derive(Drop)]
 pub struct OwnRecords<'p> {
     pub(crate) settings: Settings<'p>,
     pub(crate) records: Option<Iter<'p>>,
@@ -111,7 +112,7 @@ pub struct OwnRecords<'p> {
 }
 
 impl<'p> OwnRecords<'p> {
-    ghost use Rattle.std.specs.Prelude.{◌≡◌, ◌≤◌, ◌+◌, [], List};
+    ghost use Rattle.std.specs.Prelude.{◌≡◌, ◌≤◌, ◌+◌, List, IfNone, None};
     ghost use Rattle.std.specs.Option.{option_len};
     ghost use Rattle.gix_ref_base.specs.PackedRecords.{Record};
     ghost use Rattle.gix_ref_listing.specs.OwnRecords.{own_records, Own, YetOf, AreAhead, TakesOwn, ahead_left, left_of};
@@ -147,6 +148,9 @@ impl<'p> OwnRecords<'p> {
         ensures takes { (owns : List Own) → AreAhead self.old owns →
             TakesOwn owns result self.new }
         ensures left { option_len result + ahead_left self.new ≤ ahead_left self.old }
+        ensures was { IfNone result (self.old.first ≡ None) }
+        ensures ends { IfNone result (self.new.first ≡ None) }
+        ensures stays_ended { self.old.first ≡ None → result ≡ None }
     {
         let Some(first) = self.first else {
             return None;

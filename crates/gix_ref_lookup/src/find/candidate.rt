@@ -1,5 +1,5 @@
 //! One candidate of a lookup: its loose file, or else its record in `packed-refs`.
-ghost use Rattle.std.specs.Prelude.{◌≡◌, ◌⊎◌, false, ℕ, List, Option, None, IfOk, IfErr, IfSome, OnOk};
+ghost use Rattle.std.specs.Prelude.{◌≡◌, ◌≤◌, ◌⊎◌, false, ℕ, List, Option, None, IfOk, IfErr, IfSome, OnOk};
 ghost use Rattle.gix_ref_hash.specs.declared.hash.Kind.{Kind};
 ghost use Rattle.gix_ref_base.specs.Names.{full_bytes, full_ref_bytes};
 ghost use Rattle.gix_ref_base.specs.Namespaces.{stripped};
@@ -43,6 +43,7 @@ pub fn read_at<F: Files>(
     ensures failed { IfErr result (IsNotReadAt F.honest settings.entry.kind
         (meaning_in settings.entry) (view_of (F.means files.old).tree) (F.faults files.old)
         (F.faults files.new) (full_ref_bytes name.entry) path.items) }
+    ensures rises { F.faults files.old ≤ F.faults files.new }
     ensures no_fault { OnOk result (F.faults files.new ≡ F.faults files.old) }
     ensures leaves { F.honest → Leaves (F.means files.old) (F.means files.new)
         (Unchanged (F.means files.old).tree) }

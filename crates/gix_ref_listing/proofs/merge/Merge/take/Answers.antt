@@ -1,5 +1,5 @@
 use Rattle.std.proofs.Common.{refl, sym, ◌∙◌, ap}
-use Rattle.gix_ref_listing.proofs.MergeLemmas.{less_takes, equal_takes}
+use Rattle.gix_ref_listing.proofs.MergeLemmas.{less_takes, equal_takes, none_left}
 use Rattle.gix_ref_listing.proofs.merge.Merge.take.Goals as goal
 
 pub returns-in-Less-clause-takes : goal.returns-in-Less-clause-takes
@@ -10,3 +10,6 @@ pub returns-in-Equal-clause-takes : goal.returns-in-Equal-clause-takes
 returns-in-Equal-clause-takes c owns ahead =
     equal_takes c.args.self.now record { found = c.args.self.now.found; packed = c.take.new.self } c.take_found-in-Equal.new.self c.take.result c.take_found-in-Equal.result owns (sym c.order.ensures ∙ c.in-Equal.is)
     (c.take.ensures.takes owns ahead) refl c.take_found-in-Equal.ensures.takes c.take_found-in-Equal.ensures.packed ahead
+
+pub returns-in-None-clause-ends : goal.returns-in-None-clause-ends
+returns-in-None-clause-ends c = (none_left c.args.self.now.found.entries c.args.self.now.packed.first (sym c.order.ensures ∙ c.in-Greater.is) c.in-None.ensures.was, c.in-None.ensures.ends)

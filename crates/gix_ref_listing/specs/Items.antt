@@ -1,0 +1,95 @@
+-- The items of a listing: a reference for each name, or why it has none.
+use Rattle.std.specs.Prelude.{◌≡◌, ◌≢◌, ◌⊎◌, ◌≤◌, ℕ, List, [], ◌∷◌, Option, Some, None, Result, Ok, Err, true, false}
+use Rattle.gix_ref_hash.specs.declared.hash.Kind.{Kind}
+use Rattle.gix_ref_base.specs.Names.{full_bytes}
+use Rattle.gix_ref_base.specs.Targets.{target_value}
+use Rattle.gix_ref_files.specs.Files.{Meaning, Leaves, HasRisen}
+use Rattle.gix_ref_files.specs.Calls.{Unchanged}
+use Rattle.gix_ref_files.specs.declared.files.FileError.TheVariants.{Device, Memory as no_memory}
+use Rattle.std.specs.declared.io.ErrorKind.TheVariants.{NotFound}
+use Rattle.gix_ref_theory.specs.OnRealTrees.{view_of}
+use Rattle.gix_ref_theory.specs.Readings.{Store, reading_of_record}
+use Rattle.gix_ref_theory.specs.Readings.Reading.{Is}
+use Rattle.gix_ref_theory.specs.Lookups.{peeled_of}
+use Rattle.gix_ref_theory.specs.Views.{View}
+use Rattle.gix_ref_packed.specs.declared.packed.iter.error.Error.{Error as LineError}
+use Rattle.gix_ref_packed.specs.declared.packed.iter.error.Error.TheVariants.{Header as bad_header, Reference as bad_line}
+use Rattle.gix_ref_packed.specs.declared.raw.Reference.{Reference}
+use Rattle.gix_ref_lookup.specs.LooseFiles.{IsUndecodable}
+use Rattle.gix_ref_lookup.specs.Lookups.{meaning_in, IsLooseTarget}
+use Rattle.gix_ref_lookup.specs.declared.settings.Settings.{Settings}
+use Rattle.gix_ref_lookup.specs.declared.find.error.ReadError.TheVariants.{File as file_error, DeviceName}
+use Rattle.gix_ref_lookup.specs.declared.find.error.Error.{Error as LookupError}
+use Rattle.gix_ref_lookup.specs.declared.find.error.Error.TheVariants as looking
+use Rattle.gix_ref_listing.specs.OwnRecords.{Own, own_of}
+use Rattle.gix_ref_listing.specs.Listings.{Listed}
+use Rattle.gix_ref_listing.specs.Listings.Listed.{Walked, InPacked}
+use Rattle.gix_ref_listing.specs.declared.found.Found.{Found}
+use Rattle.gix_ref_listing.specs.declared.found.Found.TheVariants.{File, Unlisted}
+use Rattle.gix_ref_listing.specs.declared.merge.Taken.{Taken}
+use Rattle.gix_ref_listing.specs.declared.merge.Taken.TheVariants as taking
+use Rattle.gix_ref_listing.specs.declared.error.Error.{Error}
+use Rattle.gix_ref_listing.specs.declared.error.Error.TheVariants.{Traversal, ReadFileContents, ReferenceCreation, PackedReference, Memory}
+
+-- the fault of an item where its file was not read for this reason
+abbrev pub of_reading : LookupError → Error
+of_reading (looking.ReadFileContents source path) = ReadFileContents source path
+of_reading (looking.ReferenceCreation source path) = ReferenceCreation source path
+of_reading (looking.RefnameValidation error) = Memory
+of_reading (looking.PackedRef error) = Memory
+of_reading (looking.PackedOpen error) = Memory
+of_reading looking.Memory = Memory
+
+-- the fault of a line that is no record; or there was no memory for it
+abbrev pub IsOfLine : LineError → Error → Type 0
+IsOfLine (bad_line line number) (PackedReference text n) = (text.items ≡ line.now) × (n ≡ number)
+IsOfLine (bad_header line) (PackedReference text n) = (text.items ≡ line.now) × (n ≡ 1)
+IsOfLine line Memory = Unit {0}
+IsOfLine line other = ⊥
+
+-- the fault of a file at this place that was removed since it was found
+abbrev pub IsGone : List ℕ → Error → Type 0
+IsGone place (ReadFileContents source path) = (source ≡ file_error (Device NotFound)) × (path.items ≡ place)
+IsGone place Memory = Unit {0}
+IsGone place other = ⊥
+
+-- Why the file of a name gives no target: it could not be read, only where the count of faults rose, or it is gone, which it
+-- is not in files that keep their meaning; its path has the name of a device, and the store prohibits these; it holds none, with the
+-- reason; no memory.
+abbrev pub IsUnread : (honest : Type 0) → Kind → Store → View → (before now : ℕ) → (name path : List ℕ) → Error → Type 0
+IsUnread honest kind s view before now name at (ReadFileContents (file_error source) path) =
+    (HasRisen before now × (source ≢ no_memory) × (path.items ≡ at))
+    ⊎ ((honest → view at ≡ None) × (source ≡ Device NotFound) × (path.items ≡ s.place name))
+IsUnread honest kind s view before now name at (ReadFileContents DeviceName path) = (s.is_prohibited at ≡ true) × (path.items ≡ at)
+IsUnread honest kind s view before now name at (ReferenceCreation source path) = (path.items ≡ name) × (honest → IsUndecodable kind (view at) source)
+IsUnread honest kind s view before now name at Memory = Unit {0}
+IsUnread honest kind s view before now name at other = ⊥
+
+-- What was found as an item: a file of a name as its target, or why it has none; a folder that could not be listed as that
+-- fault.
+abbrev pub IsFoundItem : (honest : Type 0) → Settings → View → (before now : ℕ) → Found → Result Reference Error → Type 0
+IsFoundItem honest settings view before now (File name path) (Ok r) =
+    (r.name ≡ name) × (honest → IsLooseTarget (meaning_in settings) (view path.items) (Some r.target)) × (r.peeled ≡ None)
+    × ((meaning_in settings).is_prohibited path.items ≡ false)
+IsFoundItem honest settings view before now (File name path) (Err error) =
+    IsUnread honest settings.kind (meaning_in settings) view before now (full_bytes name) path.items error
+IsFoundItem honest settings view before now (Unlisted path source) (Ok r) = ⊥
+IsFoundItem honest settings view before now (Unlisted path source) (Err error) = error ≡ Traversal source path
+
+-- a record as an item: its name, its id, and the id at which its tag ends
+abbrev pub IsRecordItem : Own → Result Reference Error → Type 0
+IsRecordItem own (Ok r) =
+    (full_bytes r.name ≡ own.name) × (reading_of_record (Some own.of) ≡ Is (target_value r.target)) × (r.peeled ≡ peeled_of (Some own.of))
+IsRecordItem own (Err error) = error ≡ Memory
+
+-- one of a listing as an item
+abbrev pub IsItem : (honest : Type 0) → Settings → View → (before now : ℕ) → Listed → Result Reference Error → Type 0
+IsItem honest settings view before now (Walked e) item = IsFoundItem honest settings view before now e.1 item
+IsItem honest settings view before now (InPacked own) item = IsRecordItem own item
+
+-- what was taken as an item
+abbrev pub IsTakenItem : (honest : Type 0) → Settings → View → (before now : ℕ) → Taken → Result Reference Error → Type 0
+IsTakenItem honest settings view before now (taking.Walked found) item = IsFoundItem honest settings view before now found item
+IsTakenItem honest settings view before now (taking.Packed (Ok own)) item = IsRecordItem (own_of own) item
+IsTakenItem honest settings view before now (taking.Packed (Err error)) (Ok r) = ⊥
+IsTakenItem honest settings view before now (taking.Packed (Err line)) (Err error) = IsOfLine line error

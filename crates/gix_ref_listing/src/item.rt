@@ -1,0 +1,94 @@
+//! One item of a listing.
+ghost use Rattle.std.specs.Prelude.{◌≡◌, ◌≤◌, Some, Ok, Err};
+ghost use Rattle.gix_ref_base.specs.Names.{full_bytes};
+ghost use Rattle.gix_ref_files.specs.Files.{Leaves};
+ghost use Rattle.gix_ref_files.specs.Calls.{Unchanged};
+ghost use Rattle.gix_ref_theory.specs.OnRealTrees.{view_of};
+ghost use Rattle.gix_ref_lookup.specs.Lookups.{meaning_in};
+ghost use Rattle.gix_ref_listing.specs.OwnRecords.{own_of};
+ghost use Rattle.gix_ref_listing.specs.Items.{IsGone, IsFoundItem, IsRecordItem, IsTakenItem};
+ghost use Rattle.gix_ref_listing.specs.declared.found.Found.TheVariants.{File};
+
+use crate::error::{Error, of_line, of_reading};
+use crate::found::Found;
+use crate::merge::Taken;
+use crate::own_records::OwnRecord;
+use gix_ref_base::name::FullName;
+use gix_ref_base::target::Target;
+use gix_ref_files::files::{FileError, Files};
+use gix_ref_lookup::find::ReadError;
+use gix_ref_lookup::find::candidate::read_at;
+use gix_ref_lookup::settings::Settings;
+use gix_ref_packed::raw::Reference;
+use std::alloc::Global;
+use std::io::ErrorKind;
+
+/// The fault of a file that was removed since it was found.
+fn gone(alloc: Global, settings: Settings<'_>, name: &FullName) -> Error
+    ensures { IsGone ((meaning_in settings.entry).place (full_bytes name.now)) result }
+{
+    match settings.place(alloc, name.as_ref()) {
+        Ok(path) => Error::ReadFileContents {
+            source: ReadError::File(FileError::Device(ErrorKind::NotFound)),
+            path,
+        },
+        Err(_) => Error::Memory,
+    }
+}
+
+/// The reference in the file of a name.
+fn file_item<F: Files>(
+    alloc: Global,
+    files: &mut F,
+    settings: Settings<'_>,
+    name: FullName,
+    path: Vec<u8>,
+) -> Result<Reference, Error>
+    ensures item { IsFoundItem F.honest settings.entry (view_of (F.means files.old).tree)
+        (F.faults files.old) (F.faults files.new) (File name path) result }
+    ensures rises { F.faults files.old ≤ F.faults files.new }
+    ensures leaves { F.honest → Leaves (F.means files.old) (F.means files.new)
+        (Unchanged (F.means files.old).tree) }
+{
+    match read_at(alloc, files, settings, name.as_ref(), path) {
+        Ok(Some(target)) => Ok(Reference {
+            name,
+            target,
+            peeled: None,
+        }),
+        Ok(None) => Err(gone(alloc, settings, &name)),
+        Err(error) => Err(of_reading(error)),
+    }
+}
+
+/// The reference of a record.
+fn record_item(alloc: Global, own: OwnRecord<'_>) -> Result<Reference, Error>
+    ensures { IsRecordItem (own_of own.entry) result }
+{
+    Ok(Reference {
+        name: own.name.to_owned(alloc)?,
+        target: Target::Object(own.record.target()),
+        peeled: own.record.peeled(),
+    })
+}
+
+/// What was taken of a listing, as an item.
+pub(crate) fn item<F: Files>(
+    alloc: Global,
+    files: &mut F,
+    settings: Settings<'_>,
+    taken: Taken<'_>,
+) -> Result<Reference, Error>
+    ensures item { IsTakenItem F.honest settings.entry (view_of (F.means files.old).tree)
+        (F.faults files.old) (F.faults files.new) taken.entry result }
+    ensures rises { F.faults files.old ≤ F.faults files.new }
+    ensures leaves { F.honest → Leaves (F.means files.old) (F.means files.new)
+        (Unchanged (F.means files.old).tree) }
+{
+    match taken {
+        Taken::Walked(Found::File { name, path }) => file_item(alloc, files, settings, name, path),
+        Taken::Walked(Found::Unlisted { path, source }) => Err(Error::Traversal { source, path }),
+        Taken::Packed(Ok(own)) => record_item(alloc, own),
+        Taken::Packed(Err(error)) => Err(of_line(alloc, error)),
+    }
+}
