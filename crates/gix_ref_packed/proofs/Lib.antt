@@ -9,6 +9,7 @@ pub mod MemorySearches
 pub mod NamesInTurn
 pub mod OneItem
 pub mod OneReading
+pub mod PrefixParts
 pub mod PrefixRuns
 pub mod ReadBack
 pub mod RecordBytes

@@ -1,5 +1,5 @@
 -- Where the first record begins whose name is not below the one that is wanted.
-use Rattle.std.proofs.Common.{◌≡◌, ◌⊎◌, inl, inr, ⊎_elim, ℕ, ◌+◌, ◌-◌, ◌<◌, ◌≤◌, Bool, true, false, cond, List, [], ◌∷◌, ◌++◌, length, drop, refl, sym, ◌∙◌, ap, subst, arith, length-append, nat_eq}
+use Rattle.std.proofs.Common.{◌≡◌, ◌≢◌, ◌⊎◌, inl, inr, ⊎_elim, ℕ, ◌+◌, ◌-◌, ◌<◌, ◌≤◌, Bool, true, false, cond, List, [], ◌∷◌, ◌++◌, length, drop, refl, sym, ◌∙◌, ap, subst, arith, length-append, nat_eq, Some, None}
 use Rattle.std.specs.List.{All, starts_with, take_while}
 use Rattle.std.specs.Cmp.Lexicographic.{slice_cmp}
 use Rattle.std.specs.Ordering.{nat_cmp, ordering_then}
@@ -19,12 +19,15 @@ use Rattle.gix_ref_hash.specs.declared.hash.Kind.{Kind}
 use Rattle.gix_ref_base.proofs.FrontLemmas.{begins_true}
 use Rattle.gix_ref_base.specs.PackedRecords.{Record}
 use Rattle.gix_ref_packed.specs.RecordGrammar.{Records, Forms, Below, Rising}
-use Rattle.gix_ref_packed.specs.Positions.{LineOf, RecordOf, SameLine, NameAt}
-use Rattle.gix_ref_packed.specs.Prefixes.{SplitsAt, records_prefixed}
+use Rattle.gix_ref_packed.specs.OpenedText.{Fronts}
+use Rattle.gix_ref_packed.specs.Positions.{LineOf, RecordOf, SameLine, NameAt, Compares}
+use Rattle.gix_ref_packed.specs.Probed.{IsProbeAt}
+use Rattle.gix_ref_packed.specs.declared.packed.searchable.Probe.{Probe}
+use Rattle.gix_ref_packed.specs.Prefixes.{SplitsAt, IsListStart, records_prefixed}
 use Rattle.gix_ref_packed.proofs.OneReading.{same_record_line}
 use Rattle.gix_ref_packed.proofs.RecordPlaces.{Begins, owned, shorter, shorter_record, begins_a_line, forms_of}
 use Rattle.gix_ref_packed.proofs.RecordBytes.{lines_taken}
-use Rattle.gix_ref_packed.proofs.Halves.{belongs, greater_is_below, same_place}
+use Rattle.gix_ref_packed.proofs.Halves.{belongs, greater_is_below, same_place, saw_malformed_line, start_below, begins_line}
 
 -- the end of the text, or the place of a record
 abbrev pub Edge : (k : Kind) (text : List ℕ) (rs : List Record) → Forms k text rs → ℕ → Type 0
@@ -124,6 +127,33 @@ module _ (k : Kind) (text n m : List ℕ) (s o : ℕ) (within : o < length text)
         edge = inr (own.owner, own.begins);
       }
 
+-- one record that is met at a byte `o` between `low` and `high`
+module _ (k : Kind) (text n : List ℕ) (low high o : ℕ) (probe : Probe) (within : o < length text) (probed : IsProbeAt k text n o probe) (beyond : o < probe.next)
+    (bound : Bound k text n low high) where
+  name_there : (x : Ordering) → probe.order ≡ Some x → (name : List ℕ) × NameAt k (drop probe.start text) name × (x ≡ slice_cmp nat_cmp name n) × (name ≢ [])
+  name_there x is = let order = probed.order in subst (Compares k (drop probe.start text) n) is order
+
+  pub passes_malformed : probe.order ≡ None → Bound k text n probe.next high
+  passes_malformed is rs h up =
+      let order = probed.order in
+      absurd (saw_malformed_line k text probe.start o within probed.record_of (subst (Compares k (drop probe.start text) n) is order) rs h)
+
+  pub passes_low : probe.order ≡ Some Less → Bound k text n probe.next high
+  passes_low is =
+      let name = name_there Less is in
+      bound_less k text n name.0 probe.start o within probed.record_of name.1 low high probe.next beyond probed.line (sym name.2) bound
+
+  pub stops_high : (x : Ordering) → probe.order ≡ Some x → (x ≡ Less → ⊥) → Bound k text n low probe.start
+  stops_high x is not_less =
+      let name = name_there x is in
+      bound_greater k text n name.0 probe.start o within probed.record_of name.1 low high (λ below. not_less (name.2 ∙ below)) bound
+
+  pub starts_there : IsListStart text probe.start
+  starts_there = record {
+    within = let below = start_below text probe.start o probed.record_of in omega arith;
+    begins = inr (begins_line text probe.start o probed.record_of);
+  }
+
 -- ---- the list at a place
 
 all_of : (k : Kind) (text : List ℕ) (rs : List Record) (h : Forms k text rs) (Q : Record → Type 0) → ((q : ℕ) (y : Record) → Begins k text rs h q y → Q y) → All Q rs
@@ -135,7 +165,7 @@ all_of k text (x ∷ xs) h Q f =
 split_at : (k : Kind) (text n : List ℕ) (rs : List Record) (h : Records k text rs) (p : ℕ) → Bounded k text n p p rs (forms_of k text rs h) → SplitsAt k text rs n p
 split_at k text n [] h p bound =
     let len : length text ≡ 0 = ap length h in
-    record { before = []; after = []; is = refl; rest = drop_all p text (omega arith); low = All-nil (λ r. Below r.name n); high = All-nil (λ r. Below r.name n → ⊥) }
+    record { before = []; after = []; is = refl; front = h ∙ sym (drop_all p text (omega arith)); rest = drop_all p text (omega arith); low = All-nil (λ r. Below r.name n); high = All-nil (λ r. Below r.name n → ⊥) }
 split_at k text n (x ∷ xs) h p bound =
     let less = shorter_record k text x h.0 h.1 in
     ⊎_elim
@@ -144,6 +174,7 @@ split_at k text n (x ∷ xs) h p bound =
       before = [];
       after = x ∷ xs;
       is = refl;
+      front = ap (λ i. drop i text) (sym first);
       rest = subst (λ (i : ℕ). Records k (drop i text) (x ∷ xs)) (sym first) h;
       low = All-nil (λ r. Below r.name n);
       high = all_of k text (x ∷ xs) (forms_of k text (x ∷ xs) h) (λ r. Below r.name n → ⊥) (λ q y b. bound.over q y b (omega arith));
@@ -170,6 +201,7 @@ split_at k text n (x ∷ xs) h p bound =
       before = x ∷ more.before;
       after = more.after;
       is = ap (λ rs. x ∷ rs) more.is;
+      front = (h.0, h.1, subst (λ (t : List ℕ). Fronts k h.0 more.before t) dropped more.front);
       rest = subst (λ (t : List ℕ). Records k t more.after) dropped more.rest;
       low = All-cons (λ r. Below r.name n) x more.before (bound.under 0 x (inl (refl, refl)) (omega arith)) more.low;
       high = more.high;
@@ -184,7 +216,7 @@ splits k text n low high met bound rs h up =
 
 -- ---- names of a prefix
 
-same_byte : (a : ℕ) → Equal ≡ nat_cmp a a
+pub same_byte : (a : ℕ) → Equal ≡ nat_cmp a a
 same_byte a = nat_cmp_is a a Equal refl
 
 prefix_not_below : (p r : List ℕ) → Below (p ++ r) p → ⊥
@@ -216,21 +248,21 @@ between_or_same p y z r above is low = go (slice_cmp nat_cmp y z) refl
     go Equal same = (r, exact_bytes y z same ∙ is)
     go Greater great = absurd (low (greater_is_below y z great))
 
-begins : (n front : List ℕ) → starts_with nat_eq n front ≡ true → n ≡ front ++ drop (length front) n
+pub begins : (n front : List ℕ) → starts_with nat_eq n front ≡ true → n ≡ front ++ drop (length front) n
 begins n front h = (starts_is Decides-eqb n front (starts_with nat_eq n front) refl).0 h
 
 module _ (prefix : List ℕ) where
-  none_kept : (xs : List Record) → All (λ r. starts_with nat_eq r.name prefix ≡ false) xs → records_prefixed prefix xs ≡ []
+  pub none_kept : (xs : List Record) → All (λ r. starts_with nat_eq r.name prefix ≡ false) xs → records_prefixed prefix xs ≡ []
   none_kept [] all = refl
   none_kept (x ∷ xs) all =
       cond-false (starts_with nat_eq x.name prefix) _ _ (All-head (λ r. starts_with nat_eq r.name prefix ≡ false) x xs all)
       ∙ none_kept xs (All-tail (λ r. starts_with nat_eq r.name prefix ≡ false) x xs all)
 
-  by_false : (b : Bool) → (b ≡ true → ⊥) → b ≡ false
+  pub by_false : (b : Bool) → (b ≡ true → ⊥) → b ≡ false
   by_false true bad = absurd (bad refl)
   by_false false bad = refl
 
-  low_are_not : (xs : List Record) → All (λ r. Below r.name prefix) xs → All (λ r. starts_with nat_eq r.name prefix ≡ false) xs
+  pub low_are_not : (xs : List Record) → All (λ r. Below r.name prefix) xs → All (λ r. starts_with nat_eq r.name prefix ≡ false) xs
   low_are_not [] all = All-nil (λ r. starts_with nat_eq r.name prefix ≡ false)
   low_are_not (x ∷ xs) all =
       All-cons (λ r. starts_with nat_eq r.name prefix ≡ false) x xs
@@ -260,7 +292,7 @@ module _ (prefix : List ℕ) where
           cond-false (starts_with nat_eq y.name prefix) _ _ is ∙ none_kept ys (past_are_not y ys (All-head (λ r. Below r.name prefix → ⊥) y ys all) is up.0)
           ∙ sym (take_while-cons (λ r. starts_with nat_eq r.name prefix) y ys ∙ cond-false (starts_with nat_eq y.name prefix) _ _ is)
 
-  kept_append : (xs ys : List Record) → records_prefixed prefix (xs ++ ys) ≡ records_prefixed prefix xs ++ records_prefixed prefix ys
+  pub kept_append : (xs ys : List Record) → records_prefixed prefix (xs ++ ys) ≡ records_prefixed prefix xs ++ records_prefixed prefix ys
   kept_append [] ys = refl
   kept_append (x ∷ xs) ys = go (starts_with nat_eq x.name prefix) (kept_append xs ys)
     where
@@ -268,7 +300,7 @@ module _ (prefix : List ℕ) where
       go true more = ap (λ rs. x ∷ rs) more
       go false more = more
 
-  later_ascend : (xs ys : List Record) → Rising (xs ++ ys) → Rising ys
+  pub later_ascend : (xs ys : List Record) → Rising (xs ++ ys) → Rising ys
   later_ascend [] ys up = up
   later_ascend (x ∷ xs) ys up = later_ascend xs ys up.1
 

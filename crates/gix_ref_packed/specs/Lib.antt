@@ -1,6 +1,7 @@
 pub mod AskedNames
 pub mod Buffers
 pub mod Entries
+pub mod FilePrefixes
 pub mod FileSearches
 pub mod HeaderEnds
 pub mod HeaderGrammar

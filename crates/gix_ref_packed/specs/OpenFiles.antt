@@ -14,7 +14,7 @@ use Rattle.gix_ref_packed.specs.declared.packed.sorted_file.FindError.{FindError
 use Rattle.gix_ref_packed.specs.declared.packed.sorted_file.FindError.TheVariants.{Read, Parse}
 use Rattle.gix_ref_packed.specs.declared.packed.sorted_file.ReadError.TheVariants as reading
 use Rattle.gix_ref_packed.specs.OpenedText.{OpensTo, IsWellFormed}
-use Rattle.gix_ref_packed.specs.Buffers.{buffer_text, buffer_kind, HoldsRecords}
+use Rattle.gix_ref_packed.specs.Buffers.{buffer_text, buffer_kind, buffer_line, HoldsRecords}
 
 -- the records in a file, without the header
 abbrev pub sorted_file_text : {R : Type 0} {G : Ghosts R} → SortedFile R G → List ℕ
@@ -29,6 +29,11 @@ abbrev pub packed_file_kind : {R : Type 0} {G : Ghosts R} → PackedFile R G →
 packed_file_kind (InFile source kind) = kind
 packed_file_kind (InMemory buffer) = buffer_kind buffer
 
+-- the number of the records' first line in the file, in which a header says that it is sorted
+abbrev pub packed_file_line : {R : Type 0} {G : Ghosts R} → PackedFile R G → ℕ
+packed_file_line (InFile source kind) = 2
+packed_file_line (InMemory buffer) = buffer_line buffer
+
 -- the faults that were met in reading it; what is in memory is not read
 abbrev pub packed_file_faults : {R : Type 0} {G : Ghosts R} → PackedFile R G → ℕ
 packed_file_faults {R} {G} (InFile source kind) = G.faults source.reader
@@ -38,6 +43,7 @@ packed_file_faults (InMemory buffer) = 0
 pub record OpenedFile {R : Type 0} {G : Ghosts R} (kind : Kind) (bytes : List ℕ) (p : PackedFile R G) : Type 0 where
   pub kind_is : packed_file_kind p ≡ kind
   pub line : ℕ
+  pub line_is : line ≡ packed_file_line p
   pub opens : OpensTo kind bytes (packed_file_text p) line
 
 -- where it is open on a well-formed text, it holds the records of that

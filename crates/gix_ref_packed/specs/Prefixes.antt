@@ -4,6 +4,7 @@ use Rattle.std.specs.List.{All, filter, starts_with}
 use Rattle.gix_ref_hash.specs.declared.hash.Kind.{Kind}
 use Rattle.gix_ref_base.specs.PackedRecords.{Record}
 use Rattle.gix_ref_packed.specs.RecordGrammar.{Records, Below}
+use Rattle.gix_ref_packed.specs.OpenedText.{Fronts}
 use Rattle.gix_ref_packed.specs.Positions.{BeginsLine}
 
 -- the records whose names begin with the prefix
@@ -20,6 +21,7 @@ pub record SplitsAt (kind : Kind) (text : List ℕ) (rs : List Record) (wanted :
   pub before : List Record
   pub after : List Record
   pub is : rs ≡ before ++ after
+  pub front : Fronts kind text before (drop start text)
   pub rest : Records kind (drop start text) after
   pub low : All (λ r. Below r.name wanted) before
   pub high : All (λ r. Below r.name wanted → ⊥) after

@@ -10,6 +10,7 @@ mod header_end;
 pub mod iter;
 pub mod laws;
 mod lines;
+mod prefixed;
 mod probes;
 mod reference;
 pub mod search;

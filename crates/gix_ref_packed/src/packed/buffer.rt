@@ -93,6 +93,21 @@ impl Buffer {
         Buffer::sorted(alloc, bytes, start, kind, first_line)
     }
 
+    /// The buffer of a text without a header, whose first line has that number in the file.
+    pub(crate) fn of_records(bytes: Vec<u8>, kind: Kind, first_line: u64) -> Buffer
+        requires { first_line ≤ 2 }
+        ensures text { buffer_text result ≡ bytes.items }
+        ensures kind { buffer_kind result ≡ kind }
+        ensures line { buffer_line result ≡ first_line }
+    {
+        Buffer {
+            bytes,
+            start: 0,
+            kind,
+            first_line,
+        }
+    }
+
     /// The buffer of a text whose records are to be sorted.
     fn sorted(
         alloc: Global,

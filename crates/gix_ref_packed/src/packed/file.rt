@@ -26,6 +26,9 @@ pub enum PackedFile<R: ReadAt + Drop> {
     InMemory(Buffer),
 }
 
+/// The number of the first line behind a header.
+const LINE_BEHIND_HEADER: u64 = 2;
+
 /// The error of opening for one of reading; a file that is opened has no earlier reads from which it could differ.
 fn refusal(error: ReadError) -> Error
     requires { IsNoChange error }
@@ -77,8 +80,9 @@ impl<R: ReadAt + Drop> PackedFile<R> {
     ghost use Rattle.gix_ref_files.specs.Files.{Leaves};
     ghost use Rattle.gix_ref_files.specs.Calls.{Unchanged};
     ghost use Rattle.gix_ref_packed.specs.Buffers.{IsRefusedFile};
-    ghost use Rattle.gix_ref_packed.specs.OpenFiles.{OpenedFile, CountsRefusal, packed_file_text, packed_file_kind, packed_file_faults, FailsFindByRead};
-    ghost use Rattle.gix_ref_packed.specs.FileSearches.{FindsIn, count_find};
+    ghost use Rattle.gix_ref_packed.specs.OpenFiles.{OpenedFile, CountsRefusal, packed_file_text, packed_file_kind, packed_file_line, packed_file_faults, FailsFindByRead};
+    ghost use Rattle.gix_ref_packed.specs.FilePrefixes.{HoldsPrefix, FailsReadBy};
+    ghost use Rattle.gix_ref_packed.specs.FileSearches.{FindsIn, IsNoChange, count_find};
 
     /// Opens the file at a path, whose ids are of the kind; `None` where no file is there.
     ///
@@ -144,6 +148,31 @@ impl<R: ReadAt + Drop> PackedFile<R> {
                 Ok(None) => Ok(None),
                 Err(ParseError) => Err(FindError::Parse),
             },
+        }
+    }
+    /// The records of the prefix, in a buffer that is asked by `iter_prefixed` of that prefix; other records may be in it.
+    /// Of a sorted file only their lines are read, or the whole where they are more than an eighth of it, or where a
+    /// line among them is no record: so lines are numbered as in the file. `Io` where the file could not be read, and
+    /// `Memory` where there was no memory for what is read.
+    ///
+    /// ```text
+    /// let packed = file.into_prefixed(alloc, b"refs/tags/")?;
+    /// for tag in packed.iter_prefixed(b"refs/tags/".to_vec(alloc)?) {
+    ///     println!(rt; "{}", tag?.name)?;
+    /// }
+    /// ```
+    pub fn into_prefixed(self, alloc: Global, prefix: &[u8]) -> Result<Buffer, ReadError>
+        ensures holds { R.honest → IfOk result
+            (HoldsPrefix (packed_file_kind self) (packed_file_text self) (packed_file_line self)
+            prefix.now) }
+        ensures refused { R.honest → IfErr result IsNoChange }
+        ensures failed { IfErr result (FailsReadBy R.faults) }
+    {
+        match self {
+            PackedFile::InFile { mut source, kind } => {
+                source.read_prefixed(alloc, kind, prefix, LINE_BEHIND_HEADER)
+            }
+            PackedFile::InMemory(buffer) => Ok(buffer),
         }
     }
 }

@@ -5,7 +5,7 @@ ghost use Rattle.std.specs.Iterator.{at_most};
 mod error;
 mod parts;
 
-use crate::packed::bound::lower_bound;
+use crate::packed::bound::lower_bound_in_memory;
 use crate::packed::buffer::Buffer;
 use crate::packed::decode::take_record;
 use crate::packed::header_end::{first_line_behind, read_header_end};
@@ -169,7 +169,7 @@ impl Buffer {
             IsYet result (records_prefixed prefix.items rs) }
     {
         let text = self.as_bytes();
-        let start = lower_bound(text, self.kind(), prefix.as_slice());
+        let start = lower_bound_in_memory(text, self.kind(), prefix.as_slice());
         Iter {
             rest: &text[start..],
             kind: self.kind(),

@@ -146,7 +146,7 @@ impl<R: ReadAt + Drop> SortedFile<R> {
     }
 
     /// The number of bytes of the records.
-    fn records_len(&self) -> u64
+    pub(crate) fn records_len(&self) -> u64
         ensures len { R.honest → result ≡ length (drop self.now.base (R.bytes self.now.reader)) }
         ensures fits { R.honest → length (R.bytes self.now.reader) < 2 ^ 64 }
     {

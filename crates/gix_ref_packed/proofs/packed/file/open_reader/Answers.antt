@@ -1,9 +1,10 @@
 use Rattle.std.proofs.lemmas.List.{take_all, length-drop}
-use Rattle.std.proofs.Common.{◌≡◌, Bool, List, ℕ, [], ◌∷◌, arith, drop, take, length, refl, sym, ◌∙◌, ap, subst}
+use Rattle.std.proofs.Common.{◌≡◌, Bool, true, Option, Some, None, List, ℕ, [], ◌∷◌, arith, drop, take, length, refl, sym, ◌∙◌, ap, subst}
 use Rattle.gix_ref_hash.specs.declared.hash.Kind.{Kind}
 use Rattle.gix_ref_packed.specs.declared.packed.buffer.open.Error.{Error}
 use Rattle.gix_ref_packed.specs.declared.packed.buffer.open.Error.TheVariants.{Iter, HeaderParsing, Io, Memory}
-use Rattle.gix_ref_packed.specs.OpenedText.{Keeps, line_behind}
+use Rattle.gix_ref_packed.specs.OpenedText.{Keeps, line_behind, says_sorted}
+use Rattle.gix_ref_packed.specs.declared.packed.decode.options.Header.{Header}
 use Rattle.gix_ref_packed.specs.Buffers.{IsRefused, IsRefusedBytes}
 use Rattle.gix_ref_packed.proofs.packed.file.open_reader.Goals as goal
 
@@ -12,6 +13,11 @@ refused_bytes k t (Io error) h = absurd h
 refused_bytes k t HeaderParsing h = h
 refused_bytes k t (Iter line) h = h
 refused_bytes k t Memory h = tt
+
+-- what says that it is sorted is a header
+two_lines : (h : Option Header) → says_sorted h ≡ true → line_behind h ≡ 2
+two_lines None sorted = absurd (cc)
+two_lines (Some h) sorted = refl
 
 pub returns-then-says_sorted-clause-opened : goal.returns-then-says_sorted-clause-opened
 returns-then-says_sorted-clause-opened g c = λ honest.
@@ -23,6 +29,7 @@ returns-then-says_sorted-clause-opened g c = λ honest.
     record {
       kind_is = refl;
       line = line_behind heading.header;
+      line_is = two_lines heading.header (sym c.says_sorted.ensures ∙ c.if-says_sorted.true);
       opens = record {
         header = heading.header;
         rest = drop heading.start bytes;

@@ -10,9 +10,9 @@ use Rattle.gix_ref_packed.proofs.packed.buffer.Buffer.iter_prefixed.Goals as goa
 pub returns-clause-items : goal.returns-clause-items
 returns-clause-items c =
     let text = buffer_text c.args.self.now in
-    let start = c.lower_bound-start.result in (
+    let start = c.lower_bound_in_memory-start.result in (
       start,
-      subst (λ (t : List ℕ). IsListStart t start) c.as_bytes-text.ensures c.lower_bound-start.ensures.starts,
+      subst (λ (t : List ℕ). IsListStart t start) c.as_bytes-text.ensures c.lower_bound_in_memory-start.ensures.starts,
       each_run _ (record { kind = buffer_kind c.args.self.now; prefix = Some c.args.prefix.items; number = buffer_line c.args.self.now + line_feeds (take start text); text = drop start text })
           (λ i. record { kind = c.kind-2.ensures i; prefix = Some c.args.prefix.items; number = c.first_line.ensures.line i + line_feeds (take start (c.as_bytes-text.ensures i)); text = (take_rest c.as_bytes-text.result.now start ∙ ap (drop start) c.as_bytes-text.ensures) i }),
     )
@@ -20,15 +20,15 @@ returns-clause-items c =
 pub returns-clause-records : goal.returns-clause-records
 returns-clause-records c = λ rs h up.
     let text = buffer_text c.args.self.now in
-    let start = c.lower_bound-start.result in
+    let start = c.lower_bound_in_memory-start.result in
     prefix_records _ (buffer_kind c.args.self.now) c.kind.result text c.as_bytes-text.result.now c.args.prefix.items c.as_slice.result.now _ start rs c.kind.ensures c.as_bytes-text.ensures c.as_slice.ensures.value
     (λ i. record { kind = c.kind-2.ensures i; prefix = Some c.args.prefix.items; number = c.first_line.ensures.line i + line_feeds (take start (c.as_bytes-text.ensures i)); text = (take_rest c.as_bytes-text.result.now start ∙ ap (drop start) c.as_bytes-text.ensures) i })
-    c.lower_bound-start.ensures.splits h up
+    c.lower_bound_in_memory-start.ensures.splits h up
 
 pub returns-clause-yet : goal.returns-clause-yet
 returns-clause-yet c = λ rs h up.
     let text = buffer_text c.args.self.now in
-    let start = c.lower_bound-start.result in
+    let start = c.lower_bound_in_memory-start.result in
     prefix_yet _ (buffer_kind c.args.self.now) c.kind.result text c.as_bytes-text.result.now c.args.prefix.items c.as_slice.result.now _ start rs c.kind.ensures c.as_bytes-text.ensures c.as_slice.ensures.value
     (λ i. record { kind = c.kind-2.ensures i; prefix = Some c.args.prefix.items; number = c.first_line.ensures.line i + line_feeds (take start (c.as_bytes-text.ensures i)); text = (take_rest c.as_bytes-text.result.now start ∙ ap (drop start) c.as_bytes-text.ensures) i })
-    c.lower_bound-start.ensures.splits h up
+    c.lower_bound_in_memory-start.ensures.splits h up

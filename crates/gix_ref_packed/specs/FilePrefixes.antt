@@ -1,0 +1,57 @@
+-- Reading, of the records of a file, only those of a prefix.
+use Rattle.std.specs.Prelude.{◌≡◌, ◌≤◌, ◌-◌, ◌⊎◌, ℕ, List, [], ◌∷◌, ◌++◌, take, drop}
+use Rattle.gix_ref_hash.specs.declared.hash.Kind.{Kind}
+use Rattle.gix_ref_base.specs.PackedRecords.{Record}
+use Rattle.gix_ref_packed.specs.RecordGrammar.{Records, Below, Rising}
+use Rattle.gix_ref_packed.specs.Prefixes.{IsListStart, records_prefixed}
+use Rattle.gix_ref_packed.specs.declared.packed.buffer.Buffer.{Buffer}
+use Rattle.gix_ref_packed.specs.declared.packed.sorted_file.ReadError.{ReadError}
+use Rattle.gix_ref_packed.specs.declared.packed.sorted_file.ReadError.TheVariants.{Io, Memory, Changed}
+use Rattle.gix_ref_packed.specs.Buffers.{buffer_text, buffer_kind, buffer_line}
+use Rattle.gix_ref_packed.specs.OpenFiles.{HasReadFault}
+
+-- each name that begins with the prefix is below this one
+abbrev pub IsPast : List ℕ → List ℕ → Type 0
+IsPast prefix past = (rest : List ℕ) → Below (prefix ++ rest) past
+
+-- a prefix whose names no name of its own length is past
+abbrev pub HasNoNext : List ℕ → Type 0
+HasNoNext prefix = (prefix ≡ []) ⊎ ((front : List ℕ) × (prefix ≡ front ++ 255 ∷ []))
+
+-- a text is records whose names do not descend, and of the prefix they are the same as these
+pub record HoldsPrefixed (kind : Kind) (prefix : List ℕ) (rs : List Record) (part : List ℕ) : Type 0 where
+  pub held : List Record
+  pub records : Records kind part held
+  pub rises : Rising held
+  pub kept : records_prefixed prefix held ≡ records_prefixed prefix rs
+
+-- the lines of a text from one place up to another have all records of the prefix
+pub record Encloses (kind : Kind) (text prefix : List ℕ) (start end : ℕ) : Type 0 where
+  pub begins : IsListStart text start
+  pub ends : IsListStart text end
+  pub ordered : start ≤ end
+  pub records : (rs : List Record) → Records kind text rs → Rising rs → HoldsPrefixed kind prefix rs (take (end - start) (drop start text))
+
+-- these are such lines
+pub record IsPartOf (kind : Kind) (text prefix part : List ℕ) : Type 0 where
+  pub start : ℕ
+  pub end : ℕ
+  pub encloses : Encloses kind text prefix start end
+  pub is : part ≡ take (end - start) (drop start text)
+
+-- a fault among the items has its number: the records begin with the first line, or there is no fault
+abbrev pub IsNumbered : Kind → List ℕ → ℕ → Buffer → Type 0
+IsNumbered kind text line b =
+    ((n : ℕ) × (buffer_text b ≡ take n text) × (buffer_line b ≡ line)) ⊎ ((held : List Record) × Records kind (buffer_text b) held)
+
+-- The buffer has all records of the prefix, for `iter_prefixed` of that prefix; lines are numbered as in the file.
+pub record HoldsPrefix (kind : Kind) (text : List ℕ) (line : ℕ) (prefix : List ℕ) (b : Buffer) : Type 0 where
+  pub kind_is : buffer_kind b ≡ kind
+  pub part : IsPartOf kind text prefix (buffer_text b)
+  pub numbered : IsNumbered kind text line b
+
+-- why a file cannot be read: `Io` where a read of it failed
+abbrev pub FailsReadBy : {R : Type 0} → (R → ℕ) → ReadError → Type 0
+FailsReadBy faults (Io error) = HasReadFault faults
+FailsReadBy faults Memory = Unit {0}
+FailsReadBy faults Changed = Unit {0}
