@@ -198,3 +198,16 @@ pub one_more : {A : Type 0} (P : A → Type 0) (xs : List A) (i : ℕ) (x : A) �
     (k : ℕ) (d : A) → k < i + 1 → P (slice_index_or xs k d)
 one_more P xs i x before within at here k d below =
     ⊎_elim (λ (is : k ≡ i). subst (λ j. P (slice_index_or xs j d)) (sym is) (subst P (at ∙ get_or_default xs i x d within) here)) (λ other. before k d (omega arith)) (cases_eq k i)
+
+-- what one of a list is, where all of them are that
+pub among_all : {A : Type 0} (P : A → Type 0) (xs : List A) → All P xs → (x : A) → Among (λ y. y ≡ x) xs → P x
+among_all P [] all x has = absurd has
+among_all P (y ∷ xs) all x has = ⊎_elim (λ here. subst P here (All-head P y xs all)) (λ later. among_all P xs (All-tail P y xs all) x later) has
+
+-- each of a list is among it
+pub among_at : {A : Type 0} (xs : List A) (k : ℕ) (d : A) → k < length xs → Among (λ y. y ≡ slice_index_or xs k d) xs
+among_at {A} xs k d below = all_among xs (λ x has. has) k d below
+  where
+    all_among : (ys : List A) → ((x : A) → Among (λ y. y ≡ x) ys → Among (λ y. y ≡ x) xs) → All (λ x. Among (λ y. y ≡ x) xs) ys
+    all_among [] keep = λ i e under. absurd (omega arith)
+    all_among (y ∷ ys) keep = All-cons (λ x. Among (λ z. z ≡ x) xs) y ys (keep y (inl refl)) (all_among ys (λ x has. keep x (inr has)))

@@ -8,4 +8,6 @@ mod item;
 pub mod iter;
 pub mod merge;
 pub mod own_records;
+pub mod prefix;
+pub mod store_walk;
 pub mod walk;

@@ -1,0 +1,118 @@
+//! The loose references of a store.
+ghost use Rattle.std.specs.Prelude.{◌≡◌, ◌≢◌, ◌⊎◌, ◌≤◌, [], List, ℕ, IfOk, IfErr, OnOk};
+ghost use Rattle.std.specs.List.{All};
+ghost use Rattle.gix_ref_base.specs.Layout.{below};
+ghost use Rattle.gix_ref_files.specs.Files.{Leaves, HasRisen};
+ghost use Rattle.gix_ref_files.specs.Calls.{Unchanged};
+ghost use Rattle.gix_ref_files.specs.declared.files.FileError.TheVariants.{Memory};
+ghost use Rattle.gix_ref_theory.specs.OnRealTrees.{view_of};
+ghost use Rattle.gix_ref_lookup.specs.StoreLayout.{namespace_text};
+ghost use Rattle.gix_ref_listing.specs.Walks.{Among, Holds, IsFile, IsFolderPath, IsRootPath, StaysFound};
+ghost use Rattle.gix_ref_listing.specs.LooseListings.{IsFront, IsLooseListed, IsFoundIn, LooseIn};
+
+use crate::found::FoundByKey;
+use crate::walk::Root;
+use gix_ref_base::namespace::Namespace;
+use gix_ref_files::files::{FileError, Files};
+use gix_ref_lookup::settings::Settings;
+use std::alloc::{AllocError, Global};
+use std::collections::BTreeMap;
+
+/// The text in front of names: the namespace, or nothing.
+fn text_of(namespace: &Option<Namespace>) -> &[u8]
+    ensures text { result.now ≡ namespace_text namespace.now }
+    ensures ends { IsFolderPath result.now }
+{
+    match namespace {
+        Some(namespace) => namespace.to_path(),
+        None => b"",
+    }
+}
+
+/// What stands before the names in a folder of the store in their paths: the folder, a slash and the namespace.
+fn front_of(
+    alloc: Global,
+    folder: &[u8],
+    namespace: &Option<Namespace>,
+) -> Result<Vec<u8>, AllocError>
+    requires { folder.now ≢ [] }
+    ensures front { IfOk result (λ front.
+        front.items ≡ below folder.now (namespace_text namespace.now)) }
+    ensures root { IfOk result (λ front. IsRootPath front.items) }
+{
+    let namespace = text_of(namespace);
+    let mut front = Vec::with_capacity(alloc, folder.len().saturating_add(1))?;
+    front.extend_from_slice(folder)?;
+    front.push(b'/')?;
+    front.extend_from_slice(namespace)?;
+    Ok(front)
+}
+
+/// Walks one folder of the store. The error says that there was no memory.
+fn walk_in<F: Files>(
+    alloc: Global,
+    files: &mut F,
+    settings: Settings<'_>,
+    folder: &[u8],
+    prefix: &[u8],
+    found: &mut FoundByKey,
+) -> Result<(), FileError>
+    requires folder { folder.now ≢ [] }
+    requires front { IsFront settings (below folder.now (namespace_text settings.namespace.now)) }
+    ensures stays { OnOk result (StaysFound found.old.entries found.new.entries) }
+    ensures finds { F.honest → OnOk result ((name : List ℕ) →
+        LooseIn settings.entry (view_of (F.means files.old).tree) prefix.now
+        (below folder.now (namespace_text settings.entry.namespace.now)) name →
+        Among (Holds name) found.new.entries) }
+    ensures files { OnOk result (All IsFile found.old.entries → All IsFile found.new.entries
+        ⊎ HasRisen (F.faults files.old) (F.faults files.new)) }
+    ensures there { F.honest → OnOk result (
+        All (IsFoundIn settings.entry (view_of (F.means files.old).tree) prefix.now) found.old.entries →
+        All (IsFoundIn settings.entry (view_of (F.means files.old).tree) prefix.now) found.new.entries) }
+    ensures rises { F.faults files.old ≤ F.faults files.new }
+    ensures memory { IfErr result (λ error. error ≡ Memory) }
+    ensures leaves { F.honest → Leaves (F.means files.old) (F.means files.new)
+        (Unchanged (F.means files.old).tree) }
+{
+    let Ok(path) = front_of(alloc, folder, settings.namespace) else {
+        return Err(FileError::Memory);
+    };
+    let root = Root {
+        path: &path,
+        prefix,
+        settings,
+    };
+    root.walk(alloc, files, found)?;
+    Ok(())
+}
+
+/// The loose references of a store whose names begin with the prefix, in the folder of its own references and in the common
+/// folder, and the folders that could not be listed. One call of files for each folder that such names may be in. The error
+/// says that there was no memory.
+pub fn walk_store<F: Files>(
+    alloc: Global,
+    files: &mut F,
+    settings: Settings<'_>,
+    prefix: &[u8],
+) -> Result<FoundByKey, FileError>
+    ensures finds { F.honest → IfOk result (λ found. (name : List ℕ) →
+        IsLooseListed settings.entry (view_of (F.means files.old).tree) prefix.now name →
+        Among (Holds name) found.entries) }
+    ensures files { IfOk result (λ found. All IsFile found.entries
+        ⊎ HasRisen (F.faults files.old) (F.faults files.new)) }
+    ensures there { F.honest → IfOk result (λ found.
+        All (IsFoundIn settings.entry (view_of (F.means files.old).tree) prefix.now) found.entries) }
+    ensures rises { F.faults files.old ≤ F.faults files.new }
+    ensures memory { IfErr result (λ error. error ≡ Memory) }
+    ensures leaves { F.honest → Leaves (F.means files.old) (F.means files.new)
+        (Unchanged (F.means files.old).tree) }
+{
+    let mut found = BTreeMap::new(alloc);
+    let common = settings.dirs.common();
+    walk_in(alloc, files, settings, common, prefix, &mut found)?;
+    if settings.dirs.git_dir.as_slice() == common {
+        return Ok(found);
+    }
+    walk_in(alloc, files, settings, &settings.dirs.git_dir, prefix, &mut found)?;
+    Ok(found)
+}
