@@ -54,7 +54,7 @@ module _ (f : Layout) (name key : List ℕ) where
       same_bool false (bytes_eq (f.namespace ++ own) key) (λ no. absurd (cc)) (λ same. absurd (never own (sym (both.0 same))))
       ∙ ap (λ k. is_key k key) (sym own_key)
 
-abbrev choose : (a b c : Bool) → List ℕ → Option (List ℕ)
+abbrev pub choose : (a b c : Bool) → List ℕ → Option (List ℕ)
 choose a b c name = if a && (b && c) then Some name else None
 
 module _ (settings : Settings) (key : List ℕ) where

@@ -134,7 +134,7 @@ holds_more name key (File n at) path error is = ([], sym is ∙ sym (append-nil 
 holds_more name key (Unlisted at other) path error begins = begins
 
 -- and what was found under a key that is the name holds that name
-holds_key : (name : List ℕ) (key : Vec ℕ Global) (found : Found) → name ≡ key.items → Holds name (key, found)
+pub holds_key : (name : List ℕ) (key : Vec ℕ Global) (found : Found) → name ≡ key.items → Holds name (key, found)
 holds_key name key (File n path) is = sym is
 holds_key name key (Unlisted path error) is = ([], is ∙ sym (append-nil key.items))
 

@@ -5,3 +5,4 @@ pub mod LooseListings
 pub mod OwnRecords
 pub mod Steps
 pub mod Walks
+pub mod WholeListings

@@ -1,0 +1,60 @@
+-- What a whole listing is: each name with a loose file or a record, once, by ascending bytes.
+use Rattle.std.specs.Prelude.{◌≡◌, ◌++◌, ℕ, List, [], ◌∷◌, Option, Some, None, IsSome}
+use Rattle.std.specs.List.{AllByRecursion}
+use Rattle.gix_ref_hash.specs.Bytes.{BeginsWith}
+use Rattle.gix_ref_base.specs.NameGrammar.{IsPartialName}
+use Rattle.gix_ref_base.specs.PackedRecords.{Record, record_named}
+use Rattle.gix_ref_packed.specs.RecordGrammar.{Below}
+use Rattle.gix_ref_theory.specs.Views.{View}
+use Rattle.gix_ref_lookup.specs.Lookups.{meaning_in}
+use Rattle.gix_ref_lookup.specs.StoreLayout.{namespace_text}
+use Rattle.gix_ref_lookup.specs.declared.settings.Settings.{Settings}
+use Rattle.gix_ref_listing.specs.Walks.{Among, Holds}
+use Rattle.gix_ref_listing.specs.Listings.{Listed}
+use Rattle.gix_ref_listing.specs.Listings.Listed.{Walked, InPacked}
+use Rattle.gix_ref_listing.specs.LooseListings.{IsLooseListed, IsFoundIn}
+
+-- the name of its record, in the namespace
+abbrev pub key_in : Settings → (name : List ℕ) → List ℕ
+key_in settings name = namespace_text settings.namespace.now ++ name
+
+-- A valid name with the prefix whose own key has a record.
+pub record IsPackedListed (settings : Settings) (records : List Record) (prefix name : List ℕ) : Type 0 where
+  pub valid : IsPartialName name
+  pub begins : BeginsWith name prefix
+  pub own : (meaning_in settings).key name ≡ Some (key_in settings name)
+  pub there : IsSome (record_named (key_in settings name) records)
+
+-- the name of an item; of a folder, the front of the names below it
+abbrev pub listed_key : Listed → List ℕ
+listed_key (Walked e) = e.0.items
+listed_key (InPacked own) = own.name
+
+-- each is below those after it
+abbrev pub Rises : List Listed → Type 0
+Rises [] = Unit {0}
+Rises (one ∷ more) = AllByRecursion (λ l. Below (listed_key one) (listed_key l)) more × Rises more
+
+-- it is the loose file of the name, or a folder above it that could not be listed
+abbrev pub IsLooseOf : List ℕ → Listed → Type 0
+IsLooseOf name (Walked e) = Holds name e
+IsLooseOf name (InPacked own) = ⊥
+
+-- one of these, or the record of the name
+abbrev pub IsOf : List ℕ → Listed → Type 0
+IsOf name (Walked e) = Holds name e
+IsOf name (InPacked own) = own.name ≡ name
+
+-- a file of a name or a folder that could not be listed; or the first record of a name
+abbrev pub IsInStore : Settings → View → List Record → (prefix : List ℕ) → Listed → Type 0
+IsInStore settings view records prefix (Walked e) = IsFoundIn settings view prefix e
+IsInStore settings view records prefix (InPacked own) =
+    IsPackedListed settings records prefix own.name × (record_named (key_in settings own.name) records ≡ Some own.of)
+
+-- A listing of a store with this view of files and these records: ascending, so each name once; each loose reference, unless a
+-- folder above it could not be listed, and as a loose one; each packed reference; and nothing else.
+pub record IsListing (settings : Settings) (view : View) (records : List Record) (prefix : List ℕ) (listed : List Listed) : Type 0 where
+  pub ascending : Rises listed
+  pub loose : (name : List ℕ) → IsLooseListed settings view prefix name → Among (IsLooseOf name) listed
+  pub packed : (name : List ℕ) → IsPackedListed settings records prefix name → Among (IsOf name) listed
+  pub only : AllByRecursion (IsInStore settings view records prefix) listed
