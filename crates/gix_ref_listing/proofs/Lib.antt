@@ -1,5 +1,6 @@
 pub mod FolderWalks
 pub mod ItemLemmas
+pub mod Listing
 pub mod MergeLemmas
 pub mod MergedListings
 pub mod OwnLemmas

@@ -1,15 +1,27 @@
 -- What a whole listing is: each name with a loose file or a record, once, by ascending bytes.
-use Rattle.std.specs.Prelude.{◌≡◌, ◌++◌, ℕ, List, [], ◌∷◌, Option, Some, None, IsSome}
+use Rattle.std.specs.Prelude.{◌≡◌, ◌⊎◌, ◌++◌, ℕ, List, [], ◌∷◌, Option, Some, None, IsSome, true}
+use denote.Ref.{Bor}
+use Rattle.std.specs.Iterator.Runs.{EachRunFrom}
 use Rattle.std.specs.List.{AllByRecursion}
 use Rattle.gix_ref_hash.specs.Bytes.{BeginsWith}
 use Rattle.gix_ref_base.specs.NameGrammar.{IsPartialName}
 use Rattle.gix_ref_base.specs.PackedRecords.{Record, record_named}
-use Rattle.gix_ref_packed.specs.RecordGrammar.{Below}
+use Rattle.gix_ref_files.specs.Files.{Meaning, HasRisen}
+use Rattle.gix_ref_packed.specs.RecordGrammar.{Below, Ascending, Rising, Records}
+use Rattle.gix_ref_hash.specs.declared.hash.Kind.{Kind}
+use Rattle.gix_ref_packed.specs.Prefixes.{records_prefixed}
+use Rattle.gix_ref_packed.specs.Buffers.{buffer_kind, buffer_text}
+use Rattle.gix_ref_packed.specs.declared.packed.buffer.Buffer.{Buffer}
+use Rattle.gix_ref_packed.specs.declared.packed.iter.Iter.{Iter}
 use Rattle.gix_ref_theory.specs.Views.{View}
 use Rattle.gix_ref_lookup.specs.Lookups.{meaning_in}
 use Rattle.gix_ref_lookup.specs.StoreLayout.{namespace_text}
 use Rattle.gix_ref_lookup.specs.declared.settings.Settings.{Settings}
-use Rattle.gix_ref_listing.specs.Walks.{Among, Holds}
+use Rattle.gix_ref_listing.specs.Walks.{Among, Holds, IsFile}
+use Rattle.gix_ref_listing.specs.OwnRecords.{YetOf}
+use Rattle.gix_ref_listing.specs.Steps.{NextItem, AreItemsOf}
+use Rattle.gix_ref_listing.specs.declared.iter.LooseThenPacked.{LooseThenPacked}
+use Rattle.gix_ref_listing.specs.declared.iter.Remaining.{Remaining}
 use Rattle.gix_ref_listing.specs.Listings.{Listed}
 use Rattle.gix_ref_listing.specs.Listings.Listed.{Walked, InPacked}
 use Rattle.gix_ref_listing.specs.LooseListings.{IsLooseListed, IsFoundIn}
@@ -58,3 +70,39 @@ pub record IsListing (settings : Settings) (view : View) (records : List Record)
   pub loose : (name : List ℕ) → IsLooseListed settings view prefix name → Among (IsLooseOf name) listed
   pub packed : (name : List ℕ) → IsPackedListed settings records prefix name → Among (IsOf name) listed
   pub only : AllByRecursion (IsInStore settings view records prefix) listed
+
+-- A text whose records with this prefix are those of these records: of the whole text, or of a part of it that was read for the
+-- prefix.
+pub record HoldsFor (kind : Kind) (prefix : List ℕ) (records : List Record) (text : List ℕ) : Type 0 where
+  pub held : List Record
+  pub ascending : Ascending held
+  pub named : (name : List ℕ) → record_named name held ≡ record_named name records
+  pub part : List Record
+  pub lines : Records kind text part
+  pub rising : Rising part
+  pub kept : records_prefixed prefix part ≡ records_prefixed prefix held
+
+-- so the buffer, if one is given
+abbrev pub AreHeld : (prefix : List ℕ) → Option (Bor Buffer) → List Record → Type 0
+AreHeld prefix None records = records ≡ []
+AreHeld prefix (Some buffer) records = HoldsFor (buffer_kind buffer.now) prefix records (buffer_text buffer.now)
+
+-- the iterator is yet to give the records with this prefix of ascending records, each found by its name as among these
+pub record IsAskedOf (prefix : List ℕ) (records : List Record) (it : Option Iter) : Type 0 where
+  pub held : List Record
+  pub ascending : Ascending held
+  pub named : (name : List ℕ) → record_named name held ≡ record_named name records
+  pub yet : YetOf it (records_prefixed prefix held)
+
+-- no folder
+abbrev pub IsName : Listed → Type 0
+IsName (Walked e) = IsFile e
+IsName (InPacked own) = Unit {0}
+
+module _ {F : Type 0} (honest : Type 0) (means : F → Meaning) (faults : F → ℕ) where
+  -- The items of each run of the iterator are those of the listing. A folder is among them only where the count of faults rose.
+  pub record ListsAll (settings : Settings) (view : View) (records : List Record) (prefix : List ℕ) (before : ℕ) (it : LooseThenPacked F Remaining) : Type 0 where
+    pub listed : List Listed
+    pub is : IsListing settings view records prefix listed
+    pub names : AllByRecursion IsName listed ⊎ HasRisen before (faults it.files.now)
+    pub runs : EachRunFrom (NextItem honest means faults) it (λ run. AreItemsOf honest means faults (run.whole ≡ true) it listed run.items)

@@ -6,6 +6,7 @@ pub mod error;
 pub mod found;
 mod item;
 pub mod iter;
+pub mod list;
 pub mod merge;
 pub mod own_records;
 pub mod prefix;

@@ -19,7 +19,7 @@ use std::alloc::{AllocError, Global};
 use std::collections::BTreeMap;
 
 /// The text in front of names: the namespace, or nothing.
-fn text_of(namespace: &Option<Namespace>) -> &[u8]
+pub(crate) fn text_of(namespace: &Option<Namespace>) -> &[u8]
     ensures text { result.now ≡ namespace_text namespace.now }
     ensures ends { IsFolderPath result.now }
 {

@@ -33,7 +33,7 @@ pub struct Root<'a> {
 }
 
 /// Two texts, one behind the other.
-fn joined(alloc: Global, front: &[u8], end: &[u8]) -> Result<Vec<u8>, AllocError>
+pub(crate) fn joined(alloc: Global, front: &[u8], end: &[u8]) -> Result<Vec<u8>, AllocError>
     ensures { IfOk result (λ text. text.items ≡ front.now ++ end.now) }
 {
     let mut text = Vec::with_capacity(alloc, front.len().saturating_add(end.len()))?;

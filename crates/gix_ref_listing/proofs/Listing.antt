@@ -1,0 +1,94 @@
+-- A listing of a store, and the runs of its iterator.
+use Rattle.std.proofs.Common.{◌≡◌, ◌⊎◌, inl, inr, ⊎_elim, ℕ, true, List, [], ◌∷◌, ◌++◌, refl, sym, ◌∙◌, ap, subst, IsSome, is_some, Option, Some, None, Result, Ok, Err, Vec, map}
+use Rattle.std.specs.Iterator.{Yields}
+use Rattle.std.specs.Iterator.Runs.{YieldsRun, EachRunFrom}
+use Rattle.std.specs.Map.{keys_of}
+use Rattle.std.specs.List.{All, AllByRecursion}
+use Rattle.std.specs.List.Sorted.{IsStrictlySortedBy}
+use Rattle.std.specs.declared.alloc.Global.{Global}
+use Rattle.std.specs.declared.cmp.Ordering.TheVariants.{Less}
+use Rattle.std.proofs.lemmas.List.Elements.{All-head, All-tail}
+use Rattle.gix_ref_base.specs.PackedRecords.{Record, record_named}
+use Rattle.gix_ref_files.specs.Files.{Meaning}
+use Rattle.gix_ref_packed.specs.RecordGrammar.{Below, Ascending}
+use Rattle.gix_ref_packed.specs.Prefixes.{records_prefixed}
+use Rattle.gix_ref_packed.specs.declared.raw.Reference.{Reference}
+use Rattle.gix_ref_theory.specs.Views.{View}
+use Rattle.gix_ref_lookup.specs.declared.settings.Settings.{Settings}
+use Rattle.gix_ref_listing.specs.Walks.{Among, Holds, FoundEntry, IsFile}
+use Rattle.gix_ref_listing.specs.OwnRecords.{Own, own_records}
+use Rattle.gix_ref_listing.specs.Listings.{Listed, merged}
+use Rattle.gix_ref_listing.specs.Listings.Listed.{Walked, InPacked}
+use Rattle.gix_ref_listing.specs.LooseListings.{IsFoundIn, IsLooseListed}
+use Rattle.gix_ref_listing.specs.Steps.{NextItem, AreItemsOf, AreYet}
+use Rattle.gix_ref_listing.specs.WholeListings.{IsListing, IsInStore, IsPackedListed, IsAskedOf, IsName, key_in}
+use Rattle.gix_ref_listing.specs.declared.error.Error.{Error}
+use Rattle.gix_ref_listing.specs.declared.iter.LooseThenPacked.{LooseThenPacked}
+use Rattle.gix_ref_listing.specs.declared.iter.Remaining.{Remaining}
+use Rattle.gix_ref_listing.proofs.WalkLemmas.{key_cmp}
+use Rattle.gix_ref_listing.proofs.MergedListings.{FoundRises, all_merged, merged_rises, loose_merged, packed_merged}
+use Rattle.gix_ref_listing.proofs.OwnListings.{prefixed_rise, prefixed_there, prefixed_are}
+
+-- the keys of a map ascend
+pub found_rises : (es : List FoundEntry) → IsStrictlySortedBy key_cmp (keys_of es) → FoundRises es
+unfolding IsStrictlySortedBy
+found_rises [] sorted = _
+found_rises (e ∷ es) (above, more) = (each es above, found_rises es more)
+  where
+    each : (fs : List FoundEntry) → AllByRecursion (λ y. key_cmp e.0 y ≡ Less) (keys_of fs) → AllByRecursion (λ (f : FoundEntry). Below e.0.items f.0.items) fs
+    each [] all = _
+    each (f ∷ fs) (here, later) = (here, each fs later)
+
+pub by_recursion : {A : Type 0} (P : A → Type 0) (xs : List A) → All P xs → AllByRecursion P xs
+by_recursion P [] all = _
+by_recursion P (x ∷ xs) all = (All-head P x xs all, by_recursion P xs (All-tail P x xs all))
+
+map_all : {A : Type 0} (P Q : A → Type 0) → ((x : A) → P x → Q x) → (xs : List A) → AllByRecursion P xs → AllByRecursion Q xs
+map_all P Q f [] all = _
+map_all P Q f (x ∷ xs) (here, more) = (f x here, map_all P Q f xs more)
+
+module _ (settings : Settings) (view : View) (records held : List Record) (prefix : List ℕ) (up : Ascending held) (same : (name : List ℕ) → record_named name held ≡ record_named name records) (es : List FoundEntry) where
+  to_held : (name : List ℕ) → IsPackedListed settings records prefix name → IsPackedListed settings held prefix name
+  to_held name listed = record { valid = listed.valid; begins = listed.begins; own = listed.own; there = ap is_some (same (key_in settings name)) ∙ listed.there }
+
+  of_held : (o : Own) → IsPackedListed settings held prefix o.name × (record_named (key_in settings o.name) held ≡ Some o.of) → IsInStore settings view records prefix (InPacked o)
+  of_held o (listed, is) =
+      (record { valid = listed.valid; begins = listed.begins; own = listed.own; there = sym (ap is_some (same (key_in settings o.name))) ∙ listed.there }, sym (same (key_in settings o.name)) ∙ is)
+
+  -- what a walk found and the records with the prefix are the listing
+  pub listing_is : FoundRises es → ((name : List ℕ) → IsLooseListed settings view prefix name → Among (Holds name) es) → All (IsFoundIn settings view prefix) es →
+      IsListing settings view records prefix (merged es (own_records settings (records_prefixed (key_in settings prefix) held)))
+  listing_is rises finds found = record {
+    ascending = merged_rises es (own_records settings (records_prefixed (key_in settings prefix) held)) rises (prefixed_rise settings held prefix up);
+    loose = λ name listed. loose_merged name es (own_records settings (records_prefixed (key_in settings prefix) held)) (finds name listed);
+    packed = λ name listed. packed_merged name es (own_records settings (records_prefixed (key_in settings prefix) held)) (prefixed_there settings held prefix up name (to_held name listed));
+    only = all_merged (IsInStore settings view records prefix) es (own_records settings (records_prefixed (key_in settings prefix) held)) (by_recursion (IsFoundIn settings view prefix) es found)
+        (map_all (λ (o : Own). IsPackedListed settings held prefix o.name × (record_named (key_in settings o.name) held ≡ Some o.of)) (λ o. IsInStore settings view records prefix (InPacked o)) of_held
+        (own_records settings (records_prefixed (key_in settings prefix) held)) (prefixed_are settings held prefix up));
+  }
+
+any_own : (owns : List Own) → AllByRecursion (λ (o : Own). IsName (InPacked o)) owns
+any_own [] = _
+any_own (o ∷ owns) = (_, any_own owns)
+
+-- where what was found are files, all are names
+pub all_names : (es : List FoundEntry) (owns : List Own) → All IsFile es → AllByRecursion IsName (merged es owns)
+all_names es owns files = all_merged IsName es owns (by_recursion IsFile es files) (any_own owns)
+
+module _ {F : Type 0} (honest : Type 0) (means : F → Meaning) (faults : F → ℕ) where
+  items_law : (Ended : Type 0) (xs : List (Result Reference Error)) (s t : LooseThenPacked F Remaining) (listed : List Listed) → Yields (NextItem honest means faults) s xs t →
+      (Ended → (u : LooseThenPacked F Remaining) × NextItem honest means faults t None u) → AreYet s.rest.merge listed → AreItemsOf honest means faults Ended s listed xs
+  items_law Ended [] s t listed y e yet = λ end.
+      let last = e end in
+      let step = subst (λ (x : LooseThenPacked F Remaining). NextItem honest means faults x None last.0) (sym y) last.1 in (step.gives listed yet).0
+  items_law Ended (x ∷ xs) s t listed y e yet =
+      let first = y.1.gives listed yet in
+      (y.0, first.0, first.1, first.2, first.4, items_law Ended xs y.0 t first.1 y.2 e first.3)
+
+  -- the items of each run are those that are yet to come
+  pub each_run : (s : LooseThenPacked F Remaining) (listed : List Listed) → AreYet s.rest.merge listed → EachRunFrom (NextItem honest means faults) s (λ run. AreItemsOf honest means faults (run.whole ≡ true) s listed run.items)
+  unfolding YieldsRun
+  each_run s listed yet p seen begins =
+      let gave = p.gave.0 in
+      let start : Yields (NextItem honest means faults) s p.items gave.0 = subst (λ (x : LooseThenPacked F Remaining). Yields (NextItem honest means faults) x p.items gave.0) begins gave.1 in
+      items_law (p.whole ≡ true) p.items s gave.0 listed start gave.2 yet
