@@ -1,7 +1,5 @@
--- A listing of a store, and the runs of its iterator.
+-- A listing of a store.
 use Rattle.std.proofs.Common.{◌≡◌, ◌⊎◌, inl, inr, ⊎_elim, ℕ, true, List, [], ◌∷◌, ◌++◌, refl, sym, ◌∙◌, ap, subst, IsSome, is_some, Option, Some, None, Result, Ok, Err, Vec, map}
-use Rattle.std.specs.Iterator.{Yields}
-use Rattle.std.specs.Iterator.Runs.{YieldsRun, EachRunFrom}
 use Rattle.std.specs.Map.{keys_of}
 use Rattle.std.specs.List.{All, AllByRecursion}
 use Rattle.std.specs.List.Sorted.{IsStrictlySortedBy}
@@ -9,10 +7,8 @@ use Rattle.std.specs.declared.alloc.Global.{Global}
 use Rattle.std.specs.declared.cmp.Ordering.TheVariants.{Less}
 use Rattle.std.proofs.lemmas.List.Elements.{All-head, All-tail}
 use Rattle.gix_ref_base.specs.PackedRecords.{Record, record_named}
-use Rattle.gix_ref_files.specs.Files.{Meaning}
 use Rattle.gix_ref_packed.specs.RecordGrammar.{Below, Ascending}
 use Rattle.gix_ref_packed.specs.Prefixes.{records_prefixed}
-use Rattle.gix_ref_packed.specs.declared.raw.Reference.{Reference}
 use Rattle.gix_ref_theory.specs.Views.{View}
 use Rattle.gix_ref_lookup.specs.declared.settings.Settings.{Settings}
 use Rattle.gix_ref_listing.specs.Walks.{Among, Holds, FoundEntry, IsFile}
@@ -20,11 +16,7 @@ use Rattle.gix_ref_listing.specs.OwnRecords.{Own, own_records}
 use Rattle.gix_ref_listing.specs.Listings.{Listed, merged}
 use Rattle.gix_ref_listing.specs.Listings.Listed.{Walked, InPacked}
 use Rattle.gix_ref_listing.specs.LooseListings.{IsFoundIn, IsLooseListed}
-use Rattle.gix_ref_listing.specs.Steps.{NextItem, AreItemsOf, AreYet}
 use Rattle.gix_ref_listing.specs.WholeListings.{IsListing, IsInStore, IsPackedListed, IsAskedOf, IsName, key_in}
-use Rattle.gix_ref_listing.specs.declared.error.Error.{Error}
-use Rattle.gix_ref_listing.specs.declared.iter.LooseThenPacked.{LooseThenPacked}
-use Rattle.gix_ref_listing.specs.declared.iter.Remaining.{Remaining}
 use Rattle.gix_ref_listing.proofs.WalkLemmas.{key_cmp}
 use Rattle.gix_ref_listing.proofs.MergedListings.{FoundRises, all_merged, merged_rises, loose_merged, packed_merged}
 use Rattle.gix_ref_listing.proofs.OwnListings.{prefixed_rise, prefixed_there, prefixed_are}
@@ -74,21 +66,3 @@ any_own (o ∷ owns) = (_, any_own owns)
 -- where what was found are files, all are names
 pub all_names : (es : List FoundEntry) (owns : List Own) → All IsFile es → AllByRecursion IsName (merged es owns)
 all_names es owns files = all_merged IsName es owns (by_recursion IsFile es files) (any_own owns)
-
-module _ {F : Type 0} (honest : Type 0) (means : F → Meaning) (faults : F → ℕ) where
-  items_law : (Ended : Type 0) (xs : List (Result Reference Error)) (s t : LooseThenPacked F Remaining) (listed : List Listed) → Yields (NextItem honest means faults) s xs t →
-      (Ended → (u : LooseThenPacked F Remaining) × NextItem honest means faults t None u) → AreYet s.rest.merge listed → AreItemsOf honest means faults Ended s listed xs
-  items_law Ended [] s t listed y e yet = λ end.
-      let last = e end in
-      let step = subst (λ (x : LooseThenPacked F Remaining). NextItem honest means faults x None last.0) (sym y) last.1 in (step.gives listed yet).0
-  items_law Ended (x ∷ xs) s t listed y e yet =
-      let first = y.1.gives listed yet in
-      (y.0, first.0, first.1, first.2, first.4, items_law Ended xs y.0 t first.1 y.2 e first.3)
-
-  -- the items of each run are those that are yet to come
-  pub each_run : (s : LooseThenPacked F Remaining) (listed : List Listed) → AreYet s.rest.merge listed → EachRunFrom (NextItem honest means faults) s (λ run. AreItemsOf honest means faults (run.whole ≡ true) s listed run.items)
-  unfolding YieldsRun
-  each_run s listed yet p seen begins =
-      let gave = p.gave.0 in
-      let start : Yields (NextItem honest means faults) s p.items gave.0 = subst (λ (x : LooseThenPacked F Remaining). Yields (NextItem honest means faults) x p.items gave.0) begins gave.1 in
-      items_law (p.whole ≡ true) p.items s gave.0 listed start gave.2 yet

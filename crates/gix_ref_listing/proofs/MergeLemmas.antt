@@ -32,16 +32,16 @@ less_is settings es left e (Some (Err error)) records owns is order ahead = absu
 none_found : (es : List FoundEntry) (first : Option (Result OwnRecord Error)) (o : Ordering) → es ≡ [] → order_of es first ≡ o → Greater ≡ o
 none_found es first o none order = sym (ap (λ x. order_of x first) none) ∙ order
 
-pub less_takes : (old new : Merge) (taken : Option Taken) (owns : List Own) → order_of old.found.entries old.packed.first ≡ Less → TakesFirst old.found.entries taken new.found.entries → new.packed ≡ old.packed →
-    AreAhead old.packed owns → TakesListed (merged old.found.entries owns) taken new
-less_takes old new None owns order (none, left) same ahead = let bad = none_found old.found.entries old.packed.first Less none order in absurd (cc)
-less_takes old new (Some (taking.Walked one)) owns order (e, is_one, is) same ahead =
-    (e, is_one, owns, subst (λ (p : OwnRecords). AreAhead p owns) (sym same) ahead, less_is old.packed.settings old.found.entries new.found.entries e old.packed.first old.packed.records owns is order ahead)
-less_takes old new (Some (taking.Packed item)) owns order takes same ahead = absurd takes
+pub less_takes : (settings : Settings) (old new : Merge) (taken : Option Taken) (owns : List Own) → order_of old.found.entries old.packed.first ≡ Less → TakesFirst old.found.entries taken new.found.entries → new.packed ≡ old.packed →
+    AreAhead settings old.packed owns → TakesListed settings (merged old.found.entries owns) taken new
+less_takes settings old new None owns order (none, left) same ahead = let bad = none_found old.found.entries old.packed.first Less none order in absurd (cc)
+less_takes settings old new (Some (taking.Walked one)) owns order (e, is_one, is) same ahead =
+    (e, is_one, owns, subst (λ (p : OwnRecords). AreAhead settings p owns) (sym same) ahead, less_is settings old.found.entries new.found.entries e old.packed.first old.packed.records owns is order ahead)
+less_takes settings old new (Some (taking.Packed item)) owns order takes same ahead = absurd takes
 
 -- the first record is passed over where its name was found
 equal_is : (settings : Settings) (es left : List FoundEntry) (e : FoundEntry) (first item : Option (Result OwnRecord Error)) (records : Option Iter) (mid : OwnRecords) (owns : List Own) → es ≡ e ∷ left → order_of es first ≡ Equal →
-    AheadOf settings first records owns → TakesOwn owns item mid → (more : List Own) × AreAhead mid more × (merged es owns ≡ Walked e ∷ merged left more)
+    AheadOf settings first records owns → TakesOwn settings owns item mid → (more : List Own) × AreAhead settings mid more × (merged es owns ≡ Walked e ∷ merged left more)
 equal_is settings es left e None item records mid owns is order none takes = let bad : Less ≡ Equal = sym (ap (λ x. order_of x None) is) ∙ order in absurd (cc)
 equal_is settings es left e (Some (Err error)) item records mid owns is order ahead takes = absurd ahead
 equal_is settings es left e (Some (Ok own)) None records mid owns is order (rs, yet, whole) takes = let bad = sym whole ∙ takes.0 in absurd (cc)
@@ -54,13 +54,13 @@ equal_is settings es left e (Some (Ok own)) (Some (Ok taken)) records mid owns i
       ap (λ x. merged x owns) is ∙ (ap (merged (e ∷ left)) whole ∙ (ap (by_order e left (own_of own) (own_records settings rs)) same ∙ ap (λ o. Walked e ∷ merged left o) later)),
     )
 
-pub equal_takes : (old mid new : Merge) (item : Option (Result OwnRecord Error)) (taken : Option Taken) (owns : List Own) → order_of old.found.entries old.packed.first ≡ Equal → TakesOwn owns item mid.packed → mid.found ≡ old.found →
-    TakesFirst mid.found.entries taken new.found.entries → new.packed ≡ mid.packed → AreAhead old.packed owns → TakesListed (merged old.found.entries owns) taken new
-equal_takes old mid new item None owns order took kept (none, left) same ahead = let bad = none_found old.found.entries old.packed.first Equal (ap (λ f. f.entries) (sym kept) ∙ none) order in absurd (cc)
-equal_takes old mid new item (Some (taking.Packed other)) owns order took kept takes same ahead = absurd takes
-equal_takes old mid new item (Some (taking.Walked one)) owns order took kept (e, is_one, is) same ahead =
-    let step = equal_is old.packed.settings old.found.entries new.found.entries e old.packed.first item old.packed.records mid.packed owns (ap (λ f. f.entries) (sym kept) ∙ is) order ahead took in
-    (e, is_one, step.0, subst (λ (p : OwnRecords). AreAhead p step.0) (sym same) step.1, step.2)
+pub equal_takes : (settings : Settings) (old mid new : Merge) (item : Option (Result OwnRecord Error)) (taken : Option Taken) (owns : List Own) → order_of old.found.entries old.packed.first ≡ Equal → TakesOwn settings owns item mid.packed → mid.found ≡ old.found →
+    TakesFirst mid.found.entries taken new.found.entries → new.packed ≡ mid.packed → AreAhead settings old.packed owns → TakesListed settings (merged old.found.entries owns) taken new
+equal_takes settings old mid new item None owns order took kept (none, left) same ahead = let bad = none_found old.found.entries old.packed.first Equal (ap (λ f. f.entries) (sym kept) ∙ none) order in absurd (cc)
+equal_takes settings old mid new item (Some (taking.Packed other)) owns order took kept takes same ahead = absurd takes
+equal_takes settings old mid new item (Some (taking.Walked one)) owns order took kept (e, is_one, is) same ahead =
+    let step = equal_is settings old.found.entries new.found.entries e old.packed.first item old.packed.records mid.packed owns (ap (λ f. f.entries) (sym kept) ∙ is) order ahead took in
+    (e, is_one, step.0, subst (λ (p : OwnRecords). AreAhead settings p step.0) (sym same) step.1, step.2)
 
 -- what comes after all that was found, where no record is left
 pub none_left : (es : List FoundEntry) (first : Option (Result OwnRecord Error)) → order_of es first ≡ Greater → first ≡ None → es ≡ []

@@ -6,6 +6,7 @@ use Rattle.std.specs.declared.cmp.Ordering.{Ordering}
 use Rattle.std.specs.declared.cmp.Ordering.TheVariants.{Less, Greater}
 use Rattle.gix_ref_base.specs.Names.{full_ref_bytes}
 use Rattle.gix_ref_packed.specs.declared.packed.iter.error.Error.{Error}
+use Rattle.gix_ref_lookup.specs.declared.settings.Settings.{Settings}
 use Rattle.gix_ref_listing.specs.Walks.{FoundEntry}
 use Rattle.gix_ref_listing.specs.OwnRecords.{Own, own_of, AreAhead, ahead_left}
 use Rattle.gix_ref_listing.specs.declared.own_records.OwnRecord.{OwnRecord}
@@ -44,13 +45,13 @@ TakesFirst found (Some (taking.Walked one)) left = (e : FoundEntry) × (e.1 ≡ 
 TakesFirst found (Some (taking.Packed item)) left = ⊥
 
 -- the first of a listing, and what is left then
-abbrev pub TakesListed : List Listed → Option Taken → Merge → Type 0
-TakesListed listed None t = (listed ≡ []) × (t.found.entries ≡ []) × AreAhead t.packed []
-TakesListed listed (Some (taking.Walked found)) t =
-    (e : FoundEntry) × (e.1 ≡ found) × (owns : List Own) × AreAhead t.packed owns × (listed ≡ Walked e ∷ merged t.found.entries owns)
-TakesListed listed (Some (taking.Packed (Ok own))) t =
-    (owns : List Own) × AreAhead t.packed owns × (listed ≡ InPacked (own_of own) ∷ merged t.found.entries owns)
-TakesListed listed (Some (taking.Packed (Err error))) t = ⊥
+abbrev pub TakesListed : Settings → List Listed → Option Taken → Merge → Type 0
+TakesListed settings listed None t = (listed ≡ []) × (t.found.entries ≡ []) × AreAhead settings t.packed []
+TakesListed settings listed (Some (taking.Walked found)) t =
+    (e : FoundEntry) × (e.1 ≡ found) × (owns : List Own) × AreAhead settings t.packed owns × (listed ≡ Walked e ∷ merged t.found.entries owns)
+TakesListed settings listed (Some (taking.Packed (Ok own))) t =
+    (owns : List Own) × AreAhead settings t.packed owns × (listed ≡ InPacked (own_of own) ∷ merged t.found.entries owns)
+TakesListed settings listed (Some (taking.Packed (Err error))) t = ⊥
 
 -- how many items are yet to come at most
 abbrev pub merge_left : Merge → ℕ

@@ -65,14 +65,14 @@ AheadOf settings (Some (Ok own)) records owns = (rs : List Record) × YetOf reco
 AheadOf settings (Some (Err e)) records owns = ⊥
 
 -- these are yet to come, without a fault
-abbrev pub AreAhead : OwnRecords → List Own → Type 0
-AreAhead o owns = AheadOf o.settings o.first o.records owns
+abbrev pub AreAhead : Settings → OwnRecords → List Own → Type 0
+AreAhead settings o owns = AheadOf settings o.first o.records owns
 
 -- the first of these, and those that are yet to come then
-abbrev pub TakesOwn : List Own → Option (Result OwnRecord Error) → OwnRecords → Type 0
-TakesOwn owns None t = (owns ≡ []) × AreAhead t []
-TakesOwn owns (Some (Ok own)) t = (more : List Own) × (owns ≡ own_of own ∷ more) × AreAhead t more
-TakesOwn owns (Some (Err e)) t = ⊥
+abbrev pub TakesOwn : Settings → List Own → Option (Result OwnRecord Error) → OwnRecords → Type 0
+TakesOwn settings owns None t = (owns ≡ []) × AreAhead settings t []
+TakesOwn settings owns (Some (Ok own)) t = (more : List Own) × (owns ≡ own_of own ∷ more) × AreAhead settings t more
+TakesOwn settings owns (Some (Err e)) t = ⊥
 
 abbrev pub left_of : Option Iter → ℕ
 left_of None = 0

@@ -1,12 +1,11 @@
 -- What a whole listing is: each name with a loose file or a record, once, by ascending bytes.
-use Rattle.std.specs.Prelude.{◌≡◌, ◌⊎◌, ◌++◌, ℕ, List, [], ◌∷◌, Option, Some, None, IsSome, true}
+use Rattle.std.specs.Prelude.{◌≡◌, ◌⊎◌, ◌++◌, ℕ, List, [], ◌∷◌, Option, Some, None, IsSome}
 use denote.Ref.{Bor}
-use Rattle.std.specs.Iterator.Runs.{EachRunFrom}
 use Rattle.std.specs.List.{AllByRecursion}
 use Rattle.gix_ref_hash.specs.Bytes.{BeginsWith}
 use Rattle.gix_ref_base.specs.NameGrammar.{IsPartialName}
 use Rattle.gix_ref_base.specs.PackedRecords.{Record, record_named}
-use Rattle.gix_ref_files.specs.Files.{Meaning, HasRisen}
+use Rattle.gix_ref_files.specs.Files.{HasRisen}
 use Rattle.gix_ref_packed.specs.RecordGrammar.{Below, Ascending, Rising, Records}
 use Rattle.gix_ref_hash.specs.declared.hash.Kind.{Kind}
 use Rattle.gix_ref_packed.specs.Prefixes.{records_prefixed}
@@ -19,9 +18,8 @@ use Rattle.gix_ref_lookup.specs.StoreLayout.{namespace_text}
 use Rattle.gix_ref_lookup.specs.declared.settings.Settings.{Settings}
 use Rattle.gix_ref_listing.specs.Walks.{Among, Holds, IsFile}
 use Rattle.gix_ref_listing.specs.OwnRecords.{YetOf}
-use Rattle.gix_ref_listing.specs.Steps.{NextItem, AreItemsOf}
-use Rattle.gix_ref_listing.specs.declared.iter.LooseThenPacked.{LooseThenPacked}
-use Rattle.gix_ref_listing.specs.declared.iter.Remaining.{Remaining}
+use Rattle.gix_ref_listing.specs.Steps.{AreYet}
+use Rattle.gix_ref_listing.specs.declared.merge.Merge.{Merge}
 use Rattle.gix_ref_listing.specs.Listings.{Listed}
 use Rattle.gix_ref_listing.specs.Listings.Listed.{Walked, InPacked}
 use Rattle.gix_ref_listing.specs.LooseListings.{IsLooseListed, IsFoundIn}
@@ -99,10 +97,9 @@ abbrev pub IsName : Listed → Type 0
 IsName (Walked e) = IsFile e
 IsName (InPacked own) = Unit {0}
 
-module _ {F : Type 0} (honest : Type 0) (means : F → Meaning) (faults : F → ℕ) where
-  -- The items of each run of the iterator are those of the listing. A folder is among them only where the count of faults rose.
-  pub record ListsAll (settings : Settings) (view : View) (records : List Record) (prefix : List ℕ) (before : ℕ) (it : LooseThenPacked F Remaining) : Type 0 where
-    pub listed : List Listed
-    pub is : IsListing settings view records prefix listed
-    pub names : AllByRecursion IsName listed ⊎ HasRisen before (faults it.files.now)
-    pub runs : EachRunFrom (NextItem honest means faults) it (λ run. AreItemsOf honest means faults (run.whole ≡ true) it listed run.items)
+-- What is yet to come is the listing. A folder is in it only where the count of faults rose.
+pub record ListsAll (settings : Settings) (view : View) (records : List Record) (prefix : List ℕ) (before now : ℕ) (m : Merge) : Type 0 where
+  pub listed : List Listed
+  pub is : IsListing settings view records prefix listed
+  pub names : AllByRecursion IsName listed ⊎ HasRisen before now
+  pub yet : AreYet settings m listed

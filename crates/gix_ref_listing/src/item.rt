@@ -1,5 +1,6 @@
 //! One item of a listing.
-ghost use Rattle.std.specs.Prelude.{◌≡◌, ◌≤◌, Some, Ok, Err};
+ghost use Rattle.std.specs.Prelude.{◌≡◌, ◌≤◌, ◌+◌};
+ghost use Rattle.std.specs.Option.{option_len};
 ghost use Rattle.gix_ref_base.specs.Names.{full_bytes};
 ghost use Rattle.gix_ref_files.specs.Files.{Leaves};
 ghost use Rattle.gix_ref_files.specs.Calls.{Unchanged};
@@ -7,11 +8,13 @@ ghost use Rattle.gix_ref_theory.specs.OnRealTrees.{view_of};
 ghost use Rattle.gix_ref_lookup.specs.Lookups.{meaning_in};
 ghost use Rattle.gix_ref_listing.specs.OwnRecords.{own_of};
 ghost use Rattle.gix_ref_listing.specs.Items.{IsGone, IsFoundItem, IsRecordItem, IsTakenItem};
+ghost use Rattle.gix_ref_listing.specs.Listings.{merge_left};
+ghost use Rattle.gix_ref_listing.specs.Steps.{GivesNext};
 ghost use Rattle.gix_ref_listing.specs.declared.found.Found.TheVariants.{File};
 
 use crate::error::{Error, of_line, of_reading};
 use crate::found::Found;
-use crate::merge::Taken;
+use crate::merge::{Merge, Taken};
 use crate::own_records::OwnRecord;
 use gix_ref_base::name::FullName;
 use gix_ref_base::target::Target;
@@ -73,7 +76,7 @@ fn record_item(alloc: Global, own: OwnRecord<'_>) -> Result<Reference, Error>
 }
 
 /// What was taken of a listing, as an item.
-pub(crate) fn item<F: Files>(
+fn item<F: Files>(
     alloc: Global,
     files: &mut F,
     settings: Settings<'_>,
@@ -90,5 +93,22 @@ pub(crate) fn item<F: Files>(
         Taken::Walked(Found::Unlisted { path, source }) => Err(Error::Traversal { source, path }),
         Taken::Packed(Ok(own)) => record_item(alloc, own),
         Taken::Packed(Err(error)) => Err(of_line(alloc, error)),
+    }
+}
+
+/// The next of a listing, as an item. Reads one file where it is a loose reference.
+pub fn next_item<F: Files>(
+    alloc: Global,
+    files: &mut F,
+    settings: Settings<'_>,
+    merge: &mut Merge<'_>,
+) -> Option<Result<Reference, Error>>
+    ensures next { GivesNext F.honest F.means F.faults settings.entry files.old files.new merge.old
+        result merge.new }
+    ensures left { option_len result + merge_left merge.new ≤ merge_left merge.old }
+{
+    match merge.take(settings) {
+        Some(taken) => Some(item(alloc, files, settings, taken)),
+        None => None,
     }
 }

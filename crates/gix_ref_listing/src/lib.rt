@@ -4,8 +4,7 @@
 
 pub mod error;
 pub mod found;
-mod item;
-pub mod iter;
+pub mod item;
 pub mod list;
 pub mod merge;
 pub mod own_records;

@@ -1,5 +1,5 @@
 //! The listing of a prefix.
-ghost use Rattle.std.specs.Prelude.{◌≡◌, ◌++◌, List, IfOk, IfErr};
+ghost use Rattle.std.specs.Prelude.{◌≡◌, ◌≤◌, ◌++◌, List, IfOk, IfErr};
 ghost use Rattle.gix_ref_base.specs.PackedRecords.{Record};
 ghost use Rattle.gix_ref_files.specs.Files.{Leaves};
 ghost use Rattle.gix_ref_files.specs.Calls.{Unchanged};
@@ -8,7 +8,8 @@ ghost use Rattle.gix_ref_lookup.specs.StoreLayout.{namespace_text};
 ghost use Rattle.gix_ref_listing.specs.WholeListings.{AreHeld, IsAskedOf, ListsAll, key_in};
 ghost use Rattle.gix_ref_listing.specs.declared.prefix.Error.TheVariants.{Memory};
 
-use crate::iter::LooseThenPacked;
+use crate::merge::Merge;
+use crate::own_records::OwnRecords;
 use crate::prefix::Error;
 use crate::store_walk::{text_of, walk_store};
 use crate::walk::joined;
@@ -39,23 +40,22 @@ fn records_of<'p>(
 }
 
 /// The loose references of a store and those of a buffer, if one is given, whose names begin with the prefix. The loose
-/// ones are found now, at the cost of one call of files for each folder that such names may be in, and each is read when it is
-/// given. `Memory` where there was no memory for what was found.
+/// ones are found now, at the cost of one call of files for each folder that such names may be in. `Memory` where there was no
+/// memory for what was found.
 pub fn list<'p, F: Files>(
     alloc: Global,
-    files: &'p mut F,
-    settings: Settings<'p>,
+    files: &mut F,
+    settings: Settings<'_>,
     prefix: &[u8],
     packed: Option<&'p Buffer>,
-) -> Result<LooseThenPacked<'p, F>, Error>
-    ensures same_files { IfOk result (λ it. it.files.ghost_name ≡ files.entry.ghost_name) }
-    ensures same_settings { IfOk result (λ it. it.rest.settings ≡ settings.entry) }
+) -> Result<Merge<'p>, Error>
     ensures lists { F.honest → (records : List Record) →
         AreHeld (key_in settings.entry prefix.now) packed.entry records →
-        IfOk result (ListsAll F.honest F.means F.faults settings.entry
-        (view_of (F.means files.old).tree) records prefix.now (F.faults files.old)) }
-    ensures leaves { F.honest → IfOk result (λ it. Leaves (F.means files.old)
-        (F.means it.files.now) (Unchanged (F.means files.old).tree)) }
+        IfOk result (ListsAll settings.entry (view_of (F.means files.old).tree) records prefix.now
+        (F.faults files.old) (F.faults files.new)) }
+    ensures rises { F.faults files.old ≤ F.faults files.new }
+    ensures leaves { F.honest → Leaves (F.means files.old) (F.means files.new)
+        (Unchanged (F.means files.old).tree) }
     ensures memory { IfErr result (λ error. error ≡ Memory) }
 {
     let Ok(found) = walk_store(alloc, files, settings, prefix) else {
@@ -64,5 +64,6 @@ pub fn list<'p, F: Files>(
     // The keys of a map ascend, as its length says.
     found.len();
     let records = records_of(alloc, settings.namespace, prefix, packed)?;
-    Ok(LooseThenPacked::of(alloc, files, settings, found, records))
+    let packed = OwnRecords::of(settings, records);
+    Ok(Merge { found, packed })
 }

@@ -3,6 +3,7 @@ ghost use Rattle.std.specs.Prelude.{◌≡◌};
 
 use crate::found::{Found, FoundByKey};
 use crate::own_records::{OwnRecord, OwnRecords};
+use gix_ref_lookup::settings::Settings;
 use gix_ref_packed::packed::iter::Error;
 use std::cmp::Ordering;
 
@@ -55,9 +56,9 @@ impl<'p> Merge<'p> {
     }
 
     /// The next of the listing.
-    pub fn take(&mut self) -> Option<Taken<'p>>
-        ensures takes { (owns : List Own) → AreAhead self.old.packed owns →
-            TakesListed (merged self.old.found.entries owns) result self.new }
+    pub fn take(&mut self, settings: Settings<'_>) -> Option<Taken<'p>>
+        ensures takes { (owns : List Own) → AreAhead settings.entry self.old.packed owns →
+            TakesListed settings.entry (merged self.old.found.entries owns) result self.new }
         ensures left { option_len result + merge_left self.new ≤ merge_left self.old }
         ensures ends { IfNone result (IsDrained self.new) }
         ensures stays_ended { IsDrained self.old → result ≡ None }
@@ -65,10 +66,10 @@ impl<'p> Merge<'p> {
         match self.order() {
             Ordering::Less => self.take_found(),
             Ordering::Equal => {
-                self.packed.take();
+                self.packed.take(settings);
                 self.take_found()
             }
-            Ordering::Greater => match self.packed.take() {
+            Ordering::Greater => match self.packed.take(settings) {
                 Some(item) => Some(Taken::Packed(item)),
                 None => None,
             },

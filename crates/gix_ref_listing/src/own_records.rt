@@ -106,7 +106,6 @@ fn next_own<'p>(
 /// The records that a listing gives, one after the other. The first is read ahead.
 #[derive(Drop)]
 pub struct OwnRecords<'p> {
-    pub(crate) settings: Settings<'p>,
     pub(crate) records: Option<Iter<'p>>,
     pub(crate) first: Option<Result<OwnRecord<'p>, Error<'p>>>,
 }
@@ -118,35 +117,34 @@ impl<'p> OwnRecords<'p> {
     ghost use Rattle.gix_ref_listing.specs.OwnRecords.{own_records, Own, YetOf, AreAhead, TakesOwn, ahead_left, left_of};
 
     /// Those of the records that the iterator is yet to give, if there is one.
-    pub fn of(settings: Settings<'p>, records: Option<Iter<'p>>) -> OwnRecords<'p>
+    pub fn of(settings: Settings<'_>, records: Option<Iter<'p>>) -> OwnRecords<'p>
         ensures { (rs : List Record) → YetOf records.entry rs →
-            AreAhead result (own_records settings.entry rs) }
+            AreAhead settings.entry result (own_records settings.entry rs) }
     {
         let mut own = OwnRecords {
-            settings,
             records,
             first: None,
         };
-        own.load();
+        own.load(settings);
         own
     }
 
     /// Reads the next one ahead.
-    fn load(&mut self)
+    fn load(&mut self, settings: Settings<'_>)
         ensures ahead { (rs : List Record) → YetOf self.old.records rs →
-            AreAhead self.new (own_records self.old.settings rs) }
+            AreAhead settings.entry self.new (own_records settings.entry rs) }
         ensures left { ahead_left self.new ≤ left_of self.old.records }
     {
         self.first = match &mut self.records {
-            Some(records) => next_own(self.settings, records),
+            Some(records) => next_own(settings, records),
             None => None,
         };
     }
 
     /// The next one, or the next line that is no record.
-    pub fn take(&mut self) -> Option<Result<OwnRecord<'p>, Error<'p>>>
-        ensures takes { (owns : List Own) → AreAhead self.old owns →
-            TakesOwn owns result self.new }
+    pub fn take(&mut self, settings: Settings<'_>) -> Option<Result<OwnRecord<'p>, Error<'p>>>
+        ensures takes { (owns : List Own) → AreAhead settings.entry self.old owns →
+            TakesOwn settings.entry owns result self.new }
         ensures left { option_len result + ahead_left self.new ≤ ahead_left self.old }
         ensures was { IfNone result (self.old.first ≡ None) }
         ensures ends { IfNone result (self.new.first ≡ None) }
@@ -155,7 +153,7 @@ impl<'p> OwnRecords<'p> {
         let Some(first) = self.first else {
             return None;
         };
-        self.load();
+        self.load(settings);
         Some(first)
     }
 }

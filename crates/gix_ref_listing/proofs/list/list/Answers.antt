@@ -1,18 +1,16 @@
-use Rattle.std.proofs.Common.{◌≡◌, ◌⊎◌, inl, inr, ⊎_elim, sym, subst, ap}
-use Rattle.gix_ref_files.specs.Files.{HasRisen}
+use Rattle.std.proofs.Common.{◌≡◌, inl, inr, ⊎_elim, refl}
 use Rattle.gix_ref_theory.specs.OnRealTrees.{view_of}
 use Rattle.gix_ref_packed.specs.Prefixes.{records_prefixed}
 use Rattle.gix_ref_listing.specs.OwnRecords.{own_records}
 use Rattle.gix_ref_listing.specs.Listings.{merged}
 use Rattle.gix_ref_listing.specs.WholeListings.{key_in}
-use Rattle.gix_ref_listing.proofs.Listing.{found_rises, listing_is, all_names, each_run}
+use Rattle.gix_ref_listing.proofs.Listing.{found_rises, listing_is, all_names}
 use Rattle.gix_ref_listing.proofs.list.list.Goals as goal
 
 pub returns-clause-lists : goal.returns-clause-lists
 returns-clause-lists g c h records held =
-    let F = g.F.Files in
     let settings = c.args.settings in
-    let view = view_of (F.means c.args.files.now).tree in
+    let view = view_of (g.F.Files.means c.args.files.now).tree in
     let prefix = c.args.prefix.now in
     let es = c.in-Ok.found.entries in
     let asked = c.in_ok-records.ensures records held in
@@ -20,6 +18,6 @@ returns-clause-lists g c h records held =
     record {
       listed = merged es (own_records settings rs);
       is = listing_is settings view records asked.held prefix asked.ascending asked.named es (found_rises es c.len.ensures.ordered) (c.in-Ok.ensures.finds h) (c.in-Ok.ensures.there h);
-      names = ⊎_elim (λ files. inl (all_names es (own_records settings rs) files)) (λ risen. inr (subst (λ f. HasRisen (F.faults c.args.files.now) (F.faults f)) (sym c.of.ensures.files) risen)) c.in-Ok.ensures.files;
-      runs = each_run F.honest F.means F.faults c.of.result (merged es (own_records settings rs)) (c.of.ensures.yet rs asked.yet);
+      names = ⊎_elim (λ files. inl (all_names es (own_records settings rs) files)) (λ risen. inr risen) c.in-Ok.ensures.files;
+      yet = (own_records settings rs, c.of-packed.ensures rs asked.yet, refl);
     }

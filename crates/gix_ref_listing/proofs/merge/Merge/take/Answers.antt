@@ -4,11 +4,11 @@ use Rattle.gix_ref_listing.proofs.merge.Merge.take.Goals as goal
 
 pub returns-in-Less-clause-takes : goal.returns-in-Less-clause-takes
 returns-in-Less-clause-takes c owns ahead =
-    less_takes c.args.self.now c.take_found.new.self c.take_found.result owns (sym c.order.ensures ∙ c.in-Less.is) c.take_found.ensures.takes c.take_found.ensures.packed ahead
+    less_takes c.args.settings c.args.self.now c.take_found.new.self c.take_found.result owns (sym c.order.ensures ∙ c.in-Less.is) c.take_found.ensures.takes c.take_found.ensures.packed ahead
 
 pub returns-in-Equal-clause-takes : goal.returns-in-Equal-clause-takes
 returns-in-Equal-clause-takes c owns ahead =
-    equal_takes c.args.self.now record { found = c.args.self.now.found; packed = c.take.new.self } c.take_found-in-Equal.new.self c.take.result c.take_found-in-Equal.result owns (sym c.order.ensures ∙ c.in-Equal.is)
+    equal_takes c.args.settings c.args.self.now record { found = c.args.self.now.found; packed = c.take.new.self } c.take_found-in-Equal.new.self c.take.result c.take_found-in-Equal.result owns (sym c.order.ensures ∙ c.in-Equal.is)
     (c.take.ensures.takes owns ahead) refl c.take_found-in-Equal.ensures.takes c.take_found-in-Equal.ensures.packed ahead
 
 pub returns-in-None-clause-ends : goal.returns-in-None-clause-ends
