@@ -5,5 +5,6 @@ pub mod MergeLemmas
 pub mod MergedListings
 pub mod OwnLemmas
 pub mod OwnListings
+pub mod PlainListings
 pub mod StoreWalks
 pub mod WalkLemmas

@@ -3,6 +3,7 @@ pub mod Items
 pub mod Listings
 pub mod LooseListings
 pub mod OwnRecords
+pub mod PlainSettings
 pub mod Steps
 pub mod Walks
 pub mod WholeListings

@@ -9,6 +9,7 @@ ghost use Rattle.gix_ref_lookup.specs.Lookups.{meaning_in};
 ghost use Rattle.gix_ref_listing.specs.OwnRecords.{own_of};
 ghost use Rattle.gix_ref_listing.specs.Items.{IsGone, IsFoundItem, IsRecordItem, IsTakenItem};
 ghost use Rattle.gix_ref_listing.specs.Listings.{merge_left};
+ghost use Rattle.gix_ref_listing.specs.PlainSettings.{plain};
 ghost use Rattle.gix_ref_listing.specs.Steps.{GivesNext};
 ghost use Rattle.gix_ref_listing.specs.declared.found.Found.TheVariants.{File};
 
@@ -96,6 +97,23 @@ fn item<F: Files>(
     }
 }
 
+/// The next of a listing, as an item.
+fn take_item<F: Files>(
+    alloc: Global,
+    files: &mut F,
+    settings: Settings<'_>,
+    merge: &mut Merge<'_>,
+) -> Option<Result<Reference, Error>>
+    ensures next { GivesNext F.honest F.means F.faults settings.entry files.old files.new
+        merge.old result merge.new }
+    ensures left { option_len result + merge_left merge.new ≤ merge_left merge.old }
+{
+    match merge.take(settings) {
+        Some(taken) => Some(item(alloc, files, settings, taken)),
+        None => None,
+    }
+}
+
 /// The next of a listing, as an item. Reads one file where it is a loose reference.
 pub fn next_item<F: Files>(
     alloc: Global,
@@ -103,12 +121,9 @@ pub fn next_item<F: Files>(
     settings: Settings<'_>,
     merge: &mut Merge<'_>,
 ) -> Option<Result<Reference, Error>>
-    ensures next { GivesNext F.honest F.means F.faults settings.entry files.old files.new merge.old
-        result merge.new }
+    ensures next { GivesNext F.honest F.means F.faults (plain settings.entry) files.old files.new
+        merge.old result merge.new }
     ensures left { option_len result + merge_left merge.new ≤ merge_left merge.old }
 {
-    match merge.take(settings) {
-        Some(taken) => Some(item(alloc, files, settings, taken)),
-        None => None,
-    }
+    take_item(alloc, files, settings, merge)
 }

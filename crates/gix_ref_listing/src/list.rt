@@ -5,6 +5,7 @@ ghost use Rattle.gix_ref_files.specs.Files.{Leaves};
 ghost use Rattle.gix_ref_files.specs.Calls.{Unchanged};
 ghost use Rattle.gix_ref_theory.specs.OnRealTrees.{view_of};
 ghost use Rattle.gix_ref_lookup.specs.StoreLayout.{namespace_text};
+ghost use Rattle.gix_ref_listing.specs.PlainSettings.{plain};
 ghost use Rattle.gix_ref_listing.specs.WholeListings.{AreHeld, IsAskedOf, ListsAll, key_in};
 ghost use Rattle.gix_ref_listing.specs.declared.prefix.Error.TheVariants.{Memory};
 
@@ -51,7 +52,7 @@ pub fn list<'p, F: Files>(
 ) -> Result<Merge<'p>, Error>
     ensures lists { F.honest → (records : List Record) →
         AreHeld (key_in settings.entry prefix.now) packed.entry records →
-        IfOk result (ListsAll settings.entry (view_of (F.means files.old).tree) records prefix.now
+        IfOk result (ListsAll (plain settings.entry) (view_of (F.means files.old).tree) records prefix.now
         (F.faults files.old) (F.faults files.new)) }
     ensures rises { F.faults files.old ≤ F.faults files.new }
     ensures leaves { F.honest → Leaves (F.means files.old) (F.means files.new)

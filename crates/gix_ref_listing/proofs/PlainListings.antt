@@ -1,0 +1,85 @@
+-- Where settings lie does not matter to a listing.
+use Rattle.std.proofs.Common.{◌≡◌, ℕ, List, [], ◌∷◌, refl, sym, ◌∙◌, ap, subst, Option, Some, None, Result, Ok, Err}
+use Rattle.std.specs.List.{All}
+use Rattle.std.specs.Prelude.{slice_index_or}
+use Rattle.gix_ref_base.specs.PackedRecords.{Record}
+use Rattle.gix_ref_files.specs.Files.{Meaning}
+use Rattle.gix_ref_packed.specs.declared.packed.iter.error.Error.{Error as LineError}
+use Rattle.gix_ref_packed.specs.declared.raw.Reference.{Reference}
+use Rattle.gix_ref_theory.specs.Views.{View}
+use Rattle.gix_ref_lookup.specs.declared.settings.Settings.{Settings}
+use Rattle.gix_ref_listing.specs.PlainSettings.{plain}
+use Rattle.gix_ref_listing.specs.Walks.{FoundEntry}
+use Rattle.gix_ref_listing.specs.OwnRecords.{own_of, own_name, own_records, with_own, AreAhead, AheadOf}
+use Rattle.gix_ref_listing.specs.Listings.{Listed}
+use Rattle.gix_ref_listing.specs.Listings.Listed.{Walked, InPacked}
+use Rattle.gix_ref_listing.specs.LooseListings.{IsLooseListed, IsFoundIn}
+use Rattle.gix_ref_listing.specs.Items.{IsItem}
+use Rattle.gix_ref_listing.specs.Steps.{AreYet, GivesItem}
+use Rattle.gix_ref_listing.specs.declared.error.Error.{Error}
+use Rattle.gix_ref_listing.specs.declared.found.Found.TheVariants.{File, Unlisted}
+use Rattle.gix_ref_listing.specs.declared.merge.Merge.{Merge}
+use Rattle.gix_ref_listing.specs.declared.own_records.OwnRecord.{OwnRecord}
+
+module _ (s : Settings) where
+  same_name : (key : List ℕ) → own_name s key ≡ own_name (plain s) key
+  unfolding own_name
+  same_name key = refl
+
+  pub same_own : (rs : List Record) → own_records s rs ≡ own_records (plain s) rs
+  same_own [] = refl
+  same_own (r ∷ rs) = ap (λ n. with_own n r (own_records s rs)) (same_name r.name) ∙ ap (with_own (own_name (plain s) r.name) r) (same_own rs)
+
+  -- what is yet to come
+  pub to_plain : (m : Merge) (listed : List Listed) → AreYet s m listed → AreYet (plain s) m listed
+  to_plain m listed (owns, ahead, is) = (owns, by m.packed.first ahead, is)
+    where
+      by : (first : Option (Result OwnRecord LineError)) → AheadOf s first m.packed.records owns → AheadOf (plain s) first m.packed.records owns
+      by None none = none
+      by (Some (Ok own)) (rs, yet, whole) = (rs, yet, whole ∙ ap (λ os. own_of own ∷ os) (same_own rs))
+      by (Some (Err e)) bad = bad
+
+  pub of_plain : (m : Merge) (listed : List Listed) → AreYet (plain s) m listed → AreYet s m listed
+  of_plain m listed (owns, ahead, is) = (owns, by m.packed.first ahead, is)
+    where
+      by : (first : Option (Result OwnRecord LineError)) → AheadOf (plain s) first m.packed.records owns → AheadOf s first m.packed.records owns
+      by None none = none
+      by (Some (Ok own)) (rs, yet, whole) = (rs, yet, whole ∙ ap (λ os. own_of own ∷ os) (sym (same_own rs)))
+      by (Some (Err e)) bad = bad
+
+  -- an item
+  pub item_plain : (honest : Type 0) (view : View) (before now : ℕ) (one : Listed) (item : Result Reference Error) → IsItem honest s view before now one item → IsItem honest (plain s) view before now one item
+  item_plain honest view before now (Walked (key, File name path)) (Ok r) is = is
+  item_plain honest view before now (Walked (key, File name path)) (Err e) is = is
+  item_plain honest view before now (Walked (key, Unlisted path e)) (Ok r) is = is
+  item_plain honest view before now (Walked (key, Unlisted path e)) (Err f) is = is
+  item_plain honest view before now (InPacked own) item is = is
+
+  -- what a walk found
+  pub loose_of_plain : (view : View) (prefix name : List ℕ) → IsLooseListed (plain s) view prefix name → IsLooseListed s view prefix name
+  loose_of_plain view prefix name (front, of, loose) = (front, of, record {
+      placed = record { valid = loose.placed.valid; begins = loose.placed.begins; own = loose.placed.own };
+      composed = loose.composed;
+      there = loose.there;
+    })
+
+  pub found_plain : (view : View) (prefix : List ℕ) (e : FoundEntry) → IsFoundIn s view prefix e → IsFoundIn (plain s) view prefix e
+  found_plain view prefix (key, File name path) (named, file) = (named, record {
+      front = file.front;
+      of = file.of;
+      placed = record { valid = file.placed.valid; begins = file.placed.begins; own = file.placed.own };
+      disk = file.disk;
+      at = file.at;
+      asked = file.asked;
+      there = file.there;
+    })
+  found_plain view prefix (key, Unlisted path e) found = found
+
+  pub all_plain : (view : View) (prefix : List ℕ) (es : List FoundEntry) → All (IsFoundIn s view prefix) es → All (IsFoundIn (plain s) view prefix) es
+  all_plain view prefix es all = λ k d below. found_plain view prefix (slice_index_or es k d) (all k d below)
+
+module _ {F : Type 0} (honest : Type 0) (means : F → Meaning) (faults : F → ℕ) (s : Settings) where
+  -- giving an item
+  pub gives_plain : (before now : F) (listed : List Listed) (r : Option (Result Reference Error)) (t : Merge) → GivesItem honest means faults s before now listed r t → GivesItem honest means faults (plain s) before now listed r t
+  gives_plain before now listed None t (none, yet) = (none, to_plain s t [] yet)
+  gives_plain before now listed (Some item) t (one, more, is, yet, given) = (one, more, is, to_plain s t more yet, item_plain s honest _ _ _ one item given)

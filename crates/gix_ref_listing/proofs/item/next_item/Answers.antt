@@ -1,0 +1,15 @@
+use Rattle.gix_ref_listing.proofs.PlainListings.{of_plain, gives_plain}
+use Rattle.gix_ref_listing.proofs.item.next_item.Goals as goal
+
+pub returns-clause-next : goal.returns-clause-next
+returns-clause-next g c =
+    let F = g.F.Files in
+    let step = c.take_item.ensures.next in
+    record {
+      gives = λ listed yet. gives_plain F.honest F.means F.faults c.args.settings c.args.files.now c.take_item.new.files listed c.take_item.result c.take_item.new.merge
+          (step.gives listed (of_plain c.args.settings c.args.merge.now listed yet));
+      rises = step.rises;
+      leaves = step.leaves;
+      ends = step.ends;
+      stays_ended = step.stays_ended;
+    }
