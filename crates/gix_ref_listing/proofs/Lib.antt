@@ -1,3 +1,4 @@
+pub mod CleanFolders
 pub mod FolderWalks
 pub mod ItemLemmas
 pub mod Listing

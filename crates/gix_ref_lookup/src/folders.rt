@@ -1,10 +1,10 @@
 //! The folders of a store: the git folder, and the common folder of all worktrees (`git worktree`).
-ghost use Rattle.std.specs.Prelude.{◌≡◌, ◌≢◌, ◌↔◌, ◌⊎◌, [], ◌∷◌, ◌++◌, ℕ, List, IsTrue, IfSome, IfNone, IfOk, IfErr, MatchOption, IsTrue, true, false, codes};
+ghost use Rattle.std.specs.Prelude.{◌≡◌, ◌↔◌, ◌⊎◌, ◌∷◌, ◌++◌, ℕ, List, IsTrue, IfSome, IfNone, IfOk, IfErr, MatchOption, IsTrue, true, false, codes};
 ghost use Rattle.std.specs.Prelude.{◌==◌, not};
 ghost use Rattle.std.specs.List.{list_all};
 ghost use Rattle.gix_ref_hash.specs.Bytes.{NoByte, components, without_front};
 ghost use Rattle.gix_ref_base.specs.Layout.{AreCompatible, LiesIn, below};
-ghost use Rattle.gix_ref_lookup.specs.CleanPaths.{is_clean, is_clean_component, common_of, are_compatible};
+ghost use Rattle.gix_ref_lookup.specs.CleanPaths.{is_clean, is_clean_component, common_of, are_clean, are_compatible};
 
 use gix_ref_hash::bytes::{split_component, strip_front};
 
@@ -14,7 +14,7 @@ pub struct Dirs {
     pub git_dir: Vec<u8>,
     pub common_dir: Option<Vec<u8>>,
     pub ghost laid: { are_compatible git_dir.items (common_of git_dir common_dir) ≡ true },
-    pub ghost named: { (git_dir.items ≢ []) × (common_of git_dir common_dir ≢ []) },
+    pub ghost clean: { are_clean git_dir common_dir ≡ true },
 }
 
 impl Dirs {

@@ -2,6 +2,7 @@ pub mod Adds
 pub mod Commits
 pub mod Committing
 pub mod Firsts
+pub mod ListingRuns
 pub mod Locking
 pub mod LookupLemmas
 pub mod LooseAnswers

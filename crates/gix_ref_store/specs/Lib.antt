@@ -3,6 +3,7 @@ pub mod Causes
 pub mod CommitRenames
 pub mod CommitResult
 pub mod First
+pub mod Listings
 pub mod Lookup
 pub mod Options
 pub mod OwnLocks

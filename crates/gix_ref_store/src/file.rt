@@ -1,5 +1,6 @@
 //! The store over files: its folders, loose references and their places.
 pub mod find;
+pub mod iter;
 pub mod log;
 pub mod packed;
 pub mod store;

@@ -1,10 +1,11 @@
-use Rattle.std.proofs.Common.{◌≡◌, ◌∙◌, sym, ap, subst, List, ℕ, refl}
+use Rattle.std.proofs.Common.{◌≡◌, ◌≢◌, ◌∙◌, [], sym, subst, List, ℕ}
 use Rattle.std.specs.List.{All}
 use Rattle.gix_ref_base.specs.Layout.{below}
 use Rattle.gix_ref_files.specs.Tree.{Tree}
 use Rattle.gix_ref_theory.specs.OnRealTrees.{view_of}
 use Rattle.gix_ref_lookup.specs.StoreLayout.{namespace_text}
 use Rattle.gix_ref_listing.specs.LooseListings.{IsFoundIn, LooseIn}
+use Rattle.gix_ref_listing.proofs.CleanFolders.{clean_named}
 use Rattle.gix_ref_listing.proofs.StoreWalks.{found_either, all_none}
 use Rattle.gix_ref_listing.proofs.store_walk.walk_store.Goals as goal
 
@@ -27,3 +28,13 @@ returns-clause-there g c h =
     let first = c.in_ok-walk_in.ensures.there h (all_none (IsFoundIn settings (view_of (F.means c.args.files.now).tree) c.args.prefix.now) c.new-found.result.entries c.new-found.ensures.len) in
     subst (λ (T : Tree). All (IsFoundIn settings (view_of T) c.args.prefix.now) c.walk_in-2.new.found.entries) same
     (c.in_ok-walk_in-2.ensures.there h (subst (λ (T : Tree). All (IsFoundIn settings (view_of T) c.args.prefix.now) c.walk_in.new.found.entries) (sym same) first))
+
+pub walk_in-requires-clause-folder : goal.walk_in-requires-clause-folder
+walk_in-requires-clause-folder g c =
+    let dirs = c.args.settings.dirs.now in
+    subst (λ (p : List ℕ). p ≢ []) (sym c.common-common.ensures) (clean_named dirs.git_dir dirs.common_dir dirs.clean).1
+
+pub walk_in-requires-2-clause-folder : goal.walk_in-requires-2-clause-folder
+walk_in-requires-2-clause-folder g c =
+    let dirs = c.args.settings.dirs.now in
+    subst (λ (p : List ℕ). p ≢ []) (sym c.deref.ensures.value) (clean_named dirs.git_dir dirs.common_dir dirs.clean).0
