@@ -12,6 +12,8 @@ mod many;
 #[cfg(test)]
 mod opened;
 #[cfg(test)]
+mod prefixes;
+#[cfg(test)]
 mod probes;
 #[cfg(test)]
 mod raw;
