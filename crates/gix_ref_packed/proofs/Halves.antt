@@ -12,7 +12,7 @@ use Rattle.std.proofs.lemmas.List.Elements.{All-head, All-tail}
 use Rattle.gix_ref_hash.specs.declared.hash.Kind.{Kind}
 use Rattle.gix_ref_base.specs.PackedRecords.{Record, record_named}
 use Rattle.gix_ref_packed.specs.RecordGrammar.{RecordLine, Takes, Forms, Below, Ascending}
-use Rattle.gix_ref_packed.specs.Positions.{LineOf, SameLine, RecordOf, NameAt, Compares, FindsAt, HitsAt, BeginsLine, IsMalformed, HasRecordLine, IsNotMalformed}
+use Rattle.gix_ref_packed.specs.Positions.{LineOf, SameLine, RecordOf, NameAt, Orders, OrdersIfNamed, FindsAt, HitsAt, BeginsLine, IsMalformed, HasRecordLine, IsNotMalformed}
 use Rattle.gix_ref_packed.specs.Probed.{IsProbeAt}
 use Rattle.gix_ref_packed.specs.SearchCosts.{CountsProbes}
 use Rattle.gix_ref_packed.specs.declared.packed.searchable.Probe.{Probe}
@@ -109,16 +109,18 @@ begins_line text s o at =
     ⊎_elim (λ (goes : (get_or text at.line 0 ≡ 94) × (0 < at.line) × LineOf text s (at.line - 1)). goes.2.begins)
     (λ (stays : (get_or text at.line 0 ≡ 94 → at.line ≡ 0) × (s ≡ at.line)). subst (BeginsLine text) (sym stays.1) at.in_line.begins) at.goes
 
-module _ (k : Kind) (text n m : List ℕ) (s o : ℕ) (within : o < length text) (at : RecordOf text s o) (name : NameAt k (drop s text) m) where
-  owner_name : (rs : List Record) (h : Forms k text rs) → (owned k text rs h s o within at).owner.name ≡ m
-  owner_name rs h =
+-- the record that a byte is in, whose name, if it has one, compares so
+module _ (k : Kind) (text n : List ℕ) (s o : ℕ) (within : o < length text) (at : RecordOf text s o) (x : Ordering)
+    (compares : (m : List ℕ) → NameAt k (drop s text) m → x ≡ slice_cmp nat_cmp m n) where
+  pub owner_compares : (rs : List Record) (h : Forms k text rs) → x ≡ slice_cmp nat_cmp (owned k text rs h s o within at).owner.name n
+  owner_compares rs h =
       let own = owned k text rs h s o within at in
-      (same_record_line k (drop s text) own.owner.target own.owner.name own.takes.after name.0 m name.1 own.takes.line name.2).1
+      compares own.owner.name (own.owner.target, own.takes.after, own.takes.line)
 
-  pub less : (low high next : ℕ) → o < next → SameLine text o next → slice_cmp nat_cmp m n ≡ Less → Inside k text n low high → Inside k text n next high
+  pub less : (low high next : ℕ) → o < next → SameLine text o next → x ≡ Less → Inside k text n low high → Inside k text n next high
   less low high next beyond line below inside rs h up p r b named =
       let own = owned k text rs h s o within at in
-      let under : Below own.owner.name r.name = subst (λ (x : List ℕ). Below x r.name) (sym (owner_name rs h)) (subst (Below m) (sym named) below) in
+      let under : Below own.owner.name r.name = subst (Below own.owner.name) (sym named) (sym (owner_compares rs h) ∙ below) in
       let far : o < p = ⊎_elim
       (λ (early : p ≤ s). absurd (⊎_elim
       (λ (before : p < s). not_both r.name own.owner.name (ordered k text rs h up p r s own.owner b own.begins before) under)
@@ -134,10 +136,10 @@ module _ (k : Kind) (text n m : List ℕ) (s o : ℕ) (within : o < length text)
       (cases_lt p next) in
       (past, (inside rs h up p r b named).1)
 
-  pub greater : (low high : ℕ) → slice_cmp nat_cmp m n ≡ Greater → Inside k text n low high → Inside k text n low s
+  pub greater : (low high : ℕ) → x ≡ Greater → Inside k text n low high → Inside k text n low s
   greater low high above inside rs h up p r b named =
       let own = owned k text rs h s o within at in
-      let over : Below r.name own.owner.name = subst (λ (x : List ℕ). Below r.name x) (sym (owner_name rs h)) (subst (λ (x : List ℕ). Below x m) (sym named) (greater_is_below m n above)) in
+      let over : Below r.name own.owner.name = subst (λ (y : List ℕ). Below y own.owner.name) (sym named) (greater_is_below own.owner.name n (sym (owner_compares rs h) ∙ above)) in
       let near : p < s = ⊎_elim
       (λ (before : p < s). before)
       (λ (late : s ≤ p). absurd (⊎_elim
@@ -147,17 +149,17 @@ module _ (k : Kind) (text n m : List ℕ) (s o : ℕ) (within : o < length text)
       (cases_lt p s) in
       ((inside rs h up p r b named).0, near)
 
-  pub equal : slice_cmp nat_cmp m n ≡ Equal → (rs : List Record) → Forms k text rs → Ascending rs → FindsAt k text rs n s
+  pub equal : x ≡ Equal → (rs : List Record) → Forms k text rs → Ascending rs → FindsAt k text rs n s
   equal same rs h up =
       let own = owned k text rs h s o within at in
-      let named : own.owner.name ≡ n = owner_name rs h ∙ exact_bytes m n same in
+      let named : own.owner.name ≡ n = exact_bytes own.owner.name n (sym (owner_compares rs h) ∙ same) in
       record { found = own.owner; is = is_named k text rs h up s own.owner own.begins n named; rest = own.rest; takes = own.takes }
 
-  pub hits : slice_cmp nat_cmp m n ≡ Equal → HitsAt k text n s
-  hits same = record {
+  pub hits : x ≡ Equal → (m : List ℕ) → NameAt k (drop s text) m → HitsAt k text n s
+  hits same m name = record {
     within = let below = start_below text s o at in omega arith;
     line = begins_line text s o at;
-    named = (name.0, name.1, subst (λ (x : List ℕ). RecordLine k (drop s text) name.0 x name.1) (exact_bytes m n same) name.2);
+    named = (name.0, name.1, subst (λ (y : List ℕ). RecordLine k (drop s text) name.0 y name.1) (exact_bytes m n (sym (compares m name) ∙ same)) name.2);
   }
 
 -- a text of records has no malformed line
@@ -252,31 +254,31 @@ none_yet k text n p high whole =
 
 -- one record that is met at a byte `at` between `low` and `high`
 module _ (k : Kind) (text n : List ℕ) (first p q low high at : ℕ) (was : Halving k text n first p low high) (some : low < high)
-    (middle : at ≡ low + (high - low) / 2) (next_probe : q ≡ p + 1) (probe : Probe) (probed : IsProbeAt k text n at probe) (beyond : at < probe.next) where
+    (middle : at ≡ low + (high - low) / 2) (next_probe : q ≡ p + 1) (sure : Bool) (probe : Probe) (probed : IsProbeAt k text n sure at probe) (beyond : at < probe.next) where
   inside_text : at < length text
   inside_text = let within = was.within in omega arith
 
-  name_there : (o : Ordering) → probe.order ≡ Some o → (name : List ℕ) × NameAt k (drop probe.start text) name × (o ≡ slice_cmp nat_cmp name n) × (name ≢ [])
-  name_there o is = let order = probed.order in subst (Compares k (drop probe.start text) n) is order
+  orders : (o : Ordering) → probe.order ≡ Some o → Orders k (drop probe.start text) n sure o
+  orders o is = let order = probed.order in subst (OrdersIfNamed k (drop probe.start text) n sure) is order
 
   pub counted_now : CountsProbes (length text) first q
   counted_now = let counts = was.counts in record { some = λ more. omega arith; few = cost_counted first p q low high (length text) was.counts next_probe was.width some }
 
   pub step_low : probe.order ≡ Some Less → Halving k text n first q probe.next high
   step_low is =
-      let counts = was.counts in let name = name_there Less is in
+      let counts = was.counts in
       record {
         within = was.within;
         counts = omega arith;
         width = width_halves first p q low high probe.next high (length text) counts next_probe was.width (omega arith);
         few = cost_counted first p q low high (length text) counts next_probe was.width some;
         begun = λ same. absurd (omega arith);
-        inside = less k text n name.0 probe.start at inside_text probed.record_of name.1 low high probe.next beyond probed.line (sym name.2) was.inside;
+        inside = less k text n probe.start at inside_text probed.record_of Less (orders Less is).compares low high probe.next beyond probed.line refl was.inside;
       }
 
   pub step_high : probe.order ≡ Some Greater → Halving k text n first q low probe.start
   step_high is =
-      let counts = was.counts in let within = was.within in let name = name_there Greater is in
+      let counts = was.counts in let within = was.within in
       let below = start_below text probe.start at probed.record_of in
       record {
         within = omega arith;
@@ -284,7 +286,7 @@ module _ (k : Kind) (text n : List ℕ) (first p q low high at : ℕ) (was : Hal
         width = width_halves first p q low high low probe.start (length text) counts next_probe was.width (omega arith);
         few = cost_counted first p q low high (length text) counts next_probe was.width some;
         begun = λ same. absurd (omega arith);
-        inside = greater k text n name.0 probe.start at inside_text probed.record_of name.1 low high (sym name.2) was.inside;
+        inside = greater k text n probe.start at inside_text probed.record_of Greater (orders Greater is).compares low high refl was.inside;
       }
 
   pub malformed : probe.order ≡ None → IsMalformed k text
@@ -293,13 +295,15 @@ module _ (k : Kind) (text n : List ℕ) (first p q low high at : ℕ) (was : Hal
     offset = at;
     within = inside_text;
     begins = probed.record_of;
-    no_name = let order = probed.order in subst (Compares k (drop probe.start text) n) is order;
+    no_name = let order = probed.order in subst (OrdersIfNamed k (drop probe.start text) n sure) is order;
   }
 
-  pub line_there : (o : Ordering) → probe.order ≡ Some o → HasRecordLine k text
-  line_there o is =
-      let name = name_there o is in
-      record { start = probe.start; offset = at; within = inside_text; begins = probed.record_of; name = name.0; some = name.3; named = name.1 }
+  -- a line of this form was seen, now where the look was sure
+  pub line_there : (o : Ordering) → probe.order ≡ Some o → (before : Bool) → (before ≡ true → sure ≡ true) → ((before ≡ true) × (p ≤ first)) ⊎ HasRecordLine k text → HasRecordLine k text
+  line_there o is before looks (inl none) =
+      let name = (orders o is).named (inl (looks none.0)) in
+      record { start = probe.start; offset = at; within = inside_text; begins = probed.record_of; name = name.0; some = name.2; named = name.1 }
+  line_there o is before looks (inr there) = there
 
   pub step_malformed : probe.order ≡ None → Halving k text n first q probe.next high
   step_malformed is =
@@ -315,11 +319,12 @@ module _ (k : Kind) (text n : List ℕ) (first p q low high at : ℕ) (was : Hal
 
   pub found_hit : probe.order ≡ Some Equal → HitsAt k text n probe.start
   found_hit is =
-      let name = name_there Equal is in hits k text n name.0 probe.start at inside_text probed.record_of name.1 (sym name.2)
+      let name = (orders Equal is).named (inr refl) in
+      hits k text n probe.start at inside_text probed.record_of Equal (orders Equal is).compares refl name.0 name.1
 
   pub found_there : probe.order ≡ Some Equal → (rs : List Record) → Forms k text rs → Ascending rs → FindsAt k text rs n probe.start
   found_there is =
-      let name = name_there Equal is in equal k text n name.0 probe.start at inside_text probed.record_of name.1 (sym name.2)
+      equal k text n probe.start at inside_text probed.record_of Equal (orders Equal is).compares refl
 
 pub counted_end : (k : Kind) (text n : List ℕ) (first p low high : ℕ) → Halving k text n first p low high → high ≤ low → CountsProbes (length text) first p
 counted_end k text n first p low high was met = record {
@@ -329,6 +334,6 @@ counted_end k text n first p low high was met = record {
 }
 
 -- the search ended and no line was malformed
-pub not_malformed_end : (k : Kind) (text n : List ℕ) (first p low high : ℕ) → Halving k text n first p low high → high ≤ low → (p ≤ first) ⊎ HasRecordLine k text → IsNotMalformed k text
-not_malformed_end k text n first p low high was met (inl early) some = let begun = was.begun early in let zero = begun.0 in let all = begun.1 in absurd (omega arith)
-not_malformed_end k text n first p low high was met (inr there) some = there
+pub not_malformed_end : (k : Kind) (text n : List ℕ) (first p low high : ℕ) (before : Bool) → Halving k text n first p low high → high ≤ low → ((before ≡ true) × (p ≤ first)) ⊎ HasRecordLine k text → IsNotMalformed k text
+not_malformed_end k text n first p low high before was met (inl early) some = let begun = was.begun early.1 in let zero = begun.0 in let all = begun.1 in absurd (omega arith)
+not_malformed_end k text n first p low high before was met (inr there) some = there

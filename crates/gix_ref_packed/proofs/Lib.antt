@@ -11,6 +11,7 @@ pub mod OneItem
 pub mod OneReading
 pub mod PrefixParts
 pub mod PrefixRuns
+pub mod QuickOrders
 pub mod ReadBack
 pub mod RecordBytes
 pub mod RecordPlaces

@@ -1,5 +1,5 @@
 -- Where the first record begins whose name is not below the one that is wanted.
-use Rattle.std.proofs.Common.{◌≡◌, ◌≢◌, ◌⊎◌, inl, inr, ⊎_elim, ℕ, ◌+◌, ◌-◌, ◌<◌, ◌≤◌, Bool, true, false, cond, List, [], ◌∷◌, ◌++◌, length, drop, refl, sym, ◌∙◌, ap, subst, arith, length-append, nat_eq, Some, None}
+use Rattle.std.proofs.Common.{◌≡◌, ◌⊎◌, inl, inr, ⊎_elim, ℕ, ◌+◌, ◌-◌, ◌<◌, ◌≤◌, Bool, true, false, cond, List, [], ◌∷◌, ◌++◌, length, drop, refl, sym, ◌∙◌, ap, subst, arith, length-append, nat_eq, Some, None}
 use Rattle.std.specs.List.{All, starts_with, take_while}
 use Rattle.std.specs.Cmp.Lexicographic.{slice_cmp}
 use Rattle.std.specs.Ordering.{nat_cmp, ordering_then}
@@ -20,14 +20,13 @@ use Rattle.gix_ref_base.proofs.FrontLemmas.{begins_true}
 use Rattle.gix_ref_base.specs.PackedRecords.{Record}
 use Rattle.gix_ref_packed.specs.RecordGrammar.{Records, Forms, Below, Rising}
 use Rattle.gix_ref_packed.specs.OpenedText.{Fronts}
-use Rattle.gix_ref_packed.specs.Positions.{LineOf, RecordOf, SameLine, NameAt, Compares}
+use Rattle.gix_ref_packed.specs.Positions.{LineOf, RecordOf, SameLine, NameAt, Orders, OrdersIfNamed}
 use Rattle.gix_ref_packed.specs.Probed.{IsProbeAt}
 use Rattle.gix_ref_packed.specs.declared.packed.searchable.Probe.{Probe}
 use Rattle.gix_ref_packed.specs.Prefixes.{SplitsAt, IsListStart, records_prefixed}
-use Rattle.gix_ref_packed.proofs.OneReading.{same_record_line}
 use Rattle.gix_ref_packed.proofs.RecordPlaces.{Begins, owned, shorter, shorter_record, begins_a_line, forms_of}
 use Rattle.gix_ref_packed.proofs.RecordBytes.{lines_taken}
-use Rattle.gix_ref_packed.proofs.Halves.{belongs, greater_is_below, same_place, saw_malformed_line, start_below, begins_line}
+use Rattle.gix_ref_packed.proofs.Halves.{belongs, greater_is_below, same_place, owner_compares, saw_malformed_line, start_below, begins_line}
 
 -- the end of the text, or the place of a record
 abbrev pub Edge : (k : Kind) (text : List ℕ) (rs : List Record) → Forms k text rs → ℕ → Type 0
@@ -88,17 +87,13 @@ bound_first k text n rs h up = record {
   edge = inl refl;
 }
 
-module _ (k : Kind) (text n m : List ℕ) (s o : ℕ) (within : o < length text) (at : RecordOf text s o) (name : NameAt k (drop s text) m) where
-  owner_name : (rs : List Record) (h : Forms k text rs) → (owned k text rs h s o within at).owner.name ≡ m
-  owner_name rs h =
-      let own = owned k text rs h s o within at in
-      (same_record_line k (drop s text) own.owner.target own.owner.name own.takes.after name.0 m name.1 own.takes.line name.2).1
-
-  pub bound_less : (low high next : ℕ) → o < next → SameLine text o next → Below m n → Bound k text n low high → Bound k text n next high
+module _ (k : Kind) (text n : List ℕ) (s o : ℕ) (within : o < length text) (at : RecordOf text s o) (x : Ordering)
+    (compares : (m : List ℕ) → NameAt k (drop s text) m → x ≡ slice_cmp nat_cmp m n) where
+  pub bound_less : (low high next : ℕ) → o < next → SameLine text o next → x ≡ Less → Bound k text n low high → Bound k text n next high
   bound_less low high next beyond line below bound rs h up =
       let own = owned k text rs h s o within at in
       let was = bound rs h up in
-      let under : Below own.owner.name n = subst (λ (x : List ℕ). Below x n) (sym (owner_name rs h)) below in
+      let under : Below own.owner.name n = sym (owner_compares k text n s o within at x compares rs h) ∙ below in
       record {
         under = λ q y b early.
             let near : q ≤ s = ⊎_elim
@@ -113,11 +108,11 @@ module _ (k : Kind) (text n m : List ℕ) (s o : ℕ) (within : o < length text)
         edge = was.edge;
       }
 
-  pub bound_greater : (low high : ℕ) → (Below m n → ⊥) → Bound k text n low high → Bound k text n low s
+  pub bound_greater : (low high : ℕ) → (x ≡ Less → ⊥) → Bound k text n low high → Bound k text n low s
   bound_greater low high above bound rs h up =
       let own = owned k text rs h s o within at in
       let was = bound rs h up in
-      let over : Below own.owner.name n → ⊥ = λ below. above (subst (λ (x : List ℕ). Below x n) (owner_name rs h) below) in
+      let over : Below own.owner.name n → ⊥ = λ below. above (owner_compares k text n s o within at x compares rs h ∙ below) in
       record {
         under = was.under;
         over = λ q y b late below. ⊎_elim
@@ -128,25 +123,23 @@ module _ (k : Kind) (text n m : List ℕ) (s o : ℕ) (within : o < length text)
       }
 
 -- one record that is met at a byte `o` between `low` and `high`
-module _ (k : Kind) (text n : List ℕ) (low high o : ℕ) (probe : Probe) (within : o < length text) (probed : IsProbeAt k text n o probe) (beyond : o < probe.next)
+module _ (k : Kind) (text n : List ℕ) (low high o : ℕ) (sure : Bool) (probe : Probe) (within : o < length text) (probed : IsProbeAt k text n sure o probe) (beyond : o < probe.next)
     (bound : Bound k text n low high) where
-  name_there : (x : Ordering) → probe.order ≡ Some x → (name : List ℕ) × NameAt k (drop probe.start text) name × (x ≡ slice_cmp nat_cmp name n) × (name ≢ [])
-  name_there x is = let order = probed.order in subst (Compares k (drop probe.start text) n) is order
+  orders : (x : Ordering) → probe.order ≡ Some x → Orders k (drop probe.start text) n sure x
+  orders x is = let order = probed.order in subst (OrdersIfNamed k (drop probe.start text) n sure) is order
 
   pub passes_malformed : probe.order ≡ None → Bound k text n probe.next high
   passes_malformed is rs h up =
       let order = probed.order in
-      absurd (saw_malformed_line k text probe.start o within probed.record_of (subst (Compares k (drop probe.start text) n) is order) rs h)
+      absurd (saw_malformed_line k text probe.start o within probed.record_of (subst (OrdersIfNamed k (drop probe.start text) n sure) is order) rs h)
 
   pub passes_low : probe.order ≡ Some Less → Bound k text n probe.next high
   passes_low is =
-      let name = name_there Less is in
-      bound_less k text n name.0 probe.start o within probed.record_of name.1 low high probe.next beyond probed.line (sym name.2) bound
+      bound_less k text n probe.start o within probed.record_of Less (orders Less is).compares low high probe.next beyond probed.line refl bound
 
   pub stops_high : (x : Ordering) → probe.order ≡ Some x → (x ≡ Less → ⊥) → Bound k text n low probe.start
   stops_high x is not_less =
-      let name = name_there x is in
-      bound_greater k text n name.0 probe.start o within probed.record_of name.1 low high (λ below. not_less (name.2 ∙ below)) bound
+      bound_greater k text n probe.start o within probed.record_of x (orders x is).compares low high not_less bound
 
   pub starts_there : IsListStart text probe.start
   starts_there = record {

@@ -1,8 +1,10 @@
 -- Where records lie in a text, and the filter of a list of records by a name.
-use Rattle.std.specs.Prelude.{◌≡◌, ◌≢◌, ◌<◌, ◌≤◌, ◌-◌, ◌+◌, ◌⊎◌, ℕ, List, [], slice_index, length, drop, Option, Some, None, MatchOption}
+use Rattle.std.specs.Prelude.{◌≡◌, ◌≢◌, ◌<◌, ◌≤◌, ◌-◌, ◌+◌, ◌⊎◌, ℕ, Bool, true, List, [], slice_index, length, drop, Option, Some, None, MatchOption}
+use Rattle.std.specs.List.{All}
 use Rattle.std.specs.Cmp.Lexicographic.{slice_cmp}
 use Rattle.std.specs.Ordering.{nat_cmp}
 use Rattle.std.specs.declared.cmp.Ordering.{Ordering}
+use Rattle.std.specs.declared.cmp.Ordering.TheVariants.{Equal}
 use Rattle.gix_ref_hash.specs.declared.hash.Kind.{Kind}
 use Rattle.gix_ref_hash.specs.Ids.{IsHexOf}
 use Rattle.gix_ref_base.specs.NameGrammar.{IsFullName}
@@ -50,6 +52,20 @@ abbrev pub Compares : Kind → List ℕ → List ℕ → Option Ordering → Typ
 Compares kind text wanted order =
     MatchOption order ((name : List ℕ) → name ≢ [] → NameAt kind text name → ⊥)
     (λ o. (name : List ℕ) × NameAt kind text name × (o ≡ slice_cmp nat_cmp name wanted) × (name ≢ []))
+
+-- no byte up to CR is in it: so it compares with the bytes of a line as with the name at the front of them
+abbrev pub IsPlain : List ℕ → Type 0
+IsPlain name = All (λ b. 13 < b) name
+
+-- how the name there compares with the wanted one, if there is one; where it is the wanted one, or `sure` holds, there is one
+pub record Orders (kind : Kind) (text wanted : List ℕ) (sure : Bool) (order : Ordering) : Type 0 where
+  pub compares : (name : List ℕ) → NameAt kind text name → order ≡ slice_cmp nat_cmp name wanted
+  pub named : (sure ≡ true) ⊎ (order ≡ Equal) → (name : List ℕ) × NameAt kind text name × (name ≢ [])
+
+-- the same, or that no name is there; an empty name is no name
+abbrev pub OrdersIfNamed : Kind → List ℕ → List ℕ → Bool → Option Ordering → Type 0
+OrdersIfNamed kind text wanted sure order =
+    MatchOption order ((name : List ℕ) → name ≢ [] → NameAt kind text name → ⊥) (Orders kind text wanted sure)
 
 -- on any text: a line begins there, with the wanted name in a record's place
 pub record HitsAt (kind : Kind) (text wanted : List ℕ) (start : ℕ) : Type 0 where

@@ -5,7 +5,7 @@ use crate::made::{NAMES, TEXT};
 use gix_ref_hash::hash::Kind;
 use gix_ref_packed::packed::Probes;
 use gix_ref_packed::packed::search::search;
-use gix_ref_packed::packed::searchable::{InMemory, Probe, SearchableRecords};
+use gix_ref_packed::packed::searchable::{InMemory, Look, Probe, SearchableRecords};
 use std::convert::Infallible;
 use std::marker::Brand;
 use std::process::Abort;
@@ -37,9 +37,15 @@ impl<'a> SearchableRecords for Counting<'a> {
         self.whole.len()
     }
 
-    fn probe(&mut self, kind: Kind, offset: u64, wanted: &[u8]) -> Result<Probe, Infallible> {
+    fn probe(
+        &mut self,
+        kind: Kind,
+        offset: u64,
+        wanted: &[u8],
+        look: Look,
+    ) -> Result<Probe, Infallible> {
         self.looks = self.looks.saturating_add(1);
-        self.whole.probe(kind, offset, wanted)
+        self.whole.probe(kind, offset, wanted, look)
     }
 }
 

@@ -4,7 +4,8 @@ ghost use Rattle.gix_ref_base.specs.PackedRecords.{Record};
 ghost use Rattle.gix_ref_packed.specs.RecordGrammar.{Records, Rising};
 ghost use Rattle.gix_ref_packed.specs.Prefixes.{SplitsAt, IsListStart};
 
-use crate::packed::searchable::{InMemory, SearchableRecords};
+use crate::packed::decode::is_plain;
+use crate::packed::searchable::{InMemory, Look, SearchableRecords};
 use gix_ref_hash::hash::Kind;
 use std::cmp::Ordering;
 
@@ -32,9 +33,11 @@ pub fn lower_bound<T: SearchableRecords>(
 {
     let mut low = 0;
     let mut high = text.len();
+    let plain = is_plain(wanted);
     while low < high {
         let middle = low + (high - low) / 2;
-        let probe = match text.probe(kind, middle, wanted) {
+        let look = Look::at(false, plain, high - low);
+        let probe = match text.probe(kind, middle, wanted, look) {
             Ok(probe) => probe,
             Err(error) => return Err(error),
         };

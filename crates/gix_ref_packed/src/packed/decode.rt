@@ -11,11 +11,12 @@ pub use header_line::header;
 pub(crate) use header_line::take_header;
 pub use options::{Header, Peeled};
 pub use record_line::{name_at_record_start, reference};
-pub(crate) use record_line::{name_order, split_record_line, take_record};
+pub(crate) use record_line::{is_plain, order_at, quick_order, split_record_line, take_record};
 
 /// Where the record that the byte is in begins: a line with `^` belongs to the line before it. At the end of a text that
 /// does not end in a newline, where the last record begins; at the end of one that does, 0. The offset is at most the
 /// text's length.
+#[inline(always)]
 pub fn record_start_at_offset(text: &[u8], offset: usize) -> usize
     requires { offset ≤ length text.now }
     ensures { StartsRecord text.now result offset }

@@ -57,14 +57,18 @@ pub fn line_end(text: &[u8], offset: usize) -> usize
 }
 
 /// Where a search may go on behind the byte, once it has compared the name there: no line begins between. It goes on there
-/// only where the name is too low or absent; else this is the next byte, which costs nothing.
+/// only where the name is too low or absent; else this is the next byte, which costs nothing. So it is where the end of
+/// the line is not near enough to what is left to be worth its search.
 #[inline(always)]
-pub fn next_place(text: &[u8], offset: usize, order: Option<Ordering>) -> usize
+pub fn next_place(text: &[u8], offset: usize, order: Option<Ordering>, near: bool) -> usize
     requires { offset < length text.now }
     ensures beyond { offset < result }
     ensures within { result ≤ length text.now }
     ensures line { SameLine text.now offset result }
 {
+    if !near {
+        return offset + 1;
+    }
     match order {
         Some(Ordering::Equal | Ordering::Greater) => offset + 1,
         Some(Ordering::Less) | None => line_end(text, offset),

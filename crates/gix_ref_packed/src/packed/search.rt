@@ -5,8 +5,9 @@ ghost use Rattle.gix_ref_packed.specs.RecordGrammar.{Forms, Ascending};
 ghost use Rattle.gix_ref_packed.specs.Positions.{HitsAt, FindsAt, IsMalformed, IsNotMalformed};
 ghost use Rattle.gix_ref_packed.specs.SearchCosts.{CountsProbes, FailsBy, count_search};
 
+use crate::packed::decode::is_plain;
 use crate::packed::probes::Probes;
-use crate::packed::searchable::SearchableRecords;
+use crate::packed::searchable::{Look, SearchableRecords};
 use gix_ref_hash::hash::Kind;
 use std::cmp::Ordering;
 use std::error::Error;
@@ -34,7 +35,8 @@ impl<E: Display> Display for SearchError<E> {
 impl<E: Debug + Display + Drop> Error for SearchError<E> {}
 
 /// Where the record of the name begins. Each turn of the loop looks at one record, and counts that as a probe. Behind
-/// a name that is too low the search goes on at the next line.
+/// a name that is too low the search goes on at the next line. The first probe looks whether its line ends: so a text of
+/// malformed lines alone is not searched in vain.
 pub fn search<T: SearchableRecords, L: Ledger>(
     text: &mut T,
     kind: Kind,
@@ -70,11 +72,15 @@ pub fn search<T: SearchableRecords, L: Ledger>(
 {
     let mut low = 0;
     let mut high = text.len();
+    let plain = is_plain(wanted);
+    let mut first = true;
     let mut saw_malformed_line = false;
     while low < high {
         let middle = low + (high - low) / 2;
         probes.tick();
-        let probe = match text.probe(kind, middle, wanted) {
+        let look = Look::at(first, plain, high - low);
+        first = false;
+        let probe = match text.probe(kind, middle, wanted, look) {
             Ok(probe) => probe,
             Err(error) => return Err(SearchError::Read(error)),
         };

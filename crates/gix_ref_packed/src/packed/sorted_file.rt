@@ -7,7 +7,7 @@ ghost use Rattle.gix_ref_packed.specs.declared.packed.sorted_file.TheConstants.{
 
 use crate::packed::probes::Probes;
 use crate::packed::search::{SearchError, search};
-use crate::packed::searchable::{Probe, SearchableRecords};
+use crate::packed::searchable::{Look, Probe, SearchableRecords};
 use crate::packed::window::{Found, InWindow, probe_in, record_in};
 use gix_ref_base::name::FullNameRef;
 use gix_ref_files::files::{FileError, ReadAt};
@@ -124,10 +124,11 @@ pub(crate) fn read_window<R: ReadAt>(
 }
 
 impl<R: ReadAt + Drop> SortedFile<R> {
-    ghost use Rattle.std.specs.Prelude.{◌≡◌, ◌≤◌, ◌<◌, ◌+◌, ◌^◌, length, drop, IfOk, IfErr, IfSome, IsSome};
+    ghost use Rattle.std.specs.Prelude.{◌≡◌, ◌≤◌, ◌<◌, ◌+◌, ◌^◌, false, length, drop, IfOk, IfErr, IfSome, IsSome};
     ghost use Rattle.gix_ref_base.specs.Names.{full_ref_bytes};
     ghost use Rattle.gix_ref_packed.specs.SearchCosts.{CountsProbes};
     ghost use Rattle.gix_ref_packed.specs.Windows.{FrontIs};
+    ghost use Rattle.gix_ref_packed.specs.Positions.{IsPlain};
     ghost use Rattle.gix_ref_packed.specs.Probed.{IsProbeAt};
     ghost use Rattle.gix_ref_packed.specs.Shown.{IfHere, IsHere};
     ghost use Rattle.gix_ref_packed.specs.FileSearches.{IsNoChange, FindsIn, count_read, count_find};
@@ -184,11 +185,14 @@ impl<R: ReadAt + Drop> SortedFile<R> {
     }
 
     /// What a probe at the place sees, if the window shows it.
-    fn probe_in_window(&self, kind: Kind, offset: u64, wanted: &[u8]) -> Option<Probe>
+    #[inline(always)]
+    fn probe_in_window(&self, kind: Kind, offset: u64, wanted: &[u8], look: Look) -> Option<Probe>
+        requires { look.sure ≡ false → IsPlain wanted.now }
         ensures below { IfSome result (λ probe. probe.start ≤ offset) }
         ensures beyond { IfSome result (λ probe. offset < probe.next) }
         ensures probed { R.honest → IfSome result
-            (IsProbeAt kind (drop self.now.base (R.bytes self.now.reader)) wanted.now offset) }
+            (IsProbeAt kind (drop self.now.base (R.bytes self.now.reader)) wanted.now look.sure
+            offset) }
         ensures sure { R.honest → self.now.from ≡ 0
             → length self.now.window.items ≡ length (drop self.now.base (R.bytes self.now.reader))
             → offset < length self.now.window.items → IsSome result }
@@ -199,7 +203,15 @@ impl<R: ReadAt + Drop> SortedFile<R> {
         }
         let at = (offset - self.from) as usize;
         let at_eof = self.from + len == self.records_len();
-        probe_in(self.window.as_slice(), self.from, at, at_eof, kind, wanted)
+        probe_in(
+            self.window.as_slice(),
+            self.from,
+            at,
+            at_eof,
+            kind,
+            wanted,
+            look,
+        )
     }
 
     /// The record that begins at the place, if the window shows it; `Here(None)` where none is there.
@@ -351,14 +363,21 @@ impl<R: ReadAt + Drop> SearchableRecords for SortedFile<R> {
         self.records_len()
     }
 
-    fn probe(&mut self, kind: Kind, offset: u64, wanted: &[u8]) -> Result<Probe, ReadError> {
+    #[inline(always)]
+    fn probe(
+        &mut self,
+        kind: Kind,
+        offset: u64,
+        wanted: &[u8],
+        look: Look,
+    ) -> Result<Probe, ReadError> {
         for turn in 0..MAX_WINDOW_DOUBLINGS {
-            if let Some(probe) = self.probe_in_window(kind, offset, wanted) {
+            if let Some(probe) = self.probe_in_window(kind, offset, wanted, look) {
                 return Ok(probe);
             }
             self.fill(offset, window_size(turn))?;
         }
-        match self.probe_in_window(kind, offset, wanted) {
+        match self.probe_in_window(kind, offset, wanted, look) {
             Some(probe) => Ok(probe),
             None => Err(ReadError::Changed),
         }

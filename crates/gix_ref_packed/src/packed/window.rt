@@ -1,19 +1,19 @@
 //! Looking at a record in a window of a text, where the window has enough of it.
-ghost use Rattle.std.specs.Prelude.{◌≡◌, ◌≤◌, ◌<◌, ◌+◌, ◌^◌, ℕ, List, true, length, take, drop, IfSome, IsSome};
+ghost use Rattle.std.specs.Prelude.{◌≡◌, ◌≤◌, ◌<◌, ◌+◌, ◌^◌, ℕ, List, true, false, length, take, drop, IfSome, IsSome};
 ghost use Rattle.gix_ref_packed.specs.Shown.{IfHere, IsHere};
 ghost use Rattle.std.specs.Option.{option_map};
 ghost use Rattle.std.specs.Cmp.Lexicographic.{slice_cmp};
 ghost use Rattle.std.specs.Ordering.{nat_cmp};
 ghost use Rattle.gix_ref_packed.specs.RecordGrammar.{RecordLine};
-ghost use Rattle.gix_ref_packed.specs.Positions.{NameAt};
+ghost use Rattle.gix_ref_packed.specs.Positions.{NameAt, IsPlain, OrdersIfNamed};
 ghost use Rattle.gix_ref_packed.specs.Windows.{ShowsLine, ShowsRecord, ShowsName, IsWindow, IsFound, FrontIs};
 ghost use Rattle.gix_ref_packed.specs.Probed.{IsProbeAt};
 ghost use Rattle.gix_ref_packed.specs.Views.{record_of};
 
-use crate::packed::decode::{split_record_line, take_record};
+use crate::packed::decode::{quick_order, split_record_line, take_record};
 use crate::packed::lines::next_place;
 use crate::packed::reference::Reference;
-use crate::packed::searchable::Probe;
+use crate::packed::searchable::{Look, Probe};
 use gix_ref_hash::hash::{Kind, ObjectId};
 use memchr::{memchr2, memrchr};
 use std::cmp::Ordering;
@@ -112,6 +112,32 @@ pub fn name_in(part: &[u8], kind: Kind, at_eof: bool) -> InWindow<Option<&[u8]>>
     InWindow::Here(Some(name))
 }
 
+/// How the name at the front of a record compares with the one that is wanted, if the part shows it, as in `name_in`. Where
+/// `sure` does not hold, and bytes decide, it does not look whether the name's line ends.
+#[inline(always)]
+pub fn order_in(
+    part: &[u8],
+    kind: Kind,
+    at_eof: bool,
+    wanted: &[u8],
+    sure: bool,
+) -> InWindow<Option<Ordering>>
+    requires { sure ≡ false → IsPlain wanted.now }
+    ensures shows { IfHere result (λ order. (text : List ℕ) → part.now ≡ take (length part.now) text
+        → (at_eof ≡ true → part.now ≡ text) → OrdersIfNamed kind text wanted.now sure order) }
+    ensures sure { at_eof ≡ true → IsHere result }
+{
+    if !sure {
+        if let Some(order) = quick_order(part, kind, wanted) {
+            return InWindow::Here(Some(order));
+        }
+    }
+    match name_in(part, kind, at_eof) {
+        InWindow::Here(name) => InWindow::Here(order_of(name, wanted)),
+        InWindow::NeedMore => InWindow::NeedMore,
+    }
+}
+
 /// How a name compares with the one that is wanted.
 #[inline(always)]
 fn order_of(name: Option<&[u8]>, wanted: &[u8]) -> Option<Ordering>
@@ -133,24 +159,26 @@ pub fn probe_in(
     at_eof: bool,
     kind: Kind,
     wanted: &[u8],
+    look: Look,
 ) -> Option<Probe>
+    requires plain { look.sure ≡ false → IsPlain wanted.now }
     requires inside { at < length window.now }
     requires fits { from + length window.now < 2 ^ 64 }
     ensures below { IfSome result (λ probe. probe.start ≤ from + at) }
     ensures beyond { IfSome result (λ probe. from + at < probe.next) }
     ensures probed { (text : List ℕ) → IsWindow text from window.now
         → (at_eof ≡ true → from + length window.now ≡ length text) →
-        IfSome result (IsProbeAt kind text wanted.now (from + at)) }
+        IfSome result (IsProbeAt kind text wanted.now look.sure (from + at)) }
     ensures sure { from ≡ 0 → at_eof ≡ true → IsSome result }
 {
     let Some(start) = record_start_in(window, at, from == 0) else {
         return None;
     };
-    let InWindow::Here(name) = name_in(&window[start..], kind, at_eof) else {
+    let part = &window[start..];
+    let InWindow::Here(order) = order_in(part, kind, at_eof, wanted, look.sure) else {
         return None;
     };
-    let order = order_of(name, wanted);
-    let next = from + next_place(window, at, order) as u64;
+    let next = from + next_place(window, at, order, look.near) as u64;
     let start = from + start as u64;
     Some(Probe { start, order, next })
 }

@@ -1,10 +1,13 @@
 //! Reading a record of `packed-refs`.
-ghost use Rattle.std.specs.Prelude.{◌≡◌, ◌≢◌, ◌++◌, ◌*◌, ℕ, List, [], length, Option, MatchOption, MatchBool, IfOk, IfErr, OnErr};
+ghost use Rattle.std.specs.Prelude.{◌≡◌, ◌≢◌, ◌++◌, ◌*◌, ℕ, List, [], false, length, take, Option, MatchOption, MatchBool, IfOk, IfErr, IfSome, OnErr};
+ghost use Rattle.std.specs.Cmp.Lexicographic.{slice_cmp};
+ghost use Rattle.std.specs.Ordering.{nat_cmp};
+ghost use Rattle.std.specs.declared.cmp.Ordering.TheVariants.{Equal};
 ghost use Rattle.std.specs.Option.{option_map};
 ghost use Rattle.gix_ref_hash.specs.Ids.{IsHexOf, kind_len};
 ghost use Rattle.gix_ref_base.specs.PackedRecords.{Record};
 ghost use Rattle.gix_ref_packed.specs.RecordGrammar.{RecordLine, Takes, Peeled, PeeledLine};
-ghost use Rattle.gix_ref_packed.specs.Positions.{NameAt, Compares};
+ghost use Rattle.gix_ref_packed.specs.Positions.{NameAt, Compares, IsPlain, OrdersIfNamed};
 ghost use Rattle.gix_ref_packed.specs.Views.{record_of};
 
 use crate::packed::lines::{after_newline, take_line};
@@ -131,8 +134,61 @@ pub fn name_at_record_start(text: &[u8], kind: Kind) -> Option<&[u8]>
     Some(name)
 }
 
+/// Whether no byte up to CR is in the name.
+pub fn is_plain(name: &[u8]) -> bool
+    ensures { MatchBool result (IsPlain name.now) (IsPlain name.now → ⊥) }
+{
+    let mut least = u8::MAX;
+    for byte in name {
+        if *byte < least {
+            least = *byte;
+        }
+    }
+    least > b'\r'
+}
+
+/// How the name at the front of a record, of which the part may be a beginning, compares with the one that is wanted;
+/// `None` where no byte of the part decides. Whether the name's line ends is not looked at: a line's end is below
+/// each byte of a plain name.
+#[inline(always)]
+pub fn quick_order(part: &[u8], kind: Kind, wanted: &[u8]) -> Option<Ordering>
+    requires { IsPlain wanted.now }
+    ensures compares { IfSome result (λ order. (text name : List ℕ)
+        → part.now ≡ take (length part.now) text → NameAt kind text name →
+        order ≡ slice_cmp nat_cmp name wanted.now) }
+    ensures other { IfSome result (λ order. order ≢ Equal) }
+{
+    let len = kind.len_in_hex();
+    match part.get(len) {
+        Some(b' ') => {}
+        _ => return None,
+    }
+    let after = &part[len + 1..];
+    let len = after.len().min(wanted.len());
+    match after[..len].cmp(&wanted[..len]) {
+        Ordering::Equal => None,
+        Ordering::Less => Some(Ordering::Less),
+        Ordering::Greater => Some(Ordering::Greater),
+    }
+}
+
+/// How the name at the front of a record compares with the one that is wanted. Where `sure` does not hold, and bytes
+/// decide, it does not look whether the name's line ends.
+#[inline(always)]
+pub fn order_at(text: &[u8], kind: Kind, wanted: &[u8], sure: bool) -> Option<Ordering>
+    requires { sure ≡ false → IsPlain wanted.now }
+    ensures { OrdersIfNamed kind text.now wanted.now sure result }
+{
+    if !sure {
+        if let Some(order) = quick_order(text, kind, wanted) {
+            return Some(order);
+        }
+    }
+    name_order(text, kind, wanted)
+}
+
 /// How the name at the front of a record compares with the one that is wanted.
-pub fn name_order(text: &[u8], kind: Kind, wanted: &[u8]) -> Option<Ordering>
+fn name_order(text: &[u8], kind: Kind, wanted: &[u8]) -> Option<Ordering>
     ensures { Compares kind text.now wanted.now result }
 {
     let Some(name) = name_at_record_start(text, kind) else {

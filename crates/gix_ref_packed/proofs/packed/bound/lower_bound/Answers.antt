@@ -20,9 +20,9 @@ loop-low-preserved-in_default g c = record {
   bytes = c.probe.ensures.kept.0 ∙ c.loop-low.invariant.bytes;
   frame = c.probe.ensures.kept.1 ∙ c.loop-low.invariant.frame;
   starts = c.loop-low.invariant.starts;
-  bound = λ honest. passes_malformed c.args.kind (g.T.SearchableRecords.bytes c.args.text.now) c.args.wanted.now c.loop-low.low c.loop-low.high (c.loop-low.low + (c.loop-low.high - c.loop-low.low) / 2) c.in-Ok.probe
+  bound = λ honest. passes_malformed c.args.kind (g.T.SearchableRecords.bytes c.args.text.now) c.args.wanted.now c.loop-low.low c.loop-low.high (c.loop-low.low + (c.loop-low.high - c.loop-low.low) / 2) c.at-look.result.sure c.in-Ok.probe
       (let was = c.loop-low.invariant.starts honest in let within = was.within in let some = c.loop-low-test.true in omega arith)
-      (subst (λ (t : List ℕ). IsProbeAt c.args.kind t c.args.wanted.now (c.loop-low.low + (c.loop-low.high - c.loop-low.low) / 2) c.in-Ok.probe) c.loop-low.invariant.bytes (c.in-Ok.ensures.probed honest)) c.in-Ok.ensures.beyond
+      (subst (λ (t : List ℕ). IsProbeAt c.args.kind t c.args.wanted.now c.at-look.result.sure (c.loop-low.low + (c.loop-low.high - c.loop-low.low) / 2) c.in-Ok.probe) c.loop-low.invariant.bytes (c.in-Ok.ensures.probed honest)) c.in-Ok.ensures.beyond
       (c.loop-low.invariant.bound honest) c.in_default.is;
 }
 
@@ -32,9 +32,9 @@ loop-low-preserved-in-Less g c = record {
   bytes = c.probe.ensures.kept.0 ∙ c.loop-low.invariant.bytes;
   frame = c.probe.ensures.kept.1 ∙ c.loop-low.invariant.frame;
   starts = c.loop-low.invariant.starts;
-  bound = λ honest. passes_low c.args.kind (g.T.SearchableRecords.bytes c.args.text.now) c.args.wanted.now c.loop-low.low c.loop-low.high (c.loop-low.low + (c.loop-low.high - c.loop-low.low) / 2) c.in-Ok.probe
+  bound = λ honest. passes_low c.args.kind (g.T.SearchableRecords.bytes c.args.text.now) c.args.wanted.now c.loop-low.low c.loop-low.high (c.loop-low.low + (c.loop-low.high - c.loop-low.low) / 2) c.at-look.result.sure c.in-Ok.probe
       (let was = c.loop-low.invariant.starts honest in let within = was.within in let some = c.loop-low-test.true in omega arith)
-      (subst (λ (t : List ℕ). IsProbeAt c.args.kind t c.args.wanted.now (c.loop-low.low + (c.loop-low.high - c.loop-low.low) / 2) c.in-Ok.probe) c.loop-low.invariant.bytes (c.in-Ok.ensures.probed honest)) c.in-Ok.ensures.beyond
+      (subst (λ (t : List ℕ). IsProbeAt c.args.kind t c.args.wanted.now c.at-look.result.sure (c.loop-low.low + (c.loop-low.high - c.loop-low.low) / 2) c.in-Ok.probe) c.loop-low.invariant.bytes (c.in-Ok.ensures.probed honest)) c.in-Ok.ensures.beyond
       (c.loop-low.invariant.bound honest) (c.in-Some.is ∙ ap (λ o. Some o) c.in-Less.is);
 }
 
@@ -43,13 +43,13 @@ loop-low-preserved-in-Equal g c = record {
   no_fault = c.in-Ok.ensures.no_fault ∙ c.loop-low.invariant.no_fault;
   bytes = c.probe.ensures.kept.0 ∙ c.loop-low.invariant.bytes;
   frame = c.probe.ensures.kept.1 ∙ c.loop-low.invariant.frame;
-  starts = λ honest. starts_there c.args.kind (g.T.SearchableRecords.bytes c.args.text.now) c.args.wanted.now c.loop-low.low c.loop-low.high (c.loop-low.low + (c.loop-low.high - c.loop-low.low) / 2) c.in-Ok.probe
+  starts = λ honest. starts_there c.args.kind (g.T.SearchableRecords.bytes c.args.text.now) c.args.wanted.now c.loop-low.low c.loop-low.high (c.loop-low.low + (c.loop-low.high - c.loop-low.low) / 2) c.at-look.result.sure c.in-Ok.probe
       (let was = c.loop-low.invariant.starts honest in let within = was.within in let some = c.loop-low-test.true in omega arith)
-      (subst (λ (t : List ℕ). IsProbeAt c.args.kind t c.args.wanted.now (c.loop-low.low + (c.loop-low.high - c.loop-low.low) / 2) c.in-Ok.probe) c.loop-low.invariant.bytes (c.in-Ok.ensures.probed honest)) c.in-Ok.ensures.beyond
+      (subst (λ (t : List ℕ). IsProbeAt c.args.kind t c.args.wanted.now c.at-look.result.sure (c.loop-low.low + (c.loop-low.high - c.loop-low.low) / 2) c.in-Ok.probe) c.loop-low.invariant.bytes (c.in-Ok.ensures.probed honest)) c.in-Ok.ensures.beyond
       (c.loop-low.invariant.bound honest);
-  bound = λ honest. stops_high c.args.kind (g.T.SearchableRecords.bytes c.args.text.now) c.args.wanted.now c.loop-low.low c.loop-low.high (c.loop-low.low + (c.loop-low.high - c.loop-low.low) / 2) c.in-Ok.probe
+  bound = λ honest. stops_high c.args.kind (g.T.SearchableRecords.bytes c.args.text.now) c.args.wanted.now c.loop-low.low c.loop-low.high (c.loop-low.low + (c.loop-low.high - c.loop-low.low) / 2) c.at-look.result.sure c.in-Ok.probe
       (let was = c.loop-low.invariant.starts honest in let within = was.within in let some = c.loop-low-test.true in omega arith)
-      (subst (λ (t : List ℕ). IsProbeAt c.args.kind t c.args.wanted.now (c.loop-low.low + (c.loop-low.high - c.loop-low.low) / 2) c.in-Ok.probe) c.loop-low.invariant.bytes (c.in-Ok.ensures.probed honest)) c.in-Ok.ensures.beyond
+      (subst (λ (t : List ℕ). IsProbeAt c.args.kind t c.args.wanted.now c.at-look.result.sure (c.loop-low.low + (c.loop-low.high - c.loop-low.low) / 2) c.in-Ok.probe) c.loop-low.invariant.bytes (c.in-Ok.ensures.probed honest)) c.in-Ok.ensures.beyond
       (c.loop-low.invariant.bound honest) Equal (c.in-Some.is ∙ ap (λ o. Some o) c.in-Equal.is) (λ bad. absurd (cc));
 }
 
@@ -58,13 +58,13 @@ loop-low-preserved g c = record {
   no_fault = c.in-Ok.ensures.no_fault ∙ c.loop-low.invariant.no_fault;
   bytes = c.probe.ensures.kept.0 ∙ c.loop-low.invariant.bytes;
   frame = c.probe.ensures.kept.1 ∙ c.loop-low.invariant.frame;
-  starts = λ honest. starts_there c.args.kind (g.T.SearchableRecords.bytes c.args.text.now) c.args.wanted.now c.loop-low.low c.loop-low.high (c.loop-low.low + (c.loop-low.high - c.loop-low.low) / 2) c.in-Ok.probe
+  starts = λ honest. starts_there c.args.kind (g.T.SearchableRecords.bytes c.args.text.now) c.args.wanted.now c.loop-low.low c.loop-low.high (c.loop-low.low + (c.loop-low.high - c.loop-low.low) / 2) c.at-look.result.sure c.in-Ok.probe
       (let was = c.loop-low.invariant.starts honest in let within = was.within in let some = c.loop-low-test.true in omega arith)
-      (subst (λ (t : List ℕ). IsProbeAt c.args.kind t c.args.wanted.now (c.loop-low.low + (c.loop-low.high - c.loop-low.low) / 2) c.in-Ok.probe) c.loop-low.invariant.bytes (c.in-Ok.ensures.probed honest)) c.in-Ok.ensures.beyond
+      (subst (λ (t : List ℕ). IsProbeAt c.args.kind t c.args.wanted.now c.at-look.result.sure (c.loop-low.low + (c.loop-low.high - c.loop-low.low) / 2) c.in-Ok.probe) c.loop-low.invariant.bytes (c.in-Ok.ensures.probed honest)) c.in-Ok.ensures.beyond
       (c.loop-low.invariant.bound honest);
-  bound = λ honest. stops_high c.args.kind (g.T.SearchableRecords.bytes c.args.text.now) c.args.wanted.now c.loop-low.low c.loop-low.high (c.loop-low.low + (c.loop-low.high - c.loop-low.low) / 2) c.in-Ok.probe
+  bound = λ honest. stops_high c.args.kind (g.T.SearchableRecords.bytes c.args.text.now) c.args.wanted.now c.loop-low.low c.loop-low.high (c.loop-low.low + (c.loop-low.high - c.loop-low.low) / 2) c.at-look.result.sure c.in-Ok.probe
       (let was = c.loop-low.invariant.starts honest in let within = was.within in let some = c.loop-low-test.true in omega arith)
-      (subst (λ (t : List ℕ). IsProbeAt c.args.kind t c.args.wanted.now (c.loop-low.low + (c.loop-low.high - c.loop-low.low) / 2) c.in-Ok.probe) c.loop-low.invariant.bytes (c.in-Ok.ensures.probed honest)) c.in-Ok.ensures.beyond
+      (subst (λ (t : List ℕ). IsProbeAt c.args.kind t c.args.wanted.now c.at-look.result.sure (c.loop-low.low + (c.loop-low.high - c.loop-low.low) / 2) c.in-Ok.probe) c.loop-low.invariant.bytes (c.in-Ok.ensures.probed honest)) c.in-Ok.ensures.beyond
       (c.loop-low.invariant.bound honest) Greater (c.in-Some.is ∙ ap (λ o. Some o) c.in-Greater.is) (λ bad. absurd (cc));
 }
 

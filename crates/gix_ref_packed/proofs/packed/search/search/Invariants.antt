@@ -10,7 +10,7 @@ invariant-loop-low g l = record {
   bytes : g.T.SearchableRecords.bytes l.text ≡ g.T.SearchableRecords.bytes l.fn.text;
   frame : g.T.SearchableRecords.frame l.text ≡ g.T.SearchableRecords.frame l.fn.text;
   halves : g.T.SearchableRecords.honest → Halving l.kind (g.T.SearchableRecords.bytes l.fn.text) l.wanted l.fn.probes l.probes l.low l.high;
-  line : g.T.SearchableRecords.honest → l.saw_malformed_line ≡ false → (l.probes ≤ l.fn.probes) ⊎ HasRecordLine l.kind (g.T.SearchableRecords.bytes l.fn.text);
+  line : g.T.SearchableRecords.honest → l.saw_malformed_line ≡ false → ((l.first ≡ true) × (l.probes ≤ l.fn.probes)) ⊎ HasRecordLine l.kind (g.T.SearchableRecords.bytes l.fn.text);
   malformed : g.T.SearchableRecords.honest → l.saw_malformed_line ≡ true → IsMalformed l.kind (g.T.SearchableRecords.bytes l.fn.text);
 }
 
