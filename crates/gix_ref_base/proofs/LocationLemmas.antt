@@ -396,3 +396,23 @@ unsafe_paths name n same unsafe f = by (location name) refl
     by : (o : Option Location) → location name ≡ o → paths_of f (unwrap_or (location name) (Common name)) ≡ paths_of f (Common n)
     by None e = ap (λ o. paths_of f (unwrap_or o (Common name))) e ∙ ap (λ (m : List ℕ). paths_of f (Common m)) (sym same)
     by (Some x) e = absurd (false≢true (sym unsafe ∙ ap is_some e))
+
+-- a name below `refs/` that is not private is shared as it is
+pub shared_paths : (name n m : List ℕ) → n ≡ name → m ≡ name → (starts_with nat_eq n (codes "refs/") && not (is_private_ref n)) ≡ true → (f : Layout) → paths_at f name ≡ paths_of f (Common m)
+shared_paths name n m same also shared f =
+    let parts = and_parts (starts_with nat_eq n (codes "refs/")) (not (is_private_ref n)) shared in
+    let begins : n ≡ codes "refs/" ++ drop 5 n = begun n (codes "refs/") parts.0 in
+    let public : is_private_ref (codes "refs/" ++ drop 5 n) ≡ false = ap is_private_ref (sym begins) ∙ not-true (is_private_ref n) parts.1 in
+    let found : location n ≡ Some (Common n) = ap location begins ∙ found_there (drop 5 n) public ∙ ap (λ (x : List ℕ). Some (Common x)) (sym begins) in
+    ap (paths_at f) (sym same) ∙ ap (λ o. paths_of f (unwrap_or o (Common n))) found ∙ ap (λ (x : List ℕ). paths_of f (Common x)) (same ∙ sym also)
+  where
+    found_there : (s : List ℕ) → is_private_ref (codes "refs/" ++ s) ≡ false → location (codes "refs/" ++ s) ≡ Some (Common (codes "refs/" ++ s))
+    found_there s public = ap (λ b. location_unless (if b then Some (ThisWorktree (codes "refs/" ++ s)) else Some (Common (codes "refs/" ++ s))) (codes "refs/" ++ s)) public
+
+    not-true : (b : Bool) → not b ≡ true → b ≡ false
+    not-true true bad = sym bad
+    not-true false is = refl
+
+    and_parts : (a b : Bool) → (a && b) ≡ true → (a ≡ true) × (b ≡ true)
+    and_parts true b is = (refl, is)
+    and_parts false b is = absurd (false≢true is)

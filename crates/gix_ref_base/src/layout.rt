@@ -1,5 +1,6 @@
 //! Where a store keeps a name: its loose file, its log, and its key in `packed-refs` (`git worktree`, `gitnamespaces`).
-ghost use Rattle.std.specs.Prelude.{◌≡◌, ◌++◌, ◌∷◌, ℕ, List, IfOk, MatchOption, Some, None, true, false, codes};
+ghost use Rattle.std.specs.Prelude.{◌≡◌, ◌++◌, ◌∷◌, ◌&&◌, ℕ, List, IfOk, MatchOption, Some, None, true, false, not, nat_eq, codes};
+ghost use Rattle.std.specs.List.{starts_with};
 ghost use Rattle.std.specs.Option.{option_map};
 ghost use Rattle.gix_ref_base.specs.Names.{full_ref_bytes};
 ghost use Rattle.gix_ref_base.specs.Categories.{HasCategory};
@@ -82,11 +83,23 @@ pub fn location_of(name: FullNameRef<'_>) -> Option<Location<'_>>
     None
 }
 
+/// Whether all worktrees share the reference of this name, which is below `refs/`: so it is for most names, and their
+/// category need not be looked for.
+fn is_shared(name: &[u8]) -> bool
+    ensures { result ≡ (starts_with nat_eq name.now (codes "refs/") && not (is_private_ref
+        name.now)) }
+{
+    name.starts_with(b"refs/") && !is_private(name)
+}
+
 /// The location of any name: one that is not safe is shared, under the same name.
 pub fn location_or_common(name: FullNameRef<'_>) -> Location<'_>
     ensures { (f : Layout) → paths_at f (full_ref_bytes name.entry)
         ≡ paths_of f (location_value result) }
 {
+    if is_shared(name.to_path()) {
+        return Location::Common(name.to_path());
+    }
     match location_of(name) {
         Some(location) => location,
         None => Location::Common(name.to_path()),
