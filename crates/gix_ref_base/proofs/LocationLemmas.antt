@@ -13,7 +13,7 @@ use Rattle.gix_ref_base.specs.declared.name.category.Category.{Category}
 use Rattle.gix_ref_base.specs.declared.name.category.Category.TheVariants.{Tag, LocalBranch, RemoteBranch, Note, PseudoRef, MainPseudoRef, MainRef, LinkedPseudoRef, LinkedRef, Bisect, Rewritten, WorktreePrivate}
 use Rattle.gix_ref_hash.proofs.ByteLemmas.{IsApart as IsOtherByte, apart, no_byte}
 use Rattle.gix_ref_base.specs.Layout.{Layout, HasPaths, IsSafe, RefPaths, common_log, git_log, in_common, in_git, is_private_ref, linked_log, packed_key, ref_paths, paths_in, paths_of_others}
-use Rattle.gix_ref_base.specs.Locations.{Location, cut_at_slash, is_safe, rest_after, paths_at, paths_of, location, location_by, location_in_linked, location_of_linked, location_of_main, location_unless}
+use Rattle.gix_ref_base.specs.Locations.{Location, cut_at_slash, is_safe, rest_after, paths_at, paths_of, IsShared, location, location_by, location_in_linked, location_of_linked, location_of_main, location_unless}
 use Rattle.gix_ref_base.specs.Locations.Location.{ThisWorktree, LinkedWorktree, MainWorktree, Common}
 
 abbrev pub head : List ℕ → ℕ
@@ -398,21 +398,12 @@ unsafe_paths name n same unsafe f = by (location name) refl
     by (Some x) e = absurd (false≢true (sym unsafe ∙ ap is_some e))
 
 -- a name below `refs/` that is not private is shared as it is
-pub shared_paths : (name n m : List ℕ) → n ≡ name → m ≡ name → (starts_with nat_eq n (codes "refs/") && not (is_private_ref n)) ≡ true → (f : Layout) → paths_at f name ≡ paths_of f (Common m)
+pub shared_paths : (name n m : List ℕ) → n ≡ name → m ≡ name → IsShared n → (f : Layout) → paths_at f name ≡ paths_of f (Common m)
 shared_paths name n m same also shared f =
-    let parts = and_parts (starts_with nat_eq n (codes "refs/")) (not (is_private_ref n)) shared in
-    let begins : n ≡ codes "refs/" ++ drop 5 n = begun n (codes "refs/") parts.0 in
-    let public : is_private_ref (codes "refs/" ++ drop 5 n) ≡ false = ap is_private_ref (sym begins) ∙ not-true (is_private_ref n) parts.1 in
-    let found : location n ≡ Some (Common n) = ap location begins ∙ found_there (drop 5 n) public ∙ ap (λ (x : List ℕ). Some (Common x)) (sym begins) in
+    let s = shared.0 in
+    let public : is_private_ref (codes "refs/" ++ s) ≡ false = ap is_private_ref (sym shared.1) ∙ shared.2 in
+    let found : location n ≡ Some (Common n) = ap location shared.1 ∙ found_there s public ∙ ap (λ (x : List ℕ). Some (Common x)) (sym shared.1) in
     ap (paths_at f) (sym same) ∙ ap (λ o. paths_of f (unwrap_or o (Common n))) found ∙ ap (λ (x : List ℕ). paths_of f (Common x)) (same ∙ sym also)
   where
     found_there : (s : List ℕ) → is_private_ref (codes "refs/" ++ s) ≡ false → location (codes "refs/" ++ s) ≡ Some (Common (codes "refs/" ++ s))
     found_there s public = ap (λ b. location_unless (if b then Some (ThisWorktree (codes "refs/" ++ s)) else Some (Common (codes "refs/" ++ s))) (codes "refs/" ++ s)) public
-
-    not-true : (b : Bool) → not b ≡ true → b ≡ false
-    not-true true bad = sym bad
-    not-true false is = refl
-
-    and_parts : (a b : Bool) → (a && b) ≡ true → (a ≡ true) × (b ≡ true)
-    and_parts true b is = (refl, is)
-    and_parts false b is = absurd (false≢true is)

@@ -1,5 +1,5 @@
 -- The digits of an id are read as it.
-use Rattle.std.proofs.Common.{◌≡◌, ℕ, Bool, true, List, length, refl, sym, ◌∙◌, ap, subst, Some, None, Option}
+use Rattle.std.proofs.Common.{◌≡◌, ◌∙◌, ap, Some, None}
 use Rattle.std.specs.Prelude.{◌==◌, if◌then◌else◌}
 use Rattle.hex.specs.Hex.{encode_lower}
 use Rattle.hex.proofs.HexLemmas.{decode_of-encode_lower}

@@ -1,14 +1,15 @@
 //! Where a store keeps a name: its loose file, its log, and its key in `packed-refs` (`git worktree`, `gitnamespaces`).
-ghost use Rattle.std.specs.Prelude.{◌≡◌, ◌++◌, ◌∷◌, ◌&&◌, ℕ, List, IfOk, MatchOption, Some, None, true, false, not, nat_eq, codes};
-ghost use Rattle.std.specs.List.{starts_with};
+ghost use Rattle.std.specs.Prelude.{◌≡◌, ◌++◌, ◌∷◌, ℕ, List, IfOk, MatchOption, Some, None, true, false, codes};
+ghost use Rattle.std.specs.Bool.{OnTrue};
 ghost use Rattle.std.specs.Option.{option_map};
 ghost use Rattle.gix_ref_base.specs.Names.{full_ref_bytes};
 ghost use Rattle.gix_ref_base.specs.Categories.{HasCategory};
 ghost use Rattle.gix_ref_base.specs.Layout.{Layout, below, paths_in, is_private_ref};
-ghost use Rattle.gix_ref_base.specs.Locations.{is_safe, paths_at, paths_of, key_outside};
+ghost use Rattle.gix_ref_base.specs.Locations.{is_safe, paths_at, paths_of, key_outside, IsShared};
 ghost use Rattle.gix_ref_base.specs.RefLayout.{location_value};
 
 use crate::name::{Category, FullNameRef};
+use gix_ref_hash::bytes::strip_front;
 use std::alloc::{AllocError, Global};
 
 /// Which worktrees a name belongs to, and the name that is kept there (`git worktree`, "REFS").
@@ -83,13 +84,18 @@ pub fn location_of(name: FullNameRef<'_>) -> Option<Location<'_>>
     None
 }
 
-/// Whether all worktrees share the reference of this name, which is below `refs/`: so it is for most names, and their
-/// category need not be looked for.
+/// Whether two bytes of a name below `refs/` show that all worktrees share its reference: so they do for most names, and
+/// then its category need not be looked for.
 fn is_shared(name: &[u8]) -> bool
-    ensures { result ≡ (starts_with nat_eq name.now (codes "refs/") && not (is_private_ref
-        name.now)) }
+    ensures { OnTrue result (IsShared name.now) }
 {
-    name.starts_with(b"refs/") && !is_private(name)
+    let Some(rest) = strip_front(name, b"refs/") else {
+        return false;
+    };
+    if rest.len() < 3 {
+        return false;
+    }
+    rest[0] != b'b' && rest[0] != b'w' && rest[2] != b'w'
 }
 
 /// The location of any name: one that is not safe is shared, under the same name.

@@ -93,7 +93,7 @@ records_back k (r ∷ rs) all =
     let more = records_back k rs (All-tail (IsReadable k) r rs all) in
     (flat_map record_text rs, record_back k r (flat_map record_text rs) (All-head (IsReadable k) r rs all) (records_stop k (flat_map record_text rs) rs more), more)
 
-header_back : (rest : List ℕ) → TakesHeader (header_text ++ rest) written_header rest
+pub header_back : (rest : List ℕ) → TakesHeader (header_text ++ rest) written_header rest
 unfolding said_by
 header_back rest = record {
   after = codes "peeled fully-peeled sorted " ++ 10 ∷ rest;

@@ -1,6 +1,7 @@
 //! Reading the header of `packed-refs`.
-ghost use Rattle.std.specs.Prelude.{◌≡◌, ℕ, List, MatchOption, IfOk, IfErr, OnErr};
+ghost use Rattle.std.specs.Prelude.{◌≡◌, ℕ, List, MatchOption, IfOk, IfErr, IfSome, OnErr};
 ghost use Rattle.gix_ref_packed.specs.HeaderGrammar.{said_by, said, silent, words, TakesHeader};
+ghost use Rattle.gix_ref_packed.specs.WrittenText.{written_header};
 
 use crate::packed::decode::options::{Header, Peeled};
 use crate::packed::lines::take_line;
@@ -47,11 +48,26 @@ fn header_of(line: &[u8]) -> Header
     with_word(header, rest)
 }
 
+/// What follows the header that `written` writes, which most files have; its words need not be read.
+#[inline(always)]
+fn behind_written(text: &[u8]) -> Option<&[u8]>
+    ensures { IfSome result (λ rest. TakesHeader text.now written_header rest.now) }
+{
+    strip_front(text, b"# pack-refs with: peeled fully-peeled sorted \n")
+}
+
 /// The header at the front of the text, and what follows it.
 pub fn take_header(text: &[u8]) -> Option<(Header, &[u8])>
     ensures { MatchOption result ((h : Header) (rest : List ℕ) → TakesHeader text.now h rest → ⊥)
         (λ p. TakesHeader text.now p.0 p.1.now) }
 {
+    if let Some(rest) = behind_written(text) {
+        let header = Header {
+            peeled: Peeled::Fully,
+            sorted: true,
+        };
+        return Some((header, rest));
+    }
     let Some(after) = strip_front(text, b"# pack-refs with: ") else {
         return None;
     };

@@ -1,7 +1,6 @@
-use Rattle.std.proofs.Common.{◌≡◌, ℕ, List, Option, Some, Bool, true, false, IsTrue, [], ◌∷◌, ◌++◌, ◌==◌, length, refl, sym, ◌∙◌, ap, arith}
+use Rattle.std.proofs.Common.{◌≡◌, ℕ, List, Some, Bool, true, false, IsTrue, [], ◌∷◌, ◌++◌, ◌==◌, length, refl, sym, ◌∙◌, ap, arith}
 use Rattle.std.proofs.lemmas.Bool.Decides.{Decides-eqb}
 use Rattle.std.specs.Bool.{OnTrue}
-use Rattle.gix_ref_base.specs.Names.{full_ref_bytes}
 use Rattle.gix_ref_base.specs.Layout.{RefPaths}
 use Rattle.gix_ref_base.specs.Locations.{paths_of}
 use Rattle.gix_ref_base.specs.RefLayout.{layout_of, location_value}
