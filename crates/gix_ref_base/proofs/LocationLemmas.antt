@@ -13,7 +13,7 @@ use Rattle.gix_ref_base.specs.declared.name.category.Category.{Category}
 use Rattle.gix_ref_base.specs.declared.name.category.Category.TheVariants.{Tag, LocalBranch, RemoteBranch, Note, PseudoRef, MainPseudoRef, MainRef, LinkedPseudoRef, LinkedRef, Bisect, Rewritten, WorktreePrivate}
 use Rattle.gix_ref_hash.proofs.ByteLemmas.{IsApart as IsOtherByte, apart, no_byte}
 use Rattle.gix_ref_base.specs.Layout.{Layout, HasPaths, IsSafe, RefPaths, common_log, git_log, in_common, in_git, is_private_ref, linked_log, packed_key, ref_paths, paths_in, paths_of_others}
-use Rattle.gix_ref_base.specs.Locations.{Location, cut_at_slash, is_safe, rest_after, paths_at, paths_of, IsShared, location, location_by, location_in_linked, location_of_linked, location_of_main, location_unless}
+use Rattle.gix_ref_base.specs.Locations.{Location, cut_at_slash, is_safe, rest_after, paths_at, paths_of, location, location_by, location_in_linked, location_of_linked, location_of_main, location_unless}
 use Rattle.gix_ref_base.specs.Locations.Location.{ThisWorktree, LinkedWorktree, MainWorktree, Common}
 
 abbrev pub head : List ℕ → ℕ
@@ -396,14 +396,3 @@ unsafe_paths name n same unsafe f = by (location name) refl
     by : (o : Option Location) → location name ≡ o → paths_of f (unwrap_or (location name) (Common name)) ≡ paths_of f (Common n)
     by None e = ap (λ o. paths_of f (unwrap_or o (Common name))) e ∙ ap (λ (m : List ℕ). paths_of f (Common m)) (sym same)
     by (Some x) e = absurd (false≢true (sym unsafe ∙ ap is_some e))
-
--- a name below `refs/` that is not private is shared as it is
-pub shared_paths : (name n m : List ℕ) → n ≡ name → m ≡ name → IsShared n → (f : Layout) → paths_at f name ≡ paths_of f (Common m)
-shared_paths name n m same also shared f =
-    let s = shared.0 in
-    let public : is_private_ref (codes "refs/" ++ s) ≡ false = ap is_private_ref (sym shared.1) ∙ shared.2 in
-    let found : location n ≡ Some (Common n) = ap location shared.1 ∙ found_there s public ∙ ap (λ (x : List ℕ). Some (Common x)) (sym shared.1) in
-    ap (paths_at f) (sym same) ∙ ap (λ o. paths_of f (unwrap_or o (Common n))) found ∙ ap (λ (x : List ℕ). paths_of f (Common x)) (same ∙ sym also)
-  where
-    found_there : (s : List ℕ) → is_private_ref (codes "refs/" ++ s) ≡ false → location (codes "refs/" ++ s) ≡ Some (Common (codes "refs/" ++ s))
-    found_there s public = ap (λ b. location_unless (if b then Some (ThisWorktree (codes "refs/" ++ s)) else Some (Common (codes "refs/" ++ s))) (codes "refs/" ++ s)) public

@@ -1,5 +1,5 @@
 -- The paths and the key of a name, computed. `Layout` has the rule as a table, and `PathsAreTheTable` says that the two agree.
-use Rattle.std.specs.Prelude.{◌≡◌, ℕ, List, [], ◌∷◌, ◌++◌, Option, Some, None, Bool, false, if◌then◌else◌, ◌==◌, is_some, unwrap_or, codes}
+use Rattle.std.specs.Prelude.{◌≡◌, ◌≢◌, ℕ, List, [], ◌∷◌, ◌++◌, Option, Some, None, Bool, false, if◌then◌else◌, ◌==◌, is_some, unwrap_or, codes}
 use Rattle.std.specs.Option.{option_map}
 use Rattle.gix_ref_base.specs.NameGrammar.{is_pseudo_byte}
 use Rattle.gix_ref_base.specs.Layout.{Layout, RefPaths, ref_paths, in_common, common_log, in_git, git_log, linked_log, packed_key, is_private_ref}
@@ -77,6 +77,7 @@ no_namespace = record { git = []; common = []; namespace = [] }
 abbrev pub key_outside : List ℕ → Option (List ℕ)
 key_outside name = (paths_at no_namespace name).key
 
--- a name below `refs/` of which all worktrees have the same reference
-abbrev pub IsShared : List ℕ → Type 0
-IsShared name = (short : List ℕ) × (name ≡ codes "refs/" ++ short) × (is_private_ref name ≡ false)
+-- a name begins with a byte that is neither one of a pseudo name nor the first of `main-worktree/` or `worktrees/`
+abbrev pub NoFrontOfCategory : List ℕ → Type 0
+NoFrontOfCategory [] = ⊥
+NoFrontOfCategory (b ∷ name) = (is_pseudo_byte b ≡ false) × (b ≢ 109) × (b ≢ 119)

@@ -5,7 +5,8 @@ ghost use Rattle.std.specs.Option.{option_map};
 ghost use Rattle.gix_ref_base.specs.Names.{full_ref_bytes};
 ghost use Rattle.gix_ref_base.specs.Categories.{HasCategory};
 ghost use Rattle.gix_ref_base.specs.Layout.{Layout, below, paths_in, is_private_ref};
-ghost use Rattle.gix_ref_base.specs.Locations.{is_safe, paths_at, paths_of, key_outside, IsShared};
+ghost use Rattle.gix_ref_base.specs.Locations.{is_safe, paths_at, paths_of, key_outside, NoFrontOfCategory};
+ghost use Rattle.gix_ref_base.specs.Locations.Location.{Common as CommonName};
 ghost use Rattle.gix_ref_base.specs.RefLayout.{location_value};
 
 use crate::name::{Category, FullNameRef};
@@ -84,18 +85,36 @@ pub fn location_of(name: FullNameRef<'_>) -> Option<Location<'_>>
     None
 }
 
-/// Whether two bytes of a name below `refs/` show that all worktrees share its reference: so they do for most names, and
-/// then its category need not be looked for.
-fn is_shared(name: &[u8]) -> bool
-    ensures { OnTrue result (IsShared name.now) }
+/// Whether two bytes of what follows `refs/` in a name show that all worktrees share its reference.
+fn is_shared_below_refs(rest: &[u8]) -> bool
+    ensures { OnTrue result (is_private_ref (codes "refs/" ++ rest.now) ≡ false) }
 {
-    let Some(rest) = strip_front(name, b"refs/") else {
-        return false;
-    };
     if rest.len() < 3 {
         return false;
     }
     rest[0] != b'b' && rest[0] != b'w' && rest[2] != b'w'
+}
+
+/// Whether the first byte of a name that is not below `refs/` shows that it has no category.
+fn is_elsewhere(name: &[u8]) -> bool
+    ensures { OnTrue result (NoFrontOfCategory name.now) }
+{
+    match name.first() {
+        Some(b'm' | b'w' | b'_' | b'A'..=b'Z') => false,
+        Some(_) => true,
+        None => false,
+    }
+}
+
+/// Whether some bytes of a name show that all worktrees share its reference under the same name: so they do for most
+/// names, and then no category need be looked for.
+fn is_shared(name: &[u8]) -> bool
+    ensures { OnTrue result ((f : Layout) → paths_at f name.now ≡ paths_of f (CommonName name.now)) }
+{
+    match strip_front(name, b"refs/") {
+        Some(rest) => is_shared_below_refs(rest),
+        None => is_elsewhere(name),
+    }
 }
 
 /// The location of any name: one that is not safe is shared, under the same name.
