@@ -1,5 +1,12 @@
 pub mod Between
+pub mod Changes
+pub mod Entries
+pub mod FolderOf
+pub mod Folders
 pub mod LockLemmas
+pub mod Losing
 pub mod Moments
 pub mod PathFronts
 pub mod Puts
+pub mod Settling
+pub mod Shaped

@@ -1,7 +1,8 @@
 -- How a run of calls goes on.
-use Rattle.std.proofs.Common.{◌≡◌, inl, inr, ⊎_elim, subst, sym, arith}
+use Rattle.std.proofs.Common.{◌≡◌, inl, inr, ⊎_elim, ℕ, subst, sym, refl, arith}
 use Rattle.gix_ref_files.specs.Tree.{Tree}
-use Rattle.gix_ref_files.specs.Files.{Meaning, Leaves, StopsLeave}
+use Rattle.gix_ref_files.specs.Disk.{Disk, Lost}
+use Rattle.gix_ref_files.specs.Files.{Meaning, disk_of, left_since, lost_since, Leaves, Passes, Loses, Adds, AddsDisks, StopsLeave, LossesLeave}
 
 -- before the first call
 pub starts : (now : Meaning) (P : Tree → Type 0) → P now.tree → Leaves now now P
@@ -26,5 +27,70 @@ joins first second = record {
 }
 
 -- what a stop since old could have left, where since old nothing else was left as old was now
-pub stops_leave : {old new : Meaning} {P : Tree → Type 0} → Leaves old new P → P old.tree → ((T : Tree) → old.left_since old.moment T → T ≡ old.tree) → StopsLeave old new P
+pub stops_leave : {old new : Meaning} {P : Tree → Type 0} → Leaves old new P → P old.tree → ((T : Tree) → left_since old old.moment T → T ≡ old.tree) → StopsLeave old new P
 stops_leave {P = P} run here only T left = ⊎_elim (λ past. subst P (sym (only T past)) here) (λ p. p) (run.since _ T (omega arith) left)
+
+-- The same of the disks that are found.
+
+pub passes_starts : (now : Meaning) (P : Disk → Type 0) → P (disk_of now) → Passes now now P
+passes_starts now P here = record { disk = here; later = omega arith; since = λ t D le found. inl found; keeps = λ t D le found. found }
+
+pub passes_weaken : {old new : Meaning} {P Q : Disk → Type 0} → Passes old new P → ((D : Disk) → P D → Q D) → Passes old new Q
+passes_weaken run wider = record {
+  disk = wider _ run.disk;
+  later = run.later;
+  since = λ t D le found. ⊎_elim (λ past. inl past) (λ p. inr (wider D p)) (run.since t D le found);
+  keeps = run.keeps;
+}
+
+pub passes_joins : {old mid new : Meaning} {P : Disk → Type 0} → Passes old mid P → Passes mid new P → Passes old new P
+passes_joins first second = record {
+  disk = second.disk;
+  later = omega (arith, first.later, second.later);
+  since = λ t D le found. ⊎_elim (first.since t D le) (λ p. inr p) (second.since t D (omega (arith, le, first.later)) found);
+  keeps = λ t D le found. second.keeps t D (omega (arith, le, first.later)) (first.keeps t D le found);
+}
+
+-- what stops then leave
+pub stops : {old new : Meaning} {P : Disk → Type 0} (Q : Tree → Type 0) → ((D : Disk) → P D → Q D.tree) → Passes old new P → Leaves old new Q
+unfolding left_since
+stops {old = old} {new = new} Q wider run = record {
+  tree = wider (disk_of new) run.disk;
+  later = run.later;
+  since = λ t T le left. ⊎_elim (λ past. inl (left.0, past, left.2)) (λ p. inr (subst Q left.2 (wider left.0 p))) (run.since t left.0 le left.1);
+  keeps = λ t T le left. (left.0, run.keeps t left.0 le left.1, left.2);
+}
+
+-- and what losses of power leave
+pub losses : {old new : Meaning} {P : Disk → Type 0} (Q : Tree → Type 0) → ((D : Disk) → P D → (T : Tree) → Lost D T → Q T) → Passes old new P → Loses old new Q
+unfolding lost_since
+losses {old = old} {new = new} Q wider run = record {
+  now = λ T lost. wider (disk_of new) run.disk T lost;
+  later = run.later;
+  since = λ t T le left. ⊎_elim (λ past. inl (left.0, past, left.2)) (λ p. inr (wider left.0 p T left.2)) (run.since t left.0 le left.1);
+  keeps = λ t T le left. (left.0, run.keeps t left.0 le left.1, left.2);
+}
+
+-- what a loss of power since old could have left, where since old nothing else was found than what old is now
+pub losses_leave : {old new : Meaning} {P : Tree → Type 0} → Loses old new P → ((T : Tree) → Lost (disk_of old) T → P T) → ((D : Disk) → old.found_since old.moment D → D ≡ disk_of old) → LossesLeave old new P
+unfolding lost_since
+losses_leave {P = P} run here only T left =
+    ⊎_elim (λ past. here T (subst (λ (D : Disk). Lost D T) (only past.0 past.1) past.2)) (λ p. p) (run.since _ T (omega arith) left)
+
+-- what a stop could have left is the tree of a disk that it could have found
+pub found_is_left : (m : Meaning) (t : ℕ) (D : Disk) → m.found_since t D → left_since m t D.tree
+unfolding left_since
+found_is_left m t D found = (D, found, refl)
+
+pub left_is_found : (m : Meaning) (t : ℕ) (T : Tree) → left_since m t T → (D : Disk) × m.found_since t D × (D.tree ≡ T)
+unfolding left_since
+left_is_found m t T left = left
+
+pub lost_is_found : (m : Meaning) (t : ℕ) (T : Tree) → lost_since m t T → (D : Disk) × m.found_since t D × Lost D T
+unfolding lost_since
+lost_is_found m t T lost = lost
+
+-- each tree that has Q is that of a disk that is added
+pub adds_trees : (old new : Meaning) (P : Disk → Type 0) (Q : Tree → Type 0) → ((T : Tree) → Q T → (D : Disk) × P D × (D.tree ≡ T)) → AddsDisks old new P → Adds old new Q
+unfolding left_since
+adds_trees old new P Q disk adds t T le q = let found = disk T q in (found.0, adds t found.0 le found.1, found.2)

@@ -1,6 +1,8 @@
--- What files mean: a tree, a clock, and the trees that a stop could have left.
-use Rattle.std.specs.Prelude.{◌⊎◌, ℕ, ◌+◌, ◌-◌, ◌<◌, ◌≤◌, ◌^◌, Result, Ok, Err, nat_lt, if◌then◌else◌}
+-- What files mean: a disk, a clock, and the disks that were found on the way; and so what a stop and what a loss of power could
+-- have left.
+use Rattle.std.specs.Prelude.{◌≡◌, ◌⊎◌, ℕ, ◌+◌, ◌-◌, ◌<◌, ◌≤◌, ◌^◌, Result, Ok, Err, nat_lt, if◌then◌else◌}
 use Rattle.gix_ref_files.specs.Tree.{Tree}
+use Rattle.gix_ref_files.specs.Disk.{Disk, Unsynced, Lost}
 use Rattle.gix_ref_files.specs.declared.files.FileError.{FileError}
 use Rattle.gix_ref_files.specs.declared.files.FileError.TheVariants.{Device, NotUtf8, Memory}
 
@@ -27,10 +29,25 @@ HasRisen before now = (before < now) ⊎ (2 ^ 64 - 1 ≤ now)
 pub record Meaning : Type 1 where
   -- what is at each path
   pub tree : Tree
+  -- what of it is not synced
+  pub unsynced : Unsynced
   -- the clock, which never goes back
   pub moment : ℕ
-  -- the trees that a stop at that moment, or at one since, could have left
-  pub left_since : ℕ → Tree → Type 0
+  -- the disks that a stop or a loss of power at that moment, or at one since, could have found
+  pub found_since : ℕ → Disk → Type 0
+
+-- the disk: the tree, and what of it is not synced
+abbrev pub disk_of : Meaning → Disk
+disk_of m = record { tree = m.tree; unsynced = m.unsynced }
+
+-- A stop at that moment, or at one since, could have left this tree: that of a disk that it could have found.
+unfoldable pub left_since : Meaning → ℕ → Tree → Type 0
+left_since m t T = (D : Disk) × m.found_since t D × (D.tree ≡ T)
+
+-- A loss of power at that moment, or at one since, could have left this tree: one that it may make of a disk that it could
+-- have found.
+unfoldable pub lost_since : Meaning → ℕ → Tree → Type 0
+lost_since m t T = (D : Disk) × m.found_since t D × Lost D T
 
 -- From old to new: the tree of new has P, and so has each tree that a stop could have left since the first change. Of the
 -- tree of old, which a stop before that change leaves, it says nothing: where that matters, P of it is a fact beside this one.
@@ -38,14 +55,41 @@ pub record Leaves (old new : Meaning) (P : Tree → Type 0) : Type 0 where
   pub tree : P new.tree
   pub later : old.moment ≤ new.moment
   -- for each moment that had come: no other tree is added to those that a stop since then could have left
-  pub since : (t : ℕ) (T : Tree) → t ≤ old.moment → new.left_since t T → old.left_since t T ⊎ P T
+  pub since : (t : ℕ) (T : Tree) → t ≤ old.moment → left_since new t T → left_since old t T ⊎ P T
   -- and none is taken away
-  pub keeps : (t : ℕ) (T : Tree) → t ≤ old.moment → old.left_since t T → new.left_since t T
+  pub keeps : (t : ℕ) (T : Tree) → t ≤ old.moment → left_since old t T → left_since new t T
+
+-- The same of disks: the disk of new has P, and so has each one that a stop or a loss of power could have found since the
+-- first change. Of the disk of old it says nothing.
+pub record Passes (old new : Meaning) (P : Disk → Type 0) : Type 0 where
+  pub disk : P (disk_of new)
+  pub later : old.moment ≤ new.moment
+  -- for each moment that had come: no other disk is added to those that could have been found since then
+  pub since : (t : ℕ) (D : Disk) → t ≤ old.moment → new.found_since t D → old.found_since t D ⊎ P D
+  -- and none is taken away
+  pub keeps : (t : ℕ) (D : Disk) → t ≤ old.moment → old.found_since t D → new.found_since t D
+
+-- The same of losses of power: one now leaves a tree that has P, and so does one at any moment since the first change.
+pub record Loses (old new : Meaning) (P : Tree → Type 0) : Type 0 where
+  pub now : (T : Tree) → Lost (disk_of new) T → P T
+  pub later : old.moment ≤ new.moment
+  -- for each moment that had come: no other tree is added to those that a loss since then could have left
+  pub since : (t : ℕ) (T : Tree) → t ≤ old.moment → lost_since new t T → lost_since old t T ⊎ P T
+  -- and none is taken away
+  pub keeps : (t : ℕ) (T : Tree) → t ≤ old.moment → lost_since old t T → lost_since new t T
 
 -- Each tree that has P is among those that a stop since any moment up to old could have left.
 abbrev pub Adds : Meaning → Meaning → (Tree → Type 0) → Type 0
-Adds old new P = (t : ℕ) (T : Tree) → t ≤ old.moment → P T → new.left_since t T
+Adds old new P = (t : ℕ) (T : Tree) → t ≤ old.moment → P T → left_since new t T
+
+-- Each disk that has P is among those that a stop or a loss of power since any moment up to old could have found.
+abbrev pub AddsDisks : Meaning → Meaning → (Disk → Type 0) → Type 0
+AddsDisks old new P = (t : ℕ) (D : Disk) → t ≤ old.moment → P D → new.found_since t D
 
 -- a stop at any moment since old could have left only trees that have P
 abbrev pub StopsLeave : Meaning → Meaning → (Tree → Type 0) → Type 0
-StopsLeave old new P = (T : Tree) → new.left_since old.moment T → P T
+StopsLeave old new P = (T : Tree) → left_since new old.moment T → P T
+
+-- a loss of power at any moment since old could have left only trees that have P
+abbrev pub LossesLeave : Meaning → Meaning → (Tree → Type 0) → Type 0
+LossesLeave old new P = (T : Tree) → lost_since new old.moment T → P T

@@ -1,6 +1,11 @@
 pub mod Calls
+pub mod Disk
+pub mod DiskCalls
 pub mod Files
 pub mod Lock
+pub mod Losing
+pub mod Settled
 pub mod Steps
+pub mod Theorems
 pub mod Tree
 pub mod Unknown

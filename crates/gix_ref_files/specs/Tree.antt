@@ -31,6 +31,12 @@ bytes_of (Some (File bytes)) = bytes
 bytes_of (Some Folder) = []
 bytes_of None = []
 
+-- the bytes of what is there, if it is a file
+abbrev pub file_of : Option Content → Option (List ℕ)
+file_of (Some (File bytes)) = Some bytes
+file_of (Some Folder) = None
+file_of None = None
+
 -- a file is there
 abbrev pub is_file : Option Content → Bool
 is_file (Some (File bytes)) = true

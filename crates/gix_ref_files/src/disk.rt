@@ -20,6 +20,7 @@ use std::{fs, io};
 pub struct Disk {
     rt: HostRuntime,
     faults: u64,
+    syncs: bool,
 }
 
 /// A file of the disk that is open for reading.
@@ -57,7 +58,46 @@ fn text_of<'p>(faults: &mut u64, path: &'p [u8]) -> Result<&'p str, FileError>
 impl Disk {
     /// The disk of the process, with no fault counted.
     pub fn new(rt: HostRuntime) -> Self {
-        Disk { rt, faults: 0 }
+        Disk {
+            rt,
+            faults: 0,
+            syncs: true,
+        }
+    }
+
+    /// The disk of the process, whose `sync_file` and `sync_folder` return true without a system call, as Git does by
+    /// default for loose references. After a loss of power a reference that was updated may then be missing or hold any
+    /// bytes, and a deletion may show before an update: nothing that is said of losses of power is promised. What is said of
+    /// stops of the process stays.
+    pub fn without_syncs(rt: HostRuntime) -> Self {
+        Disk {
+            rt,
+            faults: 0,
+            syncs: false,
+        }
+    }
+}
+
+impl Disk {
+    ghost use Rattle.std.specs.Prelude.{IsErrOf};
+    ghost use Rattle.gix_ref_files.specs.Files.{count_after};
+
+    /// Syncs a file or a folder, whichever is asked for; false where there is no such thing.
+    fn sync(&mut self, path: &[u8], what: Node) -> Result<bool, FileError>
+        ensures count { self.new.faults ≡ count_after result self.old.faults }
+        ensures memory { IsErrOf result FileError.Memory → ⊥ }
+    {
+        if !self.syncs {
+            return Ok(true);
+        }
+        let path = text_of(&mut self.faults, path)?;
+        match sync_at(&self.rt, path, what) {
+            Ok(synced) => Ok(synced),
+            Err(error) => match error.kind() {
+                ErrorKind::NotFound | ErrorKind::NotADirectory => Ok(false),
+                kind => Err(fault(&mut self.faults, kind)),
+            },
+        }
     }
 }
 
@@ -98,6 +138,10 @@ impl Files for Disk {
     ghost tree_is_left = { λ disk t honest le. absurd honest };
 
     ghost only_now = { λ disk T honest left. absurd honest };
+
+    ghost disk_is_found = { λ disk t honest le. absurd honest };
+
+    ghost only_disk = { λ disk D honest found. absurd honest };
 
     ghost shaped = { λ disk honest. absurd honest };
 
@@ -230,6 +274,16 @@ impl Files for Disk {
         }
     }
 
+    /// Four system calls: a look at what is there, open, `fsync` and close; none for a disk `without_syncs`.
+    fn sync_file(&mut self, path: &[u8]) -> Result<bool, FileError> {
+        self.sync(path, Node::File)
+    }
+
+    /// Four system calls, as `sync_file`; none for a disk `without_syncs`.
+    fn sync_folder(&mut self, path: &[u8]) -> Result<bool, FileError> {
+        self.sync(path, Node::Folder)
+    }
+
     /// One system call.
     fn remove_folder(&mut self, path: &[u8]) -> Result<bool, FileError> {
         let path = text_of(&mut self.faults, path)?;
@@ -299,6 +353,15 @@ fn append_to(rt: &HostRuntime, path: &str, bytes: &[u8]) -> io::Result<bool> {
     }
     let mut file = OpenOptions::new().append(true).open(rt, path)?;
     file.write_all(bytes)?;
+    Ok(true)
+}
+
+/// Syncs what is at a path; false where it is something else than what is asked for.
+fn sync_at(rt: &HostRuntime, path: &str, what: Node) -> io::Result<bool> {
+    if node_of(&fs::metadata(rt, path)?) != what {
+        return Ok(false);
+    }
+    File::open(rt, path)?.sync_all()?;
     Ok(true)
 }
 

@@ -1,9 +1,11 @@
-//! The trait of a small file system: what each call returns, what it makes of the tree, what a stop could leave.
+//! The trait of a small file system: what each call returns, what it makes of the tree, what a stop could leave, and what a
+//! loss of power could.
 //!
-//! A path is bytes, separated by slashes. Files mean a TREE (what is at each path), a CLOCK, and for each moment
-//! that has come the trees that a stop since then could have left. HONEST files keep this meaning: listings, kinds
-//! and reads show the tree, a call changes it as its contract says and in no other way, and nobody else does. All
-//! that a contract says of the tree and of stops it says of honest files. What it says of the count of faults, of
+//! A path is bytes, separated by slashes. Files mean a DISK (the tree, that is what is at each path, and what of it is
+//! not synced), a CLOCK, and for each moment that has come the disks that a stop or a loss of power since then could have
+//! found: a stop leaves the tree of such a disk, and a loss of power what may remain of it. HONEST files keep this meaning:
+//! listings, kinds and reads show the tree, a call changes the disk as its contract says and in no other way, and nobody
+//! else does. All that a contract says of the tree, of stops and of losses of power it says of honest files. What it says of the count of faults, of
 //! want of memory and of buffers holds of all files. Whether a type's files are honest is said by the type: files
 //! in memory are, and no program can know it of a disk.
 ghost use Rattle.std.specs.Prelude.{◌≡◌, ℕ, IfOk, OnOk, OnErr, IsTrue, IsErrOf, length};
@@ -108,8 +110,10 @@ pub trait ReadAt {
 /// that is not there. It and `NotUtf8` count one fault.
 pub trait Files {
     ghost use Rattle.std.specs.Prelude.{◌≤◌};
-    ghost use Rattle.gix_ref_files.specs.Tree.{Tree, IsShaped, node_at, bytes_of};
-    ghost use Rattle.gix_ref_files.specs.Files.{Meaning, Leaves, Adds, count_after};
+    ghost use Rattle.gix_ref_files.specs.Tree.{Tree, IsShaped, node_at, bytes_of, is_file, is_folder};
+    ghost use Rattle.gix_ref_files.specs.Disk.{Disk, file_synced, folder_synced};
+    ghost use Rattle.gix_ref_files.specs.DiskCalls.{Untouched, after_create, CreatingOn, after_folders, MakingFoldersOn, after_append, AppendingOn, after_rename, RenamingOn, after_removal, RemovingFileOn, RemovingFolderOn, Syncs, SyncingOn};
+    ghost use Rattle.gix_ref_files.specs.Files.{Meaning, disk_of, left_since, Leaves, Adds, Passes, AddsDisks, count_after};
     ghost use Rattle.gix_ref_files.specs.Calls.{Unchanged, emptied, Opens, Creates, Creating, MakesFolders, MakingFolders, Appends, Appending, Renames, Renaming, RemovesFile, RemovingFile, RemovesFolder, RemovingFolder, Lists};
 
     /// A file of these, open for reading.
@@ -118,7 +122,7 @@ pub trait Files {
     /// These files keep their meaning.
     ghost honest: { Type 0 };
 
-    /// The tree, the clock, and what a stop could have left.
+    /// The disk, the clock, and the disks that a stop or a loss of power could have found.
     ghost means: { Self → Meaning };
 
     /// How many faults there were.
@@ -130,6 +134,8 @@ pub trait Files {
             IfOk result (λ node. node ≡ node_at (means self.old).tree path.now) }
         ensures leaves { honest → Leaves (means self.old) (means self.new)
             (Unchanged (means self.old).tree) }
+        ensures passes { honest → Passes (means self.old) (means self.new)
+            (Untouched (disk_of (means self.old))) }
         ensures count { faults self.new ≡ count_after result (faults self.old) }
         ensures memory { IsErrOf result FileError.Memory → ⊥ };
 
@@ -143,6 +149,8 @@ pub trait Files {
         ensures emptied { emptied result buf.new.items }
         ensures leaves { honest → Leaves (means self.old) (means self.new)
             (Unchanged (means self.old).tree) }
+        ensures passes { honest → Passes (means self.old) (means self.new)
+            (Untouched (disk_of (means self.old))) }
         ensures count { faults self.new ≡ count_after result (faults self.old) };
 
     /// Opens a file for reading (`File::open`); `None` where there is no file.
@@ -152,6 +160,8 @@ pub trait Files {
             path.now reader) }
         ensures leaves { honest → Leaves (means self.old) (means self.new)
             (Unchanged (means self.old).tree) }
+        ensures passes { honest → Passes (means self.old) (means self.new)
+            (Untouched (disk_of (means self.old))) }
         ensures count { faults self.new ≡ count_after result (faults self.old) };
 
     /// Lists the files and folders in a folder, each once, in an unspecified order (`fs::read_dir`); `None` where there
@@ -160,6 +170,8 @@ pub trait Files {
         ensures answer { honest → IfOk result (Lists (means self.old).tree path.now) }
         ensures leaves { honest → Leaves (means self.old) (means self.new)
             (Unchanged (means self.old).tree) }
+        ensures passes { honest → Passes (means self.old) (means self.new)
+            (Untouched (disk_of (means self.old))) }
         ensures count { faults self.new ≡ count_after result (faults self.old) };
 
     /// Makes an empty file where there is nothing and folders lead there (`File::create_new`). A fault leaves all as
@@ -170,6 +182,10 @@ pub trait Files {
         ensures failed { honest → OnErr result ((means self.new).tree ≡ (means self.old).tree) }
         ensures leaves { honest → Leaves (means self.old) (means self.new)
             (Creating (means self.old).tree path.now) }
+        ensures disk { honest → IfOk result (λ create. disk_of (means self.new)
+            ≡ after_create (disk_of (means self.old)) path.now create) }
+        ensures passes { honest → Passes (means self.old) (means self.new)
+            (CreatingOn (disk_of (means self.old)) path.now) }
         ensures count { faults self.new ≡ count_after result (faults self.old) }
         ensures memory { IsErrOf result FileError.Memory → ⊥ };
 
@@ -183,6 +199,12 @@ pub trait Files {
         ensures adds { honest →
             OnOk result (Adds (means self.old) (means self.new) (MakingFolders (means self.old).tree
             path.now)) }
+        ensures disk { honest → IfOk result (λ made. disk_of (means self.new)
+            ≡ after_folders (disk_of (means self.old)) path.now made) }
+        ensures passes { honest → Passes (means self.old) (means self.new)
+            (MakingFoldersOn (disk_of (means self.old)) path.now) }
+        ensures adds_disks { honest → OnOk result (AddsDisks (means self.old) (means self.new)
+            (MakingFoldersOn (disk_of (means self.old)) path.now)) }
         ensures count { faults self.new ≡ count_after result (faults self.old) }
         ensures memory { IsErrOf result FileError.Memory → ⊥ };
 
@@ -195,6 +217,12 @@ pub trait Files {
         ensures adds { honest →
             OnOk result (Adds (means self.old) (means self.new)
             (Appending (means self.old).tree path.now bytes.now)) }
+        ensures disk { honest → IfOk result (λ there. disk_of (means self.new)
+            ≡ after_append (disk_of (means self.old)) path.now bytes.now there) }
+        ensures passes { honest → Passes (means self.old) (means self.new)
+            (AppendingOn (disk_of (means self.old)) path.now bytes.now) }
+        ensures adds_disks { honest → OnOk result (AddsDisks (means self.old) (means self.new)
+            (AppendingOn (disk_of (means self.old)) path.now bytes.now)) }
         ensures count { faults self.new ≡ count_after result (faults self.old) }
         ensures memory { IsErrOf result FileError.Memory → ⊥ };
 
@@ -204,6 +232,10 @@ pub trait Files {
             IfOk result (Renames (means self.old).tree from.now to.now (means self.new).tree) }
         ensures leaves { honest → Leaves (means self.old) (means self.new)
             (Renaming (means self.old).tree from.now to.now) }
+        ensures disk { honest → IfOk result (λ rename. disk_of (means self.new)
+            ≡ after_rename (disk_of (means self.old)) from.now to.now rename) }
+        ensures passes { honest → Passes (means self.old) (means self.new)
+            (RenamingOn (disk_of (means self.old)) from.now to.now) }
         ensures count { faults self.new ≡ count_after result (faults self.old) }
         ensures memory { IsErrOf result FileError.Memory → ⊥ };
 
@@ -214,6 +246,10 @@ pub trait Files {
             IfOk result (RemovesFile (means self.old).tree path.now (means self.new).tree) }
         ensures leaves { honest → Leaves (means self.old) (means self.new)
             (RemovingFile (means self.old).tree path.now) }
+        ensures disk { honest → IfOk result (λ removed. disk_of (means self.new)
+            ≡ after_removal (disk_of (means self.old)) path.now removed) }
+        ensures passes { honest → Passes (means self.old) (means self.new)
+            (RemovingFileOn (disk_of (means self.old)) path.now) }
         ensures count { faults self.new ≡ count_after result (faults self.old) }
         ensures memory { IsErrOf result FileError.Memory → ⊥ };
 
@@ -224,16 +260,56 @@ pub trait Files {
             IfOk result (RemovesFolder (means self.old).tree path.now (means self.new).tree) }
         ensures leaves { honest → Leaves (means self.old) (means self.new)
             (RemovingFolder (means self.old).tree path.now) }
+        ensures disk { honest → IfOk result (λ removed. disk_of (means self.new)
+            ≡ after_removal (disk_of (means self.old)) path.now removed) }
+        ensures passes { honest → Passes (means self.old) (means self.new)
+            (RemovingFolderOn (disk_of (means self.old)) path.now) }
+        ensures count { faults self.new ≡ count_after result (faults self.old) }
+        ensures memory { IsErrOf result FileError.Memory → ⊥ };
+
+    /// Makes sure of the bytes of a file (`File::sync_all`): a loss of power leaves those that it has now. False where there is
+    /// no file. A fault makes sure of nothing.
+    fn sync_file(&mut self, path: &[u8]) -> Result<bool, FileError>
+        ensures answer { honest → Syncs (is_file ((means self.old).tree path.now))
+            (disk_of (means self.old)) (file_synced (disk_of (means self.old)) path.now)
+            (disk_of (means self.new)) result }
+        ensures leaves { honest → Leaves (means self.old) (means self.new)
+            (Unchanged (means self.old).tree) }
+        ensures passes { honest → Passes (means self.old) (means self.new)
+            (SyncingOn (is_file ((means self.old).tree path.now))
+            (disk_of (means self.old)) (file_synced (disk_of (means self.old)) path.now)) }
+        ensures count { faults self.new ≡ count_after result (faults self.old) }
+        ensures memory { IsErrOf result FileError.Memory → ⊥ };
+
+    /// Makes sure of the entries of a folder (`File::sync_all` on the folder): a loss of power that leaves the folder leaves
+    /// them as they are now. False where there is no folder. A fault makes sure of nothing.
+    fn sync_folder(&mut self, path: &[u8]) -> Result<bool, FileError>
+        ensures answer { honest → Syncs (is_folder ((means self.old).tree path.now))
+            (disk_of (means self.old)) (folder_synced (disk_of (means self.old)) path.now)
+            (disk_of (means self.new)) result }
+        ensures leaves { honest → Leaves (means self.old) (means self.new)
+            (Unchanged (means self.old).tree) }
+        ensures passes { honest → Passes (means self.old) (means self.new)
+            (SyncingOn (is_folder ((means self.old).tree path.now))
+            (disk_of (means self.old)) (folder_synced (disk_of (means self.old)) path.now)) }
         ensures count { faults self.new ≡ count_after result (faults self.old) }
         ensures memory { IsErrOf result FileError.Memory → ⊥ };
 
     /// The tree is in every set of a moment that has come.
     ghost tree_is_left: { (files : Self) (t : ℕ) → honest → t ≤ (means files).moment →
-        (means files).left_since t (means files).tree };
+        left_since (means files) t (means files).tree };
 
     /// Since this moment there is no other.
     ghost only_now: { (files : Self) (T : Tree) → honest →
-        (means files).left_since (means files).moment T → T ≡ (means files).tree };
+        left_since (means files) (means files).moment T → T ≡ (means files).tree };
+
+    /// The disk is among those that are found since any moment that has come.
+    ghost disk_is_found: { (files : Self) (t : ℕ) → honest → t ≤ (means files).moment →
+        (means files).found_since t (disk_of (means files)) };
+
+    /// Since this moment no other disk is found.
+    ghost only_disk: { (files : Self) (D : Disk) → honest →
+        (means files).found_since (means files).moment D → D ≡ disk_of (means files) };
 
     /// Every proper front of a path that exists is a folder.
     ghost shaped: { (files : Self) → honest → IsShaped (means files).tree };
