@@ -3,61 +3,64 @@ use Rattle.std.proofs.Common.{◌≡◌, ◌≢◌, ◌⊎◌, inl, inr, ⊎_eli
 use Rattle.std.specs.Prelude.{if◌then◌else◌, ◌==◌, ◌&&◌}
 use Rattle.std.specs.List.{list_all}
 use Rattle.std.proofs.lemmas.List.{append-nil}
-use Rattle.gix_ref_files.specs.Tree.{Tree, Path, put, with_folders, fronts, fronts_after}
-use Rattle.gix_ref_files.specs.Tree.Content.{Folder}
-use Rattle.gix_ref_files.specs.Files.{Meaning, Leaves, Adds}
-use Rattle.gix_ref_files.specs.Calls.{BeforeOrAfter}
-use Rattle.gix_ref_memory.specs.Changes.{MakingFronts}
-use Rattle.gix_ref_files.proofs.Moments.{starts, weaken, joins}
-use Rattle.gix_ref_files.proofs.Puts.{put_other}
+use Rattle.gix_ref_files.specs.Tree.{Path}
+use Rattle.gix_ref_files.specs.Disk.{Disk}
+use Rattle.gix_ref_files.specs.Files.{Meaning, disk_of, Passes, AddsDisks}
+use Rattle.gix_ref_files.specs.DiskCalls.{BeforeOrAfterOn}
+use Rattle.gix_ref_memory.specs.Changes.{MakingFrontsOn, with_folder_as, with_folders_as}
+use Rattle.gix_ref_files.proofs.Moments.{passes_starts, passes_weaken, passes_joins}
 
 -- some of all these folders are made since old, and the rest is to be made
-pub record Making (old now : Meaning) (all rest : List Path) : Type 0 where
-  pub whole : with_folders now.tree rest ≡ with_folders old.tree all
-  pub leaves : Leaves old now (MakingFronts old.tree all)
+pub record Making (synced : Bool) (old now : Meaning) (all rest : List Path) : Type 0 where
+  pub whole : with_folders_as synced (disk_of now) rest ≡ with_folders_as synced (disk_of old) all
+  pub passes : Passes old now (MakingFrontsOn synced (disk_of old) all)
   -- a beginning of the rest is one of all
-  pub reach : (n : ℕ) → MakingFronts old.tree all (with_folders now.tree (take n rest))
+  pub reach : (n : ℕ) → MakingFrontsOn synced (disk_of old) all (with_folders_as synced (disk_of now) (take n rest))
   -- a beginning of all is in the sets, or one of the rest
-  pub adds : (t : ℕ) (T : Tree) → t ≤ old.moment → MakingFronts old.tree all T → now.left_since t T ⊎ MakingFronts now.tree rest T
+  pub adds : (t : ℕ) (D : Disk) → t ≤ old.moment → MakingFrontsOn synced (disk_of old) all D → now.found_since t D ⊎ MakingFrontsOn synced (disk_of now) rest D
 
 -- none is made
-pub none_made : (now : Meaning) (all : List Path) → Making now now all all
-none_made now all = record {
+pub none_made : (synced : Bool) (now : Meaning) (all : List Path) → Making synced now now all all
+none_made synced now all = record {
   whole = refl;
-  leaves = starts now (MakingFronts now.tree all) (0, refl);
+  passes = passes_starts now (MakingFrontsOn synced (disk_of now) all) (0, refl);
   reach = λ n. (n, refl);
-  adds = λ t T le some. inr some;
+  adds = λ t D le some. inr some;
 }
+
+-- what is found in the making of one more
+abbrev pub OneMore : Bool → Meaning → Meaning → Path → Type 0
+OneMore synced mid new f = Passes mid new (BeforeOrAfterOn (disk_of mid) (Unit {0}) (with_folder_as synced (disk_of mid) f))
 
 -- one more is perhaps made
-pub one_perhaps : {old mid new : Meaning} {all rest : List Path} (f : Path) → Making old mid all (f ∷ rest) → Leaves mid new (BeforeOrAfter mid.tree (Unit {0}) (put mid.tree f (Some Folder))) → Leaves old new (MakingFronts old.tree all)
-one_perhaps {old} {mid} {new} {all} {rest} f so_far step =
-    joins so_far.leaves (weaken step (λ T. ⊎_elim
-    (λ same. subst (MakingFronts old.tree all) (sym same) (so_far.reach 0))
-    (λ made. subst (MakingFronts old.tree all) (sym made.1) (so_far.reach 1))))
+pub one_perhaps : (synced : Bool) {old mid new : Meaning} {all rest : List Path} (f : Path) → Making synced old mid all (f ∷ rest) → OneMore synced mid new f → Passes old new (MakingFrontsOn synced (disk_of old) all)
+one_perhaps synced {old} {mid} {new} {all} {rest} f so_far step =
+    passes_joins so_far.passes (passes_weaken step (λ D. ⊎_elim
+    (λ same. subst (MakingFrontsOn synced (disk_of old) all) (sym same) (so_far.reach 0))
+    (λ made. subst (MakingFrontsOn synced (disk_of old) all) (sym made.1) (so_far.reach 1))))
 
 -- one more is made
-pub one_made : {old mid new : Meaning} {all rest : List Path} (f : Path) → Making old mid all (f ∷ rest) → Leaves mid new (BeforeOrAfter mid.tree (Unit {0}) (put mid.tree f (Some Folder))) → new.tree ≡ put mid.tree f (Some Folder) → ((t : ℕ) → mid.left_since t mid.tree) → Making old new all rest
-one_made {old} {mid} {new} {all} {rest} f so_far step made mid_left = record {
-  whole = ap (λ (T : Tree). with_folders T rest) made ∙ so_far.whole;
-  leaves = one_perhaps f so_far step;
-  reach = λ n. subst (λ (T : Tree). MakingFronts old.tree all (with_folders T (take n rest))) (sym made) (so_far.reach (suc n));
-  adds = λ t T le some. ⊎_elim
-      (λ past. inl (step.keeps t T (omega (arith, le, so_far.leaves.later)) past))
-      (λ later. by_count t T le later.0 later.1)
-      (so_far.adds t T le some);
+pub one_made : (synced : Bool) {old mid new : Meaning} {all rest : List Path} (f : Path) → Making synced old mid all (f ∷ rest) → OneMore synced mid new f → disk_of new ≡ with_folder_as synced (disk_of mid) f → ((t : ℕ) → mid.found_since t (disk_of mid)) → Making synced old new all rest
+one_made synced {old} {mid} {new} {all} {rest} f so_far step made mid_found = record {
+  whole = ap (λ (D : Disk). with_folders_as synced D rest) made ∙ so_far.whole;
+  passes = one_perhaps synced f so_far step;
+  reach = λ n. subst (λ (D : Disk). MakingFrontsOn synced (disk_of old) all (with_folders_as synced D (take n rest))) (sym made) (so_far.reach (suc n));
+  adds = λ t D le some. ⊎_elim
+      (λ past. inl (step.keeps t D (omega (arith, le, so_far.passes.later)) past))
+      (λ later. by_count t D le later.0 later.1)
+      (so_far.adds t D le some);
 }
   where
-    by_count : (t : ℕ) (T : Tree) → t ≤ old.moment → (m : ℕ) → T ≡ with_folders mid.tree (take m (f ∷ rest)) → new.left_since t T ⊎ MakingFronts new.tree rest T
-    by_count t T le zero is = inl (subst (λ (S : Tree). new.left_since t S) (sym is) (step.keeps t mid.tree (omega (arith, le, so_far.leaves.later)) (mid_left t)))
-    by_count t T le (suc m) is = inr (m, is ∙ ap (λ (S : Tree). with_folders S (take m rest)) (sym made))
+    by_count : (t : ℕ) (D : Disk) → t ≤ old.moment → (m : ℕ) → D ≡ with_folders_as synced (disk_of mid) (take m (f ∷ rest)) → new.found_since t D ⊎ MakingFrontsOn synced (disk_of new) rest D
+    by_count t D le zero is = inl (subst (λ (E : Disk). new.found_since t E) (sym is) (step.keeps t (disk_of mid) (omega (arith, le, so_far.passes.later)) (mid_found t)))
+    by_count t D le (suc m) is = inr (m, is ∙ ap (λ (E : Disk). with_folders_as synced E (take m rest)) (sym made))
 
 -- all are made
-pub all_made : {old now : Meaning} {all : List Path} → Making old now all [] → ((t : ℕ) → now.left_since t now.tree) → Adds old now (MakingFronts old.tree all)
-all_made {old} {now} {all} so_far now_left t T le some =
-    ⊎_elim (λ past. past) (λ later. subst (λ (S : Tree). now.left_since t S) (sym (later.1 ∙ none later.0)) (now_left t)) (so_far.adds t T le some)
+pub all_made : (synced : Bool) {old now : Meaning} {all : List Path} → Making synced old now all [] → ((t : ℕ) → now.found_since t (disk_of now)) → AddsDisks old now (MakingFrontsOn synced (disk_of old) all)
+all_made synced {old} {now} {all} so_far now_found t D le some =
+    ⊎_elim (λ past. past) (λ later. subst (λ (E : Disk). now.found_since t E) (sym (later.1 ∙ none later.0)) (now_found t)) (so_far.adds t D le some)
   where
-    none : (n : ℕ) → with_folders now.tree (take n []) ≡ now.tree
+    none : (n : ℕ) → with_folders_as synced (disk_of now) (take n []) ≡ disk_of now
     none zero = refl
     none (suc n) = refl
 

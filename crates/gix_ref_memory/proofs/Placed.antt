@@ -7,7 +7,7 @@ use Rattle.gix_ref_files.specs.Tree.{Tree, Path, Content, no_tree}
 use Rattle.gix_ref_files.specs.Tree.Content.{File}
 use Rattle.gix_ref_memory.specs.Changes.{after, changed, stands_after, content_of, place_of, IsPlaced}
 use Rattle.gix_ref_memory.specs.declared.memory.changes.Change.{Change}
-use Rattle.gix_ref_memory.specs.declared.memory.changes.Change.TheVariants.{Put, Append, Move}
+use Rattle.gix_ref_memory.specs.declared.memory.changes.Change.TheVariants.{Put, Append, Move, SyncFile, SyncFolder}
 
 put_here : (p q : Path) (new content : Option Content) → IsSome (if bytes_eq p q then new else content) → (p ≡ q) ⊎ IsSome content
 put_here p q new content some = by_path (bytes_eq p q) refl some
@@ -18,14 +18,16 @@ put_here p q new content some = by_path (bytes_eq p q) refl some
 
 -- what is there after a change was there before, or the change put it there
 put_or_stood : (change : Change) (q : Path) (content : Option Content) → IsSome (stands_after change q content) → (place_of change ≡ q) ⊎ IsSome content
-put_or_stood (Put path stored) q content some = put_here path.items q (content_of stored) content some
+put_or_stood (Put path stored synced) q content some = put_here path.items q (content_of stored) content some
 put_or_stood (Append path whole had) q content some = put_here path.items q (Some (File whole.items)) content some
-put_or_stood (Move from to bytes) q content some =
+put_or_stood (Move from to bytes synced) q content some =
     ⊎_elim (λ here. inl here) (λ stood. inr (gone (bytes_eq from.items q) stood)) (put_here to.items q (Some (File bytes.items)) (if bytes_eq from.items q then None else content) some)
   where
     gone : (same : Bool) → IsSome (if same then None else content) → IsSome content
     gone true stood = absurd (cc)
     gone false stood = stood
+put_or_stood (SyncFile path) q content some = inr some
+put_or_stood (SyncFolder path) q content some = inr some
 
 placed_or_stood : (changes : List Change) (T : Tree) (q : Path) → IsSome (after changes T q) → IsPlaced changes q ⊎ IsSome (T q)
 placed_or_stood [] T q some = inr some

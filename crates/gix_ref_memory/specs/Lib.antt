@@ -1,4 +1,5 @@
 pub mod Changes
+pub mod Laws
 pub mod Listing
 pub mod Memory
 pub mod Reader

@@ -9,7 +9,7 @@ use Rattle.gix_ref_memory.specs.declared.memory.changes.Change.{Change}
 use Rattle.gix_ref_memory.specs.declared.memory.turns.Plan.{Plan}
 use Rattle.gix_ref_memory.specs.declared.memory.turns.Turn.{Turn}
 
--- the tree, the clock, and what a stop could have left
+-- the disk, the clock, and what a stop or a loss of power could have found
 abbrev pub meaning : Memory → Meaning
 meaning memory = meaning_after memory.changes.items
 

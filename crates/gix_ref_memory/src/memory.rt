@@ -13,6 +13,7 @@ mod turns;
 use changes::{Change, Stands, find, is_below_file, is_folder_at};
 use edits::{
     append_now, append_some, create_now, put_now, remove_file_now, remove_folder_now, rename_now,
+    sync_file_now, sync_folder_now,
 };
 use folders::{make_folders_now, make_some_folders};
 use gix_ref_files::files::{Create, Entry, FileError, Files, Node, Rename};
@@ -24,8 +25,8 @@ use turns::{Plan, Turn, Turns};
 
 /// Files in memory. They are honest: they keep the contract of `Files` and claim to.
 ///
-/// They start as an empty tree and keep every change since, so that the clock and what a stop could have left are
-/// functions of what they hold. A look-up costs time in proportion to the changes, a listing to their square: this is
+/// They start as an empty tree and keep every change and every sync since, so that the clock, and what a stop or a loss of
+/// power could have left, are functions of what they hold. A look-up costs time in proportion to the changes, a listing to their square: this is
 /// the file system of tests.
 #[derive(Drop)]
 pub struct Memory {
@@ -39,8 +40,9 @@ impl Memory {
     ghost use Rattle.std.specs.Prelude.{◌+◌, ◌<◌, ◌-◌, ◌^◌, Some, OnErr, IfOk, IfSome, IfNone, false, if◌then◌else◌, nat_lt, min};
     ghost use Rattle.gix_ref_files.specs.Tree.{is_file};
     ghost use Rattle.gix_ref_files.specs.Tree.Content.{File};
-    ghost use Rattle.gix_ref_memory.specs.Changes.{Puts};
-    ghost use Rattle.gix_ref_memory.specs.Memory.{past_of, tree_of, calls_of, faults_of, plan_of, KeepsFiles};
+    ghost use Rattle.gix_ref_files.specs.Files.{disk_of};
+    ghost use Rattle.gix_ref_memory.specs.Changes.{Puts, placed_on};
+    ghost use Rattle.gix_ref_memory.specs.Memory.{meaning, past_of, tree_of, calls_of, faults_of, plan_of, KeepsFiles};
     ghost use Rattle.gix_ref_memory.specs.declared.memory.turns.Plan.TheVariants.{Runs, FailsAt, StopsAt};
 
     /// An empty tree, of which no call fails. The allocator is kept for the tree and its record.
@@ -63,7 +65,7 @@ impl Memory {
     }
 
     /// Puts a file with these bytes at a path, in place of a file that is there, and makes the folders that lead
-    /// to it; false, and nothing changed, where a folder is at the path or a file in it. It is no call of files,
+    /// to it, all of it synced; false, and nothing changed, where a folder is at the path or a file in it. It is no call of files,
     /// so it is not counted, and no plan has it fail. `Memory` where a growth was refused; then nothing has changed.
     ///
     /// ```text
@@ -73,6 +75,9 @@ impl Memory {
     pub fn put(&mut self, path: &[u8], bytes: &[u8]) -> Result<bool, FileError>
         ensures answer { IfOk result (Puts (tree_of self.old) path.now bytes.now
             (tree_of self.new)) }
+        ensures disk { IfOk result (λ put. disk_of (meaning self.new) ≡ (if put then
+            placed_on (disk_of (meaning self.old)) path.now bytes.now
+            else disk_of (meaning self.old))) }
         ensures memory { OnErr result (result ≡ Err FileError.Memory) }
         ensures failed { OnErr result (past_of self.new ≡ past_of self.old) }
         ensures calls { calls_of self.new ≡ calls_of self.old }
@@ -117,8 +122,8 @@ impl Memory {
 
     /// Has the kth call from now do its first n parts and fail, and every later call fail. Parts are the bytes of an
     /// append or the folders that lead to a path and the one there, also those that exist; any other call that changes
-    /// the tree does all of it where n is not 0, and nothing where it is, and `create_new` always nothing. This takes
-    /// the place of an earlier plan.
+    /// the tree does all of it where n is not 0, and nothing where it is, and `create_new` and the syncs always nothing.
+    /// This takes the place of an earlier plan.
     pub fn stop_at(&mut self, k: u64, n: usize)
         ensures plan { plan_of self.new ≡ StopsAt (min (calls_of self.old + k) (2 ^ 64 - 1)) n }
         ensures same { KeepsFiles self.old self.new }
@@ -138,9 +143,11 @@ impl Memory {
 impl Files for Memory {
     ghost use Rattle.std.specs.Prelude.{ℕ, take, false, true, IfOk, OnOk, OnErr, IfSome, IsErrOf};
     ghost use Rattle.gix_ref_files.specs.Tree.{no_tree, node_at, bytes_of, is_file, appended, moved, removed, is_folder, folders_to, with_folders, IsEmptyFolder};
-    ghost use Rattle.gix_ref_files.specs.Files.{Leaves, Adds, count_after};
+    ghost use Rattle.gix_ref_files.specs.Files.{disk_of, Leaves, Adds, Passes, AddsDisks, count_after};
+    ghost use Rattle.gix_ref_files.specs.Disk.{file_synced, folder_synced};
+    ghost use Rattle.gix_ref_files.specs.DiskCalls.{Untouched, after_create, CreatingOn, after_folders, MakingFoldersOn, after_append, AppendingOn, after_rename, RenamingOn, after_removal, RemovingFileOn, RemovingFolderOn, Syncs, SyncingOn};
     ghost use Rattle.gix_ref_files.specs.Calls.{Unchanged, emptied, Opens, Creates, Creating, MakesFolders, MakingFolders, is_in_the_way, Appends, Appending, Renames, Renaming, IsMovable, RemovesFile, RemovingFile, RemovesFolder, RemovingFolder, Lists};
-    ghost use Rattle.gix_ref_memory.specs.Changes.{now_is_left, only_now};
+    ghost use Rattle.gix_ref_memory.specs.Laws.{tree_is_left, only_tree, disk_is_found, only_disk};
     ghost use Rattle.gix_ref_memory.specs.Turns.{KeepsTurn, NeverFails, LacksMemory, CannotGrow, CannotCreate, CannotRename, AsBefore, InOneStep, IsDone};
     ghost use Rattle.gix_ref_memory.specs.Memory.{meaning, tree_of, faults_of, next_turn, Counts};
     ghost use Rattle.gix_ref_memory.specs.Reader.{bytes_in, reader_calls, reader_faults, reader_plan};
@@ -154,9 +161,13 @@ impl Files for Memory {
 
     ghost faults = { faults_of };
 
-    ghost tree_is_left = { λ m t honest le. now_is_left m.changes.items t no_tree };
+    ghost tree_is_left = { λ m t honest le. tree_is_left m.changes.items t };
 
-    ghost only_now = { λ m T honest left. only_now m.changes.items no_tree T left };
+    ghost only_now = { λ m T honest left. only_tree m.changes.items T left };
+
+    ghost disk_is_found = { λ m t honest le. disk_is_found m.changes.items t };
+
+    ghost only_disk = { λ m D honest found. only_disk m.changes.items D found };
 
     ghost shaped = { λ m honest. m.shaped };
 
@@ -164,6 +175,8 @@ impl Files for Memory {
         ensures answer { IfOk result (λ node. node ≡ node_at (tree_of self.old) path.now) }
         ensures leaves { Leaves (meaning self.old) (meaning self.new)
             (Unchanged (tree_of self.old)) }
+        ensures passes { Passes (meaning self.old) (meaning self.new)
+            (Untouched (disk_of (meaning self.old))) }
         ensures count { faults_of self.new ≡ count_after result (faults_of self.old) }
         ensures memory { IsErrOf result FileError.Memory → ⊥ }
         ensures turn { KeepsTurn NeverFails NeverFails (next_turn self.old) result
@@ -188,6 +201,8 @@ impl Files for Memory {
         ensures emptied { emptied result buf.new.items }
         ensures leaves { Leaves (meaning self.old) (meaning self.new)
             (Unchanged (tree_of self.old)) }
+        ensures passes { Passes (meaning self.old) (meaning self.new)
+            (Untouched (disk_of (meaning self.old))) }
         ensures count { faults_of self.new ≡ count_after result (faults_of self.old) }
         ensures turn { KeepsTurn LacksMemory NeverFails (next_turn self.old) result
             (tree_of self.old) (tree_of self.new) (AsBefore (tree_of self.old)) }
@@ -213,6 +228,8 @@ impl Files for Memory {
             path.now reader) }
         ensures leaves { Leaves (meaning self.old) (meaning self.new)
             (Unchanged (tree_of self.old)) }
+        ensures passes { Passes (meaning self.old) (meaning self.new)
+            (Untouched (disk_of (meaning self.old))) }
         ensures count { faults_of self.new ≡ count_after result (faults_of self.old) }
         ensures turn { KeepsTurn LacksMemory NeverFails (next_turn self.old) result
             (tree_of self.old) (tree_of self.new) (AsBefore (tree_of self.old)) }
@@ -245,6 +262,8 @@ impl Files for Memory {
         ensures answer { IfOk result (Lists (tree_of self.old) path.now) }
         ensures leaves { Leaves (meaning self.old) (meaning self.new)
             (Unchanged (tree_of self.old)) }
+        ensures passes { Passes (meaning self.old) (meaning self.new)
+            (Untouched (disk_of (meaning self.old))) }
         ensures count { faults_of self.new ≡ count_after result (faults_of self.old) }
         ensures turn { KeepsTurn LacksMemory NeverFails (next_turn self.old) result
             (tree_of self.old) (tree_of self.new) (AsBefore (tree_of self.old)) }
@@ -267,6 +286,10 @@ impl Files for Memory {
         ensures failed { OnErr result (tree_of self.new ≡ tree_of self.old) }
         ensures leaves { Leaves (meaning self.old) (meaning self.new)
             (Creating (tree_of self.old) path.now) }
+        ensures disk { IfOk result (λ create. disk_of (meaning self.new)
+            ≡ after_create (disk_of (meaning self.old)) path.now create) }
+        ensures passes { Passes (meaning self.old) (meaning self.new)
+            (CreatingOn (disk_of (meaning self.old)) path.now) }
         ensures count { faults_of self.new ≡ count_after result (faults_of self.old) }
         ensures memory { IsErrOf result FileError.Memory → ⊥ }
         ensures turn { KeepsTurn (CannotCreate (tree_of self.old) path.now) NeverFails
@@ -290,6 +313,12 @@ impl Files for Memory {
             (MakingFolders (tree_of self.old) path.now) }
         ensures adds { OnOk result (Adds (meaning self.old) (meaning self.new)
             (MakingFolders (tree_of self.old) path.now)) }
+        ensures disk { IfOk result (λ made. disk_of (meaning self.new)
+            ≡ after_folders (disk_of (meaning self.old)) path.now made) }
+        ensures passes { Passes (meaning self.old) (meaning self.new)
+            (MakingFoldersOn (disk_of (meaning self.old)) path.now) }
+        ensures adds_disks { OnOk result (AddsDisks (meaning self.old) (meaning self.new)
+            (MakingFoldersOn (disk_of (meaning self.old)) path.now)) }
         ensures count { faults_of self.new ≡ count_after result (faults_of self.old) }
         ensures memory { IsErrOf result FileError.Memory → ⊥ }
         ensures turn { KeepsTurn CannotGrow CannotGrow (next_turn self.old) result
@@ -318,6 +347,12 @@ impl Files for Memory {
             (Appending (tree_of self.old) path.now bytes.now) }
         ensures adds { OnOk result (Adds (meaning self.old) (meaning self.new)
             (Appending (tree_of self.old) path.now bytes.now)) }
+        ensures disk { IfOk result (λ there. disk_of (meaning self.new)
+            ≡ after_append (disk_of (meaning self.old)) path.now bytes.now there) }
+        ensures passes { Passes (meaning self.old) (meaning self.new)
+            (AppendingOn (disk_of (meaning self.old)) path.now bytes.now) }
+        ensures adds_disks { OnOk result (AddsDisks (meaning self.old) (meaning self.new)
+            (AppendingOn (disk_of (meaning self.old)) path.now bytes.now)) }
         ensures count { faults_of self.new ≡ count_after result (faults_of self.old) }
         ensures memory { IsErrOf result FileError.Memory → ⊥ }
         ensures turn { KeepsTurn CannotGrow CannotGrow (next_turn self.old) result
@@ -343,6 +378,10 @@ impl Files for Memory {
             (tree_of self.new)) }
         ensures leaves { Leaves (meaning self.old) (meaning self.new)
             (Renaming (tree_of self.old) from.now to.now) }
+        ensures disk { IfOk result (λ rename. disk_of (meaning self.new)
+            ≡ after_rename (disk_of (meaning self.old)) from.now to.now rename) }
+        ensures passes { Passes (meaning self.old) (meaning self.new)
+            (RenamingOn (disk_of (meaning self.old)) from.now to.now) }
         ensures count { faults_of self.new ≡ count_after result (faults_of self.old) }
         ensures memory { IsErrOf result FileError.Memory → ⊥ }
         ensures turn { KeepsTurn (CannotRename (tree_of self.old) from.now to.now) CannotGrow
@@ -369,6 +408,10 @@ impl Files for Memory {
         ensures answer { IfOk result (RemovesFile (tree_of self.old) path.now (tree_of self.new)) }
         ensures leaves { Leaves (meaning self.old) (meaning self.new)
             (RemovingFile (tree_of self.old) path.now) }
+        ensures disk { IfOk result (λ removed. disk_of (meaning self.new)
+            ≡ after_removal (disk_of (meaning self.old)) path.now removed) }
+        ensures passes { Passes (meaning self.old) (meaning self.new)
+            (RemovingFileOn (disk_of (meaning self.old)) path.now) }
         ensures count { faults_of self.new ≡ count_after result (faults_of self.old) }
         ensures memory { IsErrOf result FileError.Memory → ⊥ }
         ensures turn { KeepsTurn CannotGrow CannotGrow (next_turn self.old) result
@@ -395,6 +438,10 @@ impl Files for Memory {
             (tree_of self.new)) }
         ensures leaves { Leaves (meaning self.old) (meaning self.new)
             (RemovingFolder (tree_of self.old) path.now) }
+        ensures disk { IfOk result (λ removed. disk_of (meaning self.new)
+            ≡ after_removal (disk_of (meaning self.old)) path.now removed) }
+        ensures passes { Passes (meaning self.old) (meaning self.new)
+            (RemovingFolderOn (disk_of (meaning self.old)) path.now) }
         ensures count { faults_of self.new ≡ count_after result (faults_of self.old) }
         ensures memory { IsErrOf result FileError.Memory → ⊥ }
         ensures turn { KeepsTurn CannotGrow CannotGrow (next_turn self.old) result
@@ -413,6 +460,52 @@ impl Files for Memory {
                 Ok(_) => Err(self.turns.fault(ErrorKind::Other)),
                 Err(_) => Err(self.turns.fault(ErrorKind::OutOfMemory)),
             },
+        }
+    }
+
+    fn sync_file(&mut self, path: &[u8]) -> Result<bool, FileError>
+        ensures answer { Syncs (is_file (tree_of self.old path.now)) (disk_of (meaning self.old))
+            (file_synced (disk_of (meaning self.old)) path.now) (disk_of (meaning self.new)) result }
+        ensures leaves { Leaves (meaning self.old) (meaning self.new)
+            (Unchanged (tree_of self.old)) }
+        ensures passes { Passes (meaning self.old) (meaning self.new)
+            (SyncingOn (is_file (tree_of self.old path.now)) (disk_of (meaning self.old))
+            (file_synced (disk_of (meaning self.old)) path.now)) }
+        ensures count { faults_of self.new ≡ count_after result (faults_of self.old) }
+        ensures memory { IsErrOf result FileError.Memory → ⊥ }
+        ensures turn { KeepsTurn CannotGrow NeverFails (next_turn self.old) result
+            (tree_of self.old) (tree_of self.new) (AsBefore (tree_of self.old)) }
+        ensures counts { Counts self.old self.new }
+    {
+        if self.turns.next() != Turn::Go {
+            return Err(self.turns.fault(ErrorKind::Other));
+        }
+        match sync_file_now(self.alloc, &mut self.changes, path) {
+            Ok(synced) => Ok(synced),
+            Err(_) => Err(self.turns.fault(ErrorKind::OutOfMemory)),
+        }
+    }
+
+    fn sync_folder(&mut self, path: &[u8]) -> Result<bool, FileError>
+        ensures answer { Syncs (is_folder (tree_of self.old path.now)) (disk_of (meaning self.old))
+            (folder_synced (disk_of (meaning self.old)) path.now) (disk_of (meaning self.new)) result }
+        ensures leaves { Leaves (meaning self.old) (meaning self.new)
+            (Unchanged (tree_of self.old)) }
+        ensures passes { Passes (meaning self.old) (meaning self.new)
+            (SyncingOn (is_folder (tree_of self.old path.now)) (disk_of (meaning self.old))
+            (folder_synced (disk_of (meaning self.old)) path.now)) }
+        ensures count { faults_of self.new ≡ count_after result (faults_of self.old) }
+        ensures memory { IsErrOf result FileError.Memory → ⊥ }
+        ensures turn { KeepsTurn CannotGrow NeverFails (next_turn self.old) result
+            (tree_of self.old) (tree_of self.new) (AsBefore (tree_of self.old)) }
+        ensures counts { Counts self.old self.new }
+    {
+        if self.turns.next() != Turn::Go {
+            return Err(self.turns.fault(ErrorKind::Other));
+        }
+        match sync_folder_now(self.alloc, &mut self.changes, path) {
+            Ok(synced) => Ok(synced),
+            Err(_) => Err(self.turns.fault(ErrorKind::OutOfMemory)),
         }
     }
 }

@@ -1,7 +1,7 @@
 -- Real trees, with folders and locks in them: which steps on them carry out the writes of a plan.
 use Rattle.std.specs.Prelude.{◌≡◌, ℕ, List, [], ◌∷◌, ◌++◌, Option, Some, None, ◌⊎◌, false}
-use Rattle.gix_ref_files.specs.Tree.{Tree, Path, Content}
-use Rattle.gix_ref_files.specs.Tree.Content.{File, Folder}
+pub use Rattle.gix_ref_files.specs.Tree.{file_of}
+use Rattle.gix_ref_files.specs.Tree.{Tree, Path}
 use Rattle.gix_ref_files.specs.Steps.{Step, Begins, IsAfter, IsLeftBy as IsLeftBySteps, EndsAt}
 use Rattle.gix_ref_files.specs.Steps.Step.{Create, Append as AppendStep, Rename, RemoveFile, MakeFolders, RemoveFolder, End}
 use Rattle.gix_ref_files.specs.declared.steps.Cause.{Cause}
@@ -12,12 +12,6 @@ use Rattle.gix_ref_theory.specs.Readings.{Store, HasLaws}
 use Rattle.gix_ref_theory.specs.Edits.{Edit, Mode, removes_packed}
 use Rattle.gix_ref_theory.specs.Plan.{plan}
 use Rattle.gix_ref_theory.specs.Between.{IsPrepared, IsBetween, NoDeletionFirst, InOrder, IsCommitted}
-
--- the bytes of what is at a path, if it is a file
-abbrev pub file_of : Option Content → Option (List ℕ)
-file_of (Some (File bytes)) = Some bytes
-file_of (Some Folder) = None
-file_of None = None
 
 -- the files of a tree
 abbrev pub view_of : Tree → View

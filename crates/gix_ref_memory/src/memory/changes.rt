@@ -1,7 +1,8 @@
 //! What was changed, the oldest first, and what is at a path after all of it.
-ghost use Rattle.std.specs.Prelude.{◌≡◌, Some};
-ghost use Rattle.gix_ref_files.specs.Tree.{no_tree, has_folders, is_blocked, is_file, is_folder};
-ghost use Rattle.gix_ref_memory.specs.Changes.{found_content, content_of, place_of, after};
+ghost use Rattle.std.specs.Prelude.{◌≡◌, Some, length};
+ghost use Rattle.gix_ref_files.specs.Tree.{no_tree, bytes_of, has_folders, is_blocked, is_file, is_folder};
+ghost use Rattle.gix_ref_files.specs.Disk.{nothing};
+ghost use Rattle.gix_ref_memory.specs.Changes.{found_content, found_item, content_of, place_of, after, items};
 
 /// What a change puts at a path.
 #[derive(Debug, Drop)]
@@ -10,13 +11,14 @@ pub enum Stored {
     Folder,
 }
 
-/// A change of the tree.
+/// A change of the disk.
 #[derive(Debug, Drop)]
 pub enum Change {
-    /// This is at a path from now on, or nothing is.
+    /// This is at a path from now on, or nothing is; and it counts as synced, or not.
     Put {
         path: Vec<u8>,
         stored: Option<Stored>,
+        synced: bool,
     },
     /// A file that had so many bytes has these.
     Append {
@@ -24,11 +26,20 @@ pub enum Change {
         whole: Vec<u8>,
         had: usize,
     },
-    /// A file with these bytes is no longer at one path, but at another.
+    /// A file with these bytes, so many of them synced, is no longer at one path, but at another.
     Move {
         from: Vec<u8>,
         to: Vec<u8>,
         bytes: Vec<u8>,
+        synced: usize,
+    },
+    /// The bytes of a file were synced.
+    SyncFile {
+        path: Vec<u8>,
+    },
+    /// The entries of a folder were synced.
+    SyncFolder {
+        path: Vec<u8>,
     },
 }
 
@@ -37,6 +48,13 @@ pub enum Change {
 pub enum Stands<'a> {
     FileOf(&'a [u8]),
     FolderOf,
+}
+
+/// What is at a path, and how many bytes of it are synced.
+#[derive(Clone, Copy, Debug)]
+pub struct Known<'a> {
+    pub stands: Option<Stands<'a>>,
+    pub synced: usize,
 }
 
 impl Stands<'_> {
@@ -68,7 +86,11 @@ pub fn find<'a>(changes: &'a [Change], path: &[u8]) -> Option<Stands<'a>>
     let mut found = None;
     for change in changes {
         match change {
-            Change::Put { path: at, stored } => {
+            Change::Put {
+                path: at,
+                stored,
+                ..
+            } => {
                 if at.as_slice() == path {
                     found = stored_stands(stored);
                 }
@@ -82,19 +104,91 @@ pub fn find<'a>(changes: &'a [Change], path: &[u8]) -> Option<Stands<'a>>
                     found = Some(Stands::FileOf(whole));
                 }
             }
-            Change::Move { from, to, bytes } => {
+            Change::Move {
+                from,
+                to,
+                bytes,
+                ..
+            } => {
                 if to.as_slice() == path {
                     found = Some(Stands::FileOf(bytes));
                 } else if from.as_slice() == path {
                     found = None;
                 }
             }
+            Change::SyncFile { .. } => {}
+            Change::SyncFolder { .. } => {}
         }
     }
     found
 }
 
-/// The path at which a change puts something.
+/// How many bytes there are.
+fn len_of(stands: Option<Stands<'_>>) -> usize
+    ensures { result ≡ length (bytes_of (found_content stands.entry)) }
+{
+    match stands {
+        Some(Stands::FileOf(bytes)) => bytes.len(),
+        _ => 0,
+    }
+}
+
+/// What is at a path after the changes, and how many bytes of it are synced.
+pub fn item_at<'a>(changes: &'a [Change], path: &[u8]) -> Known<'a>
+    ensures { found_item result ≡ items changes.now path.now nothing }
+{
+    let mut found = None;
+    let mut synced = 0;
+    for change in changes {
+        match change {
+            Change::Put {
+                path: at,
+                stored,
+                synced: whole,
+            } => {
+                if at.as_slice() == path {
+                    found = stored_stands(stored);
+                    synced = if *whole { len_of(found) } else { 0 };
+                }
+            }
+            Change::Append {
+                path: at,
+                whole,
+                ..
+            } => {
+                if at.as_slice() == path {
+                    found = Some(Stands::FileOf(whole));
+                }
+            }
+            Change::Move {
+                from,
+                to,
+                bytes,
+                synced: moved,
+            } => {
+                if to.as_slice() == path {
+                    found = Some(Stands::FileOf(bytes));
+                    synced = *moved;
+                } else if from.as_slice() == path {
+                    found = None;
+                    synced = 0;
+                }
+            }
+            Change::SyncFile { path: at } => {
+                if at.as_slice() == path {
+                    synced = len_of(found);
+                }
+            }
+            Change::SyncFolder { .. } => {}
+        }
+    }
+    Known {
+        stands: found,
+        synced,
+    }
+}
+
+/// The path at which a change puts something, or that it syncs.
 pub fn place(change: &Change) -> &[u8]
     ensures { result.now ≡ place_of change.now }
 {
@@ -102,6 +196,8 @@ pub fn place(change: &Change) -> &[u8]
         Change::Put { path, .. } => path,
         Change::Append { path, .. } => path,
         Change::Move { to, .. } => to,
+        Change::SyncFile { path } => path,
+        Change::SyncFolder { path } => path,
     }
 }
 

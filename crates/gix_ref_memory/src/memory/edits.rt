@@ -1,14 +1,17 @@
 //! What the calls of files in memory change: each adds its changes at the end of those that there were.
-ghost use Rattle.std.specs.Prelude.{◌≡◌, [], Some, false, IfOk, IfSome, IfNone, OnOk, OnErr, take, length};
-ghost use Rattle.gix_ref_files.specs.Tree.{IsShaped, no_tree, put, appended, is_folder, fronts, with_folders};
-ghost use Rattle.gix_ref_files.specs.Files.{Leaves, Adds};
-ghost use Rattle.gix_ref_files.specs.Calls.{Appends, Appending, Renames, Renaming, IsMovable, RemovesFile, RemovingFile, RemovesFolder, RemovingFolder, Creates, Creating};
+ghost use Rattle.std.specs.Prelude.{◌≡◌, if◌then◌else◌, [], Some, false, IfOk, IfSome, IfNone, OnOk, OnErr, take, length};
+ghost use Rattle.gix_ref_files.specs.Tree.{IsShaped, no_tree, put, appended, is_file, is_folder, fronts, with_folders};
+ghost use Rattle.gix_ref_files.specs.Disk.{file_synced, folder_synced};
+ghost use Rattle.gix_ref_files.specs.DiskCalls.{after_append, AppendingOn, after_rename, RenamingOn, after_create, CreatingOn, after_removal, RemovingFileOn, RemovingFolderOn, Syncs, SyncingOn};
+ghost use Rattle.gix_ref_files.specs.Files.{Passes, AddsDisks};
+ghost use Rattle.gix_ref_files.specs.Calls.{Appends, Renames, IsMovable, RemovesFile, RemovesFolder, Creates};
 ghost use Rattle.gix_ref_files.specs.Tree.Content.{File};
-ghost use Rattle.gix_ref_memory.specs.Changes.{after, meaning_after, Puts, tree_after};
+ghost use Rattle.gix_ref_memory.specs.Changes.{after, meaning_after, Puts, tree_after, disk_after, placed_on};
 ghost use Rattle.gix_ref_memory.specs.Turns.{HasNoWay};
 
 use super::changes::{
-    Change, Stands, Stored, find, is_below_file, is_file_at, is_folder_at, stands_in_folders,
+    Change, Stands, Stored, find, is_below_file, is_file_at, is_folder_at, item_at,
+    stands_in_folders,
 };
 use super::folders::make_fronts;
 use super::listing::has_below;
@@ -26,11 +29,13 @@ pub fn append_now(
         (tree_after changes.new)) }
     ensures failed { OnErr result (changes.new.items ≡ changes.old.items) }
     ensures shape { IsShaped (tree_after changes.old) → IsShaped (tree_after changes.new) }
-    ensures leaves { Leaves (meaning_after changes.old.items) (meaning_after changes.new.items)
-        (Appending (tree_after changes.old) path.now bytes.now) }
-    ensures adds { OnOk result (Adds (meaning_after changes.old.items)
+    ensures disk { IfOk result (λ there. disk_after changes.new
+        ≡ after_append (disk_after changes.old) path.now bytes.now there) }
+    ensures passes { Passes (meaning_after changes.old.items) (meaning_after changes.new.items)
+        (AppendingOn (disk_after changes.old) path.now bytes.now) }
+    ensures adds { OnOk result (AddsDisks (meaning_after changes.old.items)
         (meaning_after changes.new.items)
-        (Appending (tree_after changes.old) path.now bytes.now)) }
+        (AppendingOn (disk_after changes.old) path.now bytes.now)) }
 {
     match find(changes, path) {
         Some(Stands::FileOf(old)) => {
@@ -56,8 +61,8 @@ pub fn append_some(
     ensures done { OnOk result (after changes.new.items no_tree ≡ appended (tree_after changes.old)
         path.now (take most bytes.now)) }
     ensures shape { IsShaped (tree_after changes.old) → IsShaped (tree_after changes.new) }
-    ensures leaves { Leaves (meaning_after changes.old.items) (meaning_after changes.new.items)
-        (Appending (tree_after changes.old) path.now bytes.now) }
+    ensures passes { Passes (meaning_after changes.old.items) (meaning_after changes.new.items)
+        (AppendingOn (disk_after changes.old) path.now bytes.now) }
 {
     let part = &bytes[..most.min(bytes.len())];
     append_now(alloc, changes, path, part)?;
@@ -80,8 +85,10 @@ pub fn rename_now(
         (λ answer. IfNone answer (changes.new.items ≡ changes.old.items)) }
     ensures failed { OnErr result (changes.new.items ≡ changes.old.items) }
     ensures shape { IsShaped (tree_after changes.old) → IsShaped (tree_after changes.new) }
-    ensures leaves { Leaves (meaning_after changes.old.items) (meaning_after changes.new.items)
-        (Renaming (tree_after changes.old) from.now to.now) }
+    ensures disk { IfOk result (λ answer. IfSome answer (λ rename. disk_after changes.new
+        ≡ after_rename (disk_after changes.old) from.now to.now rename)) }
+    ensures passes { Passes (meaning_after changes.old.items) (meaning_after changes.new.items)
+        (RenamingOn (disk_after changes.old) from.now to.now) }
 {
     match find(changes, from) {
         Some(Stands::FileOf(old)) => {
@@ -92,9 +99,15 @@ pub fn rename_now(
                 return Ok(None);
             }
             let bytes = old.to_vec(alloc)?;
+            let synced = item_at(changes, from).synced;
             let from = from.to_vec(alloc)?;
             let to = to.to_vec(alloc)?;
-            changes.push(Change::Move { from, to, bytes })?;
+            changes.push(Change::Move {
+                from,
+                to,
+                bytes,
+                synced,
+            })?;
             Ok(Some(Rename::Moved))
         }
         _ => Ok(None),
@@ -111,14 +124,20 @@ pub fn remove_file_now(
         (tree_after changes.new)) }
     ensures failed { OnErr result (changes.new.items ≡ changes.old.items) }
     ensures shape { IsShaped (tree_after changes.old) → IsShaped (tree_after changes.new) }
-    ensures leaves { Leaves (meaning_after changes.old.items) (meaning_after changes.new.items)
-        (RemovingFile (tree_after changes.old) path.now) }
+    ensures disk { IfOk result (λ removed. disk_after changes.new
+        ≡ after_removal (disk_after changes.old) path.now removed) }
+    ensures passes { Passes (meaning_after changes.old.items) (meaning_after changes.new.items)
+        (RemovingFileOn (disk_after changes.old) path.now) }
 {
     if !is_file_at(changes, path) {
         return Ok(false);
     }
     let path = path.to_vec(alloc)?;
-    changes.push(Change::Put { path, stored: None })?;
+    changes.push(Change::Put {
+        path,
+        stored: None,
+        synced: false,
+    })?;
     Ok(true)
 }
 
@@ -136,8 +155,10 @@ pub fn create_now(
         (λ answer. IfNone answer (HasNoWay (tree_after changes.old) path.now)) }
     ensures failed { OnErr result (changes.new.items ≡ changes.old.items) }
     ensures shape { IsShaped (tree_after changes.old) → IsShaped (tree_after changes.new) }
-    ensures leaves { Leaves (meaning_after changes.old.items) (meaning_after changes.new.items)
-        (Creating (tree_after changes.old) path.now) }
+    ensures disk { IfOk result (λ answer. IfSome answer (λ create. disk_after changes.new
+        ≡ after_create (disk_after changes.old) path.now create)) }
+    ensures passes { Passes (meaning_after changes.old.items) (meaning_after changes.new.items)
+        (CreatingOn (disk_after changes.old) path.now) }
 {
     if find(changes, path).is_some() {
         return Ok(Some(Create::Standing));
@@ -150,7 +171,11 @@ pub fn create_now(
     }
     let path = path.to_vec(alloc)?;
     let stored = Some(Stored::Bytes(Vec::new(alloc)));
-    changes.push(Change::Put { path, stored })?;
+    changes.push(Change::Put {
+        path,
+        stored,
+        synced: false,
+    })?;
     Ok(Some(Create::Made))
 }
 
@@ -164,18 +189,24 @@ pub fn remove_folder_now(
         (tree_after changes.new)) }
     ensures failed { OnErr result (changes.new.items ≡ changes.old.items) }
     ensures shape { IsShaped (tree_after changes.old) → IsShaped (tree_after changes.new) }
-    ensures leaves { Leaves (meaning_after changes.old.items) (meaning_after changes.new.items)
-        (RemovingFolder (tree_after changes.old) path.now) }
+    ensures disk { IfOk result (λ removed. disk_after changes.new
+        ≡ after_removal (disk_after changes.old) path.now removed) }
+    ensures passes { Passes (meaning_after changes.old.items) (meaning_after changes.new.items)
+        (RemovingFolderOn (disk_after changes.old) path.now) }
 {
     if !is_folder_at(changes, path) || has_below(changes, path) {
         return Ok(false);
     }
     let path = path.to_vec(alloc)?;
-    changes.push(Change::Put { path, stored: None })?;
+    changes.push(Change::Put {
+        path,
+        stored: None,
+        synced: false,
+    })?;
     Ok(true)
 }
 
-/// Puts a file with these bytes at a path, and folders at its fronts. A failure may leave folders.
+/// Puts a file with these bytes at a path, and folders at its fronts, all of it synced. A failure may leave folders.
 fn place_file(
     alloc: Global,
     changes: &mut Vec<Change>,
@@ -185,21 +216,27 @@ fn place_file(
     ensures placed { OnOk result (after changes.new.items no_tree ≡ put
         (with_folders (tree_after changes.old) (fronts path.now)) path.now
         (Some (File bytes.now))) }
+    ensures disk { OnOk result (disk_after changes.new
+        ≡ placed_on (disk_after changes.old) path.now bytes.now) }
     ensures kept { OnErr result (take (length changes.old.items) changes.new.items
         ≡ changes.old.items) }
     ensures shape { is_folder (after changes.old.items no_tree path.now) ≡ false →
         IsShaped (tree_after changes.old) → OnOk result (IsShaped (tree_after changes.new)) }
 {
-    make_fronts(alloc, changes, path, path.len())?;
+    make_fronts(alloc, changes, path, path.len(), true)?;
     let path = path.to_vec(alloc)?;
     let bytes = bytes.to_vec(alloc)?;
     let stored = Some(Stored::Bytes(bytes));
-    changes.push(Change::Put { path, stored })?;
+    changes.push(Change::Put {
+        path,
+        stored,
+        synced: true,
+    })?;
     Ok(())
 }
 
-/// Puts a file with these bytes at a path, and folders at its fronts; false where a folder is at the path or a
-/// file in it.
+/// Puts a file with these bytes at a path, and folders at its fronts, all of it synced; false where a folder is at the
+/// path or a file in it.
 pub fn put_now(
     alloc: Global,
     changes: &mut Vec<Change>,
@@ -208,6 +245,8 @@ pub fn put_now(
 ) -> Result<bool, AllocError>
     ensures answer { IfOk result (Puts (tree_after changes.old) path.now bytes.now
         (tree_after changes.new)) }
+    ensures disk { IfOk result (λ put. disk_after changes.new ≡ (if put then
+        placed_on (disk_after changes.old) path.now bytes.now else disk_after changes.old)) }
     ensures failed { OnErr result (changes.new.items ≡ changes.old.items) }
     ensures shape { IsShaped (tree_after changes.old) → IsShaped (tree_after changes.new) }
 {
@@ -222,4 +261,46 @@ pub fn put_now(
             Err(error)
         }
     }
+}
+
+/// Syncs the bytes of a file.
+pub fn sync_file_now(
+    alloc: Global,
+    changes: &mut Vec<Change>,
+    path: &[u8],
+) -> Result<bool, AllocError>
+    ensures answer { Syncs (is_file (tree_after changes.old path.now)) (disk_after changes.old)
+        (file_synced (disk_after changes.old) path.now) (disk_after changes.new) result }
+    ensures same { tree_after changes.new ≡ tree_after changes.old }
+    ensures passes { Passes (meaning_after changes.old.items) (meaning_after changes.new.items)
+        (SyncingOn (is_file (tree_after changes.old path.now)) (disk_after changes.old)
+        (file_synced (disk_after changes.old) path.now)) }
+{
+    if !is_file_at(changes, path) {
+        return Ok(false);
+    }
+    let path = path.to_vec(alloc)?;
+    changes.push(Change::SyncFile { path })?;
+    Ok(true)
+}
+
+/// Syncs the entries of a folder.
+pub fn sync_folder_now(
+    alloc: Global,
+    changes: &mut Vec<Change>,
+    path: &[u8],
+) -> Result<bool, AllocError>
+    ensures answer { Syncs (is_folder (tree_after changes.old path.now)) (disk_after changes.old)
+        (folder_synced (disk_after changes.old) path.now) (disk_after changes.new) result }
+    ensures same { tree_after changes.new ≡ tree_after changes.old }
+    ensures passes { Passes (meaning_after changes.old.items) (meaning_after changes.new.items)
+        (SyncingOn (is_folder (tree_after changes.old path.now)) (disk_after changes.old)
+        (folder_synced (disk_after changes.old) path.now)) }
+{
+    if !is_folder_at(changes, path) {
+        return Ok(false);
+    }
+    let path = path.to_vec(alloc)?;
+    changes.push(Change::SyncFolder { path })?;
+    Ok(true)
 }

@@ -2,16 +2,22 @@
 ghost use Rattle.std.specs.Prelude.{◌≡◌, ◌≤◌, ℕ, Some, OnOk, OnErr, IfOk, take, length, true, false, [], ◌∷◌, ◌++◌};
 ghost use Rattle.gix_ref_files.specs.Tree.{Tree, IsShaped, no_tree, put, has_folders, fronts, folders_to, with_folders};
 ghost use Rattle.gix_ref_files.specs.Tree.Content.{Folder};
-ghost use Rattle.gix_ref_files.specs.Files.{Leaves, Adds};
-ghost use Rattle.gix_ref_files.specs.Calls.{BeforeOrAfter, MakesFolders, MakingFolders, is_in_the_way};
+ghost use Rattle.gix_ref_files.specs.Files.{Passes, AddsDisks};
+ghost use Rattle.gix_ref_files.specs.Calls.{MakesFolders, is_in_the_way};
+ghost use Rattle.gix_ref_files.specs.DiskCalls.{BeforeOrAfterOn, after_folders, MakingFoldersOn};
 ghost use Rattle.gix_ref_memory.specs.Turns.{IsDone};
-ghost use Rattle.gix_ref_memory.specs.Changes.{after, meaning_after, MakingFronts, tree_after};
+ghost use Rattle.gix_ref_memory.specs.Changes.{after, meaning_after, MakingFrontsOn, tree_after, disk_after, with_folder_as, with_folders_as};
 
 use super::changes::{Change, Stored, is_below_file, is_file_at, is_folder_at};
 use std::alloc::{AllocError, Global};
 
-/// Makes a folder, if it does not exist.
-fn make_folder(alloc: Global, changes: &mut Vec<Change>, path: &[u8]) -> Result<(), AllocError>
+/// Makes a folder, if it does not exist; a new one counts as synced, or not.
+fn make_folder(
+    alloc: Global,
+    changes: &mut Vec<Change>,
+    path: &[u8],
+    synced: bool,
+) -> Result<(), AllocError>
     ensures made { OnOk result (after changes.new.items no_tree
         ≡ put (tree_after changes.old) path.now
         (Some Folder)) }
@@ -19,25 +25,32 @@ fn make_folder(alloc: Global, changes: &mut Vec<Change>, path: &[u8]) -> Result<
     ensures kept { take (length changes.old.items) changes.new.items ≡ changes.old.items }
     ensures shape { has_folders (tree_after changes.old) path.now ≡ true →
         IsShaped (tree_after changes.old) → IsShaped (tree_after changes.new) }
-    ensures leaves { Leaves (meaning_after changes.old.items) (meaning_after changes.new.items)
-        (BeforeOrAfter (tree_after changes.old) (Unit {0}) (put (tree_after changes.old) path.now
-        (Some Folder))) }
+    ensures disk { OnOk result (disk_after changes.new
+        ≡ with_folder_as synced (disk_after changes.old) path.now) }
+    ensures passes { Passes (meaning_after changes.old.items) (meaning_after changes.new.items)
+        (BeforeOrAfterOn (disk_after changes.old) (Unit {0})
+        (with_folder_as synced (disk_after changes.old) path.now)) }
 {
     if is_folder_at(changes, path) {
         return Ok(());
     }
     let path = path.to_vec(alloc)?;
     let stored = Some(Stored::Folder);
-    changes.push(Change::Put { path, stored })?;
+    changes.push(Change::Put {
+        path,
+        stored,
+        synced,
+    })?;
     Ok(())
 }
 
-/// Makes folders at the first so many proper fronts of a path.
+/// Makes folders at the first so many proper fronts of a path; new ones count as synced, or not.
 pub fn make_fronts(
     alloc: Global,
     changes: &mut Vec<Change>,
     path: &[u8],
     most: usize,
+    synced: bool,
 ) -> Result<(), AllocError>
     ensures made { OnOk result (after changes.new.items no_tree
         ≡ with_folders (tree_after changes.old)
@@ -46,11 +59,14 @@ pub fn make_fronts(
     ensures shape { IsShaped (tree_after changes.old) → IsShaped (tree_after changes.new) }
     ensures leads { length (fronts path.now) ≤ most →
         OnOk result (has_folders (tree_after changes.new) path.now ≡ true) }
-    ensures leaves { Leaves (meaning_after changes.old.items) (meaning_after changes.new.items)
-        (MakingFronts (tree_after changes.old) (fronts path.now)) }
+    ensures disk { OnOk result (disk_after changes.new
+        ≡ with_folders_as synced (disk_after changes.old) (take most (fronts path.now))) }
+    ensures passes { Passes (meaning_after changes.old.items) (meaning_after changes.new.items)
+        (MakingFrontsOn synced (disk_after changes.old) (fronts path.now)) }
     ensures adds { length (fronts path.now) ≤ most →
-        OnOk result (Adds (meaning_after changes.old.items) (meaning_after changes.new.items)
-        (MakingFronts (tree_after changes.old) (fronts path.now))) }
+        OnOk result (AddsDisks (meaning_after changes.old.items)
+        (meaning_after changes.new.items)
+        (MakingFrontsOn synced (disk_after changes.old) (fronts path.now))) }
 {
     let mut left = most;
     for i in 1..path.len() {
@@ -58,7 +74,7 @@ pub fn make_fronts(
             if left == 0 {
                 return Ok(());
             }
-            make_folder(alloc, changes, &path[..i])?;
+            make_folder(alloc, changes, &path[..i], synced)?;
             left -= 1;
         }
     }
@@ -90,17 +106,19 @@ pub fn make_folders_now(
     ensures answer { IfOk result (MakesFolders (tree_after changes.old) path.now
         (tree_after changes.new)) }
     ensures shape { IsShaped (tree_after changes.old) → IsShaped (tree_after changes.new) }
-    ensures leaves { Leaves (meaning_after changes.old.items) (meaning_after changes.new.items)
-        (MakingFolders (tree_after changes.old) path.now) }
-    ensures adds { OnOk result (Adds (meaning_after changes.old.items)
+    ensures disk { IfOk result (λ made. disk_after changes.new
+        ≡ after_folders (disk_after changes.old) path.now made) }
+    ensures passes { Passes (meaning_after changes.old.items) (meaning_after changes.new.items)
+        (MakingFoldersOn (disk_after changes.old) path.now) }
+    ensures adds { OnOk result (AddsDisks (meaning_after changes.old.items)
         (meaning_after changes.new.items)
-        (MakingFolders (tree_after changes.old) path.now)) }
+        (MakingFoldersOn (disk_after changes.old) path.now)) }
 {
     if stands_in_the_way(changes, path) {
         return Ok(false);
     }
     let folders = slashed(alloc, path)?;
-    make_fronts(alloc, changes, &folders, folders.len())?;
+    make_fronts(alloc, changes, &folders, folders.len(), false)?;
     Ok(true)
 }
 
@@ -116,12 +134,12 @@ pub fn make_some_folders(
         (with_folders (tree_after changes.old) (take most (folders_to path.now)))
         (tree_after changes.new)) }
     ensures shape { IsShaped (tree_after changes.old) → IsShaped (tree_after changes.new) }
-    ensures leaves { Leaves (meaning_after changes.old.items) (meaning_after changes.new.items)
-        (MakingFolders (tree_after changes.old) path.now) }
+    ensures passes { Passes (meaning_after changes.old.items) (meaning_after changes.new.items)
+        (MakingFoldersOn (disk_after changes.old) path.now) }
 {
     if stands_in_the_way(changes, path) {
         return Ok(());
     }
     let folders = slashed(alloc, path)?;
-    make_fronts(alloc, changes, &folders, most)
+    make_fronts(alloc, changes, &folders, most, false)
 }

@@ -9,16 +9,22 @@ pub returns-clause-answer : goal.returns-clause-answer
 returns-clause-answer c =
     let at : c.in_ok-path.path.items ≡ c.args.path.now = search rules in
     let a_file : is_file (after c.args.changes.now.items no_tree c.args.path.now) ≡ true = search rules in
-    (a_file, (put_more _ _ _ _ _ _ _ a_file at refl c.in_ok-push.ensures.items).1)
+    (a_file, (put_more _ _ _ _ _ _ _ _ a_file at refl c.in_ok-push.ensures.items).tree_is)
 
-pub returns-clause-leaves : goal.returns-clause-leaves
-returns-clause-leaves c =
+pub returns-clause-passes : goal.returns-clause-passes
+returns-clause-passes c =
     let at : c.in_ok-path.path.items ≡ c.args.path.now = search rules in
     let a_file : is_file (after c.args.changes.now.items no_tree c.args.path.now) ≡ true = search rules in
-    (put_more _ _ _ _ _ _ _ a_file at refl c.in_ok-push.ensures.items).0
+    (put_more _ _ _ _ _ _ _ _ a_file at refl c.in_ok-push.ensures.items).passes
 
 pub returns-clause-shape : goal.returns-clause-shape
 returns-clause-shape c shape =
     let at : c.in_ok-path.path.items ≡ c.args.path.now = search rules in
     let a_file : is_file (after c.args.changes.now.items no_tree c.args.path.now) ≡ true = search rules in
-    subst IsShaped (sym (put_more _ _ _ _ _ _ _ a_file at refl c.in_ok-push.ensures.items).1) (shaped_file (after c.args.changes.now.items no_tree) c.args.path.now None shape a_file)
+    subst IsShaped (sym (put_more _ _ _ _ _ _ _ _ a_file at refl c.in_ok-push.ensures.items).tree_is) (shaped_file (after c.args.changes.now.items no_tree) c.args.path.now None shape a_file)
+
+pub returns-clause-disk : goal.returns-clause-disk
+returns-clause-disk c =
+    let at : c.in_ok-path.path.items ≡ c.args.path.now = search rules in
+    let a_file : is_file (after c.args.changes.now.items no_tree c.args.path.now) ≡ true = search rules in
+    (put_more _ _ _ _ _ _ _ _ a_file at refl c.in_ok-push.ensures.items).disk_is

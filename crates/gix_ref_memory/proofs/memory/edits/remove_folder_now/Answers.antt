@@ -12,16 +12,16 @@ returns-clause-answer c =
     let folder : is_folder (T c.args.path.now) ≡ true = search rules in
     let none : (rest : List ℕ) → T (c.args.path.now ++ 47 ∷ rest) ≡ None = search rules in
     let empty : IsEmptyFolder T c.args.path.now = (folder, none) in
-    (empty, (put_more _ _ _ _ _ _ _ empty at refl c.in_ok-push.ensures.items).1)
+    (empty, (put_more _ _ _ _ _ _ _ _ empty at refl c.in_ok-push.ensures.items).tree_is)
 
-pub returns-clause-leaves : goal.returns-clause-leaves
-returns-clause-leaves c =
+pub returns-clause-passes : goal.returns-clause-passes
+returns-clause-passes c =
     let T = after c.args.changes.now.items no_tree in
     let at : c.in_ok-path.path.items ≡ c.args.path.now = search rules in
     let folder : is_folder (T c.args.path.now) ≡ true = search rules in
     let none : (rest : List ℕ) → T (c.args.path.now ++ 47 ∷ rest) ≡ None = search rules in
     let empty : IsEmptyFolder T c.args.path.now = (folder, none) in
-    (put_more _ _ _ _ _ _ _ empty at refl c.in_ok-push.ensures.items).0
+    (put_more _ _ _ _ _ _ _ _ empty at refl c.in_ok-push.ensures.items).passes
 
 pub returns-clause-shape : goal.returns-clause-shape
 returns-clause-shape c shape =
@@ -30,4 +30,13 @@ returns-clause-shape c shape =
     let folder : is_folder (T c.args.path.now) ≡ true = search rules in
     let none : (rest : List ℕ) → T (c.args.path.now ++ 47 ∷ rest) ≡ None = search rules in
     let empty : IsEmptyFolder T c.args.path.now = (folder, none) in
-    subst IsShaped (sym (put_more _ _ _ _ _ _ _ empty at refl c.in_ok-push.ensures.items).1) (shaped_empty T c.args.path.now shape empty)
+    subst IsShaped (sym (put_more _ _ _ _ _ _ _ _ empty at refl c.in_ok-push.ensures.items).tree_is) (shaped_empty T c.args.path.now shape empty)
+
+pub returns-clause-disk : goal.returns-clause-disk
+returns-clause-disk c =
+    let T = after c.args.changes.now.items no_tree in
+    let at : c.in_ok-path.path.items ≡ c.args.path.now = search rules in
+    let folder : is_folder (T c.args.path.now) ≡ true = search rules in
+    let none : (rest : List ℕ) → T (c.args.path.now ++ 47 ∷ rest) ≡ None = search rules in
+    let empty : IsEmptyFolder T c.args.path.now = (folder, none) in
+    (put_more _ _ _ _ _ _ _ _ empty at refl c.in_ok-push.ensures.items).disk_is
