@@ -1,8 +1,9 @@
 -- What stops among steps leave.
-use Rattle.std.proofs.Common.{inl, inr, ⊎_elim, ℕ, zero, suc, List, [], ◌∷◌, length, refl, sym, ◌∙◌, ap, subst}
+use Rattle.std.proofs.Common.{◌≡◌, inl, inr, ⊎_elim, ℕ, zero, suc, List, [], ◌∷◌, length, refl, sym, ◌∙◌, ap, subst}
 use Rattle.std.proofs.Math.Seq.{take-length}
 use Rattle.gix_ref_files.specs.Tree.{Tree, Path, appended, folders_to, with_folders}
-use Rattle.gix_ref_files.specs.Steps.{Step, Create, Append, Rename, RemoveFile, MakeFolders, RemoveFolder, End, Does, Begins, IsAfter, IsLeftBy, EndsBy, EndsAt}
+use Rattle.gix_ref_files.specs.Calls.{created}
+use Rattle.gix_ref_files.specs.Steps.{Step, Create, Append, Line, Rename, RemoveFile, MakeFolders, RemoveFolder, End, Does, Begins, IsAfter, IsLeftBy, EndsBy, EndsAt}
 use Rattle.gix_ref_files.specs.declared.steps.Cause.{Cause}
 use Rattle.gix_ref_files.specs.declared.steps.Cause.TheVariants.{File, Unexpected, Asked}
 use Rattle.gix_ref_files.proofs.Puts.{appended_none}
@@ -11,6 +12,7 @@ use Rattle.gix_ref_files.proofs.Puts.{appended_none}
 pub not_begun : (step : Step) (T : Tree) → Begins step T T
 not_begun (Create path) T = inl refl
 not_begun (Append path bytes) T = (0, sym (appended_none T path))
+not_begun (Line path bytes) T = inl (0, sym (appended_none T path))
 not_begun (Rename from to) T = inl refl
 not_begun (RemoveFile path) T = inl refl
 not_begun (MakeFolders path) T = inl refl
@@ -22,6 +24,9 @@ pub done_is_begun : (step : Step) (before T : Tree) → Does step before T → B
 done_is_begun (Create path) before T does = inr does
 done_is_begun (Append path bytes) before T does =
     (length bytes, does.1 ∙ ap (λ (l : List ℕ). appended before path l) (sym (take-length bytes)))
+done_is_begun (Line path bytes) before T does =
+    ⊎_elim (λ there. inl (length bytes, there.1 ∙ ap (λ (l : List ℕ). appended before path l) (sym (take-length bytes))))
+    (λ made. inr (made.0, inr (length bytes, made.1 ∙ ap (λ (l : List ℕ). appended (created before path) path l) (sym (take-length bytes))))) does
 done_is_begun (Rename from to) before T does = inr does
 done_is_begun (RemoveFile path) before T does = ⊎_elim (λ gone. inr gone) (λ none. inl none.1) does
 done_is_begun (MakeFolders path) before T does =
@@ -50,3 +55,9 @@ pub ended_is_left : (steps : List Step) (at : ℕ) (cause : Cause) (before T : T
 ended_is_left [] at cause before T ends = absurd ends
 ended_is_left (step ∷ steps) zero cause before T ends = inl (ended_is_begun step cause before T ends)
 ended_is_left (step ∷ steps) (suc at) cause before T ends = inr (ends.0, ends.1, ended_is_left steps at cause ends.0 T ends.2)
+
+-- a fault of a sync ends the step, which is done
+pub ends_in_sync : (step : Step) (cause : Cause) (before T : Tree) → Does step before T → (cause ≡ Unexpected → ⊥) → (cause ≡ Asked → ⊥) → EndsBy step cause before T
+ends_in_sync step (File error) before T does not_unexpected not_asked = done_is_begun step before T does
+ends_in_sync step Unexpected before T does not_unexpected not_asked = absurd (not_unexpected refl)
+ends_in_sync step Asked before T does not_unexpected not_asked = absurd (not_asked refl)

@@ -8,5 +8,8 @@ pub mod Losing
 pub mod Moments
 pub mod PathFronts
 pub mod Puts
+pub mod Ready
+pub mod Runs
 pub mod Settling
 pub mod Shaped
+pub mod Writing

@@ -36,7 +36,7 @@ choices entries ends D = (
     by p true = inl (kept_remains (ends p) (item_at D p))
     by p false = last_remains (item_at D p) (D.unsynced.past p) (kept (ends p) (last_synced (item_at D p) (D.unsynced.past p))) (kept_remains (ends p) (last_synced (item_at D p) (D.unsynced.past p)))
 
-only_now : (T : Tree) (p : Path) (c : Option Content) → MayBe (all_synced T) p c → c ≡ T p
+pub only_now : (T : Tree) (p : Path) (c : Option Content) → MayBe (all_synced T) p c → c ≡ T p
 only_now T p c (inl r) = synced_remains (T p) c r
 only_now T p c (inr none) = absurd none
 

@@ -1,6 +1,7 @@
 pub mod Calls
 pub mod Disk
 pub mod DiskCalls
+pub mod DiskSteps
 pub mod Files
 pub mod Lock
 pub mod Losing

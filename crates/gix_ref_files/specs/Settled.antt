@@ -80,6 +80,11 @@ folders_up p root zero = []
 folders_up p root (suc n) =
     if get_or p (root + n) 0 == 47 then OfFolder (take (root + n) p) ∷ folders_up p root n else folders_up p root n
 
+-- a place from 1 on: no folder is before the first byte
+abbrev pub from_one : ℕ → ℕ
+from_one zero = 1
+from_one (suc n) = suc n
+
 -- The climb: the folders of a path, from its own up to the front of this length.
 abbrev pub climb : Path → ℕ → List Sync
-climb p root = folders_up p root (length p - root)
+climb p root = folders_up p (from_one root) (length p - from_one root)

@@ -1,12 +1,12 @@
 -- Steps on a tree: what they make of it, and what a stop among them could leave.
 use Rattle.std.specs.Prelude.{◌≡◌, ◌⊎◌, ℕ, zero, suc, List, [], ◌∷◌, true, false, IsSome, map}
-use Rattle.gix_ref_files.specs.Tree.{Tree, Path, is_file, is_folder, is_blocked}
+use Rattle.gix_ref_files.specs.Tree.{Tree, Path, appended, is_file, is_folder, is_blocked}
 use Rattle.gix_ref_files.specs.Files.{count_with}
-use Rattle.gix_ref_files.specs.Calls.{Creates, Creating, Appends, Appending, Renames, Renaming, RemovesFile, RemovingFile, MakesFolders, MakingFolders, RemovesFolder, RemovingFolder, is_in_the_way}
+use Rattle.gix_ref_files.specs.Calls.{IsFree, created, Creates, Creating, Appends, Appending, Renames, Renaming, RemovesFile, RemovingFile, MakesFolders, MakingFolders, RemovesFolder, RemovingFolder, is_in_the_way}
 use Rattle.gix_ref_files.specs.declared.files.Create.TheVariants.{Made}
 use Rattle.gix_ref_files.specs.declared.files.Rename.TheVariants.{Moved}
 use Rattle.gix_ref_files.specs.declared.steps.Action.{Action}
-use Rattle.gix_ref_files.specs.declared.steps.Action.TheVariants.{Create as CreateAction, Append as AppendAction, Rename as RenameAction, RemoveFile as RemoveFileAction, MakeFolders as MakeFoldersAction, RemoveFolder as RemoveFolderAction, End as EndAction}
+use Rattle.gix_ref_files.specs.declared.steps.Action.TheVariants.{Create as CreateAction, Append as AppendAction, Line as LineAction, Rename as RenameAction, RemoveFile as RemoveFileAction, MakeFolders as MakeFoldersAction, RemoveFolder as RemoveFolderAction, End as EndAction}
 use Rattle.gix_ref_files.specs.declared.steps.Planned.{Planned}
 use Rattle.gix_ref_files.specs.declared.steps.Cause.{Cause}
 use Rattle.gix_ref_files.specs.declared.steps.Cause.TheVariants.{File, Unexpected, Asked}
@@ -15,6 +15,8 @@ use Rattle.gix_ref_files.specs.declared.steps.Cause.TheVariants.{File, Unexpecte
 pub data Step : Type 0 where
   Create : (path : Path) → Step
   Append : (path : Path) (bytes : List ℕ) → Step
+  -- an append that makes the file where it is missing, as for a line of a log
+  Line : (path : Path) (bytes : List ℕ) → Step
   Rename : (from to : Path) → Step
   RemoveFile : (path : Path) → Step
   MakeFolders : (path : Path) → Step
@@ -25,6 +27,7 @@ pub data Step : Type 0 where
 abbrev pub Does : Step → Tree → Tree → Type 0
 Does (Create path) before T = Creates before path T Made
 Does (Append path bytes) before T = Appends before path bytes T true
+Does (Line path bytes) before T = Appends before path bytes T true ⊎ (IsFree before path × (T ≡ appended (created before path) path bytes))
 Does (Rename from to) before T = Renames before from to T Moved
 Does (RemoveFile path) before T = RemovesFile before path T true ⊎ RemovesFile before path T false
 Does (MakeFolders path) before T = MakesFolders before path T true
@@ -35,6 +38,8 @@ Does End before T = ⊥
 abbrev pub Begins : Step → Tree → Tree → Type 0
 Begins (Create path) before T = Creating before path T
 Begins (Append path bytes) before T = Appending before path bytes T
+Begins (Line path bytes) before T =
+    Appending before path bytes T ⊎ (IsFree before path × ((T ≡ created before path) ⊎ Appending (created before path) path bytes T))
 Begins (Rename from to) before T = Renaming before from to T
 Begins (RemoveFile path) before T = RemovingFile before path T
 Begins (MakeFolders path) before T = MakingFolders before path T
@@ -52,10 +57,12 @@ IsLeftBy [] before T = T ≡ before
 IsLeftBy (step ∷ steps) before T = Begins step before T ⊎ ((mid : Tree) × Does step before mid × IsLeftBy steps mid T)
 
 -- An honest result that ends the run: something is there or a file is in the way where one was to be made, no file to
--- append to, a folder at the end of a rename, or a file in the way of folders. A removal has no such result.
+-- append to, a folder or a file in the way where a line is to be added, a folder at the end of a rename, or a file in the
+-- way of folders. A removal has no such result.
 abbrev pub IsRefused : Step → Tree → Type 0
 IsRefused (Create path) T = IsSome (T path) ⊎ (is_blocked T path ≡ true)
 IsRefused (Append path bytes) T = is_file (T path) ≡ false
+IsRefused (Line path bytes) T = (is_folder (T path) ≡ true) ⊎ (is_blocked T path ≡ true)
 IsRefused (Rename from to) T = is_folder (T to) ≡ true
 IsRefused (RemoveFile path) T = ⊥
 IsRefused (MakeFolders path) T = is_in_the_way T path ≡ true
@@ -76,12 +83,13 @@ EndsAt (step ∷ steps) (suc at) cause before T = (mid : Tree) × Does step befo
 
 -- the step of an action
 abbrev pub step_of : Action → Step
-step_of (CreateAction path) = Create path.items
-step_of (AppendAction path bytes) = Append path.items bytes.items
-step_of (RenameAction from to) = Rename from.items to.items
-step_of (RemoveFileAction path) = RemoveFile path.items
-step_of (MakeFoldersAction path) = MakeFolders path.items
-step_of (RemoveFolderAction path) = RemoveFolder path.items
+step_of (CreateAction path) = Create path.now
+step_of (AppendAction path bytes) = Append path.now bytes.now
+step_of (LineAction path bytes) = Line path.now bytes.now
+step_of (RenameAction from to) = Rename from.now to.now
+step_of (RemoveFileAction path) = RemoveFile path.now
+step_of (MakeFoldersAction path) = MakeFolders path.now
+step_of (RemoveFolderAction path) = RemoveFolder path.now
 step_of EndAction = End
 
 -- the steps of a plan

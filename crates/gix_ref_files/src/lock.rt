@@ -2,7 +2,8 @@
 //! text or the whole new one at every moment.
 ghost use Rattle.std.specs.Prelude.{◌≡◌, ◌≤◌, IfOk, IfErr, OnOk, OnErr, IsErrOf, length};
 ghost use Rattle.gix_ref_files.specs.Tree.{fronts};
-ghost use Rattle.gix_ref_files.specs.Files.{Leaves, Adds, count_after};
+ghost use Rattle.gix_ref_files.specs.Files.{disk_of, Leaves, Adds, Passes, count_after};
+ghost use Rattle.gix_ref_files.specs.DiskCalls.{after_write, WritingOn};
 ghost use Rattle.gix_ref_files.specs.Calls.{Appends, Appending, Renaming, RemovesFile, RemovingFile};
 ghost use Rattle.gix_ref_files.specs.Lock.{lock_of, Readies, Readying, MakesLock, Acquires, Acquiring, Commits, count_unspent, folders_up_to};
 
@@ -157,8 +158,8 @@ impl Lock {
         }
     }
 
-    /// Adds bytes to the file of the lock; false where it does not exist. A fault leaves any beginning of them there,
-    /// and the lock held.
+    /// Adds bytes to the file of the lock and syncs it, so that a loss of power leaves them all once the lock is renamed;
+    /// false where it does not exist. A fault leaves any beginning of them there, and the lock held.
     pub fn write<F: Files>(&self, files: &mut F, bytes: &[u8]) -> Result<bool, FileError>
         ensures answer { F.honest →
             IfOk result (Appends (F.means files.old).tree (lock_of self.now) bytes.now
@@ -168,10 +169,17 @@ impl Lock {
         ensures adds { F.honest →
             OnOk result (Adds (F.means files.old) (F.means files.new)
             (Appending (F.means files.old).tree (lock_of self.now) bytes.now)) }
+        ensures disk { F.honest → IfOk result (λ there. disk_of (F.means files.new)
+            ≡ after_write (disk_of (F.means files.old)) (lock_of self.now) bytes.now there) }
+        ensures passes { F.honest → Passes (F.means files.old) (F.means files.new)
+            (WritingOn (disk_of (F.means files.old)) (lock_of self.now) bytes.now) }
         ensures count { F.faults files.new ≡ count_after result (F.faults files.old) }
         ensures memory { IsErrOf result FileError.Memory → ⊥ }
     {
-        files.append(&self.lock, bytes)
+        if !files.append(&self.lock, bytes)? {
+            return Ok(false);
+        }
+        files.sync_file(&self.lock)
     }
 
     /// Renames the file of the lock to the place. A fault gives the lock back; its file is where it was, or at

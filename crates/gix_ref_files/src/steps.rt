@@ -1,35 +1,58 @@
-//! A run of steps over files, one after the other, up to the first fault or unexpected result.
-ghost use Rattle.std.specs.Prelude.{◌≡◌, ◌<◌, OnOk, IfErr, IsErrOf, MatchResult, length};
-ghost use Rattle.gix_ref_files.specs.Files.{Leaves};
-ghost use Rattle.gix_ref_files.specs.Steps.{Does, Begins, EndsBy, IsAfter, IsLeftBy, EndsAt, step_of, steps_of, count_ended};
+//! A run of steps over files, one after the other, each with the syncs that settle it, up to the first fault or unexpected
+//! result.
+ghost use Rattle.std.specs.Prelude.{◌≡◌, ◌<◌, ◌≤◌, ◌-◌, IsTrue, OnOk, OnErr, IfOk, IfErr, IsErrOf, MatchResult, [], ◌∷◌, length, true, false};
+ghost use Rattle.gix_ref_files.specs.Tree.{is_folder, is_file, has_folders};
+ghost use Rattle.gix_ref_files.specs.Files.{Leaves, Passes, disk_of, count_after};
+ghost use Rattle.gix_ref_files.specs.Calls.{Unchanged};
+ghost use Rattle.gix_ref_files.specs.Settled.{synced, synced_by, folders_up, climb, from_one};
+ghost use Rattle.gix_ref_files.specs.Settled.Sync.{OfFile, OfFolder};
+ghost use Rattle.gix_ref_files.specs.Steps.{Does, Begins, EndsBy, IsAfter, IsLeftBy, IsRefused, EndsAt, step_of, steps_of, count_ended};
+ghost use Rattle.gix_ref_files.specs.Steps.Step.{Line};
+ghost use Rattle.gix_ref_files.specs.DiskSteps.{DoesOn, BeginsOn, With, IsReachedBy, IsSyncedAfter, IsEndedAt, IsSomeSynced, Settling, path_syncs, syncs_of, synced_steps, needs, CanSync, CanSettle};
 ghost use Rattle.gix_ref_files.specs.declared.steps.Cause.TheVariants.{File};
 
 use crate::files::{Create, FileError, Files, Rename};
 
-/// What a step does.
-#[derive(Debug, Drop)]
-pub enum Action {
+/// What a step does. It borrows its paths and its bytes.
+#[derive(Clone, Copy, Debug)]
+pub enum Action<'p> {
     /// Makes an empty file where there is nothing and folders lead there.
-    Create { path: Vec<u8> },
+    Create { path: &'p [u8] },
     /// Adds bytes to the end of a file that exists.
-    Append { path: Vec<u8>, bytes: Vec<u8> },
+    Append { path: &'p [u8], bytes: &'p [u8] },
+    /// Adds bytes to the end of a file, which is made where it is missing and folders lead there.
+    Line { path: &'p [u8], bytes: &'p [u8] },
     /// Moves a file, also onto a file.
-    Rename { from: Vec<u8>, to: Vec<u8> },
+    Rename { from: &'p [u8], to: &'p [u8] },
     /// Removes a file, if there is one.
-    RemoveFile { path: Vec<u8> },
-    /// Makes the folders that lead to a path, and one there.
-    MakeFolders { path: Vec<u8> },
-    /// Removes a folder, if there is an empty one.
-    RemoveFolder { path: Vec<u8> },
+    RemoveFile { path: &'p [u8] },
+    /// Makes the folders that lead to a path, and one there. Nothing is synced after it.
+    MakeFolders { path: &'p [u8] },
+    /// Removes a folder, if there is an empty one. Nothing is synced after it.
+    RemoveFolder { path: &'p [u8] },
     /// Ends the run.
     End,
 }
 
+/// What is synced after a step, before the next one begins.
+#[derive(Clone, Copy, Debug, PartialEq, Eq)]
+pub enum Settle {
+    /// Nothing.
+    Nothing,
+    /// The bytes of the file, where they grew.
+    File,
+    /// The folders of the path, from its own up to the one whose path is the front of this length (that of the git folder
+    /// or of the common folder); and before these the bytes of the file, where they grew.
+    UpTo { root: usize },
+}
+
 /// A step of a plan.
-#[derive(Debug, Drop)]
-pub struct Planned<E> {
+#[derive(Clone, Copy, Debug)]
+pub struct Planned<'p, E> {
     /// What it does.
-    pub action: Action,
+    pub action: Action<'p>,
+    /// What is synced after it.
+    pub settle: Settle,
     /// What the caller says of it, as the error that it wants where the run ends here. The run does not look at it.
     pub about: E,
 }
@@ -63,51 +86,311 @@ impl From<FileError> for Cause {
     }
 }
 
-/// Does one step.
-fn run_step<F: Files>(files: &mut F, action: &Action) -> Result<(), Cause>
+/// Adds bytes to a file, which is made where it is missing. False where it cannot be made.
+fn add_line<F: Files>(files: &mut F, path: &[u8], bytes: &[u8]) -> Result<bool, FileError>
+    ensures done { F.honest → IfOk result (λ done. IsTrue done →
+        Does (Line path.now bytes.now) (F.means files.old).tree (F.means files.new).tree) }
+    ensures done_on { F.honest → IfOk result (λ done. IsTrue done →
+        DoesOn (Line path.now bytes.now) (disk_of (F.means files.old))
+        (disk_of (F.means files.new))) }
+    ensures refused { F.honest → IfOk result (λ done. done ≡ false →
+        EndsBy (Line path.now bytes.now) Cause.Unexpected (F.means files.old).tree
+        (F.means files.new).tree) }
+    ensures leaves { F.honest → Leaves (F.means files.old) (F.means files.new)
+        (Begins (Line path.now bytes.now) (F.means files.old).tree) }
+    ensures passes { F.honest → Passes (F.means files.old) (F.means files.new)
+        (BeginsOn (Line path.now bytes.now) (disk_of (F.means files.old))) }
+    ensures count { F.faults files.new ≡ count_after result (F.faults files.old) }
+    ensures memory { IsErrOf result FileError.Memory → ⊥ }
+{
+    if files.append(path, bytes)? {
+        return Ok(true);
+    }
+    if files.create_new(path)? != Create::Made {
+        return Ok(false);
+    }
+    files.append(path, bytes)
+}
+
+/// True for a step that is done, and an unexpected result for one that cannot be.
+fn as_done(done: bool) -> Result<bool, Cause>
+    ensures done { OnOk result (done ≡ true) }
+    ensures more { IfOk result (λ more. more ≡ true) }
+    ensures refused { OnErr result (done ≡ false) }
+    ensures cause { IfErr result (λ cause. cause ≡ Cause.Unexpected) }
+{
+    if done {
+        Ok(true)
+    } else {
+        Err(Cause::Unexpected)
+    }
+}
+
+/// Does one step, without its syncs. False where there was nothing to do, and so nothing is to be synced.
+fn change<F: Files>(files: &mut F, action: &Action<'_>) -> Result<bool, Cause>
     ensures done { F.honest →
         OnOk result (Does (step_of action.now) (F.means files.old).tree (F.means files.new).tree) }
+    ensures done_on { F.honest → OnOk result (DoesOn (step_of action.now)
+        (disk_of (F.means files.old)) (disk_of (F.means files.new))) }
+    ensures needed { F.honest → IfOk result (λ more.
+        needs (step_of action.now) (F.means files.old).tree ≡ more) }
+    ensures ready { F.honest → IfOk result (λ more. IsTrue more →
+        CanSettle action.now (F.means files.new).tree) }
     ensures ended { F.honest →
         IfErr result (λ cause. EndsBy (step_of action.now) cause (F.means files.old).tree
         (F.means files.new).tree) }
     ensures leaves { F.honest → Leaves (F.means files.old) (F.means files.new)
         (Begins (step_of action.now) (F.means files.old).tree) }
+    ensures passes { F.honest → Passes (F.means files.old) (F.means files.new)
+        (BeginsOn (step_of action.now) (disk_of (F.means files.old))) }
     ensures count { MatchResult result (λ _. F.faults files.new ≡ F.faults files.old)
         (λ cause. F.faults files.new ≡ count_ended cause (F.faults files.old)) }
     ensures asked { IsErrOf result Cause.Asked → action.now ≡ Action.End }
     ensures memory { IsErrOf result (File FileError.Memory) → ⊥ }
 {
-    let done = match action {
-        Action::Create { path } => files.create_new(path)? == Create::Made,
-        Action::Append { path, bytes } => files.append(path, bytes)?,
-        Action::Rename { from, to } => files.rename(from, to)? == Rename::Moved,
-        Action::MakeFolders { path } => files.make_folders(path)?,
-        Action::RemoveFile { path } => {
-            files.remove_file(path)?;
-            true
-        }
+    match *action {
+        Action::Create { path } => as_done(files.create_new(path)? == Create::Made),
+        Action::Append { path, bytes } => as_done(files.append(path, bytes)?),
+        Action::Line { path, bytes } => as_done(add_line(files, path, bytes)?),
+        Action::Rename { from, to } => as_done(files.rename(from, to)? == Rename::Moved),
+        Action::MakeFolders { path } => as_done(files.make_folders(path)?),
+        Action::RemoveFile { path } => Ok(files.remove_file(path)?),
         Action::RemoveFolder { path } => {
             files.remove_folder(path)?;
-            true
+            Ok(true)
         }
-        Action::End => return Err(Cause::Asked),
-    };
-    if done { Ok(()) } else { Err(Cause::Unexpected) }
+        Action::End => Err(Cause::Asked),
+    }
 }
 
-/// Does the steps of a plan in order, up to the first fault, unexpected result or `End`. Allocates no memory itself.
-/// Costs one call of files for each step.
-pub fn run_steps<F: Files, E>(files: &mut F, plan: &[Planned<E>]) -> Result<(), Ended>
+/// Syncs the bytes of a file.
+fn sync_bytes<F: Files>(files: &mut F, path: &[u8]) -> Result<(), Cause>
+    ensures done { F.honest → OnOk result (disk_of (F.means files.new)
+        ≡ synced (OfFile path.now) (disk_of (F.means files.old))) }
+    ensures missing { F.honest → IsErrOf result Cause.Unexpected →
+        is_file ((F.means files.old).tree path.now) ≡ false }
+    ensures leaves { F.honest → Leaves (F.means files.old) (F.means files.new)
+        (Unchanged (F.means files.old).tree) }
+    ensures passes { F.honest → Passes (F.means files.old) (F.means files.new)
+        (Settling (OfFile path.now) (disk_of (F.means files.old))) }
+    ensures count { MatchResult result (λ _. F.faults files.new ≡ F.faults files.old)
+        (λ cause. F.faults files.new ≡ count_ended cause (F.faults files.old)) }
+    ensures asked { IsErrOf result Cause.Asked → ⊥ }
+    ensures memory { IsErrOf result (File FileError.Memory) → ⊥ }
+{
+    if files.sync_file(path)? {
+        Ok(())
+    } else {
+        Err(Cause::Unexpected)
+    }
+}
+
+/// Syncs the entries of a folder.
+fn sync_entries<F: Files>(files: &mut F, path: &[u8]) -> Result<(), Cause>
+    ensures done { F.honest → OnOk result (disk_of (F.means files.new)
+        ≡ synced (OfFolder path.now) (disk_of (F.means files.old))) }
+    ensures missing { F.honest → IsErrOf result Cause.Unexpected →
+        is_folder ((F.means files.old).tree path.now) ≡ false }
+    ensures leaves { F.honest → Leaves (F.means files.old) (F.means files.new)
+        (Unchanged (F.means files.old).tree) }
+    ensures passes { F.honest → Passes (F.means files.old) (F.means files.new)
+        (Settling (OfFolder path.now) (disk_of (F.means files.old))) }
+    ensures count { MatchResult result (λ _. F.faults files.new ≡ F.faults files.old)
+        (λ cause. F.faults files.new ≡ count_ended cause (F.faults files.old)) }
+    ensures asked { IsErrOf result Cause.Asked → ⊥ }
+    ensures memory { IsErrOf result (File FileError.Memory) → ⊥ }
+{
+    if files.sync_folder(path)? {
+        Ok(())
+    } else {
+        Err(Cause::Unexpected)
+    }
+}
+
+/// Where a climb ends: at a place from 1 on.
+fn root_of(root: usize) -> usize
+    ensures place { result ≡ from_one root }
+    ensures some { 1 ≤ result }
+{
+    if root == 0 { 1 } else { root }
+}
+
+/// Syncs the folders of a path, from its own up to the front of this length, which has a byte.
+fn sync_up<F: Files>(files: &mut F, path: &[u8], top: usize) -> Result<(), Cause>
+    requires { 1 ≤ top }
+    ensures done { F.honest → OnOk result (disk_of (F.means files.new)
+        ≡ synced_by (folders_up path.now top (length path.now - top)) (disk_of (F.means files.old))) }
+    ensures missing { F.honest → IsErrOf result Cause.Unexpected →
+        has_folders (F.means files.old).tree path.now ≡ false }
+    ensures leaves { F.honest → Leaves (F.means files.old) (F.means files.new)
+        (Unchanged (F.means files.old).tree) }
+    ensures passes { F.honest → Passes (F.means files.old) (F.means files.new)
+        (IsSomeSynced (folders_up path.now top (length path.now - top)) (disk_of (F.means files.old))) }
+    ensures count { MatchResult result (λ _. F.faults files.new ≡ F.faults files.old)
+        (λ cause. F.faults files.new ≡ count_ended cause (F.faults files.old)) }
+    ensures asked { IsErrOf result Cause.Asked → ⊥ }
+    ensures memory { IsErrOf result (File FileError.Memory) → ⊥ }
+{
+    let mut end = path.len();
+    while end > top {
+        end -= 1;
+        if path[end] == b'/' {
+            sync_entries(files, &path[..end])?;
+        }
+    }
+    Ok(())
+}
+
+/// Syncs the folders of a path, from its own up to the front of this length.
+fn sync_folders<F: Files>(files: &mut F, path: &[u8], root: usize) -> Result<(), Cause>
+    ensures done { F.honest → OnOk result (disk_of (F.means files.new)
+        ≡ synced_by (climb path.now root) (disk_of (F.means files.old))) }
+    ensures missing { F.honest → IsErrOf result Cause.Unexpected →
+        has_folders (F.means files.old).tree path.now ≡ false }
+    ensures leaves { F.honest → Leaves (F.means files.old) (F.means files.new)
+        (Unchanged (F.means files.old).tree) }
+    ensures passes { F.honest → Passes (F.means files.old) (F.means files.new)
+        (IsSomeSynced (climb path.now root) (disk_of (F.means files.old))) }
+    ensures count { MatchResult result (λ _. F.faults files.new ≡ F.faults files.old)
+        (λ cause. F.faults files.new ≡ count_ended cause (F.faults files.old)) }
+    ensures asked { IsErrOf result Cause.Asked → ⊥ }
+    ensures memory { IsErrOf result (File FileError.Memory) → ⊥ }
+{
+    let top = root_of(root);
+    sync_up(files, path, top)
+}
+
+/// Syncs the bytes of a file, and then the folders of its path.
+fn sync_line<F: Files>(files: &mut F, path: &[u8], root: usize) -> Result<(), Cause>
+    ensures done { F.honest → OnOk result (disk_of (F.means files.new)
+        ≡ synced_by (OfFile path.now ∷ climb path.now root) (disk_of (F.means files.old))) }
+    ensures ready { F.honest → IsErrOf result Cause.Unexpected →
+        CanSync true (F.means files.old).tree path.now → ⊥ }
+    ensures leaves { F.honest → Leaves (F.means files.old) (F.means files.new)
+        (Unchanged (F.means files.old).tree) }
+    ensures passes { F.honest → Passes (F.means files.old) (F.means files.new)
+        (IsSomeSynced (OfFile path.now ∷ climb path.now root) (disk_of (F.means files.old))) }
+    ensures count { MatchResult result (λ _. F.faults files.new ≡ F.faults files.old)
+        (λ cause. F.faults files.new ≡ count_ended cause (F.faults files.old)) }
+    ensures asked { IsErrOf result Cause.Asked → ⊥ }
+    ensures memory { IsErrOf result (File FileError.Memory) → ⊥ }
+{
+    sync_bytes(files, path)?;
+    sync_folders(files, path, root)
+}
+
+/// Syncs what settles a path, and first the bytes of its file, where these grew.
+fn sync_path<F: Files>(files: &mut F, grows: bool, path: &[u8], settle: Settle) -> Result<(), Cause>
+    ensures done { F.honest → OnOk result (disk_of (F.means files.new)
+        ≡ synced_by (path_syncs grows path.now settle) (disk_of (F.means files.old))) }
+    ensures ready { F.honest → IsErrOf result Cause.Unexpected →
+        CanSync grows (F.means files.old).tree path.now → ⊥ }
+    ensures leaves { F.honest → Leaves (F.means files.old) (F.means files.new)
+        (Unchanged (F.means files.old).tree) }
+    ensures passes { F.honest → Passes (F.means files.old) (F.means files.new)
+        (IsSomeSynced (path_syncs grows path.now settle) (disk_of (F.means files.old))) }
+    ensures count { MatchResult result (λ _. F.faults files.new ≡ F.faults files.old)
+        (λ cause. F.faults files.new ≡ count_ended cause (F.faults files.old)) }
+    ensures asked { IsErrOf result Cause.Asked → ⊥ }
+    ensures memory { IsErrOf result (File FileError.Memory) → ⊥ }
+{
+    match settle {
+        Settle::Nothing => Ok(()),
+        Settle::File => {
+            if grows {
+                sync_bytes(files, path)
+            } else {
+                Ok(())
+            }
+        }
+        Settle::UpTo { root } => {
+            if grows {
+                sync_line(files, path, root)
+            } else {
+                sync_folders(files, path, root)
+            }
+        }
+    }
+}
+
+/// Does the syncs of a step.
+fn sync_after<F: Files>(files: &mut F, action: &Action<'_>, settle: Settle) -> Result<(), Cause>
+    ensures done { F.honest → OnOk result (disk_of (F.means files.new)
+        ≡ synced_by (syncs_of action.now settle) (disk_of (F.means files.old))) }
+    ensures ready { F.honest → IsErrOf result Cause.Unexpected →
+        CanSettle action.now (F.means files.old).tree → ⊥ }
+    ensures leaves { F.honest → Leaves (F.means files.old) (F.means files.new)
+        (Unchanged (F.means files.old).tree) }
+    ensures passes { F.honest → Passes (F.means files.old) (F.means files.new)
+        (IsSomeSynced (syncs_of action.now settle) (disk_of (F.means files.old))) }
+    ensures count { MatchResult result (λ _. F.faults files.new ≡ F.faults files.old)
+        (λ cause. F.faults files.new ≡ count_ended cause (F.faults files.old)) }
+    ensures asked { IsErrOf result Cause.Asked → ⊥ }
+    ensures memory { IsErrOf result (File FileError.Memory) → ⊥ }
+{
+    match *action {
+        Action::Create { path } => sync_path(files, false, path, settle),
+        Action::Append { path, .. } => sync_path(files, true, path, settle),
+        Action::Line { path, .. } => sync_path(files, true, path, settle),
+        Action::Rename { to, .. } => sync_path(files, false, to, settle),
+        Action::RemoveFile { path } => sync_path(files, false, path, settle),
+        Action::MakeFolders { .. } => Ok(()),
+        Action::RemoveFolder { .. } => Ok(()),
+        Action::End => Ok(()),
+    }
+}
+
+/// Does one step, with the syncs that it needs.
+fn run_step<F: Files>(files: &mut F, action: &Action<'_>, settle: Settle) -> Result<(), Cause>
+    ensures done { F.honest →
+        OnOk result (Does (step_of action.now) (F.means files.old).tree (F.means files.new).tree) }
+    ensures synced { F.honest → OnOk result
+        (IsSyncedAfter (With (step_of action.now) (syncs_of action.now settle) ∷ [])
+        (disk_of (F.means files.old)) (disk_of (F.means files.new))) }
+    ensures ended { F.honest →
+        IfErr result (λ cause. EndsBy (step_of action.now) cause (F.means files.old).tree
+        (F.means files.new).tree) }
+    ensures leaves { F.honest → Leaves (F.means files.old) (F.means files.new)
+        (Begins (step_of action.now) (F.means files.old).tree) }
+    ensures passes { F.honest → Passes (F.means files.old) (F.means files.new)
+        (IsReachedBy (With (step_of action.now) (syncs_of action.now settle) ∷ [])
+        (disk_of (F.means files.old))) }
+    ensures count { MatchResult result (λ _. F.faults files.new ≡ F.faults files.old)
+        (λ cause. F.faults files.new ≡ count_ended cause (F.faults files.old)) }
+    ensures asked { IsErrOf result Cause.Asked → action.now ≡ Action.End }
+    ensures memory { IsErrOf result (File FileError.Memory) → ⊥ }
+{
+    if change(files, action)? {
+        sync_after(files, action, settle)?;
+    }
+    Ok(())
+}
+
+/// Does the steps of a plan in order, each with its syncs, up to the first fault, unexpected result or `End`. Allocates no
+/// memory itself, and copies no path. Costs one call of files for each step, one or two more for a line whose file is
+/// missing, and one for each sync; a removal that finds no file syncs nothing. A fault of a sync ends the run at its step.
+pub fn run_steps<F: Files, E>(files: &mut F, plan: &[Planned<'_, E>]) -> Result<(), Ended>
     ensures done { F.honest →
         OnOk result (IsAfter (steps_of plan.now) (F.means files.old).tree
         (F.means files.new).tree) }
+    ensures synced { F.honest →
+        OnOk result (IsSyncedAfter (synced_steps plan.now) (disk_of (F.means files.old))
+        (disk_of (F.means files.new))) }
     ensures ended { F.honest →
         IfErr result (λ end. EndsAt (steps_of plan.now) end.at end.cause (F.means files.old).tree
         (F.means files.new).tree) }
+    ensures ended_on { F.honest →
+        IfErr result (λ end. IsEndedAt (synced_steps plan.now) end.at (disk_of (F.means files.old))
+        (disk_of (F.means files.new))) }
 
     // A stop at any moment leaves the tree after some of the steps, with perhaps a beginning of the next.
     ensures leaves { F.honest → Leaves (F.means files.old) (F.means files.new)
         (IsLeftBy (steps_of plan.now) (F.means files.old).tree) }
+
+    // A loss of power at any moment finds the disk after some of the steps with their syncs, with perhaps a beginning of the
+    // next or of its syncs.
+    ensures passes { F.honest → Passes (F.means files.old) (F.means files.new)
+        (IsReachedBy (synced_steps plan.now) (disk_of (F.means files.old))) }
 
     ensures count { MatchResult result (λ _. F.faults files.new ≡ F.faults files.old)
         (λ end. F.faults files.new ≡ count_ended end.cause (F.faults files.old)) }
@@ -115,7 +398,7 @@ pub fn run_steps<F: Files, E>(files: &mut F, plan: &[Planned<E>]) -> Result<(), 
     ensures memory { IfErr result (λ end. end.cause ≡ File FileError.Memory → ⊥) }
 {
     for (at, planned) in plan.iter().enumerate() {
-        if let Err(cause) = run_step(files, &planned.action) {
+        if let Err(cause) = run_step(files, &planned.action, planned.settle) {
             return Err(Ended { at, cause });
         }
     }

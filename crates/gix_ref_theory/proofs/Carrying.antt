@@ -5,14 +5,16 @@ use Rattle.std.specs.List.{list_any}
 use Rattle.std.proofs.lemmas.Bool.{cond-true, cond-false, false≢true, cases_Bool, or_parts, or_from}
 use Rattle.gix_ref_files.specs.Tree.{Tree, Path, Content, put, appended, more, moved, removed, is_file, is_folder, is_blocked, fronts, fronts_after, folders_to, with_folders}
 use Rattle.gix_ref_files.specs.Tree.Content.{File, Folder}
-use Rattle.gix_ref_files.specs.Calls.{is_in_the_way}
+use Rattle.gix_ref_files.specs.Calls.{is_in_the_way, created}
 use Rattle.gix_ref_files.specs.Steps.{Step, Does, Begins, IsAfter, IsLeftBy as IsLeftBySteps}
-use Rattle.gix_ref_files.specs.Steps.Step.{Create, Append as AppendStep, Rename, RemoveFile, MakeFolders, RemoveFolder, End}
+use Rattle.gix_ref_files.specs.Steps.Step.{Create, Append as AppendStep, Line as LineStep, Rename, RemoveFile, MakeFolders, RemoveFolder, End}
 use Rattle.gix_ref_theory.proofs.Writes.{same, same_true, same_false}
 use Rattle.std.proofs.lemmas.List.{take-append-drop}
 use Rattle.gix_ref_theory.specs.OnRealTrees.{CarryOut, after_step, file_of, view_of}
 use Rattle.gix_ref_theory.specs.Views.{IsLeft, IsLeftBy, IsOwnLock, IsSameButLocks, IsSameView, View, Write, after, after_write, changed_at, file_bytes}
 use Rattle.gix_ref_theory.specs.Views.Write.{Append, Put, Remove}
+use Rattle.gix_ref_theory.specs.Views.Ending.{Stop}
+use Rattle.gix_ref_files.proofs.Puts.{put_at}
 
 -- these are the files of the tree
 pub record Views (T : Tree) (view : View) : Type 0 where
@@ -137,9 +139,33 @@ removed_folder T view p views folder = put_same T view p None views (sym (folder
 along : {S T : Tree} {view : View} → T ≡ S → Views S view → Views T view
 along e views = record { at = λ path. ap (λ (R : Tree). view_of R path) e ∙ views.at path }
 
+-- an append to a file that was just made
+made : (view : View) (path : Path) (bytes : List ℕ) (q : Path) → after_write (Append path bytes) (after_write (Append path []) view) q ≡ after_write (Append path bytes) view q
+made view path bytes q = by (bytes_eq path q)
+  where
+    empty : file_bytes (after_write (Append path []) view path) ≡ file_bytes (view path)
+    empty = ap file_bytes (cond-true (bytes_eq path path) (Some (file_bytes (view path) ++ [])) (view path) (same_true path path refl)) ∙ append-nil (file_bytes (view path))
+
+    by : (b : Bool) → (if b then Some (file_bytes (after_write (Append path []) view path) ++ bytes) else (if b then Some (file_bytes (view path) ++ []) else view q))
+        ≡ (if b then Some (file_bytes (view path) ++ bytes) else view q)
+    by true = ap (λ x. Some (x ++ bytes)) empty
+    by false = refl
+
+made_views : (T : Tree) (view : View) (path : Path) → Views T view → T path ≡ None → Views (created T path) (after_write (Append path []) view)
+made_views T view path views none =
+    let missing : view path ≡ None = sym (views.at path) ∙ ap file_of none in
+    subst (λ x. Views (created T path) (changed_at path (Some (file_bytes x ++ [])) view)) (sym missing) (put_views T view path (Some (File [])) (Some []) views refl)
+
+line_views : (T : Tree) (view : View) (path : Path) (bytes : List ℕ) → Views T view → T path ≡ None → Views (appended (created T path) path bytes) (changed_at path (Some (file_bytes (view path) ++ bytes)) view)
+line_views T view path bytes views none =
+    let v = appended_views (created T path) (after_write (Append path []) view) path bytes (made_views T view path views none) (ap is_file (put_at T path (Some (File [])))) in
+    record { at = λ q. v.at q ∙ made view path bytes q }
+
 pub done_views : (step : Step) (T mid : Tree) (view : View) → Views T view → Does step T mid → Views mid (after_step step view)
 done_views (Create path) T mid view views does = along does.1 (put_views T view path (Some (File [])) (Some []) views refl)
 done_views (AppendStep path bytes) T mid view views does = along does.1 (appended_views T view path bytes views does.0)
+done_views (LineStep path bytes) T mid view views (inl does) = along does.1 (appended_views T view path bytes views does.0)
+done_views (LineStep path bytes) T mid view views (inr does) = along does.1 (line_views T view path bytes views does.0.0)
 done_views (Rename from to) T mid view views does = along does.1 (moved_views T view from to views)
 done_views (RemoveFile path) T mid view views (inl does) = along does.1 (put_views T view path None None views refl)
 done_views (RemoveFile path) T mid view views (inr does) =
@@ -161,7 +187,7 @@ begun_removal path T left view views (inr b) = along b.1 (removed_folder T view 
 
 -- The plan's files beside the real ones.
 
-stop_here : (writes : List Write) (view left : View) → IsSameView left view → IsLeftBy writes view left
+stop_here : (writes : List Write) (view left : View) → IsSameView left view → IsLeftBy Stop writes view left
 stop_here [] view left h = h
 stop_here (Append path bytes ∷ writes) view left h = inl (inl h)
 stop_here (Put path bytes ∷ writes) view left h = inl h
@@ -216,7 +242,7 @@ begun_append locked path bytes rest T left real view views h n (k, e) = by (case
     by : (is_file (T path) ≡ true) ⊎ (is_file (T path) ≡ false) → IsLeft locked (Append path bytes ∷ rest) view (view_of left)
     by (inl file) = record {
       without_locks = after_write (Append path (take k bytes)) view;
-      stopped = inl (inr (take k bytes, drop k bytes, take-append-drop k bytes, λ q. refl));
+      stopped = inl (inr (take k bytes, (drop k bytes, take-append-drop k bytes), λ q. refl));
       same = through locked (along e (appended_views T real path (take k bytes) views file)) (append_alike locked real view path (take k bytes) n h);
     }
     by (inr none) = stay locked (Append path bytes ∷ rest) view (view_of left) (through locked (along e (appended_same T real path (take k bytes) views none)) h)
@@ -231,24 +257,13 @@ begun_own_append locked path bytes T left real view views h own (k, e) = by (cas
         through locked (along e (appended_views T real path (take k bytes) views file)) (change_of_lock locked real view path (Some (file_bytes (real path) ++ take k bytes)) own h)
     by (inr none) = through locked (along e (appended_same T real path (take k bytes) views none)) h
 
-made : (view : View) (path : Path) (bytes : List ℕ) (q : Path) → after_write (Append path bytes) (after_write (Append path []) view) q ≡ after_write (Append path bytes) view q
-made view path bytes q = by (bytes_eq path q)
-  where
-    empty : file_bytes (after_write (Append path []) view path) ≡ file_bytes (view path)
-    empty = ap file_bytes (cond-true (bytes_eq path path) (Some (file_bytes (view path) ++ [])) (view path) (same_true path path refl)) ∙ append-nil (file_bytes (view path))
-
-    by : (b : Bool) → (if b then Some (file_bytes (after_write (Append path []) view path) ++ bytes) else (if b then Some (file_bytes (view path) ++ []) else view q))
-        ≡ (if b then Some (file_bytes (view path) ++ bytes) else view q)
-    by true = ap (λ x. Some (x ++ bytes)) empty
-    by false = refl
-
 -- A log that is made empty and then appended to: a stop after it is made leaves a beginning of the append.
 pub append_in_two : (path : Path) (bytes : List ℕ) (writes : List Write) (view left : View) →
-    IsLeftBy (Append path bytes ∷ writes) (after_write (Append path []) view) left → IsLeftBy (Append path bytes ∷ writes) view left
-append_in_two path bytes writes view left (inl (inl same)) = inl (inr ([], bytes, refl, same))
-append_in_two path bytes writes view left (inl (inr (front, rest, whole, same))) =
-    inl (inr (front, rest, whole, λ q. same q ∙ made view path front q))
-append_in_two path bytes writes view left (inr h) = inr (subst (λ v. IsLeftBy writes v left) (λ i q. made view path bytes q i) h)
+    IsLeftBy Stop (Append path bytes ∷ writes) (after_write (Append path []) view) left → IsLeftBy Stop (Append path bytes ∷ writes) view left
+append_in_two path bytes writes view left (inl (inl same)) = inl (inr ([], (bytes, refl), same))
+append_in_two path bytes writes view left (inl (inr (front, part, same))) =
+    inl (inr (front, part, λ q. same q ∙ made view path front q))
+append_in_two path bytes writes view left (inr h) = inr (subst (λ v. IsLeftBy Stop writes v left) (λ i q. made view path bytes q i) h)
 
 append_after : (path : Path) (bytes : List ℕ) (writes : List Write) (view : View) → after (Append path bytes ∷ writes) (after_write (Append path []) view) ≡ after (Append path bytes ∷ writes) view
 append_after path bytes writes view = ap (after writes) (λ i q. made view path bytes q i)
@@ -264,7 +279,7 @@ create_alike locked T real view path views none n h =
 with_made : (locked : List Path) (path : Path) (line : List ℕ) (rest writes : List Write) (view left : View) → writes ≡ Append path line ∷ rest → IsLeft locked writes (after_write (Append path []) view) left → IsLeft locked writes view left
 with_made locked path line rest writes view left e l = in_writes locked view left e (record {
   without_locks = l.without_locks;
-  stopped = append_in_two path line rest view l.without_locks (subst (λ x. IsLeftBy x (after_write (Append path []) view) l.without_locks) e l.stopped);
+  stopped = append_in_two path line rest view l.without_locks (subst (λ x. IsLeftBy Stop x (after_write (Append path []) view) l.without_locks) e l.stopped);
   same = l.same;
 })
 
@@ -279,7 +294,7 @@ left_alike locked (Create path ∷ steps) writes T left real view views h (inl o
 left_alike locked (Create path ∷ steps) writes T left real view views h (inr w) (inl (inr made')) =
     in_writes locked view (view_of left) w.3 (record {
       without_locks = after_write (Append path []) view;
-      stopped = inl (inr ([], w.0, refl, λ q. refl));
+      stopped = inl (inr ([], (w.0, refl), λ q. refl));
       same = through locked (along made'.1 (put_views T real path (Some (File [])) (Some []) views refl)) (create_alike locked T real view path views made'.0.0 w.2 h);
     })
 left_alike locked (Create path ∷ steps) writes T left real view views h (inl own) (inr next) =
@@ -300,6 +315,22 @@ left_alike locked (AppendStep path bytes ∷ steps) writes T left real view view
     in_writes locked view (view_of left) w.2 (then_more locked (Append path bytes) w.0 view (view_of left)
     (left_alike locked steps w.0 next.0 left (after_step (AppendStep path bytes) real) (after_write (Append path bytes) view)
     (done_views (AppendStep path bytes) T next.0 real views next.1) (append_alike locked real view path bytes w.1 h) w.3 next.2))
+left_alike locked (LineStep path bytes ∷ steps) writes T left real view views h w (inl (inl begun)) =
+    in_writes locked view (view_of left) w.2 (begun_append locked path bytes w.0 T left real view views h w.1 begun)
+left_alike locked (LineStep path bytes ∷ steps) writes T left real view views h w (inl (inr (free, inl e))) =
+    in_writes locked view (view_of left) w.2 (record {
+      without_locks = after_write (Append path []) view;
+      stopped = inl (inr ([], (bytes, refl), λ q. refl));
+      same = through locked (along e (put_views T real path (Some (File [])) (Some []) views refl)) (create_alike locked T real view path views free.0 w.1 h);
+    })
+left_alike locked (LineStep path bytes ∷ steps) writes T left real view views h w (inl (inr (free, inr begun))) =
+    in_writes locked view (view_of left) w.2 (with_made locked path bytes w.0 (Append path bytes ∷ w.0) view (view_of left) refl
+    (begun_append locked path bytes w.0 (created T path) left (changed_at path (Some []) real) (after_write (Append path []) view)
+    (put_views T real path (Some (File [])) (Some []) views refl) (create_alike locked T real view path views free.0 w.1 h) w.1 begun))
+left_alike locked (LineStep path bytes ∷ steps) writes T left real view views h w (inr next) =
+    in_writes locked view (view_of left) w.2 (then_more locked (Append path bytes) w.0 view (view_of left)
+    (left_alike locked steps w.0 next.0 left (after_step (LineStep path bytes) real) (after_write (Append path bytes) view)
+    (done_views (LineStep path bytes) T next.0 real views next.1) (append_alike locked real view path bytes w.1 h) w.3 next.2))
 left_alike locked (Rename from to ∷ steps) writes T left real view views h w (inl (inl e)) = stay locked writes view (view_of left) (through locked (along e views) h)
 left_alike locked (Rename from to ∷ steps) writes T left real view views h w (inl (inr moves)) =
     in_writes locked view (view_of left) w.2 (then_more locked (Put to (file_bytes (real from))) w.0 view (view_of left)
@@ -357,6 +388,10 @@ after_alike locked (AppendStep path bytes ∷ steps) writes T left real view vie
     subst (λ x. IsSameButLocks locked (view_of left) (after x view)) (sym w.2)
     (after_alike locked steps w.0 next.0 left (after_step (AppendStep path bytes) real) (after_write (Append path bytes) view)
     (done_views (AppendStep path bytes) T next.0 real views next.1) (append_alike locked real view path bytes w.1 h) w.3 next.2)
+after_alike locked (LineStep path bytes ∷ steps) writes T left real view views h w next =
+    subst (λ x. IsSameButLocks locked (view_of left) (after x view)) (sym w.2)
+    (after_alike locked steps w.0 next.0 left (after_step (LineStep path bytes) real) (after_write (Append path bytes) view)
+    (done_views (LineStep path bytes) T next.0 real views next.1) (append_alike locked real view path bytes w.1 h) w.3 next.2)
 after_alike locked (Rename from to ∷ steps) writes T left real view views h w next =
     subst (λ x. IsSameButLocks locked (view_of left) (after x view)) (sym w.2)
     (after_alike locked steps w.0 next.0 left (after_step (Rename from to) real) (after_write (Put to (file_bytes (real from))) view)

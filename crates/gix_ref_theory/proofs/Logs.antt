@@ -1,18 +1,19 @@
 -- What a plan does to a log.
-use Rattle.std.proofs.Common.{◌≡◌, ◌≢◌, ℕ, List, [], ◌∷◌, ◌++◌, Option, Some, None, Bool, true, false, ◌||◌, ◌&&◌, if◌then◌else◌, cond, refl, sym, ap, ◌∙◌, subst, inl, inr, bytes_eq, ◌⊎◌, append_assoc, append-nil}
+use Rattle.std.proofs.Common.{◌≡◌, ◌≢◌, ℕ, List, [], ◌∷◌, ◌++◌, Option, Some, None, Bool, true, false, ◌||◌, ◌&&◌, if◌then◌else◌, cond, refl, sym, ap, ◌∙◌, subst, inl, inr, bytes_eq, ◌⊎◌, append_assoc, append-nil, arith}
 use Rattle.std.specs.Prelude.{is_some}
 use Rattle.std.proofs.lemmas.Bool.{cond-true, cond-false, cases_Bool, or_left, or_right, or_from, or_parts}
 use Rattle.gix_ref_theory.proofs.Writes.{IsPart, IsStoppedAt, IsCut, path_of, is_touched, same, same_false, AllMake, AllMake-append, touched_append, left_content}
 use Rattle.gix_ref_theory.proofs.Plans.{is_reference_at, makes_packed, makes_place_removals, untouched_append, packed_avoids, place_removals_avoid, touched_left}
-use Rattle.gix_ref_theory.specs.Between.{IsEdit, IsLogBetween, IsPrepared}
+use Rattle.gix_ref_theory.specs.Between.{IsEdit, IsLogLeft, IsPrepared}
 use Rattle.gix_ref_theory.specs.Edits.{Change, Edit, Effect, Mode, due, effect, is_deletion, is_due, line_due, removes_log}
 use Rattle.gix_ref_theory.specs.Edits.Change.{Delete, Update}
 use Rattle.gix_ref_theory.specs.Edits.Effect.{Keeps, Removes, Writes}
 use Rattle.gix_ref_theory.specs.Plan.{line_writes, log_removal, log_removals, loose_removals, packed_writes, place_writes, plan, updates}
 use Rattle.gix_ref_base.specs.PackedRecords.{Record}
 use Rattle.gix_ref_theory.specs.Readings.{HasLaws, Store}
-use Rattle.gix_ref_theory.specs.Views.{View, Write, after, after_write, file_bytes}
+use Rattle.gix_ref_theory.specs.Views.{Ending, IsPartOf, View, Write, after, after_write, file_bytes}
 use Rattle.gix_ref_theory.specs.Views.Write.{Append, Put, Remove}
+use Rattle.gix_ref_theory.specs.Views.Ending.{Stop, Loss}
 
 abbrev due_line : Change → Option (List ℕ) → List ℕ
 due_line c line = file_bytes (line_due c line)
@@ -213,59 +214,67 @@ after-append [] b view = refl
 after-append (x ∷ a) b view = after-append a b (after_write x view)
 
 -- a log that has its old text and a beginning of these bytes, if it is touched
-abbrev pub HasGrown : Bool → Option (List ℕ) → List ℕ → Option (List ℕ) → Type 0
-HasGrown touched old all new =
-    (new ≡ old) ⊎ ((touched ≡ true) × ((front : List ℕ) × (rest : List ℕ) × (front ++ rest ≡ all) × (new ≡ Some (file_bytes old ++ front))))
+abbrev pub HasGrown : Ending → Bool → Option (List ℕ) → List ℕ → Option (List ℕ) → Type 0
+HasGrown ending touched old all new =
+    (new ≡ old) ⊎ ((touched ≡ true) × ((front bytes rest part : List ℕ) × (front ++ (bytes ++ rest) ≡ all) × IsPartOf ending part bytes × (new ≡ Some (file_bytes old ++ (front ++ part)))))
+
+part_none : (ending : Ending) → IsPartOf ending [] []
+part_none Stop = ([], refl)
+part_none Loss = omega arith
 
 bytes_grown : (t : Bool) (old : Option (List ℕ)) (more : List ℕ) → (t ≡ false → more ≡ []) → file_bytes (grown t old more) ≡ file_bytes old ++ more
 bytes_grown true old more h = refl
 bytes_grown false old more h = sym (append-nil (file_bytes old)) ∙ ap (λ x. file_bytes old ++ x) (sym (h refl))
 
 -- what a stop among appends leaves
-module _ (path : List ℕ) (done : List Write) (next : Write) (more tail : List Write) (view left : View) (h : AllAppend path (done ++ next ∷ more)) where
+module _ (ending : Ending) (path : List ℕ) (done : List Write) (next : Write) (more tail : List Write) (view left : View) (h : AllAppend path (done ++ next ∷ more)) where
   here : after done view path ≡ grown (is_touched path done) (view path) (appended path done)
   here = log_content done view path (AllAppend-front path done (next ∷ more) h)
 
-  at_done : left path ≡ after done view path → HasGrown (is_touched path (done ++ next ∷ more)) (view path) (appended path (done ++ next ∷ more)) (left path)
+  at_done : left path ≡ after done view path → HasGrown ending (is_touched path (done ++ next ∷ more)) (view path) (appended path (done ++ next ∷ more)) (left path)
   at_done e = cases (cases_Bool (is_touched path done))
     where
       cases : (is_touched path done ≡ true) ⊎ (is_touched path done ≡ false) →
-          HasGrown (is_touched path (done ++ next ∷ more)) (view path) (appended path (done ++ next ∷ more)) (left path)
+          HasGrown ending (is_touched path (done ++ next ∷ more)) (view path) (appended path (done ++ next ∷ more)) (left path)
       cases (inl t) =
           inr (
             touched_left path done (next ∷ more) t,
             (
               appended path done,
+              [],
               appended path (next ∷ more),
+              [],
               sym (appended-append path done (next ∷ more)),
-              e ∙ (here ∙ cond-true (is_touched path done) (Some (file_bytes (view path) ++ appended path done)) (view path) t),
+              part_none ending,
+              e ∙ (here ∙ cond-true (is_touched path done) (Some (file_bytes (view path) ++ appended path done)) (view path) t) ∙ ap (λ x. Some (file_bytes (view path) ++ x)) (sym (append-nil (appended path done))),
             ),
           )
       cases (inr t) = inl (e ∙ (here ∙ cond-false (is_touched path done) (Some (file_bytes (view path) ++ appended path done)) (view path) t))
 
-  in_next : (step : Write) → next ≡ step → IsPart step (after done view) left →
-      HasGrown (is_touched path (done ++ next ∷ more)) (view path) (appended path (done ++ next ∷ more)) (left path)
+  in_next : (step : Write) → next ≡ step → IsPart ending step (after done view) left →
+      HasGrown ending (is_touched path (done ++ next ∷ more)) (view path) (appended path (done ++ next ∷ more)) (left path)
   in_next (Put p bytes) is part = at_done (part path)
   in_next (Remove p) is part = at_done (part path)
   in_next (Append p bytes) is part = cases (cases_Bool (bytes_eq p path))
     where
       cases : (bytes_eq p path ≡ true) ⊎ (bytes_eq p path ≡ false) →
-          HasGrown (is_touched path (done ++ next ∷ more)) (view path) (appended path (done ++ next ∷ more)) (left path)
-      cases (inr e) = at_done (part.3 path ∙ cond-false (bytes_eq p path) (Some (file_bytes (after done view p) ++ part.0)) (after done view path) e)
+          HasGrown ending (is_touched path (done ++ next ∷ more)) (view path) (appended path (done ++ next ∷ more)) (left path)
+      cases (inr e) = at_done (part.2 path ∙ cond-false (bytes_eq p path) (Some (file_bytes (after done view p) ++ part.0)) (after done view path) e)
       cases (inl e) =
           inr (
             touched_append path done (next ∷ more) ∙ or_right (is_touched path done) (is_touched path (next ∷ more))
                 (or_left (bytes_eq (path_of next) path) (is_touched path more) (ap (λ x. bytes_eq (path_of x) path) is ∙ e)),
             (
-              appended path done ++ part.0,
-              part.1 ++ appended path more,
-              append_assoc (appended path done) part.0 (part.1 ++ appended path more)
-                  ∙ (ap (λ x. appended path done ++ x) (sym (append_assoc part.0 part.1 (appended path more))
-                  ∙ (ap (λ x. x ++ appended path more) part.2
-                  ∙ (ap (λ b. (if b then bytes else []) ++ appended path more) (sym e)
-                  ∙ ap (λ x. appended path (x ∷ more)) (sym is))))
-                  ∙ sym (appended-append path done (next ∷ more))),
-              part.3 path
+              appended path done,
+              bytes,
+              appended path more,
+              part.0,
+              ap (λ x. appended path done ++ x)
+                  (ap (λ b. (if b then bytes else []) ++ appended path more) (sym e)
+                  ∙ ap (λ x. appended path (x ∷ more)) (sym is))
+                  ∙ sym (appended-append path done (next ∷ more)),
+              part.1,
+              part.2 path
                   ∙ (cond-true (bytes_eq p path) (Some (file_bytes (after done view p) ++ part.0)) (after done view path) e
                   ∙ (ap (λ x. Some (file_bytes (after done view x) ++ part.0)) (same p path e)
                   ∙ (ap (λ x. Some (file_bytes x ++ part.0)) here
@@ -274,13 +283,13 @@ module _ (path : List ℕ) (done : List Write) (next : Write) (more tail : List 
             ),
           )
 
-  pub stopped_in : IsStoppedAt (next ∷ tail) (after done view) left →
-      HasGrown (is_touched path (done ++ next ∷ more)) (view path) (appended path (done ++ next ∷ more)) (left path)
+  pub stopped_in : IsStoppedAt ending (next ∷ tail) (after done view) left →
+      HasGrown ending (is_touched path (done ++ next ∷ more)) (view path) (appended path (done ++ next ∷ more)) (left path)
   stopped_in (inl k) = at_done (k path)
   stopped_in (inr k) = in_next next refl k
 
 module _ (s : Store) (laws : HasLaws s) (mode : Mode) (view : View) (edits : List Edit) (merged : List Record) (p : IsPrepared s mode view edits merged)
-    (left : View) (l : IsCut (plan s mode view edits merged) view left) (e : Edit) (he : IsEdit e edits) where
+    (ending : Ending) (left : View) (l : IsCut ending (plan s mode view edits merged) view left) (e : Edit) (he : IsEdit e edits) where
   no_place : (f : Edit) → IsEdit f edits → s.place f.name ≢ s.log e.name
   no_place f hf = laws.place_is_no_log f.name e.name (is_reference_at s edits p.apart f hf) (is_reference_at s edits p.apart e he)
 
@@ -319,21 +328,21 @@ module _ (s : Store) (laws : HasLaws s) (mode : Mode) (view : View) (edits : Lis
       more ++ l.rest ≡ log_removals s edits ++ (packed_writes s mode view edits merged ++ loose_removals s mode view edits) →
       left (s.log e.name) ≡ cond (is_touched (s.log e.name) more) None (grown (is_due s edits (s.log e.name)) (view (s.log e.name)) (due s edits (s.log e.name)))
   left_behind more d whole =
-      left_content (log_removals s edits ++ (packed_writes s mode view edits merged ++ loose_removals s mode view edits)) (after (updates s mode view edits) view) left (s.log e.name) None behind_makes
+      left_content ending (log_removals s edits ++ (packed_writes s mode view edits merged ++ loose_removals s mode view edits)) (after (updates s mode view edits) view) left (s.log e.name) None behind_makes
       (record {
         done = more;
         rest = l.rest;
         whole = whole;
-        stopped = subst (λ t. IsStoppedAt l.rest t left) (ap (λ x. after x view) d ∙ after-append (updates s mode view edits) more view) l.stopped;
+        stopped = subst (λ t. IsStoppedAt ending l.rest t left) (ap (λ x. after x view) d ∙ after-append (updates s mode view edits) more view) l.stopped;
       })
       ∙ ap (cond (is_touched (s.log e.name) more) None) updated
 
   by_cut : Cut (updates s mode view edits) (log_removals s edits ++ (packed_writes s mode view edits merged ++ loose_removals s mode view edits)) l.done l.rest →
-      IsLogBetween s edits (s.log e.name) (view (s.log e.name)) (left (s.log e.name))
+      IsLogLeft ending s edits (s.log e.name) (view (s.log e.name)) (left (s.log e.name))
   by_cut (inl c) = cases (cases_Bool (is_touched (s.log e.name) c.0)) (cases_Bool (is_due s edits (s.log e.name)))
     where
       cases : (is_touched (s.log e.name) c.0 ≡ true) ⊎ (is_touched (s.log e.name) c.0 ≡ false) → (is_due s edits (s.log e.name) ≡ true) ⊎ (is_due s edits (s.log e.name) ≡ false) →
-          IsLogBetween s edits (s.log e.name) (view (s.log e.name)) (left (s.log e.name))
+          IsLogLeft ending s edits (s.log e.name) (view (s.log e.name)) (left (s.log e.name))
       cases (inl t) k =
           inr (inr (
             sym behind_touched ∙ subst (λ x. is_touched (s.log e.name) x ≡ true) c.2 (touched_left (s.log e.name) c.0 l.rest t),
@@ -345,27 +354,31 @@ module _ (s : Store) (laws : HasLaws s) (mode : Mode) (view : View) (edits : Lis
             (
               due s edits (s.log e.name),
               [],
+              [],
+              [],
               append-nil (due s edits (s.log e.name)),
+              part_none ending,
               left_behind c.0 c.1 c.2 ∙ (cond-false (is_touched (s.log e.name) c.0) None (grown (is_due s edits (s.log e.name)) (view (s.log e.name)) (due s edits (s.log e.name))) t
-                  ∙ cond-true (is_due s edits (s.log e.name)) (Some (file_bytes (view (s.log e.name)) ++ due s edits (s.log e.name))) (view (s.log e.name)) k),
+                  ∙ (cond-true (is_due s edits (s.log e.name)) (Some (file_bytes (view (s.log e.name)) ++ due s edits (s.log e.name))) (view (s.log e.name)) k
+                  ∙ ap (λ x. Some (file_bytes (view (s.log e.name)) ++ x)) (sym (append-nil (due s edits (s.log e.name)))))),
             ),
           ))
       cases (inr t) (inr k) =
           inl (left_behind c.0 c.1 c.2 ∙ (cond-false (is_touched (s.log e.name) c.0) None (grown (is_due s edits (s.log e.name)) (view (s.log e.name)) (due s edits (s.log e.name))) t
           ∙ cond-false (is_due s edits (s.log e.name)) (Some (file_bytes (view (s.log e.name)) ++ due s edits (s.log e.name))) (view (s.log e.name)) k))
   by_cut (inr c) =
-      let grew = stopped_in (s.log e.name) l.done c.0 c.1 (c.1 ++ (log_removals s edits ++ (packed_writes s mode view edits merged ++ loose_removals s mode view edits))) view left
+      let grew = stopped_in ending (s.log e.name) l.done c.0 c.1 (c.1 ++ (log_removals s edits ++ (packed_writes s mode view edits merged ++ loose_removals s mode view edits))) view left
       (subst (AllAppend (s.log e.name)) (sym c.2) updates_only)
-      (subst (λ x. IsStoppedAt x (after l.done view) left) c.3 l.stopped) in
+      (subst (λ x. IsStoppedAt ending x (after l.done view) left) c.3 l.stopped) in
       elim grew [
         | inl same' ↦ inl same'
         | inr g ↦
             inr (inl (
               sym (touched_due s mode view (s.log e.name) edits no_place) ∙ (ap (is_touched (s.log e.name)) (sym c.2) ∙ g.0),
-              (g.1.0, g.1.1, g.1.2 ∙ (ap (appended (s.log e.name)) c.2 ∙ appended_due s mode view (s.log e.name) edits), g.1.3),
+              (g.1.0, g.1.1, g.1.2, g.1.3, g.1.4 ∙ (ap (appended (s.log e.name)) c.2 ∙ appended_due s mode view (s.log e.name) edits), g.1.5, g.1.6),
             ))
       ]
 
   -- a log is as before, or has grown by a beginning of the due lines, or is removed
-  pub logs : IsLogBetween s edits (s.log e.name) (view (s.log e.name)) (left (s.log e.name))
+  pub logs : IsLogLeft ending s edits (s.log e.name) (view (s.log e.name)) (left (s.log e.name))
   logs = by_cut (cut (updates s mode view edits) (log_removals s edits ++ (packed_writes s mode view edits merged ++ loose_removals s mode view edits)) l.done l.rest l.whole)

@@ -13,14 +13,14 @@ use Rattle.gix_ref_theory.specs.Plan.{log_removals, loose_removals, packed_write
 use Rattle.gix_ref_base.specs.PackedRecords.{Record, record_named}
 use Rattle.gix_ref_theory.specs.Readings.{HasLaws, Reading, Store, reading, reading_by, reading_of_record, records_in}
 use Rattle.gix_ref_theory.specs.Readings.Reading.{Fault}
-use Rattle.gix_ref_theory.specs.Views.{View, Write}
+use Rattle.gix_ref_theory.specs.Views.{Ending, View, Write}
 
 pub cond_same : {A : Type 0} (b : Bool) (x : A) → cond b x x ≡ x
 cond_same true x = refl
 cond_same false x = refl
 
 module _ (s : Store) (laws : HasLaws s) (mode : Mode) (view : View) (edits : List Edit) (merged : List Record) (p : IsPrepared s mode view edits merged)
-    (left : View) (l : IsCut (plan s mode view edits merged) view left) where
+    (ending : Ending) (left : View) (l : IsCut ending (plan s mode view edits merged) view left) where
   pub is_ref : (e : Edit) → IsEdit e edits → s.is_reference e.name ≡ true
   is_ref e he = is_reference_at s edits p.apart e he
 
@@ -28,7 +28,7 @@ module _ (s : Store) (laws : HasLaws s) (mode : Mode) (view : View) (edits : Lis
   pub at_place : (e : Edit) → IsEdit e edits → (file : Option (List ℕ)) → Leads (effect s mode view e) file →
       left (s.place e.name) ≡ cond (is_touched (s.place e.name) l.done) file (view (s.place e.name))
   at_place e he file leads =
-      left_content (plan s mode view edits merged) view left (s.place e.name) file
+      left_content ending (plan s mode view edits merged) view left (s.place e.name) file
       (plan_makes s mode view (s.place e.name) file edits merged
       (λ f hf. (
         λ same. laws.place_is_no_log e.name f.name (is_ref e he) (is_ref f hf) (sym same),
@@ -39,7 +39,7 @@ module _ (s : Store) (laws : HasLaws s) (mode : Mode) (view : View) (edits : Lis
 
   pub at_packed : left s.packed_path ≡ cond (is_touched s.packed_path l.done) (file_of_records s merged) (view s.packed_path)
   at_packed =
-      left_content (plan s mode view edits merged) view left s.packed_path (file_of_records s merged)
+      left_content ending (plan s mode view edits merged) view left s.packed_path (file_of_records s merged)
       (plan_makes s mode view s.packed_path (file_of_records s merged) edits merged
       (λ f hf. (laws.log_is_not_packed f.name (is_ref f hf), λ same. absurd (laws.place_is_not_packed f.name (is_ref f hf) same)))
       (λ same. refl))
@@ -49,7 +49,7 @@ module _ (s : Store) (laws : HasLaws s) (mode : Mode) (view : View) (edits : Lis
   at_other : (path : List ℕ) → ((f : Edit) → IsEdit f edits → (s.log f.name ≢ path) × (f.and_reference ≡ true → s.place f.name ≢ path)) → s.packed_path ≢ path →
       left path ≡ view path
   at_other path none notpacked =
-      left_content (plan s mode view edits merged) view left path (view path)
+      left_content ending (plan s mode view edits merged) view left path (view path)
       (plan_makes s mode view path (view path) edits merged
       (λ f hf. ((none f hf).0, λ same. leads f (cases_Bool f.and_reference) (λ a. (none f hf).1 a same)))
       (λ same. absurd (notpacked same)))

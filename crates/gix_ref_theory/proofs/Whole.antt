@@ -15,9 +15,10 @@ use Rattle.gix_ref_theory.specs.Plan.{log_removals, loose_removals, packed_write
 use Rattle.gix_ref_base.specs.PackedRecords.{Record}
 use Rattle.gix_ref_theory.specs.Readings.{HasLaws, Reading, Store, reading, records_in}
 use Rattle.gix_ref_theory.specs.Views.{IsSameView, View, after}
+use Rattle.gix_ref_theory.specs.Views.Ending.{Stop}
 
 abbrev all : (s : Store) (mode : Mode) (view : View) (edits : List Edit) (merged : List Record) (left : View) → IsSameView left (after (plan s mode view edits merged) view) →
-    IsCut (plan s mode view edits merged) view left
+    IsCut Stop (plan s mode view edits merged) view left
 all s mode view edits merged left whole =
     record { done = plan s mode view edits merged; rest = []; whole = append-nil (plan s mode view edits merged); stopped = whole }
 
@@ -57,18 +58,18 @@ module _ (s : Store) (laws : HasLaws s) (mode : Mode) (view : View) (edits : Lis
       (removals_touch s mode view edits e he w)))
 
   reads_new : (e : Edit) → IsEdit e edits → e.and_reference ≡ true → (f : Effect) → effect s mode view e ≡ f → reading s left e.name ≡ new_reading s e.change
-  reads_new e he a (Writes text) w = stop.reads_written s laws mode view edits merged p left (all s mode view edits merged left whole) e he a text w (written e he text w)
-  reads_new e he a Removes w = stop.reads_removed s laws mode view edits merged p left (all s mode view edits merged left whole) e he a w (removed e he w)
-  reads_new e he a Keeps w = elim (stop.reads_at s laws mode view edits merged p left (all s mode view edits merged left whole) e he a) [
-    | inl h ↦ h ∙ left_alone s mode (s.key e.name) (reading s view e.name) e.change (sym (stop.effect_is s laws mode view edits merged p left (all s mode view edits merged left whole) e a) ∙ w)
+  reads_new e he a (Writes text) w = stop.reads_written s laws mode view edits merged p Stop left (all s mode view edits merged left whole) e he a text w (written e he text w)
+  reads_new e he a Removes w = stop.reads_removed s laws mode view edits merged p Stop left (all s mode view edits merged left whole) e he a w (removed e he w)
+  reads_new e he a Keeps w = elim (stop.reads_at s laws mode view edits merged p Stop left (all s mode view edits merged left whole) e he a) [
+    | inl h ↦ h ∙ left_alone s mode (s.key e.name) (reading s view e.name) e.change (sym (stop.effect_is s laws mode view edits merged p Stop left (all s mode view edits merged left whole) e a) ∙ w)
     | inr h ↦ h
   ]
 
   readings : (name : List ℕ) → s.is_reference name ≡ true → ReadsAsEdited s edits view left name
   readings name is = elim (edited_cases s edits name (reading s view name)) [
-    | inr x ↦ stop.reads_elsewhere s laws mode view edits merged p left (all s mode view edits merged left whole) name is x.1 ∙ sym x.0
+    | inr x ↦ stop.reads_elsewhere s laws mode view edits merged p Stop left (all s mode view edits merged left whole) name is x.1 ∙ sym x.0
     | inl x ↦
-        let key = laws.one_key x.0.name name (stop.is_ref s laws mode view edits merged p left (all s mode view edits merged left whole) x.0 x.1) is x.3 in
+        let key = laws.one_key x.0.name name (stop.is_ref s laws mode view edits merged p Stop left (all s mode view edits merged left whole) x.0 x.1) is x.3 in
         reading-alike s left name x.0.name (sym x.3) (sym key) ∙ (reads_new x.0 x.1 x.2 (effect s mode view x.0) refl ∙ sym x.4)
   ]
 
@@ -77,30 +78,30 @@ module _ (s : Store) (laws : HasLaws s) (mode : Mode) (view : View) (edits : Lis
     where
       by_effect : (f : Effect) → effect s mode view e ≡ f → IsCommittedFile s mode e e.change (view (s.place e.name)) (left (s.place e.name))
       by_effect (Writes text) w =
-          committed_file s mode e (reading s view e.name) e.change (Writes text) (view (s.place e.name)) (left (s.place e.name)) (sym (stop.effect_is s laws mode view edits merged p left (all s mode view edits merged left whole) e a) ∙ w)
-          (sym (stop.at_place s laws mode view edits merged p left (all s mode view edits merged left whole) e he (Some text) (subst (λ x. Leads x (Some text)) (sym w) refl)
+          committed_file s mode e (reading s view e.name) e.change (Writes text) (view (s.place e.name)) (left (s.place e.name)) (sym (stop.effect_is s laws mode view edits merged p Stop left (all s mode view edits merged left whole) e a) ∙ w)
+          (sym (stop.at_place s laws mode view edits merged p Stop left (all s mode view edits merged left whole) e he (Some text) (subst (λ x. Leads x (Some text)) (sym w) refl)
           ∙ cond-true (is_touched (s.place e.name) (plan s mode view edits merged)) (Some text) (view (s.place e.name)) (written e he text w)))
           (λ h. cc)
       by_effect Removes w =
-          committed_file s mode e (reading s view e.name) e.change Removes (view (s.place e.name)) (left (s.place e.name)) (sym (stop.effect_is s laws mode view edits merged p left (all s mode view edits merged left whole) e a) ∙ w)
-          (sym (stop.at_place s laws mode view edits merged p left (all s mode view edits merged left whole) e he None (subst (λ x. Leads x None) (sym w) refl)
+          committed_file s mode e (reading s view e.name) e.change Removes (view (s.place e.name)) (left (s.place e.name)) (sym (stop.effect_is s laws mode view edits merged p Stop left (all s mode view edits merged left whole) e a) ∙ w)
+          (sym (stop.at_place s laws mode view edits merged p Stop left (all s mode view edits merged left whole) e he None (subst (λ x. Leads x None) (sym w) refl)
           ∙ cond-true (is_touched (s.place e.name) (plan s mode view edits merged)) None (view (s.place e.name)) (removed e he w)))
           (λ h. cc)
       by_effect Keeps w =
-          committed_file s mode e (reading s view e.name) e.change Keeps (view (s.place e.name)) (left (s.place e.name)) (sym (stop.effect_is s laws mode view edits merged p left (all s mode view edits merged left whole) e a) ∙ w) tt
-          (λ h. stop.kept_if_left s laws mode view edits merged p left (all s mode view edits merged left whole) e he w)
+          committed_file s mode e (reading s view e.name) e.change Keeps (view (s.place e.name)) (left (s.place e.name)) (sym (stop.effect_is s laws mode view edits merged p Stop left (all s mode view edits merged left whole) e a) ∙ w) tt
+          (λ h. stop.kept_if_left s laws mode view edits merged p Stop left (all s mode view edits merged left whole) e he w)
 
   logs : (e : Edit) → IsEdit e edits → left (s.log e.name) ≡ committed_log s edits (s.log e.name) (view (s.log e.name))
   logs e he =
       let behind = log_removals s edits ++ (packed_writes s mode view edits merged ++ loose_removals s mode view edits) in
       whole (s.log e.name)
       ∙ (ap (λ (t : View). t (s.log e.name)) (after-append (updates s mode view edits) behind view)
-      ∙ (content behind (after (updates s mode view edits) view) (s.log e.name) None (behind_makes s laws mode view edits merged p left (all s mode view edits merged left whole) e he)
-      ∙ (ap (λ b. cond b None (after (updates s mode view edits) view (s.log e.name))) (behind_touched s laws mode view edits merged p left (all s mode view edits merged left whole) e he)
-      ∙ ap (cond (removes_log s edits (s.log e.name)) None) (updated s laws mode view edits merged p left (all s mode view edits merged left whole) e he))))
+      ∙ (content behind (after (updates s mode view edits) view) (s.log e.name) None (behind_makes s laws mode view edits merged p Stop left (all s mode view edits merged left whole) e he)
+      ∙ (ap (λ b. cond b None (after (updates s mode view edits) view (s.log e.name))) (behind_touched s laws mode view edits merged p Stop left (all s mode view edits merged left whole) e he)
+      ∙ ap (cond (removes_log s edits (s.log e.name)) None) (updated s laws mode view edits merged p Stop left (all s mode view edits merged left whole) e he))))
 
   packed : IsPackedFile s mode edits (view s.packed_path) (left s.packed_path)
-  packed = cases (cases_Bool (alters_packed s mode (records_in s (view s.packed_path)) edits)) (stop.packed s laws mode view edits merged p left (all s mode view edits merged left whole))
+  packed = cases (cases_Bool (alters_packed s mode (records_in s (view s.packed_path)) edits)) (stop.packed s laws mode view edits merged p Stop left (all s mode view edits merged left whole))
     where
       cases : (alters_packed s mode (records_in s (view s.packed_path)) edits ≡ true) ⊎ (alters_packed s mode (records_in s (view s.packed_path)) edits ≡ false) →
           (left s.packed_path ≡ view s.packed_path) ⊎ IsPackedFile s mode edits (view s.packed_path) (left s.packed_path) →
@@ -116,7 +117,7 @@ module _ (s : Store) (laws : HasLaws s) (mode : Mode) (view : View) (edits : Lis
           (packed_touches s mode view edits merged k))) in
           subst (λ b. MatchBool b ((new : List Record) × IsMerged s mode edits (records_in s (view s.packed_path)) new × (left s.packed_path ≡ file_of_records s new))
           (left s.packed_path ≡ view s.packed_path)) (sym k)
-          (merged, p.records_are_merged k, stop.at_packed s laws mode view edits merged p left (all s mode view edits merged left whole) ∙ cond-true (is_touched s.packed_path (plan s mode view edits merged)) (file_of_records s merged) (view s.packed_path) t)
+          (merged, p.records_are_merged k, stop.at_packed s laws mode view edits merged p Stop left (all s mode view edits merged left whole) ∙ cond-true (is_touched s.packed_path (plan s mode view edits merged)) (file_of_records s merged) (view s.packed_path) t)
 
   pub committed : (locked : List (List ℕ)) → IsCommitted s mode locked edits view left
   committed locked = record {
@@ -124,5 +125,5 @@ module _ (s : Store) (laws : HasLaws s) (mode : Mode) (view : View) (edits : Lis
     places = places;
     logs = logs;
     packed = packed;
-    others = stop.others s laws mode view edits merged p left (all s mode view edits merged left whole) locked;
+    others = stop.others s laws mode view edits merged p Stop left (all s mode view edits merged left whole) locked;
   }

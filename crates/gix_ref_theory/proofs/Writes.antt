@@ -3,36 +3,36 @@ use Rattle.std.proofs.Common.{◌≡◌, ◌≢◌, ℕ, List, [], ◌∷◌, �
 use Rattle.std.proofs.lemmas.Bool.{or_left, or_right, or_cases, or_parts, false_from_ne_true, cond-true, cond-false, false≢true, cases_Bool}
 use Rattle.std.proofs.lemmas.Slice.Eq.{bytes_eq-Decides}
 use Rattle.gix_ref_base.specs.Layout.{below}
-use Rattle.gix_ref_theory.specs.Views.{IsLeftBy, IsSameView, View, Write, after, after_write, file_bytes}
+use Rattle.gix_ref_theory.specs.Views.{Ending, IsPartOf, IsLeftBy, IsSameView, View, Write, after, after_write, file_bytes}
 use Rattle.gix_ref_theory.specs.Views.Write.{Append, Put, Remove}
 
 -- what a stop inside this write may leave
-abbrev pub IsPart : Write → View → View → Type 0
-IsPart (Append path bytes) view left = (front rest : List ℕ) × (front ++ rest ≡ bytes) × IsSameView left (after_write (Append path front) view)
-IsPart (Put path bytes) view left = IsSameView left view
-IsPart (Remove path) view left = IsSameView left view
+abbrev pub IsPart : Ending → Write → View → View → Type 0
+IsPart k (Append path bytes) view left = (part : List ℕ) × IsPartOf k part bytes × IsSameView left (after_write (Append path part) view)
+IsPart k (Put path bytes) view left = IsSameView left view
+IsPart k (Remove path) view left = IsSameView left view
 
 -- a stop before the end of the first of these writes
-abbrev pub IsStoppedAt : List Write → View → View → Type 0
-IsStoppedAt [] view left = IsSameView left view
-IsStoppedAt (write ∷ writes) view left = IsSameView left view ⊎ IsPart write view left
+abbrev pub IsStoppedAt : Ending → List Write → View → View → Type 0
+IsStoppedAt k [] view left = IsSameView left view
+IsStoppedAt k (write ∷ writes) view left = IsSameView left view ⊎ IsPart k write view left
 
 -- The place of a stop: the writes that are done, and the rest, of whose first one a part may be.
-pub record IsCut (writes : List Write) (view left : View) : Type 0 where
+pub record IsCut (k : Ending) (writes : List Write) (view left : View) : Type 0 where
   pub done : List Write
   pub rest : List Write
   pub whole : done ++ rest ≡ writes
-  pub stopped : IsStoppedAt rest (after done view) left
+  pub stopped : IsStoppedAt k rest (after done view) left
 
 -- every stop has its place
-pub cut_at : (writes : List Write) (view left : View) → IsLeftBy writes view left → IsCut writes view left
-cut_at [] view left h = record { done = []; rest = []; whole = refl; stopped = h }
-cut_at (Append path bytes ∷ writes) view left (inl (inl h)) = record { done = []; rest = Append path bytes ∷ writes; whole = refl; stopped = inl h }
-cut_at (Append path bytes ∷ writes) view left (inl (inr h)) = record { done = []; rest = Append path bytes ∷ writes; whole = refl; stopped = inr h }
-cut_at (Put path bytes ∷ writes) view left (inl h) = record { done = []; rest = Put path bytes ∷ writes; whole = refl; stopped = inl h }
-cut_at (Remove path ∷ writes) view left (inl h) = record { done = []; rest = Remove path ∷ writes; whole = refl; stopped = inl h }
-cut_at (write ∷ writes) view left (inr h) =
-    let l = cut_at writes (after_write write view) left h in
+pub cut_at : (k : Ending) (writes : List Write) (view left : View) → IsLeftBy k writes view left → IsCut k writes view left
+cut_at k [] view left h = record { done = []; rest = []; whole = refl; stopped = h }
+cut_at k (Append path bytes ∷ writes) view left (inl (inl h)) = record { done = []; rest = Append path bytes ∷ writes; whole = refl; stopped = inl h }
+cut_at k (Append path bytes ∷ writes) view left (inl (inr h)) = record { done = []; rest = Append path bytes ∷ writes; whole = refl; stopped = inr h }
+cut_at k (Put path bytes ∷ writes) view left (inl h) = record { done = []; rest = Put path bytes ∷ writes; whole = refl; stopped = inl h }
+cut_at k (Remove path ∷ writes) view left (inl h) = record { done = []; rest = Remove path ∷ writes; whole = refl; stopped = inl h }
+cut_at k (write ∷ writes) view left (inr h) =
+    let l = cut_at k writes (after_write write view) left h in
     record { done = write ∷ l.done; rest = l.rest; whole = ap (λ x. write ∷ x) l.whole; stopped = l.stopped }
 
 -- the path that a write changes
@@ -138,18 +138,18 @@ AllMake-back path file [] b h = h
 AllMake-back path file (x ∷ a) b h = AllMake-back path file a b h.1
 
 -- a stop inside a step changes no path of which each step makes a file
-at_stop : (rest : List Write) (view left : View) (path : List ℕ) (file : Option (List ℕ)) → AllMake path file rest → IsStoppedAt rest view left →
+at_stop : (k : Ending) (rest : List Write) (view left : View) (path : List ℕ) (file : Option (List ℕ)) → AllMake path file rest → IsStoppedAt k rest view left →
     left path ≡ view path
-at_stop [] view left path file h k = k path
-at_stop (step ∷ rest) view left path file h (inl k) = k path
-at_stop (Append p bytes ∷ rest) view left path file h (inr k) =
-    k.3 path ∙ cond-false (bytes_eq p path) (Some (file_bytes (view p) ++ k.0)) (view path) (same_false p path h.0)
-at_stop (Put p bytes ∷ rest) view left path file h (inr k) = k path
-at_stop (Remove p ∷ rest) view left path file h (inr k) = k path
+at_stop e [] view left path file h k = k path
+at_stop e (step ∷ rest) view left path file h (inl k) = k path
+at_stop e (Append p bytes ∷ rest) view left path file h (inr k) =
+    k.2 path ∙ cond-false (bytes_eq p path) (Some (file_bytes (view p) ++ k.0)) (view path) (same_false p path h.0)
+at_stop e (Put p bytes ∷ rest) view left path file h (inr k) = k path
+at_stop e (Remove p ∷ rest) view left path file h (inr k) = k path
 
-pub left_content : (writes : List Write) (view left : View) (path : List ℕ) (file : Option (List ℕ)) → AllMake path file writes →
-    (l : IsCut writes view left) → left path ≡ cond (is_touched path l.done) file (view path)
-left_content writes view left path file h l =
+pub left_content : (k : Ending) (writes : List Write) (view left : View) (path : List ℕ) (file : Option (List ℕ)) → AllMake path file writes →
+    (l : IsCut k writes view left) → left path ≡ cond (is_touched path l.done) file (view path)
+left_content k writes view left path file h l =
     let all = subst (λ x. AllMake path file x) (sym l.whole) h in
-    at_stop l.rest (after l.done view) left path file (AllMake-back path file l.done l.rest all) l.stopped
+    at_stop k l.rest (after l.done view) left path file (AllMake-back path file l.done l.rest all) l.stopped
     ∙ content l.done view path file (AllMake-front path file l.done l.rest all)

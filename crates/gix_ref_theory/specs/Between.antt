@@ -5,7 +5,7 @@ use Rattle.std.specs.Ordering.{nat_cmp}
 use Rattle.std.specs.declared.cmp.Ordering.TheVariants.{Less}
 use Rattle.gix_ref_base.specs.Targets.{TargetValue}
 use Rattle.gix_ref_files.specs.Tree.{Path}
-use Rattle.gix_ref_theory.specs.Views.{View, file_bytes, IsOwnLock}
+use Rattle.gix_ref_theory.specs.Views.{Ending, IsPartOf, View, file_bytes, IsOwnLock}
 use Rattle.gix_ref_hash.specs.declared.hash.ObjectId.{ObjectId}
 use Rattle.gix_ref_base.specs.Targets.TargetValue.{object_id}
 use Rattle.gix_ref_base.specs.PackedRecords.{Record, record_named, id_read}
@@ -58,6 +58,14 @@ abbrev pub IsNewFile : Store → Mode → Edit → Change → Option (List ℕ) 
 IsNewFile s mode e Delete file = file ≡ None
 IsNewFile s mode e (Update target) file =
     (file ≡ Some (s.text_of target)) ⊎ ((removes_packed mode ≡ true) × (packs mode (s.key e.name) target ≡ true) × (file ≡ None))
+
+-- a log is as before, or has its old text, a beginning of the lines that are due, and of the bytes that come next what an end
+-- among them leaves; or it is gone with a deletion
+abbrev pub IsLogLeft : Ending → Store → List Edit → Path → Option (List ℕ) → Option (List ℕ) → Type 0
+IsLogLeft ending s edits log old new =
+    (new ≡ old)
+    ⊎ (((is_due s edits log ≡ true) × ((front bytes rest part : List ℕ) × (front ++ (bytes ++ rest) ≡ due s edits log) × IsPartOf ending part bytes × (new ≡ Some (file_bytes old ++ (front ++ part)))))
+    ⊎ ((removes_log s edits log ≡ true) × (new ≡ None)))
 
 -- a log is as before, or its old text and a beginning of the lines that are due, or gone with a deletion
 abbrev pub IsLogBetween : Store → List Edit → Path → Option (List ℕ) → Option (List ℕ) → Type 0

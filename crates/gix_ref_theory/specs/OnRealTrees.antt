@@ -3,7 +3,7 @@ use Rattle.std.specs.Prelude.{◌≡◌, ℕ, List, [], ◌∷◌, ◌++◌, Opt
 pub use Rattle.gix_ref_files.specs.Tree.{file_of}
 use Rattle.gix_ref_files.specs.Tree.{Tree, Path}
 use Rattle.gix_ref_files.specs.Steps.{Step, Begins, IsAfter, IsLeftBy as IsLeftBySteps, EndsAt}
-use Rattle.gix_ref_files.specs.Steps.Step.{Create, Append as AppendStep, Rename, RemoveFile, MakeFolders, RemoveFolder, End}
+use Rattle.gix_ref_files.specs.Steps.Step.{Create, Append as AppendStep, Line as LineStep, Rename, RemoveFile, MakeFolders, RemoveFolder, End}
 use Rattle.gix_ref_files.specs.declared.steps.Cause.{Cause}
 use Rattle.gix_ref_theory.specs.Views.{View, Write, changed_at, file_bytes, IsSameView, IsOwnLock, IsSameButLocks}
 use Rattle.gix_ref_theory.specs.Views.Write.{Append, Put, Remove}
@@ -21,6 +21,7 @@ view_of T path = file_of (T path)
 abbrev pub after_step : Step → View → View
 after_step (Create path) view = changed_at path (Some []) view
 after_step (AppendStep path bytes) view = changed_at path (Some (file_bytes (view path) ++ bytes)) view
+after_step (LineStep path bytes) view = changed_at path (Some (file_bytes (view path) ++ bytes)) view
 after_step (Rename from to) view = changed_at to (view from) (changed_at from None view)
 after_step (RemoveFile path) view = changed_at path None view
 after_step (MakeFolders path) view = view
@@ -28,7 +29,7 @@ after_step (RemoveFolder path) view = view
 after_step End view = view
 
 -- The steps carry out the writes, where `view` are the files and the locks of the paths `locked` are the transaction's. The
--- rename of an own lock puts what the lock holds; a file is made for the append that comes next; an append and a removal elsewhere are such writes; steps on own locks
+-- rename of an own lock puts what the lock holds; a file is made for the append that comes next; an append a line and a removal elsewhere are such writes; steps on own locks
 -- and on folders carry out none; and behind an end nothing is owed.
 abbrev pub CarryOut : List Path → View → List Step → List Write → Type 0
 CarryOut locked view [] writes = writes ≡ []
@@ -38,6 +39,8 @@ CarryOut locked view (Create path ∷ steps) writes =
 CarryOut locked view (AppendStep path bytes ∷ steps) writes =
     (IsOwnLock locked path × CarryOut locked (after_step (AppendStep path bytes) view) steps writes)
     ⊎ ((rest : List Write) × (IsOwnLock locked path → ⊥) × (writes ≡ Append path bytes ∷ rest) × CarryOut locked (after_step (AppendStep path bytes) view) steps rest)
+CarryOut locked view (LineStep path bytes ∷ steps) writes =
+    (rest : List Write) × (IsOwnLock locked path → ⊥) × (writes ≡ Append path bytes ∷ rest) × CarryOut locked (after_step (LineStep path bytes) view) steps rest
 CarryOut locked view (Rename from to ∷ steps) writes =
     (rest : List Write) × IsOwnLock locked from × (writes ≡ Put to (file_bytes (view from)) ∷ rest) × CarryOut locked (after_step (Rename from to) view) steps rest
 CarryOut locked view (RemoveFile path ∷ steps) writes =

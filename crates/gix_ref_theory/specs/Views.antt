@@ -1,6 +1,6 @@
--- What files hold, the writes of a commit, and what a stop among the writes leaves. A file is changed in three ways: by
+-- What files hold, the writes of a commit, and what a stop or a loss of power among the writes leaves. A file is changed in three ways: by
 -- an append, which may stop after any beginning of its bytes, and by a rename and a removal, which are whole.
-use Rattle.std.specs.Prelude.{◌≡◌, ℕ, List, [], ◌∷◌, ◌++◌, Option, Some, None, if◌then◌else◌, bytes_eq, ◌⊎◌, codes}
+use Rattle.std.specs.Prelude.{◌≡◌, ◌≤◌, ℕ, List, [], ◌∷◌, ◌++◌, length, Option, Some, None, if◌then◌else◌, bytes_eq, ◌⊎◌, codes}
 use Rattle.gix_ref_files.specs.Tree.{Path}
 use Rattle.gix_ref_files.specs.Lock.{lock_of}
 
@@ -38,17 +38,27 @@ after (write ∷ writes) view = after writes (after_write write view)
 abbrev pub IsSameView : View → View → Type 0
 IsSameView left right = (path : Path) → left path ≡ right path
 
--- a stop inside a write leaves all as it was, or of an append a beginning of its bytes
-abbrev pub Begins : Write → View → View → Type 0
-Begins (Append path bytes) view left =
-    IsSameView left view ⊎ ((front rest : List ℕ) × (front ++ rest ≡ bytes) × IsSameView left (after_write (Append path front) view))
-Begins (Put path bytes) view left = IsSameView left view
-Begins (Remove path) view left = IsSameView left view
+-- How a run ends before its time: the process stops, or power is lost.
+pub data Ending : Type 0 where
+  Stop : Ending
+  Loss : Ending
 
--- a stop among the writes: some of them are done, and the next one is perhaps begun
-abbrev pub IsLeftBy : List Write → View → View → Type 0
-IsLeftBy [] view left = IsSameView left view
-IsLeftBy (write ∷ writes) view left = Begins write view left ⊎ IsLeftBy writes (after_write write view) left
+-- What an append leaves of its bytes: a stop any beginning of them; a loss of power any bytes, no more than they are.
+abbrev pub IsPartOf : Ending → (left bytes : List ℕ) → Type 0
+IsPartOf Stop left bytes = (rest : List ℕ) × (left ++ rest ≡ bytes)
+IsPartOf Loss left bytes = length left ≤ length bytes
+
+-- an end inside a write leaves all as it was, or of an append a part of its bytes
+abbrev pub Begins : Ending → Write → View → View → Type 0
+Begins ending (Append path bytes) view left =
+    IsSameView left view ⊎ ((part : List ℕ) × IsPartOf ending part bytes × IsSameView left (after_write (Append path part) view))
+Begins ending (Put path bytes) view left = IsSameView left view
+Begins ending (Remove path) view left = IsSameView left view
+
+-- an end among the writes: some of them are done, and the next one is perhaps begun
+abbrev pub IsLeftBy : Ending → List Write → View → View → Type 0
+IsLeftBy ending [] view left = IsSameView left view
+IsLeftBy ending (write ∷ writes) view left = Begins ending write view left ⊎ IsLeftBy ending writes (after_write write view) left
 
 -- the lock of one of these paths
 abbrev pub IsOwnLock : List Path → Path → Type 0
@@ -62,5 +72,20 @@ IsSameButLocks locked left right = (path : Path) → (IsOwnLock locked path → 
 -- A stop among the writes leaves these files, whatever it leaves of the locks of these paths.
 pub record IsLeft (locked : List Path) (writes : List Write) (view left : View) : Type 0 where
   pub without_locks : View
-  pub stopped : IsLeftBy writes view without_locks
+  pub stopped : IsLeftBy Stop writes view without_locks
   pub same : IsSameButLocks locked left without_locks
+
+-- A loss of power inside a write may leave this file at a path: the one before; at the write's own path also the new one, or,
+-- where it appends, the old bytes and after them any bytes, no more than were appended.
+abbrev pub LostIn : Write → View → Path → Option (List ℕ) → Type 0
+LostIn (Append path bytes) view q file =
+    (file ≡ view q) ⊎ ((path ≡ q) × ((any : List ℕ) × (length any ≤ length bytes) × (file ≡ Some (file_bytes (view q) ++ any))))
+LostIn (Put path bytes) view q file = (file ≡ view q) ⊎ ((path ≡ q) × (file ≡ Some bytes))
+LostIn (Remove path) view q file = (file ≡ view q) ⊎ ((path ≡ q) × (file ≡ None))
+
+-- A loss of power among the writes: some of them are done and settled, and it comes inside the next one. Only paths that count
+-- are spoken of.
+abbrev pub IsLostBy : (Path → Type 0) → List Write → View → View → Type 0
+IsLostBy Counts [] view left = (q : Path) → Counts q → left q ≡ view q
+IsLostBy Counts (write ∷ writes) view left =
+    ((q : Path) → Counts q → LostIn write view q (left q)) ⊎ IsLostBy Counts writes (after_write write view) left

@@ -1,8 +1,11 @@
-use Rattle.std.proofs.Common.{◌≡◌, ℕ, ◌+◌, ◌<◌, List, ◌∷◌, suc, length, drop, get_or, refl, sym, ◌∙◌, ap, subst, inl, inr, arith}
+use Rattle.std.proofs.Common.{◌≡◌, ℕ, ◌+◌, ◌<◌, List, ◌∷◌, suc, length, take, drop, get_or, [], refl, sym, ◌∙◌, ap, subst, inl, inr, arith}
 use Rattle.std.proofs.lemmas.List.{drop_more}
 use Rattle.gix_ref_files.specs.Steps.{Step, IsAfter, IsLeftBy, EndsAt, step_of, steps_of}
 use Rattle.gix_ref_files.specs.declared.steps.Planned.{Planned}
-use Rattle.gix_ref_files.proofs.Moments.{starts, weaken, joins}
+use Rattle.gix_ref_files.specs.Files.{disk_of}
+use Rattle.gix_ref_files.specs.DiskSteps.{Synced, IsSyncedAfter, synced_step, synced_steps}
+use Rattle.gix_ref_files.proofs.Moments.{starts, weaken, joins, passes_starts, passes_weaken, passes_joins}
+use Rattle.gix_ref_files.proofs.Runs.{none_reached, after_behind, reached_at, ended_at, front_more, whole_front}
 use Rattle.gix_ref_files.proofs.Between.{none_begun}
 use Rattle.gix_ref_files.proofs.steps.run_steps.Goals as goal
 
@@ -12,6 +15,8 @@ loop-at-init g c =
     record {
       count = refl;
       leaves = λ h. starts first _ (none_begun (steps_of c.args.plan.now) first.tree);
+      passes = λ h. passes_starts first _ (none_reached (synced_steps c.args.plan.now) (disk_of first));
+      synced = λ h. refl;
       done = λ h T after. after;
       stops = λ h T left. left;
       ended = λ h k cause T ends. subst (λ (n : ℕ). EndsAt (steps_of c.args.plan.now) n cause first.tree T) (omega arith) ends;
@@ -57,9 +62,25 @@ loop-at-preserved g c =
       count = counted ∙ so_far.count;
       leaves = λ h. joins (so_far.leaves h) (weaken (c.run_step.ensures.leaves h)
           (λ T begun. so_far.stops h T (subst (λ (steps : List Step). IsLeftBy steps mid T) steps_are (inl begun))));
+      passes = λ h. passes_joins (so_far.passes h) (passes_weaken (c.run_step.ensures.passes h)
+          (λ E reached. reached_at plan i planned _ _ E c.loop-at-test.true c.index-plan-at.is (so_far.synced h) reached));
+      synced = λ h. subst (λ (l : List Synced). IsSyncedAfter l (disk_of (g.F.Files.means c.args.files.now)) (disk_of (g.F.Files.means c.run_step.new.files))) (front_more plan i planned c.loop-at-test.true c.index-plan-at.is)
+          (after_behind (take i (synced_steps plan)) (synced_step planned ∷ []) _ _ _ (so_far.synced h) (c.in_default.ensures.synced h));
       done = λ h T after. so_far.done h T (subst (λ (steps : List Step). IsAfter steps mid T) steps_are (now, c.in_default.ensures.done h, after));
       stops = λ h T left. so_far.stops h T (subst (λ (steps : List Step). IsLeftBy steps mid T) steps_are (inr (now, c.in_default.ensures.done h, left)));
       ended = λ h k cause T ends.
           subst (λ (n : ℕ). EndsAt (steps_of plan) n cause (g.F.Files.means c.args.files.now).tree T) (omega arith)
           (so_far.ended h (suc k) cause T (subst (λ (steps : List Step). EndsAt steps (suc k) cause mid T) steps_are (now, c.in_default.ensures.done h, ends)));
     }
+
+pub returns-in-Err-clause-passes : goal.returns-in-Err-clause-passes
+returns-in-Err-clause-passes g c h =
+    passes_joins (c.loop-at.invariant.passes h) (passes_weaken (c.run_step.ensures.passes h)
+    (λ E reached. reached_at c.args.plan.now c.loop-at.at c.index-plan-at.result _ _ E c.loop-at-test.true c.index-plan-at.is (c.loop-at.invariant.synced h) reached))
+
+pub returns-in-Err-clause-ended_on : goal.returns-in-Err-clause-ended_on
+returns-in-Err-clause-ended_on g c h =
+    ended_at c.args.plan.now c.loop-at.at c.index-plan-at.result _ _ _ c.loop-at-test.true c.index-plan-at.is (c.loop-at.invariant.synced h) (c.run_step.ensures.passes h).disk
+
+pub returns-clause-synced : goal.returns-clause-synced
+returns-clause-synced g c h = subst (λ (l : List Synced). IsSyncedAfter l (disk_of (g.F.Files.means c.args.files.now)) (disk_of (g.F.Files.means c.loop-at.files))) (whole_front c.args.plan.now c.loop-at.at (omega arith)) (c.loop-at.invariant.synced h)
