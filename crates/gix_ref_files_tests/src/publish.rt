@@ -5,7 +5,7 @@ ghost use Rattle.gix_ref_files.specs.Files.{StopsLeave};
 ghost use Rattle.gix_ref_files_tests.specs.Publish.{InOrder, AreApart};
 
 use gix_ref_files::files::Files;
-use gix_ref_files::steps::{Action, Ended, Planned, run_steps};
+use gix_ref_files::steps::{Action, Ended, Planned, Settle, run_steps};
 
 /// A place, and the lock beside it that holds its new text.
 #[derive(Debug, Drop)]
@@ -14,7 +14,7 @@ pub struct Place {
     pub lock: Vec<u8>,
 }
 
-/// Renames the first lock to its place, and then the second.
+/// Renames the first lock to its place, and then the second. Each place is settled before the next is renamed.
 pub fn publish_both<F: Files>(files: &mut F, first: Place, second: Place) -> Result<(), Ended>
     requires { AreApart first.lock.items first.path.items second.lock.items second.path.items }
     ensures stops { F.honest → StopsLeave (F.means files.old) (F.means files.new) (InOrder
@@ -24,20 +24,23 @@ pub fn publish_both<F: Files>(files: &mut F, first: Place, second: Place) -> Res
         second.path.items (F.means files.old).tree (F.means files.new).tree }
 {
     let once = Action::Rename {
-        from: first.lock,
-        to: first.path,
+        from: &first.lock,
+        to: &first.path,
     };
     let then = Action::Rename {
-        from: second.lock,
-        to: second.path,
+        from: &second.lock,
+        to: &second.path,
     };
+    let settle = Settle::UpTo { root: 1 };
     let plan = [
         Planned {
             action: once,
+            settle,
             about: (),
         },
         Planned {
             action: then,
+            settle,
             about: (),
         },
     ];

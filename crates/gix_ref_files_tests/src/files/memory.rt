@@ -6,7 +6,7 @@ use crate::files::table;
 use crate::publish::{Place, publish_both};
 use gix_ref_files::files::{Create, FileError, Files, Node, ReadAt};
 use gix_ref_files::lock::{Acquire, Commit, Lock, Unspent};
-use gix_ref_files::steps::{Action, Cause, Ended, Planned, run_steps};
+use gix_ref_files::steps::{Action, Cause, Ended, Planned, Settle, run_steps};
 use gix_ref_memory::memory::Memory;
 use std::alloc::Global;
 use std::io::ErrorKind;
@@ -216,31 +216,33 @@ fn steps_run_to_the_first_that_fails(rt: HostRuntime) -> Result<(), Fail> {
     let mut memory = Memory::new(alloc);
     memory.put(b"f", b"a")?;
     let first = Action::Append {
-        path: b"f".to_vec(alloc)?,
-        bytes: b"b".to_vec(alloc)?,
+        path: b"f",
+        bytes: b"b",
     };
-    let second = Action::RemoveFile {
-        path: b"none".to_vec(alloc)?,
-    };
+    let second = Action::RemoveFile { path: b"none" };
     let third = Action::Append {
-        path: b"none".to_vec(alloc)?,
-        bytes: b"c".to_vec(alloc)?,
+        path: b"none",
+        bytes: b"c",
     };
     let plan = [
         Planned {
             action: first,
+            settle: Settle::Nothing,
             about: 1,
         },
         Planned {
             action: second,
+            settle: Settle::Nothing,
             about: 2,
         },
         Planned {
             action: third,
+            settle: Settle::Nothing,
             about: 3,
         },
         Planned {
             action: Action::End,
+            settle: Settle::Nothing,
             about: 4,
         },
     ];
@@ -277,20 +279,20 @@ fn steps_run_to_the_first_that_fails(rt: HostRuntime) -> Result<(), Fail> {
 fn a_missing_log_is_made_and_appended_to(rt: HostRuntime) -> Result<(), Fail> {
     let alloc = rt.alloc();
     let mut memory = Memory::new(alloc);
-    let make = Action::Create {
-        path: b"log".to_vec(alloc)?,
-    };
+    let make = Action::Create { path: b"log" };
     let add = Action::Append {
-        path: b"log".to_vec(alloc)?,
-        bytes: b"line".to_vec(alloc)?,
+        path: b"log",
+        bytes: b"line",
     };
     let plan = [
         Planned {
             action: make,
+            settle: Settle::Nothing,
             about: (),
         },
         Planned {
             action: add,
+            settle: Settle::Nothing,
             about: (),
         },
     ];
