@@ -2,6 +2,7 @@ pub mod Folders
 pub mod Fronts
 pub mod Grows
 pub mod Items
+pub mod Knowing
 pub mod Leaving
 pub mod ListingLemmas
 pub mod MakingLemmas

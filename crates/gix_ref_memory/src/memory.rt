@@ -3,11 +3,14 @@ ghost use Rattle.std.specs.Prelude.{◌≡◌};
 ghost use Rattle.gix_ref_files.specs.Tree.{IsShaped, no_tree};
 ghost use Rattle.gix_ref_memory.specs.Changes.{after};
 
+mod births;
 mod changes;
 mod edits;
 mod folders;
 mod listing;
+mod power;
 mod reader;
+mod sure;
 mod turns;
 
 use changes::{Change, Stands, find, is_below_file, is_folder_at};
@@ -18,6 +21,7 @@ use edits::{
 use folders::{make_folders_now, make_some_folders};
 use gix_ref_files::files::{Create, Entry, FileError, Files, Node, Rename};
 use listing::list_now;
+use power::left_by_loss;
 pub use reader::MemoryReader;
 use std::alloc::Global;
 use std::io::ErrorKind;
@@ -37,9 +41,11 @@ pub struct Memory {
 }
 
 impl Memory {
-    ghost use Rattle.std.specs.Prelude.{◌+◌, ◌<◌, ◌-◌, ◌^◌, Some, OnErr, IfOk, IfSome, IfNone, false, if◌then◌else◌, nat_lt, min};
+    ghost use Rattle.std.specs.Prelude.{◌+◌, ◌<◌, ◌-◌, ◌^◌, Some, OnOk, OnErr, IfOk, IfSome, IfNone, false, if◌then◌else◌, nat_lt, min};
     ghost use Rattle.gix_ref_files.specs.Tree.{is_file};
     ghost use Rattle.gix_ref_files.specs.Tree.Content.{File};
+    ghost use Rattle.gix_ref_files.specs.Disk.{Lost};
+    ghost use Rattle.gix_ref_files.specs.Losing.{lost_by, all_synced};
     ghost use Rattle.gix_ref_files.specs.Files.{disk_of};
     ghost use Rattle.gix_ref_memory.specs.Changes.{Puts, placed_on};
     ghost use Rattle.gix_ref_memory.specs.Memory.{meaning, past_of, tree_of, calls_of, faults_of, plan_of, KeepsFiles};
@@ -129,6 +135,40 @@ impl Memory {
         ensures same { KeepsFiles self.old self.new }
     {
         self.turns.plan = Plan::StopsAt(self.turns.calls.saturating_add(k), n);
+    }
+
+    /// Loses power, between calls or after a stop, and starts again as `restart` does. `Memory` where a growth was refused; then
+    /// nothing has changed.
+    ///
+    /// Entries of folders that are unsynced, and ends of files that are, are numbered from 0 in the order of their first
+    /// unsynced change; of one rename the old path comes before the new one. Number i keeps its new state where bit `i mod 64`
+    /// of `pick` is 1; else an entry is as its folder's last sync found it, and the bytes that were not synced become as many
+    /// bytes 0x3F. With a folder's own entry goes all below it. What is left is synced.
+    ///
+    /// ```text
+    /// files.append(b"/r/HEAD", b"more")?;
+    /// files.lose_power(0)?; // of `more` four question marks are left
+    /// ```
+    pub fn lose_power(&mut self, pick: u64) -> Result<(), FileError>
+        ensures lost { OnOk result (Lost (disk_of (meaning self.old)) (tree_of self.new)) }
+        ensures none { pick ≡ 0 → OnOk result (tree_of self.new
+            ≡ lost_by (λ p. false) (λ p. false) (disk_of (meaning self.old))) }
+        ensures settled { OnOk result
+            (disk_of (meaning self.new) ≡ all_synced (tree_of self.new)) }
+        ensures plan { OnOk result (plan_of self.new ≡ Runs) }
+        ensures memory { OnErr result (result ≡ Err FileError.Memory) }
+        ensures failed { OnErr result (past_of self.new ≡ past_of self.old) }
+        ensures calls { calls_of self.new ≡ calls_of self.old }
+        ensures faults { faults_of self.new ≡ faults_of self.old }
+    {
+        match left_by_loss(self.alloc, &self.changes, pick) {
+            Ok(left) => {
+                self.changes = left;
+                self.turns.plan = Plan::Runs;
+                Ok(())
+            }
+            Err(_) => Err(FileError::Memory),
+        }
     }
 
     /// Has no call fail or stop any more, as after the process was started again. The tree stays.

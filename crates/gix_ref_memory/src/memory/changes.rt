@@ -69,7 +69,7 @@ impl Stands<'_> {
     }
 }
 
-fn stored_stands(stored: &Option<Stored>) -> Option<Stands<'_>>
+pub fn stored_stands(stored: &Option<Stored>) -> Option<Stands<'_>>
     ensures { found_content result ≡ content_of stored.now }
 {
     match stored {
@@ -124,7 +124,7 @@ pub fn find<'a>(changes: &'a [Change], path: &[u8]) -> Option<Stands<'a>>
 }
 
 /// How many bytes there are.
-fn len_of(stands: Option<Stands<'_>>) -> usize
+pub fn len_of(stands: Option<Stands<'_>>) -> usize
     ensures { result ≡ length (bytes_of (found_content stands.entry)) }
 {
     match stands {

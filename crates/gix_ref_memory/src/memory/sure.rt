@@ -1,0 +1,153 @@
+//! What is known of an entry of a folder in memory: what it is now, and what it was when its folder was last synced.
+ghost use Rattle.std.specs.Prelude.{◌≡◌};
+ghost use Rattle.gix_ref_files.specs.Disk.{folder_of};
+ghost use Rattle.gix_ref_memory.specs.Changes.{found_item};
+ghost use Rattle.gix_ref_memory.specs.Power.{entries, entry_after, entered, settled, no_entry, sure_entry};
+
+use super::changes::{Change, Known, Stands, len_of, stored_stands};
+
+/// What is known of an entry: what it is now, what it was when its folder was last synced, and whether it is unsynced.
+#[derive(Clone, Copy, Debug)]
+pub struct Sure<'a> {
+    pub now: Known<'a>,
+    pub last: Known<'a>,
+    pub is_new: bool,
+}
+
+/// The folder of a path: what is before its last slash, unless that is its first byte.
+pub fn folder_of(path: &[u8]) -> &[u8]
+    ensures { result.now ≡ folder_of path.now }
+{
+    let mut end = 0;
+    for i in 1..path.len() {
+        if path[i] == b'/' {
+            end = i;
+        }
+    }
+    &path[..end]
+}
+
+/// Nothing.
+fn known_nothing<'a>() -> Known<'a>
+    ensures { found_item result ≡ no_entry.now }
+{
+    Known {
+        stands: None,
+        synced: 0,
+    }
+}
+
+/// The entry becomes another, and is unsynced from then on.
+fn entered<'a>(sure: Sure<'a>, now: Known<'a>) -> Sure<'a>
+    ensures { sure_entry result ≡ entered (found_item now.entry) (sure_entry sure.entry) }
+{
+    let last = if sure.is_new { sure.last } else { sure.now };
+    Sure {
+        now,
+        last,
+        is_new: true,
+    }
+}
+
+/// The entry is synced.
+fn settled(now: Known<'_>) -> Sure<'_>
+    ensures { sure_entry result ≡ settled (found_item now.entry) }
+{
+    Sure {
+        now,
+        last: now,
+        is_new: false,
+    }
+}
+
+/// The entry after a change of it.
+fn entry_after<'a>(change: &'a Change, path: &[u8], folder: &[u8], sure: Sure<'a>) -> Sure<'a>
+    requires { folder.now ≡ folder_of path.now }
+    ensures { sure_entry result ≡ entry_after change.now path.now (sure_entry sure.entry) }
+{
+    match change {
+        Change::Put {
+            path: at,
+            stored,
+            synced,
+        } => {
+            if at.as_slice() != path {
+                return sure;
+            }
+            let stands = stored_stands(stored);
+            if *synced {
+                settled(Known {
+                    stands,
+                    synced: len_of(stands),
+                })
+            } else {
+                entered(sure, Known { stands, synced: 0 })
+            }
+        }
+        Change::Append {
+            path: at,
+            whole,
+            ..
+        } => {
+            if at.as_slice() != path {
+                return sure;
+            }
+            let stands = Some(Stands::FileOf(whole));
+            let synced = sure.now.synced;
+            let now = Known { stands, synced };
+            Sure { now, ..sure }
+        }
+        Change::Move {
+            from,
+            to,
+            bytes,
+            synced,
+        } => {
+            let gone = if from.as_slice() == path {
+                entered(sure, known_nothing())
+            } else {
+                sure
+            };
+            if to.as_slice() == path {
+                let stands = Some(Stands::FileOf(bytes));
+                entered(
+                    gone,
+                    Known {
+                        stands,
+                        synced: *synced,
+                    },
+                )
+            } else {
+                gone
+            }
+        }
+        Change::SyncFile { path: at } => {
+            if at.as_slice() != path {
+                return sure;
+            }
+            let stands = sure.now.stands;
+            let synced = len_of(stands);
+            let now = Known { stands, synced };
+            Sure { now, ..sure }
+        }
+        Change::SyncFolder { path: at } => {
+            if at.as_slice() == folder {
+                settled(sure.now)
+            } else {
+                sure
+            }
+        }
+    }
+}
+
+/// What is known of an entry after all changes.
+pub fn sure_at<'a>(changes: &'a [Change], path: &[u8]) -> Sure<'a>
+    ensures { sure_entry result ≡ entries changes.now path.now no_entry }
+{
+    let folder = folder_of(path);
+    let mut sure = settled(known_nothing());
+    for change in changes {
+        sure = entry_after(change, path, folder, sure);
+    }
+    sure
+}
