@@ -3,4 +3,5 @@
 
 mod disk;
 mod memory;
+mod power;
 mod table;

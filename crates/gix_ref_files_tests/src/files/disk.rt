@@ -76,3 +76,34 @@ fn reads_a_large_file_whole(rt: HostRuntime) -> Result<(), Fail> {
     assert_eq!(rt; buf.as_slice(), bytes.as_slice());
     Ok(())
 }
+
+#[test]
+fn both_makers_leave_the_same_bytes(rt: HostRuntime) -> Result<(), Fail> {
+    let mut with = Disk::new(rt.clone()?);
+    let mut without = Disk::without_syncs(rt.clone()?);
+    let first = write_and_sync(&mut with, b"with", b"with/f");
+    let second = write_and_sync(&mut without, b"without", b"without/f");
+    let none = with.sync_file(b"with/none");
+    let a_folder = with.sync_file(b"with");
+    let a_file = with.sync_folder(b"with/f");
+    let left = fs::read(&rt, "with/f");
+    let same = fs::read(&rt, "without/f");
+    fs::remove_dir_all(&rt, "with")?;
+    fs::remove_dir_all(&rt, "without")?;
+    assert_eq!(rt; first, Ok(true), "synced");
+    assert_eq!(rt; second, Ok(true), "not synced, and true");
+    assert_eq!(rt; none, Ok(false), "no file");
+    assert_eq!(rt; a_folder, Ok(false), "a folder is no file");
+    assert_eq!(rt; a_file, Ok(false), "a file is no folder");
+    assert_eq!(rt; left?.as_slice(), b"abc".as_slice());
+    assert_eq!(rt; same?.as_slice(), b"abc".as_slice());
+    Ok(())
+}
+
+/// Makes a folder and a file with bytes, and syncs both.
+fn write_and_sync(disk: &mut Disk, folder: &[u8], file: &[u8]) -> Result<bool, FileError> {
+    disk.make_folders(folder)?;
+    disk.create_new(file)?;
+    disk.append(file, b"abc")?;
+    Ok(disk.sync_file(file)? && disk.sync_folder(folder)?)
+}
