@@ -1,5 +1,6 @@
 pub mod Between
 pub mod Changes
+pub mod Climbing
 pub mod Entries
 pub mod FolderOf
 pub mod Folders

@@ -1,12 +1,10 @@
 -- What is proved of disks and losses of power.
-use Rattle.std.specs.Prelude.{◌≡◌, ◌≢◌, Bool}
-use Rattle.gix_ref_files.specs.Tree.{Tree, Path, Content, file_of, IsShaped, is_folder, has_folders, with_folders}
-use Rattle.gix_ref_files.specs.Disk.{Disk, MayBe, Lost, with_folders_on}
+use Rattle.std.specs.Prelude.{◌≡◌, ◌≢◌, ◌<◌, ◌≤◌, ◌++◌, ◌∷◌, [], ℕ, List, Bool, true, length, take, get_or}
+use Rattle.gix_ref_files.specs.Tree.{Tree, Path, file_of, fronts, IsShaped, has_folders, with_folders}
+use Rattle.gix_ref_files.specs.Disk.{Disk, Lost, with_folders_on}
 use Rattle.gix_ref_files.specs.Lock.{lock_of}
 use Rattle.gix_ref_files.specs.Losing.{lost_by, all_synced}
-use Rattle.gix_ref_files.specs.Settled.{AllStay, IsAllSettled, SettlesPath, Sync, synced, synced_by}
-use Rattle.std.specs.Prelude.{ℕ, List, Option, true}
-use Rattle.gix_ref_files.specs.Tree.{fronts}
+use Rattle.gix_ref_files.specs.Settled.{AllStay, IsAllSettled, AreIn, SettlesPath, Sync, synced, synced_by, climb}
 
 -- A loss of power may leave all as it is: what a stop leaves, a loss may leave.
 abbrev pub EveryStopIsALoss : Type 0
@@ -33,11 +31,17 @@ abbrev pub SyncsLoseNothing : Type 0
 SyncsLoseNothing =
     (sync : Sync) (D : Disk) → ((synced sync D).tree ≡ D.tree) × ((T : Tree) → Lost (synced sync D) T → Lost D T)
 
--- The climb settles: the folders on the way of a path stay, once they are synced up to one that stays.
+-- The folders on the way of a path stay, once they are synced up to one that stays.
 abbrev pub ClimbsSettle : Type 0
 ClimbsSettle =
     (D : Disk) (staying : List Path) (p : Path) (syncs : List Sync) → SettlesPath staying p syncs → AllStay D staying →
     has_folders D.tree p ≡ true → AllStay (synced_by syncs D) (fronts p)
+
+-- And the climb of a path to a front of it that stays, with all folders above that, settles the path.
+abbrev pub EveryClimbSettles : Type 0
+EveryClimbSettles =
+    (staying : List Path) (p : Path) (root : ℕ) → 1 ≤ root → root < length p → get_or p root 0 ≡ 47 →
+    AreIn (fronts (take root p) ++ take root p ∷ []) staying → SettlesPath staying p (climb p root)
 
 -- Making folders makes those of the tree.
 abbrev pub FoldersAreThoseOfTheTree : Type 0

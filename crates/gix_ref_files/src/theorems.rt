@@ -1,5 +1,5 @@
 //! What a loss of power leaves of a disk, as the contract of a function that does nothing.
-ghost use Rattle.gix_ref_files.specs.Theorems.{EveryStopIsALoss, EveryLossIsShaped, SettledLosesNothing, EveryChoiceIsALoss, WhatIsLeftIsSettled, SyncsLoseNothing, ClimbsSettle, FoldersAreThoseOfTheTree};
+ghost use Rattle.gix_ref_files.specs.Theorems.{EveryStopIsALoss, EveryLossIsShaped, SettledLosesNothing, EveryChoiceIsALoss, WhatIsLeftIsSettled, SyncsLoseNothing, ClimbsSettle, EveryClimbSettles, FoldersAreThoseOfTheTree};
 ghost use Rattle.gix_ref_files.specs.Losing.{UnsyncedLockIsWrong, SyncAtTheEndIsWrong};
 
 /// What a loss of power leaves: what a stop leaves, or less, and always a well formed tree; of a settled disk nothing is
@@ -12,7 +12,8 @@ pub fn losses_of_power()
     ensures choice { EveryChoiceIsALoss }
     ensures left { WhatIsLeftIsSettled }
     ensures syncs { SyncsLoseNothing }
-    ensures climb { ClimbsSettle }
+    ensures stay { ClimbsSettle }
+    ensures climb { EveryClimbSettles }
     ensures folders { FoldersAreThoseOfTheTree }
     ensures unsynced_lock { UnsyncedLockIsWrong }
     ensures sync_at_end { SyncAtTheEndIsWrong }

@@ -15,10 +15,10 @@ use Rattle.gix_ref_theory.specs.Edits.Change.{Update, Delete}
 use Rattle.gix_ref_theory.specs.Edits.Effect.{Writes, Removes, Keeps}
 use Rattle.gix_ref_theory.specs.Plan.{plan, updates, line_writes, place_writes, log_removal, log_removals, file_writes, packed_writes, place_removal, loose_removals}
 use Rattle.gix_ref_theory.specs.Between.{IsEdit, IsNewFile, IsPackedFile, IsPrepared, IsLogLeft, NoDeletionFirst, InOrder, ReadsAsBefore, ReadsAsEdited}
-use Rattle.gix_ref_theory.specs.Losses.{IsLostBetween, IsLostWell, EveryLossIsBetween, EveryWholeRunIsKept}
+use Rattle.gix_ref_theory.specs.Losses.{IsLostBetween, IsLostWell, EveryLossAmongIsBetween, EveryLossIsBetween, EveryWholeRunIsKept}
 use Rattle.gix_ref_theory.proofs.Bare.{AllCount, Bare, bare_of}
 use Rattle.gix_ref_theory.proofs.Headline as headline
-use Rattle.gix_ref_theory.proofs.OnDisks.{in_one, settles, done_kept, own_is_lock}
+use Rattle.gix_ref_theory.proofs.OnDisks.{within, losses, settles, done_kept, own_is_lock}
 use Rattle.gix_ref_theory.proofs.Writes.{IsCut, cut_at}
 use Rattle.gix_ref_theory.proofs.ReadingLemmas.{reading-same}
 use Rattle.gix_ref_theory.proofs.Plans.{is_reference_at, edit_behind, edit_in_front}
@@ -162,15 +162,20 @@ module _ (s : Store) (laws : HasLaws s) (mode : Mode) (locked : List Path) (edit
         as_edited e.name (is_ref e hf)
         (stop.in_edit_order s laws mode (view_of D.tree) edits merged p Loss b.bare cut keeps first u later whole up a (differs_from u.name (is_ref u hu) differs) e he eup)
 
+pub every_loss_among : EveryLossAmongIsBetween
+every_loss_among s laws mode locked edits merged before left D E settled prepared alike inside lost =
+    let b = bare_of (IsSpokenOf locked D) (plan s mode (view_of D.tree) edits merged) (view_of D.tree) (view_of left) (counts s laws mode locked edits merged (view_of before) D left settled prepared alike)
+    (losses locked (plan s mode (view_of D.tree) edits merged) D E left inside lost) in
+    record {
+      between = between s laws mode locked edits merged (view_of before) D left settled prepared alike b;
+      no_deletion_first = no_deletion_first s laws mode locked edits merged (view_of before) D left settled prepared alike b;
+      in_order = in_order s laws mode locked edits merged (view_of before) D left settled prepared alike b;
+    }
+
 pub every_loss : EveryLossIsBetween
 every_loss s laws mode locked staying edits before left D E steps run at lost =
-    let b = bare_of (IsSpokenOf locked D) (plan s mode (view_of D.tree) edits run.merged) (view_of D.tree) (view_of left) (counts s laws mode locked edits run.merged (view_of before) D left run.settled run.prepared run.locks)
-    (in_one locked staying run.texts steps (plan s mode (view_of D.tree) edits run.merged) D E left run.stays run.whole run.steps_are_planned at lost) in
-    record {
-      between = between s laws mode locked edits run.merged (view_of before) D left run.settled run.prepared run.locks b;
-      no_deletion_first = no_deletion_first s laws mode locked edits run.merged (view_of before) D left run.settled run.prepared run.locks b;
-      in_order = in_order s laws mode locked edits run.merged (view_of before) D left run.settled run.prepared run.locks b;
-    }
+    every_loss_among s laws mode locked edits run.merged before left D E run.settled run.prepared run.locks
+    (within locked staying run.texts steps (plan s mode (view_of D.tree) edits run.merged) D E run.stays run.whole run.steps_are_planned at) lost
 
 pub whole_run : EveryWholeRunIsKept
 whole_run s laws mode locked staying edits before left D E steps run done lost =

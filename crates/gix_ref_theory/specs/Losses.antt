@@ -6,7 +6,7 @@ use Rattle.gix_ref_files.specs.Lock.{lock_of}
 use Rattle.gix_ref_files.specs.Settled.{AllStay, IsSettledAt, IsAllSettled}
 use Rattle.gix_ref_files.specs.DiskSteps.{Synced, IsReachedBy, IsSyncedAfter}
 use Rattle.gix_ref_base.specs.PackedRecords.{Record}
-use Rattle.gix_ref_theory.specs.OnDisks.{CarryOut, IsSpokenOf, AreWhole}
+use Rattle.gix_ref_theory.specs.OnDisks.{CarryOut, IsWithin, IsSpokenOf, AreWhole}
 use Rattle.gix_ref_theory.specs.OnRealTrees.{view_of}
 use Rattle.gix_ref_theory.specs.Views.{View, IsSameButLocks}
 use Rattle.gix_ref_theory.specs.Views.Ending.{Stop, Loss}
@@ -49,6 +49,14 @@ abbrev pub EveryLossIsBetween : Type 0
 EveryLossIsBetween =
     (s : Store) → HasLaws s → (mode : Mode) (locked staying : List Path) (edits : List Edit) (before left : Tree) (D E : Disk) (steps : List Synced) →
     IsSyncedCommit s mode locked staying edits before D steps → IsReachedBy steps D E → Lost E left → IsLostWell s mode locked edits D before left
+
+-- And every loss of power on a disk among the writes of its plan, as on that of a run that ended early and whose locks were then
+-- removed.
+abbrev pub EveryLossAmongIsBetween : Type 0
+EveryLossAmongIsBetween =
+    (s : Store) → HasLaws s → (mode : Mode) (locked : List Path) (edits : List Edit) (merged : List Record) (before left : Tree) (D E : Disk) →
+    IsAllSettled D → IsPrepared s mode (view_of D.tree) edits merged → IsSameButLocks locked (view_of before) (view_of D.tree) →
+    IsWithin (IsSpokenOf locked D) (plan s mode (view_of D.tree) edits merged) (view_of D.tree) E → Lost E left → IsLostWell s mode locked edits D before left
 
 -- The whole run is committed, and a loss of power after it leaves these files, but for locks; and all is settled again.
 abbrev pub EveryWholeRunIsKept : Type 0

@@ -1,6 +1,6 @@
 //! The theorems of the store, as contracts of functions that do nothing.
 ghost use Rattle.gix_ref_theory.specs.Theorems.{EveryStopIsBetween, NoDeletionShowsFirst, UpdatesShowInOrder, WholePlanCommits, PlanSeesNoLocks, MergedRecordsAreOne, PathsAreTheTable, SafeNamesAreTested, PlacesKeepTheLaws, OnePlaceHasOneLog, OneLogHasOnePlace, PlacesLieInTheNamespace};
-ghost use Rattle.gix_ref_theory.specs.Losses.{EveryLossIsBetween, EveryWholeRunIsKept, StopLogsAreBetween};
+ghost use Rattle.gix_ref_theory.specs.Losses.{EveryLossIsBetween, EveryLossAmongIsBetween, EveryWholeRunIsKept, StopLogsAreBetween};
 ghost use Rattle.gix_ref_theory.specs.OnDisks.{EveryDiskIsWithin, LockRemovalsKeepWithin, EveryLossWithin, EveryLossIsInOneWrite, EveryRunSettles, EveryDoneRunIsKept, OwnStepsWriteNothing, SyncsWriteNothing};
 ghost use Rattle.gix_ref_theory.specs.SmallCommit.{SmallCommitIsCarriedOut};
 ghost use Rattle.gix_ref_theory.specs.OnRealTrees.{EveryTreeIsBetween, EveryEndIsBetween, EveryWholeRunCommits, FoldersHoldNoFile};
@@ -30,6 +30,7 @@ pub fn every_tree()
 /// leaves what was committed.
 pub fn every_loss()
     ensures between { EveryLossIsBetween }
+    ensures among { EveryLossAmongIsBetween }
     ensures kept { EveryWholeRunIsKept }
     ensures stop_logs { StopLogsAreBetween }
 {}

@@ -1,6 +1,7 @@
 use Rattle.std.proofs.Common.{◌≡◌, refl}
 use Rattle.gix_ref_files.specs.Tree.{file_of}
 use Rattle.gix_ref_files.specs.Settled.{synced}
+use Rattle.gix_ref_files.proofs.Climbing.{climbs}
 use Rattle.gix_ref_files.proofs.Entries.{synced_may, synced_tree}
 use Rattle.gix_ref_files.proofs.Folders.{with_folders_tree}
 use Rattle.gix_ref_files.proofs.Losing as losing
@@ -26,8 +27,8 @@ returns-clause-left c = losing.left_settled
 pub returns-clause-syncs : goal.returns-clause-syncs
 returns-clause-syncs c sync D = (synced_tree sync D, λ T lost. lost_more D (synced sync D) T (λ q content may. synced_may sync D q content may) lost)
 
-pub returns-clause-climb : goal.returns-clause-climb
-returns-clause-climb c D staying p syncs settles stay folders = settled_way staying p syncs D (as_settles staying p syncs settles) stay folders
+pub returns-clause-stay : goal.returns-clause-stay
+returns-clause-stay c D staying p syncs settles stay folders = settled_way staying p syncs D (as_settles staying p syncs settles) stay folders
 
 pub returns-clause-folders : goal.returns-clause-folders
 returns-clause-folders c = with_folders_tree
@@ -37,3 +38,6 @@ returns-clause-unsynced_lock c = losing.unsynced_wrong
 
 pub returns-clause-sync_at_end : goal.returns-clause-sync_at_end
 returns-clause-sync_at_end c = losing.end_wrong
+
+pub returns-clause-climb : goal.returns-clause-climb
+returns-clause-climb c = climbs

@@ -10,3 +10,6 @@ returns-clause-kept c = main.whole_run
 
 pub returns-clause-stop_logs : goal.returns-clause-stop_logs
 returns-clause-stop_logs c = stop_logs
+
+pub returns-clause-among : goal.returns-clause-among
+returns-clause-among c = main.every_loss_among
