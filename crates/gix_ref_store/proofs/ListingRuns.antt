@@ -1,22 +1,50 @@
 -- The runs of a listing of a store.
 use Rattle.std.proofs.Common.{◌≡◌, ℕ, Bool, true, List, [], ◌∷◌, refl, sym, ◌∙◌, ap, subst, Option, Some, None, Result, Ok, Err}
+use denote.Ref.{Bor}
+use Rattle.std.specs.List.{All}
+use Rattle.std.specs.Prelude.{slice_index_or}
 use Rattle.std.specs.Iterator.{Yields}
 use Rattle.std.specs.Iterator.Runs.{YieldsRun, EachRunFrom}
 use Rattle.gix_ref_base.specs.declared.namespace.Namespace.{Namespace}
 use Rattle.gix_ref_hash.specs.declared.hash.Kind.{Kind}
 use Rattle.gix_ref_files.specs.Files.{Meaning}
+use Rattle.gix_ref_base.specs.PackedRecords.{Record}
+use Rattle.gix_ref_packed.specs.RecordGrammar.{Below, Ascending, Rising}
+use Rattle.gix_ref_packed.proofs.Halves.{not_both}
+use Rattle.gix_ref_packed.specs.declared.packed.buffer.Buffer.{Buffer}
 use Rattle.gix_ref_packed.specs.declared.raw.Reference.{Reference}
 use Rattle.gix_ref_lookup.specs.declared.folders.Dirs.{Dirs}
 use Rattle.gix_ref_lookup.specs.declared.settings.Settings.{Settings}
 use Rattle.gix_ref_listing.specs.Listings.{Listed}
 use Rattle.gix_ref_listing.specs.Steps.{AreYet}
+use Rattle.gix_ref_listing.specs.WholeListings.{AreHeld as HeldFor}
 use Rattle.gix_ref_listing.specs.declared.error.Error.{Error}
 use Rattle.gix_ref_store.specs.Store as stores
-use Rattle.gix_ref_store.specs.Lookup.{lent, settings_of}
+use Rattle.gix_ref_store.specs.Lookup.{AreHeld, lent, settings_of}
 use Rattle.gix_ref_store.specs.Listings.{NextItem, AreItemsOf}
 use Rattle.gix_ref_store.specs.declared.file.store.Store.{Store}
 use Rattle.gix_ref_store.specs.declared.file.iter.LooseThenPacked.{LooseThenPacked}
 use Rattle.gix_ref_store.specs.declared.file.iter.Remaining.{Remaining}
+
+rising_all : (r : Record) (rs : List Record) → All (λ s. Below r.name s.name) rs → All (λ s. Below s.name r.name → ⊥) rs
+rising_all r rs all = λ k d under over. not_both r.name (slice_index_or rs k d).name (all k d under) over
+
+rises : (rs : List Record) → Ascending rs → Rising rs
+rises [] up = _
+rises (r ∷ rs) up = (rising_all r rs up.0, rises rs up.1)
+
+-- the records of a buffer are those of each prefix
+pub held_for : (prefix : List ℕ) (packed : Option (Bor Buffer)) (records : List Record) → AreHeld packed records → HeldFor prefix packed records
+held_for prefix None records none = none
+held_for prefix (Some buffer) records holds = record {
+  held = holds.held;
+  ascending = holds.ascending;
+  named = holds.named;
+  part = holds.held;
+  lines = holds.records;
+  rising = rises holds.held holds.ascending;
+  kept = refl;
+}
 
 abbrev made : Dirs → Option Namespace → Kind → (prohibits composes : Bool) → Settings
 made dirs namespace kind prohibits composes = record { dirs = lent dirs; namespace = lent namespace; kind = kind; prohibit_windows_device_names = prohibits; precompose_unicode = composes }

@@ -1,13 +1,16 @@
 //! Listing references (`git for-each-ref`).
 ghost use Rattle.std.specs.Prelude.{◌≡◌};
 ghost use Rattle.std.specs.Borrow.{sem, RestsIfErr};
+ghost use Rattle.gix_ref_store.specs.Listings.{prefix_of_all};
 
 use crate::file::store::Store;
+use gix_ref_base::namespace::Namespace;
 use gix_ref_files::files::Files;
 use gix_ref_listing::item::next_item;
 use gix_ref_listing::list::list;
 use gix_ref_listing::merge::Merge;
 pub use gix_ref_listing::prefix::Error;
+use gix_ref_listing::prefix::check_prefix;
 use gix_ref_lookup::settings::Settings;
 use gix_ref_packed::packed::Buffer;
 use gix_ref_packed::raw::Reference;
@@ -16,6 +19,16 @@ use std::alloc::Global;
 pub mod loose_then_packed {
     //! Faults among the items of a listing.
     pub use gix_ref_listing::error::Error;
+}
+
+/// What the names of a whole listing begin with: `refs/`, or in a namespace nothing.
+fn prefix_of_all(namespace: &Option<Namespace>) -> &'static [u8]
+    ensures { result.now ≡ prefix_of_all namespace.now }
+{
+    match namespace {
+        Some(_) => b"",
+        None => b"refs/",
+    }
 }
 
 /// What a listing is yet to give.
@@ -50,16 +63,16 @@ impl<'p, F: Files> Iterator for LooseThenPacked<'p, F> {
 }
 
 impl<F: Files> Store<F> {
-    ghost use Rattle.std.specs.Prelude.{◌≡◌, ◌≤◌, ◌+◌, List, IfOk, IfErr};
+    ghost use Rattle.std.specs.Prelude.{◌≡◌, ◌⊎◌, ◌≤◌, ◌+◌, [], List, IfOk, IfErr, OnOk, OnErr};
     ghost use Rattle.gix_ref_base.specs.PackedRecords.{Record};
-    ghost use Rattle.gix_ref_listing.specs.WholeListings.{AreHeld, key_in};
     ghost use Rattle.gix_ref_listing.specs.declared.prefix.Error.TheVariants.{Memory};
-    ghost use Rattle.gix_ref_store.specs.Lookup.{LooksUp, settings_of};
+    ghost use Rattle.gix_ref_store.specs.Lookup.{AreHeld, LooksUp, settings_of};
     ghost use Rattle.std.specs.Option.{option_len};
     ghost use Rattle.gix_ref_listing.specs.Listings.{merge_left};
+    ghost use Rattle.gix_ref_listing.specs.CleanPrefixes.{IsTaken, IsRefused};
     ghost use Rattle.gix_ref_listing.specs.Steps.{GivesNext};
     ghost use Rattle.gix_ref_store.specs.Store.{files_of, IsSameStore};
-    ghost use Rattle.gix_ref_store.specs.Listings.{Lists};
+    ghost use Rattle.gix_ref_store.specs.Listings.{Lists, prefix_of_all};
     ghost use Rattle.gix_ref_store.specs.contracts.file.store.Store.{the_row};
 
     /// The next item of a listing.
@@ -92,13 +105,12 @@ impl<F: Files> Store<F> {
     ) -> Result<LooseThenPacked<'p, F>, Error>
         ensures* rests { sem 𝓛 (RestsIfErr (the_row F.row) self.entry
             (λ it. it.store.ghost_name) result
-            (λ n. IfErr result (λ error. (error ≡ Memory)
-            × LooksUp F.honest F.means self.entry.now n))) }
+            (λ n. OnErr result (LooksUp F.honest F.means self.entry.now n))) }
         ensures same_reference { IfOk result
             (λ it. it.store.ghost_name ≡ self.entry.ghost_name) }
         ensures looks_up { IfOk result (λ it. LooksUp F.honest F.means self.entry.now it.store.now) }
         ensures lists { F.honest → (records : List Record) →
-            AreHeld (key_in (settings_of self.entry.now) prefix.now) packed.entry records →
+            AreHeld packed.entry records →
             IfOk result (Lists F.honest F.means F.faults self.entry.now records prefix.now) }
         ensures memory { IfErr result (λ error. error ≡ Memory) }
     {
@@ -116,5 +128,111 @@ impl<F: Files> Store<F> {
             }),
             Err(error) => Err(error),
         }
+    }
+
+    /// The references below `refs/`, or in a namespace all of its references: the loose ones, and those of the buffer if one
+    /// is given (`git for-each-ref`). Names are without the namespace.
+    ///
+    /// The folders of the loose references are listed now, one call of files each; a file is read when its reference is given,
+    /// and a record is decoded when it is given. A folder that cannot be listed is an item.
+    ///
+    /// `Memory` where there was no memory for the names of the loose references.
+    ///
+    /// ```text
+    /// let packed = store.open_packed_buffer(alloc)?;
+    /// for reference in store.iter_packed(alloc, packed.as_ref())? {
+    ///     let reference = reference?;
+    ///     println!(rt; "{} {}", reference.target, reference.name)?;
+    /// }
+    /// ```
+    pub fn iter_packed<'p>(
+        &'p mut self,
+        alloc: Global,
+        packed: Option<&'p Buffer>,
+    ) -> Result<LooseThenPacked<'p, F>, Error>
+        ensures* rests { sem 𝓛 (RestsIfErr (the_row F.row) self.entry
+            (λ it. it.store.ghost_name) result
+            (λ n. OnErr result (LooksUp F.honest F.means self.entry.now n))) }
+        ensures same_reference { IfOk result
+            (λ it. it.store.ghost_name ≡ self.entry.ghost_name) }
+        ensures looks_up { IfOk result (λ it. LooksUp F.honest F.means self.entry.now it.store.now) }
+        ensures lists { F.honest → (records : List Record) → AreHeld packed.entry records →
+            IfOk result (Lists F.honest F.means F.faults self.entry.now records
+            (prefix_of_all self.entry.now.namespace)) }
+        ensures memory { IfErr result (λ error. error ≡ Memory) }
+    {
+        let prefix = prefix_of_all(&self.namespace);
+        self.list(alloc, prefix, packed)
+    }
+
+    /// As `iter_packed`, of the references whose names begin with the prefix. Of the folders only those are listed that such
+    /// names may be in, and of a sorted buffer only the records of the prefix are looked at.
+    ///
+    /// `EmptyPrefix` where the prefix is empty and the store is in no namespace; `PrefixNotClean` where it begins with a slash,
+    /// has two slashes in a row or a NUL, or a component of it is `.` or `..`; `Memory`.
+    ///
+    /// ```text
+    /// for tag in store.iter_prefixed_packed(alloc, b"refs/tags/", packed.as_ref())? {
+    ///     println!(rt; "{}", tag?.name)?;
+    /// }
+    /// ```
+    pub fn iter_prefixed_packed<'p>(
+        &'p mut self,
+        alloc: Global,
+        prefix: &[u8],
+        packed: Option<&'p Buffer>,
+    ) -> Result<LooseThenPacked<'p, F>, Error>
+        ensures* rests { sem 𝓛 (RestsIfErr (the_row F.row) self.entry
+            (λ it. it.store.ghost_name) result
+            (λ n. OnErr result (LooksUp F.honest F.means self.entry.now n))) }
+        ensures same_reference { IfOk result
+            (λ it. it.store.ghost_name ≡ self.entry.ghost_name) }
+        ensures looks_up { IfOk result (λ it. LooksUp F.honest F.means self.entry.now it.store.now) }
+        ensures lists { F.honest → (records : List Record) → AreHeld packed.entry records →
+            IfOk result (Lists F.honest F.means F.faults self.entry.now records prefix.now) }
+        ensures taken { OnOk result (IsTaken self.entry.now.namespace prefix.now) }
+        ensures refused { IfErr result (λ error. (error ≡ Memory)
+            ⊎ IsRefused self.entry.now.namespace prefix.now error) }
+    {
+        match check_prefix(&self.namespace, prefix) {
+            Ok(()) => self.list(alloc, prefix, packed),
+            Err(error) => Err(error),
+        }
+    }
+
+    /// As `iter_packed`, of the loose references alone.
+    pub fn loose_iter(&mut self, alloc: Global) -> Result<LooseThenPacked<'_, F>, Error>
+        ensures* rests { sem 𝓛 (RestsIfErr (the_row F.row) self.entry
+            (λ it. it.store.ghost_name) result
+            (λ n. OnErr result (LooksUp F.honest F.means self.entry.now n))) }
+        ensures same_reference { IfOk result
+            (λ it. it.store.ghost_name ≡ self.entry.ghost_name) }
+        ensures looks_up { IfOk result (λ it. LooksUp F.honest F.means self.entry.now it.store.now) }
+        ensures lists { F.honest → IfOk result (Lists F.honest F.means F.faults self.entry.now []
+            (prefix_of_all self.entry.now.namespace)) }
+        ensures memory { IfErr result (λ error. error ≡ Memory) }
+    {
+        self.iter_packed(alloc, None)
+    }
+
+    /// As `iter_prefixed_packed`, of the loose references alone.
+    pub fn loose_iter_prefixed(
+        &mut self,
+        alloc: Global,
+        prefix: &[u8],
+    ) -> Result<LooseThenPacked<'_, F>, Error>
+        ensures* rests { sem 𝓛 (RestsIfErr (the_row F.row) self.entry
+            (λ it. it.store.ghost_name) result
+            (λ n. OnErr result (LooksUp F.honest F.means self.entry.now n))) }
+        ensures same_reference { IfOk result
+            (λ it. it.store.ghost_name ≡ self.entry.ghost_name) }
+        ensures looks_up { IfOk result (λ it. LooksUp F.honest F.means self.entry.now it.store.now) }
+        ensures lists { F.honest → IfOk result
+            (Lists F.honest F.means F.faults self.entry.now [] prefix.now) }
+        ensures taken { OnOk result (IsTaken self.entry.now.namespace prefix.now) }
+        ensures refused { IfErr result (λ error. (error ≡ Memory)
+            ⊎ IsRefused self.entry.now.namespace prefix.now error) }
+    {
+        self.iter_prefixed_packed(alloc, prefix, None)
     }
 }
