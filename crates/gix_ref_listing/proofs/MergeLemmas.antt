@@ -50,7 +50,8 @@ equal_is settings es left e (Some (Ok own)) (Some (Ok taken)) records mid owns i
     let same = subst (λ (x : List FoundEntry). order_of x (Some (Ok own)) ≡ Equal) is order in
     let both : own_of own ∷ own_records settings rs ≡ own_of taken ∷ more = sym whole ∙ took in
     let later : own_records settings rs ≡ more = cc in (
-      more, rest,
+      more,
+      rest,
       ap (λ x. merged x owns) is ∙ (ap (merged (e ∷ left)) whole ∙ (ap (by_order e left (own_of own) (own_records settings rs)) same ∙ ap (λ o. Walked e ∷ merged left o) later)),
     )
 

@@ -57,14 +57,20 @@ module _ (s : Settings) where
 
   -- what a walk found
   pub loose_of_plain : (view : View) (prefix name : List ℕ) → IsLooseListed (plain s) view prefix name → IsLooseListed s view prefix name
-  loose_of_plain view prefix name (front, of, loose) = (front, of, record {
+  loose_of_plain view prefix name (front, of, loose) = (
+    front,
+    of,
+    record {
       placed = record { valid = loose.placed.valid; begins = loose.placed.begins; own = loose.placed.own };
       composed = loose.composed;
       there = loose.there;
-    })
+    },
+  )
 
   pub found_plain : (view : View) (prefix : List ℕ) (e : FoundEntry) → IsFoundIn s view prefix e → IsFoundIn (plain s) view prefix e
-  found_plain view prefix (key, File name path) (named, file) = (named, record {
+  found_plain view prefix (key, File name path) (named, file) = (
+    named,
+    record {
       front = file.front;
       of = file.of;
       placed = record { valid = file.placed.valid; begins = file.placed.begins; own = file.placed.own };
@@ -72,7 +78,8 @@ module _ (s : Settings) where
       at = file.at;
       asked = file.asked;
       there = file.there;
-    })
+    },
+  )
   found_plain view prefix (key, Unlisted path e) found = found
 
   pub all_plain : (view : View) (prefix : List ℕ) (es : List FoundEntry) → All (IsFoundIn s view prefix) es → All (IsFoundIn (plain s) view prefix) es

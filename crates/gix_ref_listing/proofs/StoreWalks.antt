@@ -26,15 +26,23 @@ root_front folder namespace front some ends is =
 module _ (root : Root) (settings : Settings) (view : View) (prefix front : List ℕ) (of : IsFront settings front) (same_settings : root.settings ≡ settings) (same_path : root.path.now ≡ front) (same_prefix : root.prefix.now ≡ prefix) where
   -- a name that the store lists is one of the root
   pub of_root : (name : List ℕ) → LooseIn settings view prefix front name → IsLooseName root view name
-  of_root name loose = ((record {
+  of_root name loose = (
+    (
+      record {
         valid = loose.placed.valid;
         begins = subst (BeginsWith name) (sym same_prefix) loose.placed.begins;
         own = ap (λ (s : Settings). (meaning_in s).place name) same_settings ∙ (loose.placed.own ∙ ap (λ p. p ++ name) (sym same_path));
-      }, ap (λ (s : Settings). name_asked s.precompose_unicode name) same_settings ∙ loose.composed), subst (λ p. IsSome (view (p ++ name))) (sym same_path) loose.there)
+      },
+      ap (λ (s : Settings). name_asked s.precompose_unicode name) same_settings ∙ loose.composed,
+    ),
+    subst (λ p. IsSome (view (p ++ name))) (sym same_path) loose.there,
+  )
 
   -- and what the root found is of the store
   pub of_store : (e : FoundEntry) → IsThere root view e → IsFoundIn settings view prefix e
-  of_store (key, File name path) (named, file) = (named, record {
+  of_store (key, File name path) (named, file) = (
+    named,
+    record {
       front = front;
       of = of;
       placed = record {
@@ -46,7 +54,8 @@ module _ (root : Root) (settings : Settings) (view : View) (prefix front : List 
       at = file.is ∙ ap (λ p. p ++ file.disk) same_path;
       asked = file.asked ∙ ap (λ (s : Settings). name_asked s.precompose_unicode file.disk) same_settings;
       there = file.there;
-    })
+    },
+  )
   of_store (key, Unlisted path error) (other, at) = (other, (front, of, at ∙ ap (λ p. p ++ key.items) same_path))
 
   either_store : (es : List FoundEntry) → ((e : FoundEntry) → Among (λ o. o ≡ e) es → IsFoundIn settings view prefix e) → (e : FoundEntry) → IsThereOr es root view e → IsFoundIn settings view prefix e

@@ -3,9 +3,8 @@ ghost use Rattle.std.specs.Prelude.{◌≡◌};
 ghost use Rattle.gix_ref_listing.specs.Items.{of_reading, IsOfLine};
 
 use gix_ref_files::files::FileError;
-use gix_ref_lookup::find;
 use gix_ref_lookup::find::ReadError;
-use gix_ref_lookup::loose;
+use gix_ref_lookup::{find, loose};
 use gix_ref_packed::packed::iter::Error as PackedError;
 use std::alloc::{AllocError, Global};
 use thiserror::Error;

@@ -14,8 +14,8 @@ use gix_ref_base::name::FullNameRef;
 use gix_ref_base::namespace::Namespace;
 use gix_ref_hash::bytes::strip_front;
 use gix_ref_lookup::settings::Settings;
-use gix_ref_packed::packed::iter::{Error, Iter};
 use gix_ref_packed::packed::Reference;
+use gix_ref_packed::packed::iter::{Error, Iter};
 
 /// A record that a listing gives.
 #[derive(Clone, Copy, Debug)]

@@ -113,6 +113,13 @@ pub fn walk_store<F: Files>(
     if settings.dirs.git_dir.as_slice() == common {
         return Ok(found);
     }
-    walk_in(alloc, files, settings, &settings.dirs.git_dir, prefix, &mut found)?;
+    walk_in(
+        alloc,
+        files,
+        settings,
+        &settings.dirs.git_dir,
+        prefix,
+        &mut found,
+    )?;
     Ok(found)
 }

@@ -62,11 +62,7 @@ fn may_lead(alloc: Global, component: &[u8]) -> Result<bool, AllocError>
 
 /// The name of a file with this name on disk: the same, composed where names are composed. `None` where that is no valid
 /// partial name.
-fn name_on_disk(
-    alloc: Global,
-    composes: bool,
-    disk: &[u8],
-) -> Result<Option<FullName>, AllocError>
+fn name_on_disk(alloc: Global, composes: bool, disk: &[u8]) -> Result<Option<FullName>, AllocError>
     ensures { IfOk result (λ r. MatchOption r (IsPartialName disk.now → ⊥)
         (λ name. full_bytes name ≡ name_asked composes disk.now)) }
 {
@@ -179,12 +175,7 @@ impl Root<'_> {
     }
 
     /// Takes a file of a folder: it is found, where it is the file of a name.
-    fn take_file(
-        self,
-        alloc: Global,
-        disk: &[u8],
-        found: &mut FoundByKey,
-    ) -> Result<(), AllocError>
+    fn take_file(self, alloc: Global, disk: &[u8], found: &mut FoundByKey) -> Result<(), AllocError>
         ensures stays { StaysFound found.old.entries found.new.entries }
         ensures holds { OnOk result (IsListedName self.entry disk.now →
             Among (Holds disk.now) found.new.entries) }

@@ -12,6 +12,8 @@ mod find;
 #[cfg(test)]
 mod folders;
 #[cfg(test)]
+mod listings;
+#[cfg(test)]
 mod lookups;
 #[cfg(test)]
 mod loose;

@@ -58,7 +58,8 @@ impl<'p, F: Files> Iterator for LooseThenPacked<'p, F> {
     ghost next_gives = { λ s r t. NextItem F.honest F.means F.faults s r t };
 
     fn next(&mut self) -> Option<Result<Reference, loose_then_packed::Error>> {
-        self.store.next_listed(self.rest.alloc, &mut self.rest.merge)
+        self.store
+            .next_listed(self.rest.alloc, &mut self.rest.merge)
     }
 }
 
