@@ -52,16 +52,16 @@ fn open_reader<R: ReadAt + Drop>(
     ensures refused { R.honest → IfErr result (IsRefusedBytes kind (R.bytes reader)) }
     ensures failed { IfErr result (FailsByRead R.faults) }
 {
-    let heading = match file_header(alloc, &mut reader) {
+    let mut bytes = Vec::new(alloc);
+    let heading = match file_header(&mut bytes, &mut reader) {
         Ok(Some(heading)) => heading,
         Ok(None) => return Err(Error::HeaderParsing),
         Err(error) => return Err(refusal(error)),
     };
     if says_sorted(heading.header) {
-        let source = SortedFile::new(alloc, reader, heading.start as u64);
+        let source = SortedFile::in_memory_of(bytes, reader, heading.start as u64);
         return Ok(PackedFile::InFile { source, kind });
     }
-    let mut bytes = Vec::new(alloc);
     let len = reader.len() as usize;
     match read_window(&mut reader, &mut bytes, 0, len) {
         Ok(()) => {}

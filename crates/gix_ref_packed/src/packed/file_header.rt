@@ -10,7 +10,6 @@ use crate::packed::header_end::read_header_end;
 use crate::packed::sorted_file::{MAX_WINDOW_DOUBLINGS, ReadError, read_window, window_size};
 use crate::packed::window::InWindow;
 use gix_ref_files::files::ReadAt;
-use std::alloc::Global;
 
 /// What the header of a beginning of a text says of the text, which it is as a whole where `at_eof` holds. `Here(None)` where
 /// the text begins with `#` and has no header.
@@ -37,8 +36,12 @@ fn header_end_in(part: &[u8], at_eof: bool) -> InWindow<Option<HeaderEnd>>
 
 /// The header of a file, and where its records begin: a `SortedFile` from there on is searched where the header says sorted.
 /// `None` where the file begins with `#` and has no header. Reads the first 1 KB, and more only where the header's line is
-/// longer. The error reports that the file cannot be read, or that there was no memory for its beginning.
-pub fn file_header<R: ReadAt>(alloc: Global, reader: &mut R) -> Result<Option<HeaderEnd>, ReadError>
+/// longer, into the window. The error reports that the file cannot be read, or that there was no memory for its
+/// beginning.
+pub fn file_header<R: ReadAt>(
+    window: &mut Vec<u8>,
+    reader: &mut R,
+) -> Result<Option<HeaderEnd>, ReadError>
     ensures same { R.bytes reader.new ≡ R.bytes reader.old }
     ensures no_fault { IfOk result (λ _. R.faults reader.new ≡ R.faults reader.old) }
     ensures fault { IfErr result (λ error. R.faults reader.new
@@ -48,10 +51,9 @@ pub fn file_header<R: ReadAt>(alloc: Global, reader: &mut R) -> Result<Option<He
         (λ found. MatchOption found (NoHeader (R.bytes reader.old))
         (HeadsAt (R.bytes reader.old))) }
 {
-    let mut window = Vec::new(alloc);
     for turn in 0..MAX_WINDOW_DOUBLINGS {
         let len = window_size(turn).min(reader.len());
-        read_window(reader, &mut window, 0, len as usize)?;
+        read_window(reader, window, 0, len as usize)?;
         if let InWindow::Here(found) = header_end_in(window.as_slice(), len == reader.len()) {
             return Ok(found);
         }

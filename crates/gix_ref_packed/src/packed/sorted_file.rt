@@ -138,10 +138,19 @@ impl<R: ReadAt + Drop> SortedFile<R> {
         ensures reader { result.reader ≡ reader }
         ensures base { result.base ≡ base }
     {
+        SortedFile::in_memory_of(Vec::new(alloc), reader, base)
+    }
+
+    /// The same, with the memory of a vector for windows.
+    pub(crate) fn in_memory_of(mut window: Vec<u8>, reader: R, base: u64) -> SortedFile<R>
+        ensures reader { result.reader ≡ reader }
+        ensures base { result.base ≡ base }
+    {
+        window.clear();
         SortedFile {
             reader,
             base,
-            window: Vec::new(alloc),
+            window,
             from: 0,
         }
     }
