@@ -1,5 +1,9 @@
 -- How a plain name compares with the bytes of a line.
-use Rattle.std.proofs.Common.{◌≡◌, ◌≢◌, ◌⊎◌, inl, inr, ℕ, suc, zero, ◌*◌, ◌+◌, ◌-◌, ◌<◌, ◌≤◌, Bool, true, false, nat_lt, get_or, List, [], ◌∷◌, ◌++◌, length, take, drop, refl, sym, ◌∙◌, ap, arith, append_assoc, length-append, Option, Some, None}
+use Rattle.std.proofs.lemmas.Cmp.{nat_list_cmp_total, tied_itself}
+use Rattle.std.proofs.lemmas.Map.Lookups.{exact_bytes}
+use Rattle.std.proofs.Math.Seq.{drop-cons}
+use Rattle.std.specs.List.{AllPass}
+use Rattle.std.proofs.Common.{◌≡◌, ◌≢◌, ◌⊎◌, inl, inr, ℕ, suc, zero, ◌*◌, ◌+◌, ◌-◌, ◌<◌, ◌≤◌, Bool, true, false, nat_lt, get_or, List, [], ◌∷◌, ◌++◌, length, take, drop, refl, sym, ◌∙◌, ap, arith, append_assoc, length-append, length-take-le, ne_eqb, not, ◌||◌, Option, Some, None, subst}
 use Rattle.std.specs.Cmp.Lexicographic.{slice_cmp}
 use Rattle.std.specs.Ordering.{nat_cmp, ordering_then}
 use Rattle.std.specs.declared.cmp.Ordering.{Ordering}
@@ -7,13 +11,13 @@ use Rattle.std.specs.declared.cmp.Ordering.TheVariants.{Less, Equal, Greater}
 use Rattle.std.specs.Cmp.{nat_cmp_is}
 use Rattle.std.specs.Prelude.{MatchBool}
 use Rattle.std.proofs.lemmas.Bool.{ltb-true, lt-ltb}
-use Rattle.std.proofs.lemmas.List.{get_or_default, drop_at, drop-take, take-append-le, take-append-drop}
-use Rattle.std.proofs.lemmas.List.Elements.{All-head, All-tail}
+use Rattle.std.proofs.lemmas.List.{get_or_default, take_all, drop_at, drop-take, take-append-le, take-append-drop}
+use Rattle.std.proofs.lemmas.List.Elements.{All-head, All-tail, All-cons, All-nil}
 use Rattle.gix_ref_hash.specs.declared.hash.Kind.{Kind}
 use Rattle.gix_ref_hash.specs.Ids.{kind_len}
-use Rattle.gix_ref_packed.specs.RecordGrammar.{Newline}
+use Rattle.gix_ref_packed.specs.RecordGrammar.{Newline, in_line}
 use Rattle.gix_ref_packed.specs.Positions.{NameAt, Compares, IsPlain, Orders, OrdersIfNamed}
-use Rattle.gix_ref_packed.proofs.OneReading.{same_record_line}
+use Rattle.gix_ref_packed.proofs.OneReading.{same_record_line, spaced}
 
 -- a name that a byte up to CR ends, by the bytes that it and that byte have
 ended : (l : ℕ) (name wanted : List ℕ) (c : ℕ) (rest : List ℕ) → c ≤ 13 → IsPlain wanted → l ≤ length wanted → (o : Ordering) → o ≢ Equal
@@ -54,6 +58,41 @@ quick k text part wanted n l o plain len some is inside short other cmp name at 
     let same : take l (drop (n + 1) part) ≡ take l (name ++ end.0 ∷ end.2) = ap (take l) cut ∙ sym (take-append-le l (take m line.after) (drop m line.after) (let same = ap length cut in omega arith)) ∙ ap (take l) (take-append-drop m line.after) ∙ ap (take l) named in
     sym (ended l name wanted end.0 end.2 end.1 plain short o other (ap (λ t. slice_cmp nat_cmp t (take l wanted)) (sym same) ∙ cmp))
 
+plain_in_line : (name : List ℕ) → IsPlain name → AllPass in_line name
+plain_in_line [] plain = All-nil (λ b. in_line b ≡ true)
+plain_in_line (b ∷ name) plain =
+    let high : 13 < b = All-head (λ x. 13 < x) b name plain in
+    All-cons (λ x. in_line x ≡ true) b name (λ i. not (ne_eqb b 10 (λ e. absurd (omega arith)) i || ne_eqb b 13 (λ e. absurd (omega arith)) i)) (plain_in_line name (All-tail (λ x. 13 < x) b name plain))
+
+-- the wanted name and LF are in a name's place
+pub whole_name : (k : Kind) (text part wanted : List ℕ) (n l : ℕ) → IsPlain wanted → n ≡ 2 * kind_len k → n < length part → get_or part n 0 ≡ 32 → part ≡ take (length part) text
+    → length wanted < length (drop (n + 1) part) → get_or (drop (n + 1) part) (length wanted) 0 ≡ 10
+    → l ≡ length wanted → slice_cmp nat_cmp (take l (drop (n + 1) part)) (take l wanted) ≡ Equal → NameAt k text wanted
+whole_name k text part wanted n l plain len some space is inside end all cmp =
+    let after = drop (n + 1) part in
+    let rest = drop (suc l) after ++ drop (length part) text in
+    let named : take l after ≡ wanted = exact_bytes (take l after) (take l wanted) cmp ∙ take_all l wanted (omega arith) in
+    let line : after ≡ wanted ++ 10 ∷ drop (suc l) after = sym (take-append-drop l after)
+    ∙ (λ i. named i ++ drop l after)
+    ∙ ap (λ t. wanted ++ t) (drop-cons after l 0 (omega arith) ∙ ap (λ b. b ∷ drop (suc l) after) (ap (λ i. get_or after i 0) all ∙ end)) in
+    let whole : text ≡ take n part ++ 32 ∷ (wanted ++ 10 ∷ rest) = sym (take-append-drop (length part) text)
+    ∙ ap (λ t. t ++ drop (length part) text) (sym is ∙ spaced part n some space ∙ ap (λ t. take n part ++ 32 ∷ t) line)
+    ∙ simp append_assoc in (
+      take n part,
+      rest,
+      record {
+        after = wanted ++ 10 ∷ rest;
+        whole = whole;
+        len = length-take-le n part (omega arith) ∙ len;
+        line = record { after = 10 ∷ rest; cut = record { whole = refl; front_passes = plain_in_line wanted plain; stops = refl }; newline = inl refl };
+      },
+    )
+
+-- so any name that is there is the wanted one
+pub whole_compares : (k : Kind) (text wanted : List ℕ) → NameAt k text wanted → (name : List ℕ) → NameAt k text name → Equal ≡ slice_cmp nat_cmp name wanted
+whole_compares k text wanted there name at =
+    subst (λ (m : List ℕ). Equal ≡ slice_cmp nat_cmp m wanted) (same_record_line k text there.0 wanted there.1 at.0 name at.1 there.2 at.2).1 (sym (tied_itself nat_list_cmp_total wanted))
+
 -- a name that is there is the only one
 pub orders_named : (k : Kind) (text wanted : List ℕ) (sure : Bool) (order : Option Ordering) → Compares k text wanted order → OrdersIfNamed k text wanted sure order
 orders_named k text wanted sure None none = none
@@ -62,16 +101,17 @@ orders_named k text wanted sure (Some o) h = record {
   named = λ _. (h.0, h.1, h.3);
 }
 
--- where bytes decide, it is another name
-pub orders_quick : (k : Kind) (text wanted : List ℕ) (sure : Bool) (o : Ordering) → (sure ≡ true → ⊥) → o ≢ Equal → ((name : List ℕ) → NameAt k text name → o ≡ slice_cmp nat_cmp name wanted) → Orders k text wanted sure o
-orders_quick k text wanted sure o unsure other compares = record {
+-- where bytes decide, the line of another name was not looked at
+pub orders_quick : (k : Kind) (text wanted : List ℕ) (sure : Bool) (o : Ordering) → (sure ≡ true → ⊥) → (o ≡ Equal → (name : List ℕ) × NameAt k text name × (name ≢ []))
+    → ((name : List ℕ) → NameAt k text name → o ≡ slice_cmp nat_cmp name wanted) → Orders k text wanted sure o
+orders_quick k text wanted sure o unsure there compares = record {
   compares = compares;
-  named = none;
+  named = some;
 }
   where
-    none : (sure ≡ true) ⊎ (o ≡ Equal) → (name : List ℕ) × NameAt k text name × (name ≢ [])
-    none (inl yes_it_is) = absurd (unsure yes_it_is)
-    none (inr same) = absurd (other same)
+    some : (sure ≡ true) ⊎ (o ≡ Equal) → (name : List ℕ) × NameAt k text name × (name ≢ [])
+    some (inl yes_it_is) = absurd (unsure yes_it_is)
+    some (inr same) = there same
 
 -- a name is plain where its least byte is
 pub plain_by : (least n : ℕ) (name : List ℕ) → length name ≤ n → ((k : ℕ) → k < n → least ≤ get_or name k 0) → (13 < least) ⊎ ((k : ℕ) × (k < n) × (get_or name k 0 ≤ least))

@@ -1,5 +1,6 @@
 //! Reading a record of `packed-refs`.
-ghost use Rattle.std.specs.Prelude.{◌≡◌, ◌≢◌, ◌++◌, ◌*◌, ℕ, List, [], false, length, take, Option, MatchOption, MatchBool, IfOk, IfErr, IfSome, OnErr};
+ghost use Rattle.std.specs.Bool.{OnTrue};
+ghost use Rattle.std.specs.Prelude.{◌≡◌, ◌≢◌, ◌++◌, ◌*◌, ◌<◌, ℕ, List, [], false, length, take, slice_index, Option, MatchOption, MatchBool, IfOk, IfErr, IfSome, OnErr};
 ghost use Rattle.std.specs.Cmp.Lexicographic.{slice_cmp};
 ghost use Rattle.std.specs.Ordering.{nat_cmp};
 ghost use Rattle.std.specs.declared.cmp.Ordering.TheVariants.{Equal};
@@ -147,16 +148,30 @@ pub fn is_plain(name: &[u8]) -> bool
     least > b'\r'
 }
 
+/// Whether LF follows a name in the text, where the text begins with it; an empty name is none.
+#[inline(always)]
+fn ends_in_line_feed(text: &[u8], name: &[u8]) -> bool
+    ensures { OnTrue result ((name.now ≢ []) × (length name.now < length text.now)
+        × (slice_index text.now (length name.now) ≡ 10)) }
+{
+    match text.get(name.len()) {
+        Some(b'\n') => !name.is_empty(),
+        _ => false,
+    }
+}
+
 /// How the name at the front of a record, of which the part may be a beginning, compares with the one that is wanted;
-/// `None` where no byte of the part decides. Whether the name's line ends is not looked at: a line's end is below
-/// each byte of a plain name.
+/// `None` where the part does not decide. Whether the line of another name ends is not looked at: a line's end is
+/// below each byte of a plain name.
 #[inline(always)]
 pub fn quick_order(part: &[u8], kind: Kind, wanted: &[u8]) -> Option<Ordering>
     requires { IsPlain wanted.now }
     ensures compares { IfSome result (λ order. (text name : List ℕ)
         → part.now ≡ take (length part.now) text → NameAt kind text name →
         order ≡ slice_cmp nat_cmp name wanted.now) }
-    ensures other { IfSome result (λ order. order ≢ Equal) }
+    ensures named { IfSome result (λ order. order ≡ Equal → (text : List ℕ)
+        → part.now ≡ take (length part.now) text →
+        (name : List ℕ) × NameAt kind text name × (name ≢ [])) }
 {
     let len = kind.len_in_hex();
     match part.get(len) {
@@ -166,7 +181,11 @@ pub fn quick_order(part: &[u8], kind: Kind, wanted: &[u8]) -> Option<Ordering>
     let after = &part[len + 1..];
     let len = after.len().min(wanted.len());
     match after[..len].cmp(&wanted[..len]) {
-        Ordering::Equal => None,
+        Ordering::Equal => if ends_in_line_feed(after, wanted) {
+            Some(Ordering::Equal)
+        } else {
+            None
+        },
         Ordering::Less => Some(Ordering::Less),
         Ordering::Greater => Some(Ordering::Greater),
     }

@@ -6,7 +6,8 @@ use Rattle.gix_ref_packed.proofs.packed.decode.record_line.order_at.Goals as goa
 pub returns-in-Some : goal.returns-in-Some
 returns-in-Some c =
     let text = c.args.text.now in
-    orders_quick c.args.kind text c.args.wanted.now c.args.sure c.in-Some.order (λ sure. absurd (cc)) c.in-Some.ensures.other
+    orders_quick c.args.kind text c.args.wanted.now c.args.sure c.in-Some.order (λ sure. absurd (cc))
+    (λ same. c.in-Some.ensures.named same text (sym (take_all (length text) text (omega arith))))
     (λ name at. c.in-Some.ensures.compares text name (sym (take_all (length text) text (omega arith))) at)
 
 pub returns : goal.returns
