@@ -14,7 +14,7 @@ use Rattle.gix_ref_base.specs.PackedRecords.{Record}
 use Rattle.gix_ref_packed.specs.RecordGrammar.{Takes, Peeled, Records, Below, Rising, is_caret}
 use Rattle.gix_ref_packed.specs.OpenedText.{Fronts}
 use Rattle.gix_ref_packed.specs.Prefixes.{IsListStart, SplitsAt, records_prefixed}
-use Rattle.gix_ref_packed.specs.FilePrefixes.{IsPast, Encloses, HoldsPrefix}
+use Rattle.gix_ref_packed.specs.FilePrefixes.{IsPast, HoldsPrefixed, Encloses, HoldsPrefix, PrefixedBuffersHold}
 use Rattle.gix_ref_packed.specs.declared.packed.buffer.Buffer.{Buffer}
 use Rattle.gix_ref_packed.specs.Buffers.{buffer_text, buffer_kind, buffer_line}
 use Rattle.gix_ref_packed.proofs.OneReading.{same_record}
@@ -194,3 +194,7 @@ module _ (k : Kind) (text prefix : List ℕ) (line : ℕ) (b : Buffer) (kind_is 
   -- the whole text
   pub holds_all : (end : ℕ) → end ≡ length text → buffer_text b ≡ take (end - 0) (drop 0 text) → buffer_line b ≡ line → HoldsPrefix k text line prefix b
   holds_all end whole is number = holds_first 0 end (encloses_all k text prefix end whole) is refl number
+
+pub prefixed_hold : PrefixedBuffersHold
+prefixed_hold kind text line prefix b rs h records up =
+    subst (λ (k : Kind). HoldsPrefixed k prefix rs (buffer_text b)) (sym h.kind_is) (subst (HoldsPrefixed kind prefix rs) (sym h.part.is) (h.part.encloses.records rs records up))

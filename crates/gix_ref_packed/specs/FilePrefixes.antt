@@ -50,6 +50,12 @@ pub record HoldsPrefix (kind : Kind) (text : List ℕ) (line : ℕ) (prefix : Li
   pub part : IsPartOf kind text prefix (buffer_text b)
   pub numbered : IsNumbered kind text line b
 
+-- such a buffer holds the records of the prefix
+abbrev pub PrefixedBuffersHold : Type 0
+PrefixedBuffersHold =
+    (kind : Kind) (text : List ℕ) (line : ℕ) (prefix : List ℕ) (b : Buffer) (rs : List Record) → HoldsPrefix kind text line prefix b → Records kind text rs → Rising rs
+    → HoldsPrefixed (buffer_kind b) prefix rs (buffer_text b)
+
 -- why a file cannot be read: `Io` where a read of it failed
 abbrev pub FailsReadBy : {R : Type 0} → (R → ℕ) → ReadError → Type 0
 FailsReadBy faults (Io error) = HasReadFault faults

@@ -59,7 +59,7 @@ fn open_reader<R: ReadAt + Drop>(
         Err(error) => return Err(refusal(error)),
     };
     if says_sorted(heading.header) {
-        let source = SortedFile::in_memory_of(bytes, reader, heading.start as u64);
+        let source = SortedFile::with_window_memory(bytes, reader, heading.start as u64);
         return Ok(PackedFile::InFile { source, kind });
     }
     let len = reader.len() as usize;

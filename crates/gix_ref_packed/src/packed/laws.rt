@@ -2,6 +2,7 @@
 ghost use Rattle.gix_ref_packed.specs.WrittenText.{WrittenTextReadsBack, PackedTextIsOne};
 ghost use Rattle.gix_ref_packed.specs.Buffers.{OpenedHoldsRecords};
 ghost use Rattle.gix_ref_packed.specs.OpenFiles.{OpenedFileHoldsRecords};
+ghost use Rattle.gix_ref_packed.specs.FilePrefixes.{PrefixedBuffersHold};
 ghost use Rattle.gix_ref_packed.specs.RecordsOfText.{RecordsAreComputed, TextsAreRead};
 ghost use Rattle.gix_ref_packed.specs.YetToGive.{NextGivesTheFirst, FaultsAreLines, EndedStaysEnded};
 
@@ -33,4 +34,9 @@ pub fn next_gives_the_first()
     ensures first { NextGivesTheFirst }
     ensures lines { FaultsAreLines }
     ensures ended { EndedStaysEnded }
+{}
+
+/// A buffer that was read of a file for a prefix holds all records of the prefix, which `iter_prefixed` gives.
+pub fn prefixed_buffers_hold_records()
+    ensures { PrefixedBuffersHold }
 {}

@@ -138,11 +138,11 @@ impl<R: ReadAt + Drop> SortedFile<R> {
         ensures reader { result.reader ≡ reader }
         ensures base { result.base ≡ base }
     {
-        SortedFile::in_memory_of(Vec::new(alloc), reader, base)
+        SortedFile::with_window_memory(Vec::new(alloc), reader, base)
     }
 
     /// The same, with the memory of a vector for windows.
-    pub(crate) fn in_memory_of(mut window: Vec<u8>, reader: R, base: u64) -> SortedFile<R>
+    pub(crate) fn with_window_memory(mut window: Vec<u8>, reader: R, base: u64) -> SortedFile<R>
         ensures reader { result.reader ≡ reader }
         ensures base { result.base ≡ base }
     {

@@ -24,8 +24,8 @@ returns-then-says_sorted-clause-opened g c = λ honest.
     let heading = c.in-Ok-Some.heading in
     let bytes = g.R.ReadAt.bytes c.args.reader in
     let heads = rw c.in-Ok-Some.field-0-is at c.in-Ok-Some.ensures.heads honest in
-    let same : g.R.ReadAt.bytes c.in_memory_of-source.result.reader ≡ bytes = ap g.R.ReadAt.bytes c.in_memory_of-source.ensures.reader ∙ c.file_header.ensures.same in
-    let text : drop c.in_memory_of-source.result.base (g.R.ReadAt.bytes c.in_memory_of-source.result.reader) ≡ drop heading.start bytes = λ i. drop (c.in_memory_of-source.ensures.base i) (same i) in
+    let same : g.R.ReadAt.bytes c.with_window_memory-source.result.reader ≡ bytes = ap g.R.ReadAt.bytes c.with_window_memory-source.ensures.reader ∙ c.file_header.ensures.same in
+    let text : drop c.with_window_memory-source.result.base (g.R.ReadAt.bytes c.with_window_memory-source.result.reader) ≡ drop heading.start bytes = λ i. drop (c.with_window_memory-source.ensures.base i) (same i) in
     record {
       kind_is = refl;
       line = line_behind heading.header;
@@ -34,7 +34,7 @@ returns-then-says_sorted-clause-opened g c = λ honest.
         header = heading.header;
         rest = drop heading.start bytes;
         heads = heads.0;
-        keeps = subst (λ (b : Bool). Keeps c.args.kind b (drop heading.start bytes) (drop c.in_memory_of-source.result.base (g.R.ReadAt.bytes c.in_memory_of-source.result.reader))) (sym c.if-says_sorted.true ∙ c.says_sorted.ensures) text;
+        keeps = subst (λ (b : Bool). Keeps c.args.kind b (drop heading.start bytes) (drop c.with_window_memory-source.result.base (g.R.ReadAt.bytes c.with_window_memory-source.result.reader))) (sym c.if-says_sorted.true ∙ c.says_sorted.ensures) text;
         number = refl;
       };
     }
