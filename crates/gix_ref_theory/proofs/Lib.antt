@@ -10,6 +10,7 @@ pub mod PlaceLaws
 pub mod Plans
 pub mod Reached
 pub mod ReadingLemmas
+pub mod RunLosses
 pub mod SharedLogs
 pub mod SmallCommit
 pub mod StopLogs

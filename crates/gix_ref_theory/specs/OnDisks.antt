@@ -3,6 +3,7 @@
 use Rattle.std.specs.Prelude.{◌≡◌, ◌≢◌, ◌⊎◌, ℕ, List, [], ◌∷◌, ◌++◌, Option, Some, None}
 use Rattle.gix_ref_files.specs.Tree.{Tree, Path, file_of}
 use Rattle.gix_ref_files.specs.Disk.{Disk, Lost}
+use Rattle.gix_ref_files.specs.Files.{Meaning, disk_of, Loses}
 use Rattle.gix_ref_files.specs.Lock.{lock_of}
 use Rattle.gix_ref_files.specs.Settled.{Sync, AllStay, MayHold, IsSettledAt, IsAllSettled, IsWhole, IsIn, SettlesPath, SettlesFile}
 use Rattle.gix_ref_files.specs.Settled.Sync.{OfFile, OfFolder}
@@ -123,3 +124,11 @@ SyncsWriteNothing =
     (locked staying : List Path) (D E F : Disk) (sync : Sync) →
     IsWithin (IsSpokenOf locked D) [] (view_of D.tree) E × AllStay E staying → Settling sync E F →
     IsWithin (IsSpokenOf locked D) [] (view_of D.tree) F × AllStay F staying
+
+-- Where the steps carry out some writes, every loss of power from old to new is one among these. It is what a run of the steps
+-- says to its caller, who may have removed own locks after it.
+abbrev pub LosesAmong : List Synced → Meaning → Meaning → Type 0
+LosesAmong plan old new =
+    (locked staying : List Path) (texts : View) (writes : List Write) →
+    AllStay (disk_of old) staying → AreWhole texts (disk_of old) → CarryOut (IsSpokenOf locked (disk_of old)) staying texts plan writes →
+    Loses old new (λ T. IsLostBy (IsSpokenOf locked (disk_of old)) writes (view_of old.tree) (view_of T))
