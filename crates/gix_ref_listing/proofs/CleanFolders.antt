@@ -1,5 +1,5 @@
 -- A clean folder has a name.
-use Rattle.std.proofs.Common.{◌≡◌, ◌≢◌, Bool, true, false, ◌&&◌, List, ℕ, [], ◌∷◌, sym, ◌∙◌, Vec, Option}
+use Rattle.std.proofs.Common.{◌≡◌, ◌≢◌, Bool, true, false, ◌&&◌, ℕ, [], ◌∷◌, Vec, Option}
 use Rattle.std.specs.declared.alloc.Global.{Global}
 use Rattle.gix_ref_hash.specs.Bytes.{without_front}
 use Rattle.gix_ref_files.specs.Tree.{Path}

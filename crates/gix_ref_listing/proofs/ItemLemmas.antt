@@ -1,5 +1,5 @@
 -- Why a file that was found gives no target.
-use Rattle.std.proofs.Common.{◌≡◌, ℕ, List, inr, Option, None}
+use Rattle.std.proofs.Common.{◌≡◌, ℕ, List, inr, None}
 use Rattle.gix_ref_files.specs.declared.files.FileError.TheVariants.{Device}
 use Rattle.std.specs.declared.io.ErrorKind.TheVariants.{NotFound}
 use Rattle.gix_ref_theory.specs.Views.{View}

@@ -1,9 +1,8 @@
 -- A listing of a store.
-use Rattle.std.proofs.Common.{◌≡◌, ◌⊎◌, inl, inr, ⊎_elim, ℕ, true, List, [], ◌∷◌, ◌++◌, refl, sym, ◌∙◌, ap, subst, IsSome, is_some, Option, Some, None, Result, Ok, Err, Vec, map}
+use Rattle.std.proofs.Common.{◌≡◌, ℕ, List, [], ◌∷◌, sym, ◌∙◌, ap, is_some, Some, map}
 use Rattle.std.specs.Map.{keys_of}
 use Rattle.std.specs.List.{All, AllByRecursion}
 use Rattle.std.specs.List.Sorted.{IsStrictlySortedBy}
-use Rattle.std.specs.declared.alloc.Global.{Global}
 use Rattle.std.specs.declared.cmp.Ordering.TheVariants.{Less}
 use Rattle.std.proofs.lemmas.List.Elements.{All-head, All-tail}
 use Rattle.gix_ref_base.specs.PackedRecords.{Record, record_named}
@@ -13,10 +12,10 @@ use Rattle.gix_ref_theory.specs.Views.{View}
 use Rattle.gix_ref_lookup.specs.declared.settings.Settings.{Settings}
 use Rattle.gix_ref_listing.specs.Walks.{Among, Holds, FoundEntry, IsFile}
 use Rattle.gix_ref_listing.specs.OwnRecords.{Own, own_records}
-use Rattle.gix_ref_listing.specs.Listings.{Listed, merged}
-use Rattle.gix_ref_listing.specs.Listings.Listed.{Walked, InPacked}
+use Rattle.gix_ref_listing.specs.Listings.{merged}
+use Rattle.gix_ref_listing.specs.Listings.Listed.{InPacked}
 use Rattle.gix_ref_listing.specs.LooseListings.{IsFoundIn, IsLooseListed}
-use Rattle.gix_ref_listing.specs.WholeListings.{IsListing, IsInStore, IsPackedListed, IsAskedOf, IsName, key_in}
+use Rattle.gix_ref_listing.specs.WholeListings.{IsListing, IsInStore, IsPackedListed, IsName, key_in}
 use Rattle.gix_ref_listing.proofs.WalkLemmas.{key_cmp}
 use Rattle.gix_ref_listing.proofs.MergedListings.{FoundRises, all_merged, merged_rises, loose_merged, packed_merged}
 use Rattle.gix_ref_listing.proofs.OwnListings.{prefixed_rise, prefixed_there, prefixed_are}

@@ -1,5 +1,5 @@
 -- Which records a listing gives.
-use Rattle.std.proofs.Common.{◌≡◌, ℕ, Bool, true, false, ◌&&◌, if◌then◌else◌, List, [], ◌∷◌, ◌++◌, length, drop, refl, sym, ◌∙◌, ap, nat_eq, Option, Some, None, unwrap_or}
+use Rattle.std.proofs.Common.{◌≡◌, ℕ, Bool, true, false, ◌&&◌, if◌then◌else◌, List, ◌++◌, length, drop, refl, sym, ◌∙◌, ap, nat_eq, Option, Some, None, unwrap_or}
 use Rattle.std.specs.Prelude.{bytes_eq, is_none}
 use Rattle.std.specs.List.{starts_with}
 use Rattle.std.specs.Option.{option_map}
@@ -11,10 +11,10 @@ use Rattle.gix_ref_base.specs.Locations.{Location, location, paths_of, paths_at,
 use Rattle.gix_ref_base.specs.Locations.Location.{Common, ThisWorktree, MainWorktree, LinkedWorktree}
 use Rattle.gix_ref_base.specs.NameGrammar.{partial_error, IsPartialName}
 use Rattle.gix_ref_base.specs.declared.name.error.Error.{Error}
-use Rattle.gix_ref_base.proofs.FrontLemmas.{begins_true, begins_false}
+use Rattle.gix_ref_base.proofs.FrontLemmas.{begins_true}
 use Rattle.gix_ref_theory.proofs.PlaceLaws.{cancel}
 use Rattle.gix_ref_lookup.specs.Lookups.{meaning_in}
-use Rattle.gix_ref_lookup.specs.StoreLayout.{folders_of, namespace_text}
+use Rattle.gix_ref_lookup.specs.StoreLayout.{namespace_text}
 use Rattle.gix_ref_lookup.specs.declared.settings.Settings.{Settings}
 use Rattle.gix_ref_listing.specs.OwnRecords.{is_key, own_name}
 

@@ -1,13 +1,12 @@
 -- The records that a listing gives are those of its names, in their order.
-use Rattle.std.proofs.Common.{◌≡◌, ◌⊎◌, inl, inr, ⊎_elim, ℕ, Bool, true, false, cond, ◌&&◌, List, [], ◌∷◌, ◌++◌, length, drop, refl, sym, ◌∙◌, ap, subst, append_assoc, nat_eq, Option, Some, None, IsSome, is_some}
+use Rattle.std.proofs.Common.{◌≡◌, ◌⊎◌, inl, inr, ⊎_elim, ℕ, Bool, true, false, cond, List, [], ◌∷◌, ◌++◌, length, drop, refl, sym, ◌∙◌, ap, subst, append_assoc, nat_eq, Option, Some, None, is_some}
 use Rattle.std.specs.Prelude.{bytes_eq, is_none}
 use Rattle.std.specs.Cmp.Lexicographic.{slice_cmp, bytes_decides}
 use Rattle.std.specs.Ordering.{nat_cmp, ordering_then}
-use Rattle.std.specs.List.{All, AllByRecursion, starts_with, filter, find}
+use Rattle.std.specs.List.{All, AllByRecursion, starts_with, filter}
 use Rattle.std.proofs.lemmas.List.Elements.{All-cons, All-head, All-tail}
 use Rattle.std.proofs.lemmas.Slice.Eq.{starts_is, bytes_eq-Decides}
 use Rattle.std.proofs.lemmas.Bool.Decides.{Decides-eqb}
-use Rattle.gix_ref_hash.specs.Bytes.{BeginsWith}
 use Rattle.gix_ref_base.specs.NameGrammar.{partial_error, IsPartialName}
 use Rattle.gix_ref_base.specs.PackedRecords.{Record, record_named}
 use Rattle.gix_ref_base.specs.declared.name.error.Error.{Error}
@@ -22,8 +21,7 @@ use Rattle.gix_ref_lookup.specs.StoreLayout.{namespace_text}
 use Rattle.gix_ref_lookup.specs.declared.settings.Settings.{Settings}
 use Rattle.gix_ref_listing.specs.Walks.{Among}
 use Rattle.gix_ref_listing.specs.OwnRecords.{Own, own_name, own_records, with_own, is_key}
-use Rattle.gix_ref_listing.specs.Listings.Listed.{InPacked}
-use Rattle.gix_ref_listing.specs.WholeListings.{IsPackedListed, IsInStore, key_in}
+use Rattle.gix_ref_listing.specs.WholeListings.{IsPackedListed, key_in}
 use Rattle.gix_ref_listing.proofs.MergedListings.{OwnRises}
 use Rattle.gix_ref_listing.proofs.OwnLemmas.{own_inside, choose}
 

@@ -1,5 +1,5 @@
 -- Where settings lie does not matter to a listing.
-use Rattle.std.proofs.Common.{◌≡◌, ℕ, List, [], ◌∷◌, refl, sym, ◌∙◌, ap, subst, Option, Some, None, Result, Ok, Err}
+use Rattle.std.proofs.Common.{◌≡◌, ℕ, List, [], ◌∷◌, refl, sym, ◌∙◌, ap, Option, Some, None, Result, Ok, Err}
 use Rattle.std.specs.List.{All}
 use Rattle.std.specs.Prelude.{slice_index_or}
 use Rattle.gix_ref_base.specs.PackedRecords.{Record}
@@ -10,7 +10,7 @@ use Rattle.gix_ref_theory.specs.Views.{View}
 use Rattle.gix_ref_lookup.specs.declared.settings.Settings.{Settings}
 use Rattle.gix_ref_listing.specs.PlainSettings.{plain}
 use Rattle.gix_ref_listing.specs.Walks.{FoundEntry}
-use Rattle.gix_ref_listing.specs.OwnRecords.{own_of, own_name, own_records, with_own, AreAhead, AheadOf}
+use Rattle.gix_ref_listing.specs.OwnRecords.{own_of, own_name, own_records, with_own, AheadOf}
 use Rattle.gix_ref_listing.specs.Listings.{Listed}
 use Rattle.gix_ref_listing.specs.Listings.Listed.{Walked, InPacked}
 use Rattle.gix_ref_listing.specs.LooseListings.{IsLooseListed, IsFoundIn}

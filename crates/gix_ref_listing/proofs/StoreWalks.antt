@@ -1,5 +1,5 @@
 -- The walks of the folders of a store.
-use Rattle.std.proofs.Common.{◌≡◌, ◌≢◌, ◌⊎◌, inl, inr, ⊎_elim, ℕ, List, [], ◌∷◌, ◌++◌, refl, sym, ◌∙◌, ap, subst, append_assoc, append-nil, IsSome, length, arith}
+use Rattle.std.proofs.Common.{◌≡◌, ◌≢◌, ◌⊎◌, inl, ⊎_elim, ℕ, List, [], ◌∷◌, ◌++◌, sym, ◌∙◌, ap, subst, append_assoc, IsSome, length, arith}
 use Rattle.std.specs.List.{All}
 use Rattle.gix_ref_hash.specs.Bytes.{BeginsWith}
 use Rattle.gix_ref_base.specs.Layout.{below}
@@ -7,8 +7,8 @@ use Rattle.gix_ref_theory.specs.Views.{View}
 use Rattle.gix_ref_lookup.specs.Lookups.{meaning_in, name_asked}
 use Rattle.gix_ref_lookup.specs.StoreLayout.{folders_of}
 use Rattle.gix_ref_lookup.specs.declared.settings.Settings.{Settings}
-use Rattle.gix_ref_listing.specs.Walks.{Among, Holds, StaysFound, FoundEntry, IsFolderPath, IsRootPath, IsLooseName, IsOwnName, IsThere, IsThereOr}
-use Rattle.gix_ref_listing.specs.LooseListings.{front_in, IsLooseListed, IsFront, IsPlaced, LooseIn, IsFileListed, IsFoundIn}
+use Rattle.gix_ref_listing.specs.Walks.{Among, Holds, StaysFound, FoundEntry, IsFolderPath, IsRootPath, IsLooseName, IsThere, IsThereOr}
+use Rattle.gix_ref_listing.specs.LooseListings.{front_in, IsLooseListed, IsFront, LooseIn, IsFoundIn}
 use Rattle.gix_ref_listing.specs.declared.found.Found.TheVariants.{File, Unlisted}
 use Rattle.gix_ref_listing.specs.declared.walk.Root.{Root}
 use Rattle.gix_ref_listing.proofs.WalkLemmas.{among_all, among_at}

@@ -26,7 +26,7 @@ use Rattle.gix_ref_files.specs.declared.files.Entry.{Entry as ListedEntry}
 use Rattle.gix_ref_files.specs.declared.files.FileError.{FileError}
 use Rattle.gix_ref_files.specs.declared.files.FileError.TheVariants.{Memory as no_memory}
 use Rattle.gix_ref_theory.specs.Views.{View}
-use Rattle.gix_ref_listing.specs.Walks.{Among, IsFolderPath, FoundEntry, Holds, IsThere, IsThereOr, IsFile, IsFileOfName, StaysFound, IsTaken, IsBelow}
+use Rattle.gix_ref_listing.specs.Walks.{Among, IsFolderPath, FoundEntry, Holds, IsThereOr, IsFile, IsFileOfName, StaysFound, IsTaken, IsBelow}
 use Rattle.gix_ref_listing.specs.declared.found.Found.{Found}
 use Rattle.gix_ref_listing.specs.declared.found.Found.TheVariants.{File, Unlisted}
 use Rattle.gix_ref_listing.specs.declared.walk.Root.{Root}

@@ -1,13 +1,11 @@
 -- The items of a listing: a reference for each name, or why it has none.
-use Rattle.std.specs.Prelude.{◌≡◌, ◌≢◌, ◌⊎◌, ◌≤◌, ℕ, List, [], ◌∷◌, Option, Some, None, Result, Ok, Err, true, false}
+use Rattle.std.specs.Prelude.{◌≡◌, ◌≢◌, ◌⊎◌, ℕ, List, Some, None, Result, Ok, Err, true, false}
 use Rattle.gix_ref_hash.specs.declared.hash.Kind.{Kind}
 use Rattle.gix_ref_base.specs.Names.{full_bytes}
 use Rattle.gix_ref_base.specs.Targets.{target_value}
-use Rattle.gix_ref_files.specs.Files.{Meaning, Leaves, HasRisen}
-use Rattle.gix_ref_files.specs.Calls.{Unchanged}
+use Rattle.gix_ref_files.specs.Files.{HasRisen}
 use Rattle.gix_ref_files.specs.declared.files.FileError.TheVariants.{Device, Memory as no_memory}
 use Rattle.std.specs.declared.io.ErrorKind.TheVariants.{NotFound}
-use Rattle.gix_ref_theory.specs.OnRealTrees.{view_of}
 use Rattle.gix_ref_theory.specs.Readings.{Store, reading_of_record}
 use Rattle.gix_ref_theory.specs.Readings.Reading.{Is}
 use Rattle.gix_ref_theory.specs.Lookups.{peeled_of}

@@ -1,4 +1,4 @@
-use Rattle.std.proofs.Common.{◌≡◌, ◌∙◌, ap, subst, ◌++◌, List}
+use Rattle.std.proofs.Common.{◌∙◌, ap, subst, ◌++◌, List}
 use Rattle.gix_ref_base.specs.PackedRecords.{Record}
 use Rattle.gix_ref_packed.specs.Prefixes.{records_prefixed}
 use Rattle.gix_ref_packed.specs.YetToGive.{IsYet}

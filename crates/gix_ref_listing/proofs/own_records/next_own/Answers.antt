@@ -1,7 +1,7 @@
 use Rattle.std.proofs.Common.{sym, ◌∙◌, ap, Some, None, rules}
 use Rattle.gix_ref_packed.specs.Views.{record_of}
 use Rattle.gix_ref_packed.proofs.OneItem.{next_gives_first}
-use Rattle.gix_ref_listing.specs.OwnRecords.{own_records, with_own, records_left}
+use Rattle.gix_ref_listing.specs.OwnRecords.{own_records, with_own}
 use Rattle.gix_ref_listing.proofs.own_records.next_own.Goals as goal
 
 pub returns-in-Err-clause-gives : goal.returns-in-Err-clause-gives

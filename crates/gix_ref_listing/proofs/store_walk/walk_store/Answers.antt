@@ -1,4 +1,4 @@
-use Rattle.std.proofs.Common.{◌≡◌, ◌≢◌, ◌∙◌, [], sym, subst, List, ℕ}
+use Rattle.std.proofs.Common.{◌≢◌, [], sym, subst, List, ℕ}
 use Rattle.std.specs.List.{All}
 use Rattle.gix_ref_base.specs.Layout.{below}
 use Rattle.gix_ref_files.specs.Tree.{Tree}

@@ -1,4 +1,4 @@
-use Rattle.std.proofs.Common.{◌≡◌, sym, ◌∙◌, ap, ◌++◌}
+use Rattle.std.proofs.Common.{sym, ◌∙◌, ap, ◌++◌}
 use Rattle.gix_ref_listing.proofs.WalkLemmas.{unlisted_stays, unlisted_holds, unlisted_there}
 use Rattle.gix_ref_listing.proofs.walk.keep_unlisted.Goals as goal
 

@@ -1,4 +1,4 @@
-use Rattle.std.proofs.Common.{refl, sym, ◌∙◌, ap}
+use Rattle.std.proofs.Common.{refl, sym, ◌∙◌}
 use Rattle.gix_ref_listing.proofs.MergeLemmas.{less_takes, equal_takes, none_left}
 use Rattle.gix_ref_listing.proofs.merge.Merge.take.Goals as goal
 

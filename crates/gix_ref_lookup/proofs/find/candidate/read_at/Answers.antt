@@ -1,4 +1,4 @@
-use Rattle.std.proofs.Common.{◌∙◌, subst}
+use Rattle.std.proofs.Common.{subst}
 use Rattle.gix_ref_files.specs.Tree.{Path}
 use Rattle.gix_ref_base.specs.Targets.{target_value}
 use Rattle.gix_ref_theory.specs.OnRealTrees.{view_of}
