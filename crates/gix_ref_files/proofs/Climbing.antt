@@ -6,8 +6,8 @@ use Rattle.std.proofs.lemmas.List.{length-take-le}
 use Rattle.std.proofs.Math.Seq.{take-length}
 use Rattle.gix_ref_files.specs.Tree.{Path, fronts}
 use Rattle.gix_ref_files.specs.Disk.{folder_of, folder_after}
-use Rattle.gix_ref_files.specs.Settled.{Sync, AreIn, Settles, SettlesPath, folders_up, climb, from_one}
-use Rattle.gix_ref_files.specs.Settled.Sync.{OfFile, OfFolder}
+use Rattle.gix_ref_files.specs.Settled.{AreIn, Settles, SettlesPath, folders_up, climb}
+use Rattle.gix_ref_files.specs.Settled.Sync.{OfFolder}
 use Rattle.gix_ref_files.specs.Theorems.{EveryClimbSettles}
 use Rattle.gix_ref_files.proofs.Settling.{as_settles}
 

@@ -1,15 +1,15 @@
 -- Losses by a choice, and the wrong orders.
-use Rattle.std.proofs.Common.{◌≡◌, ◌≢◌, inl, inr, ℕ, zero, suc, ◌-◌, ◌≤◌, List, [], ◌∷◌, length, replicate, Bool, true, false, Option, Some, None, refl, ◌∙◌, ap, subst, arith, codes}
+use Rattle.std.proofs.Common.{◌≡◌, inl, inr, ℕ, zero, suc, ◌-◌, ◌≤◌, List, [], ◌∷◌, length, replicate, Bool, true, false, Option, Some, None, refl, ◌∙◌, ap, subst, arith, codes}
 use Rattle.std.specs.Prelude.{bytes_eq, if◌then◌else◌, is_some}
 use Rattle.std.specs.List.{list_all}
 use Rattle.std.proofs.lemmas.Slice.Eq.{bytes_eq-Decides}
-use Rattle.std.proofs.lemmas.Bool.{false≢true, true≢false}
-use Rattle.gix_ref_files.specs.Tree.{Tree, Path, Content, put, no_tree, bytes_of, is_folder, file_of, has_folders, fronts, IsShaped}
+use Rattle.std.proofs.lemmas.Bool.{false≢true}
+use Rattle.gix_ref_files.specs.Tree.{Tree, Path, Content, put, no_tree, bytes_of, is_folder, file_of, fronts}
 use Rattle.gix_ref_files.specs.Tree.Content.{File, Folder}
 use Rattle.gix_ref_files.specs.Disk.{Item, Disk, Remains, OneRemains, item_at, MayBe, reachable, Lost, moved_on}
 use Rattle.gix_ref_files.specs.Settled.{AllStay}
 use Rattle.gix_ref_files.specs.Theorems.{EveryChoiceIsALoss, WhatIsLeftIsSettled}
-use Rattle.gix_ref_files.specs.Losing.{last_synced, kept, all_synced, chosen, lost_by, UnsyncedLockIsWrong, SyncAtTheEndIsWrong}
+use Rattle.gix_ref_files.specs.Losing.{last_synced, kept, all_synced, UnsyncedLockIsWrong, SyncAtTheEndIsWrong}
 use Rattle.gix_ref_files.proofs.Entries.{now_may_be, remains_whole, synced_remains}
 use Rattle.gix_ref_files.proofs.Settling.{both_true}
 

@@ -1,18 +1,18 @@
 -- After a step folders lead to its path, and a file is there where its bytes grew: so its syncs find what they name.
-use Rattle.std.proofs.Common.{◌≡◌, inl, inr, ℕ, zero, suc, ◌+◌, ◌<◌, ◌≤◌, List, [], ◌∷◌, ◌++◌, length, take, get_or, Bool, true, false, Option, Some, None, refl, sym, ◌∙◌, ap, subst, arith, append_assoc, append-nil}
-use Rattle.std.specs.Prelude.{bytes_eq, if◌then◌else◌, ◌&&◌, ◌==◌, is_some}
+use Rattle.std.proofs.Common.{◌≡◌, inl, inr, ℕ, zero, suc, ◌<◌, ◌≤◌, List, [], ◌∷◌, ◌++◌, length, take, get_or, Bool, true, false, Option, Some, None, refl, sym, ◌∙◌, ap, subst, arith, append_assoc, append-nil}
+use Rattle.std.specs.Prelude.{bytes_eq, if◌then◌else◌, ◌==◌, is_some}
 use Rattle.std.specs.List.{list_all}
-use Rattle.std.proofs.lemmas.Bool.{false≢true, true≢false, eqb-true}
-use Rattle.gix_ref_files.specs.Tree.{Tree, Path, Content, put, appended, more, moved, is_file, is_folder, has_folders, fronts, fronts_after, IsShaped}
+use Rattle.std.proofs.lemmas.Bool.{false≢true, true≢false}
+use Rattle.gix_ref_files.specs.Tree.{Tree, Path, Content, put, appended, more, is_file, is_folder, has_folders, fronts_after, IsShaped}
 use Rattle.gix_ref_files.specs.Tree.Content.{File, Folder}
-use Rattle.gix_ref_files.specs.Calls.{IsFree, IsMovable, created, Creates, Appends, Renames, RemovesFile}
+use Rattle.gix_ref_files.specs.Calls.{created, Creates, Appends, Renames, RemovesFile}
 use Rattle.gix_ref_files.specs.Steps.{Does}
 use Rattle.gix_ref_files.specs.Steps.Step.{Line}
 use Rattle.gix_ref_files.specs.DiskSteps.{CanSync}
 use Rattle.gix_ref_files.specs.declared.files.Create.TheVariants.{Made}
 use Rattle.gix_ref_files.specs.declared.files.Rename.TheVariants.{Moved}
 use Rattle.gix_ref_files.proofs.Changes.{file_no_folder}
-use Rattle.gix_ref_files.proofs.Puts.{put_at, put_other, folders_kept}
+use Rattle.gix_ref_files.proofs.Puts.{put_at, folders_kept}
 use Rattle.gix_ref_files.proofs.Settling.{both_true}
 
 -- what holds of all fronts holds of the front at a slash

@@ -1,9 +1,9 @@
 -- The write of a lock: its text is appended, and then synced.
-use Rattle.std.proofs.Common.{◌≡◌, inl, inr, ⊎_elim, ℕ, List, take, Bool, true, false, sym, ◌∙◌, ap, subst, arith}
+use Rattle.std.proofs.Common.{◌≡◌, inl, inr, ⊎_elim, ℕ, List, Bool, true, false, sym, ◌∙◌, ap, subst, arith}
 use Rattle.std.specs.Prelude.{Result, Ok, Err, IfOk}
 use Rattle.std.proofs.lemmas.Bool.{true≢false}
-use Rattle.gix_ref_files.specs.Tree.{Tree, Path, appended, more, is_file}
-use Rattle.gix_ref_files.specs.Disk.{Disk, appended_on, file_synced}
+use Rattle.gix_ref_files.specs.Tree.{Tree, Path, more, is_file}
+use Rattle.gix_ref_files.specs.Disk.{Disk, file_synced}
 use Rattle.gix_ref_files.specs.Files.{Meaning, disk_of, Leaves, Passes, Adds}
 use Rattle.gix_ref_files.specs.Calls.{Appends, Appending, Unchanged}
 use Rattle.gix_ref_files.specs.DiskCalls.{AppendingOn, after_append, after_write, Syncs, SyncingOn, WritingOn}

@@ -1,7 +1,7 @@
 -- What each call of files makes of a disk, and which disks a stop or a loss of power in it finds.
 use Rattle.std.specs.Prelude.{◌≡◌, ◌⊎◌, ℕ, List, take, Bool, true, false, Result, Ok, Err, if◌then◌else◌}
 use Rattle.gix_ref_files.specs.Tree.{Path, is_file, folders_to, IsEmptyFolder}
-use Rattle.gix_ref_files.specs.Disk.{Disk, created_on, appended_on, moved_on, removed_on, with_folders_on, file_synced, folder_synced}
+use Rattle.gix_ref_files.specs.Disk.{Disk, created_on, appended_on, moved_on, removed_on, with_folders_on, file_synced}
 use Rattle.gix_ref_files.specs.Calls.{IsFree, IsMovable, is_in_the_way}
 use Rattle.gix_ref_files.specs.declared.files.Create.{Create}
 use Rattle.gix_ref_files.specs.declared.files.Create.TheVariants.{Made}

@@ -1,12 +1,12 @@
 -- Steps on a disk, each with the syncs that settle it: what they make of it, and which disks a stop, a fault or a loss of power
 -- among them finds.
-use Rattle.std.specs.Prelude.{◌≡◌, ◌⊎◌, ℕ, zero, suc, List, [], ◌∷◌, ◌++◌, length, take, drop, map, Bool, true, false, None, if◌then◌else◌}
-use Rattle.gix_ref_files.specs.Tree.{Tree, Path, is_file, is_folder, has_folders, folders_to, IsEmptyFolder}
+use Rattle.std.specs.Prelude.{◌≡◌, ◌⊎◌, ℕ, List, [], ◌∷◌, take, drop, map, Bool, true, false, if◌then◌else◌}
+use Rattle.gix_ref_files.specs.Tree.{Tree, Path, is_file, has_folders, folders_to, IsEmptyFolder}
 use Rattle.gix_ref_files.specs.Disk.{Disk, created_on, appended_on, moved_on, removed_on, with_folders_on}
 use Rattle.gix_ref_files.specs.Calls.{IsFree, IsMovable, is_in_the_way}
 use Rattle.gix_ref_files.specs.DiskCalls.{CreatingOn, AppendingOn, RenamingOn, RemovingFileOn, MakingFoldersOn, RemovingFolderOn}
 use Rattle.gix_ref_files.specs.Settled.{Sync, synced, synced_by, climb}
-use Rattle.gix_ref_files.specs.Settled.Sync.{OfFile, OfFolder}
+use Rattle.gix_ref_files.specs.Settled.Sync.{OfFile}
 use Rattle.gix_ref_files.specs.Steps.{Step, step_of}
 use Rattle.gix_ref_files.specs.Steps.Step.{Create, Append, Line, Rename, RemoveFile, MakeFolders, RemoveFolder, End}
 use Rattle.gix_ref_files.specs.declared.steps.Action.{Action}

@@ -3,14 +3,13 @@ use Rattle.std.proofs.Common.{◌≡◌, ◌⊎◌, inl, inr, ⊎_elim, ℕ, zer
 use Rattle.std.specs.Prelude.{is_some, if◌then◌else◌}
 use Rattle.std.proofs.Math.Seq.{take-append-add, take-length}
 use Rattle.std.specs.declared.alloc.Global.{Global}
-use Rattle.gix_ref_files.specs.Tree.{Tree, Path, Content, put, appended, more, moved, is_file, no_tree, bytes_of}
-use Rattle.gix_ref_files.specs.Tree.Content.{File, Folder}
-use Rattle.gix_ref_files.specs.Disk.{Disk, Item, no_disk, item_at, nothing, with_tree, with_item, appended_on, moved_on, file_synced, folder_synced}
+use Rattle.gix_ref_files.specs.Tree.{Tree, Path, Content, put, more, is_file, no_tree, bytes_of}
+use Rattle.gix_ref_files.specs.Tree.Content.{File}
+use Rattle.gix_ref_files.specs.Disk.{Disk, Item, no_disk, nothing, with_tree, with_item, appended_on, moved_on, file_synced, folder_synced}
 use Rattle.gix_ref_files.specs.Files.{disk_of, Passes, AddsDisks}
-use Rattle.gix_ref_files.specs.Calls.{Appends}
 use Rattle.gix_ref_files.specs.DiskCalls.{BeforeOrAfterOn, AppendingOn, SyncingOn}
 use Rattle.gix_ref_files.proofs.Moments.{passes_starts, passes_weaken}
-use Rattle.gix_ref_memory.specs.Changes.{stands, changed, after, changed_on, replayed, disk_is, Begun, Found, meaning_after, now_is_found, content_of, found_content, put_item, with_item_as}
+use Rattle.gix_ref_memory.specs.Changes.{stands, changed, after, changed_on, replayed, disk_is, Begun, Found, meaning_after, content_of, found_content, with_item_as}
 use Rattle.gix_ref_memory.specs.Laws.{disk_is_found}
 use Rattle.gix_ref_memory.specs.declared.memory.changes.Stored.{Stored}
 use Rattle.gix_ref_memory.specs.declared.memory.changes.Stands.{Stands}

@@ -5,8 +5,7 @@ use Rattle.std.proofs.lemmas.Slice.Eq.{bytes_eq-Decides}
 use Rattle.gix_ref_files.specs.Tree.{Path, Content, bytes_of}
 use Rattle.gix_ref_files.specs.Tree.Content.{File}
 use Rattle.gix_ref_files.specs.Disk.{Disk, Item, no_disk, nothing, item_at}
-use Rattle.gix_ref_memory.specs.Changes.{changed_on, replayed, item_after, items, put_item, found_item}
-use Rattle.gix_ref_memory.specs.declared.memory.changes.Known.{Known}
+use Rattle.gix_ref_memory.specs.Changes.{changed_on, replayed, item_after, items, put_item}
 use Rattle.gix_ref_memory.specs.declared.memory.changes.Change.{Change}
 use Rattle.gix_ref_memory.specs.declared.memory.changes.Change.TheVariants.{Put, Append, Move, SyncFile, SyncFolder}
 

@@ -1,20 +1,19 @@
 -- What is known of an entry is so on the disk.
-use Rattle.std.proofs.Common.{◌≡◌, ◌≢◌, ◌⊎◌, inl, inr, ⊎_elim, ℕ, List, [], ◌∷◌, ◌++◌, length, Bool, true, false, Option, Some, None, refl, sym, ◌∙◌, ap, subst}
+use Rattle.std.proofs.Common.{◌≡◌, ◌⊎◌, inl, inr, ⊎_elim, ℕ, List, [], ◌∷◌, ◌++◌, length, Bool, true, false, Option, Some, None, refl, sym, ◌∙◌, ap, subst}
 use Rattle.std.specs.Prelude.{bytes_eq, if◌then◌else◌}
 use Rattle.std.proofs.lemmas.Bool.{true≢false}
 use Rattle.std.proofs.lemmas.Slice.Eq.{bytes_eq-Decides}
 use Rattle.gix_ref_files.specs.Tree.{Tree, Path, Content, put, bytes_of, no_tree, has_folders}
 use Rattle.gix_ref_files.specs.Tree.Content.{File}
 use Rattle.gix_ref_files.specs.Disk.{Item, Disk, no_disk, item_at, nothing, with_item, folder_of, reachable, Lost}
-use Rattle.gix_ref_files.specs.Files.{disk_of}
 use Rattle.gix_ref_files.specs.Losing.{last_synced, kept, chosen, lost_by, all_synced}
 use Rattle.gix_ref_files.proofs.Losing.{choices}
 use Rattle.gix_ref_files.proofs.Puts.{same_tree, put_at, put_other}
-use Rattle.gix_ref_memory.specs.Changes.{after, changed, changed_on, replayed, replayed_tree, disk_is, meaning_after, put_item, with_item_as, content_of, IsPlaced, place_of}
+use Rattle.gix_ref_memory.specs.Changes.{after, changed_on, replayed, disk_is, put_item, with_item_as, content_of, IsPlaced, place_of}
 use Rattle.gix_ref_memory.specs.Power.{Entry, no_entry, entered, settled, with_now, entry_after, entries, choice, IsChoice, Names, IsNamed, AreSynced, Fills, IsReachable}
 use Rattle.gix_ref_memory.specs.declared.memory.changes.Change.{Change}
 use Rattle.gix_ref_memory.specs.declared.memory.changes.Change.TheVariants.{Put, Append, Move, SyncFile, SyncFolder}
-use Rattle.gix_ref_memory.proofs.Grows.{disk, after_push}
+use Rattle.gix_ref_memory.proofs.Grows.{disk}
 use Rattle.gix_ref_memory.proofs.Placed.{placed}
 
 abbrev some_past : List Item → Bool

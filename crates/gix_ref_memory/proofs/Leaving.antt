@@ -1,5 +1,5 @@
 -- What stops in the calls leave, by the disks that they find.
-use Rattle.std.proofs.Common.{◌≡◌, inl, inr, ⊎_elim, ℕ, List, ◌++◌, [], ◌∷◌, take, Bool, true, false, Option, Some, None, refl, sym, ◌∙◌, ap}
+use Rattle.std.proofs.Common.{◌≡◌, inl, inr, ⊎_elim, ℕ, List, take, Bool, true, false, Option, Some, None, refl, sym, ◌∙◌, ap}
 use Rattle.gix_ref_files.specs.Tree.{Tree, Path, Content, appended, more, is_file, folders_to}
 use Rattle.gix_ref_files.specs.Tree.Content.{File, Folder}
 use Rattle.gix_ref_files.specs.Disk.{Disk, appended_on, with_folders_on, file_synced, folder_synced}

@@ -1,5 +1,5 @@
 -- A loss of power of files in memory.
-use Rattle.std.specs.Prelude.{◌≡◌, ◌⊎◌, ℕ, List, [], ◌∷◌, length, Bool, true, false, Option, Some, None, if◌then◌else◌, bytes_eq}
+use Rattle.std.specs.Prelude.{◌≡◌, ◌⊎◌, ℕ, List, [], ◌∷◌, length, Bool, true, false, Option, Some, if◌then◌else◌, bytes_eq}
 use Rattle.gix_ref_files.specs.Tree.{Tree, Path, Content, bytes_of, no_tree}
 use Rattle.gix_ref_files.specs.Tree.Content.{File}
 use Rattle.gix_ref_files.specs.Disk.{Item, nothing, folder_of, reachable}

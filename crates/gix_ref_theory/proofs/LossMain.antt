@@ -7,7 +7,7 @@ use Rattle.gix_ref_files.specs.Settled.{IsAllSettled}
 use Rattle.gix_ref_base.specs.PackedRecords.{Record}
 use Rattle.gix_ref_theory.specs.OnDisks.{IsSpokenOf}
 use Rattle.gix_ref_theory.specs.OnRealTrees.{view_of}
-use Rattle.gix_ref_theory.specs.Views.{View, Write, after, IsOwnLock, IsSameButLocks}
+use Rattle.gix_ref_theory.specs.Views.{View, Write, after, IsSameButLocks}
 use Rattle.gix_ref_theory.specs.Views.Ending.{Loss}
 use Rattle.gix_ref_theory.specs.Readings.{Store, HasLaws, reading, records_in}
 use Rattle.gix_ref_theory.specs.Edits.{Edit, Change, Effect, Mode, removes_packed, alters_packed, effect, file_of_records, edited_reading}
@@ -15,7 +15,7 @@ use Rattle.gix_ref_theory.specs.Edits.Change.{Update, Delete}
 use Rattle.gix_ref_theory.specs.Edits.Effect.{Writes, Removes, Keeps}
 use Rattle.gix_ref_theory.specs.Plan.{plan, updates, line_writes, place_writes, log_removal, log_removals, file_writes, packed_writes, place_removal, loose_removals}
 use Rattle.gix_ref_theory.specs.Between.{IsEdit, IsNewFile, IsPackedFile, IsPrepared, IsLogLeft, NoDeletionFirst, InOrder, ReadsAsBefore, ReadsAsEdited}
-use Rattle.gix_ref_theory.specs.Losses.{IsLostBetween, IsLostWell, EveryLossAmongIsBetween, EveryLossIsBetween, EveryWholeRunIsKept}
+use Rattle.gix_ref_theory.specs.Losses.{IsLostBetween, EveryLossAmongIsBetween, EveryLossIsBetween, EveryWholeRunIsKept}
 use Rattle.gix_ref_theory.proofs.Bare.{AllCount, Bare, bare_of}
 use Rattle.gix_ref_theory.proofs.Headline as headline
 use Rattle.gix_ref_theory.proofs.OnDisks.{within, losses, settles, done_kept, own_is_lock}

@@ -1,7 +1,7 @@
 -- The places of the table keep the laws: by the shapes of paths below a folder.
 use Rattle.std.proofs.Common.{◌≡◌, ◌≢◌, ℕ, ◌≤◌, ◌<◌, List, [], ◌∷◌, ◌++◌, Option, Some, None, true, false, ◌||◌, ◌&&◌, refl, sym, ap, ◌∙◌, subst, inl, inr, ◌⊎◌, is_some, nat_eq, nat_le, codes, append_assoc, arith, ◌==◌}
 use Rattle.std.specs.List.{list_all, ends_with}
-use Rattle.std.specs.Option.{option_map, unwrap_or, is_none}
+use Rattle.std.specs.Option.{unwrap_or, is_none}
 use Rattle.std.proofs.lemmas.Bool.{false≢true, true≢false, cases_Bool, and_parts, or_cases, or_parts, eqb-true, eq-eqb, leb-true}
 use Rattle.std.proofs.lemmas.Bool.Decides.{Decides-eqb}
 use Rattle.std.proofs.lemmas.Slice.Eq.{ends_is}

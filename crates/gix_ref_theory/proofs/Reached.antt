@@ -12,7 +12,7 @@ use Rattle.gix_ref_files.specs.Calls.{IsMovable}
 use Rattle.gix_ref_files.specs.DiskSteps.{Synced, DoesOn, BeginsOn, needed, IsReachedBy, IsSyncedAfter}
 use Rattle.gix_ref_files.specs.DiskSteps.Synced.{With}
 use Rattle.gix_ref_files.specs.Steps.Step.{Create, Append as AppendStep, Line, Rename, RemoveFile, MakeFolders, RemoveFolder, End}
-use Rattle.gix_ref_files.specs.Settled.{Sync, synced_by, AllStay, MayHold, IsSettledAt, IsWhole, IsIn, Settles, SettlesPath}
+use Rattle.gix_ref_files.specs.Settled.{Sync, synced_by, AllStay, MayHold, IsSettledAt, IsWhole, IsIn, SettlesPath}
 use Rattle.gix_ref_files.specs.Settled.Sync.{OfFile, OfFolder}
 use Rattle.gix_ref_theory.specs.OnRealTrees.{view_of}
 use Rattle.gix_ref_theory.specs.Views.{View, Write, after, after_write, changed_at, file_bytes, LostIn, IsLostBy}

@@ -1,7 +1,7 @@
 -- What a run of steps with their syncs loses, from the clause `passes` of the run.
 use Rattle.std.proofs.Common.{List}
-use Rattle.gix_ref_files.specs.Tree.{Tree, Path}
-use Rattle.gix_ref_files.specs.Disk.{Disk, Lost}
+use Rattle.gix_ref_files.specs.Tree.{Path}
+use Rattle.gix_ref_files.specs.Disk.{Disk}
 use Rattle.gix_ref_files.specs.Files.{Meaning, disk_of, Passes, Loses}
 use Rattle.gix_ref_files.specs.Settled.{AllStay}
 use Rattle.gix_ref_files.specs.DiskSteps.{Synced, BeginsOn, IsReachedBy}

@@ -1,5 +1,5 @@
 -- The premises of the theorems on losses of power can be met.
-use Rattle.std.proofs.Common.{◌≡◌, ◌≢◌, inl, inr, List, [], ◌∷◌, ℕ, length, Bool, true, false, Option, Some, None, refl, ap, subst, codes}
+use Rattle.std.proofs.Common.{◌≡◌, ◌≢◌, inl, List, [], ℕ, Bool, true, false, Some, None, refl, ap, subst, codes}
 use Rattle.std.specs.Prelude.{bytes_eq, if◌then◌else◌, is_some}
 use Rattle.std.proofs.lemmas.Slice.Eq.{bytes_eq-Decides}
 use Rattle.std.proofs.lemmas.Bool.{false≢true, true≢false}

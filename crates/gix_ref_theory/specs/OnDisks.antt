@@ -1,12 +1,12 @@
 -- Real disks: which steps with their syncs carry out the writes of a plan, and where a disk is among these writes, so that a
 -- loss of power finds some of them done and settled and comes inside the next one.
-use Rattle.std.specs.Prelude.{◌≡◌, ◌≢◌, ◌⊎◌, ℕ, List, [], ◌∷◌, ◌++◌, Option, Some, None}
-use Rattle.gix_ref_files.specs.Tree.{Tree, Path, file_of}
+use Rattle.std.specs.Prelude.{◌≡◌, ◌≢◌, ◌⊎◌, ℕ, List, [], ◌∷◌, ◌++◌, Some, None}
+use Rattle.gix_ref_files.specs.Tree.{Tree, Path}
 use Rattle.gix_ref_files.specs.Disk.{Disk, Lost}
 use Rattle.gix_ref_files.specs.Files.{Meaning, disk_of, Loses}
 use Rattle.gix_ref_files.specs.Lock.{lock_of}
 use Rattle.gix_ref_files.specs.Settled.{Sync, AllStay, MayHold, IsSettledAt, IsAllSettled, IsWhole, IsIn, SettlesPath, SettlesFile}
-use Rattle.gix_ref_files.specs.Settled.Sync.{OfFile, OfFolder}
+use Rattle.gix_ref_files.specs.Settled.Sync.{OfFile}
 use Rattle.gix_ref_files.specs.Steps.{Step}
 use Rattle.gix_ref_files.specs.Steps.Step.{Create, Append as AppendStep, Line, Rename, RemoveFile, MakeFolders, RemoveFolder, End}
 use Rattle.gix_ref_files.specs.DiskSteps.{Synced, BeginsOn, Settling, IsReachedBy, IsSyncedAfter}

@@ -1,5 +1,5 @@
 -- Real trees, with folders and locks in them: which steps on them carry out the writes of a plan.
-use Rattle.std.specs.Prelude.{◌≡◌, ℕ, List, [], ◌∷◌, ◌++◌, Option, Some, None, ◌⊎◌, false}
+use Rattle.std.specs.Prelude.{◌≡◌, ℕ, List, [], ◌∷◌, ◌++◌, Some, None, ◌⊎◌, false}
 pub use Rattle.gix_ref_files.specs.Tree.{file_of}
 use Rattle.gix_ref_files.specs.Tree.{Tree, Path}
 use Rattle.gix_ref_files.specs.Steps.{Step, Begins, IsAfter, IsLeftBy as IsLeftBySteps, EndsAt}

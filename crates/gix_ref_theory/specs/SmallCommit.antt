@@ -1,6 +1,6 @@
 -- A small commit that keeps all premises of the theorems on losses of power: the lock `r/a.lock` is whole, and is renamed to
 -- `r/a`; then the folder `r` is synced.
-use Rattle.std.specs.Prelude.{List, [], ◌∷◌, Option, Some, None, codes}
+use Rattle.std.specs.Prelude.{[], ◌∷◌, Some, None, codes}
 use Rattle.gix_ref_files.specs.Tree.{Tree, put, no_tree}
 use Rattle.gix_ref_files.specs.Tree.Content.{File, Folder}
 use Rattle.gix_ref_files.specs.Losing.{all_synced}

@@ -1,6 +1,6 @@
 -- What files hold, the writes of a commit, and what a stop or a loss of power among the writes leaves. A file is changed in three ways: by
 -- an append, which may stop after any beginning of its bytes, and by a rename and a removal, which are whole.
-use Rattle.std.specs.Prelude.{◌≡◌, ◌≤◌, ℕ, List, [], ◌∷◌, ◌++◌, length, Option, Some, None, if◌then◌else◌, bytes_eq, ◌⊎◌, codes}
+use Rattle.std.specs.Prelude.{◌≡◌, ◌≤◌, ℕ, List, [], ◌∷◌, ◌++◌, length, Option, Some, None, if◌then◌else◌, bytes_eq, ◌⊎◌}
 use Rattle.gix_ref_files.specs.Tree.{Path}
 use Rattle.gix_ref_files.specs.Lock.{lock_of}
 

@@ -1,4 +1,4 @@
-use Rattle.std.proofs.Common.{◌≡◌, sym, ◌∙◌, ap, subst, true, false, rules}
+use Rattle.std.proofs.Common.{◌≡◌, sym, ◌∙◌, subst, rules}
 use Rattle.std.proofs.lemmas.Bool.{true≢false}
 use Rattle.gix_ref_files.specs.Calls.{Creates}
 use Rattle.gix_ref_files.specs.declared.files.Create.TheVariants.{Made}

@@ -1,4 +1,4 @@
-use Rattle.std.proofs.Common.{◌≡◌, sym, subst, Bool, true, IsTrue}
+use Rattle.std.proofs.Common.{sym, subst, Bool}
 use Rattle.gix_ref_files.specs.Calls.{RemovesFile}
 use Rattle.gix_ref_files.specs.DiskSteps.{CanSettle}
 use Rattle.gix_ref_files.specs.declared.steps.Action.{Action}

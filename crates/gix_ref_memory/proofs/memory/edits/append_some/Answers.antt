@@ -1,4 +1,4 @@
-use Rattle.std.proofs.Common.{◌≡◌, List, ℕ, take, length, ◌∙◌, ap, rules}
+use Rattle.std.proofs.Common.{◌≡◌, List, ℕ, take, ◌∙◌, ap, rules}
 use Rattle.std.proofs.lemmas.List.{take_min}
 use Rattle.gix_ref_files.specs.Tree.{appended, no_tree}
 use Rattle.gix_ref_memory.specs.Changes.{after}

@@ -1,4 +1,4 @@
-use Rattle.std.proofs.Common.{◌≡◌, true, refl, sym, subst, rules}
+use Rattle.std.proofs.Common.{◌≡◌, true, sym, subst, rules}
 use Rattle.gix_ref_files.specs.Tree.{is_folder, no_tree}
 use Rattle.gix_ref_files.specs.Disk.{folder_synced}
 use Rattle.gix_ref_files.specs.DiskCalls.{SyncingOn}

@@ -1,5 +1,5 @@
-use Rattle.std.proofs.Common.{◌≡◌, List, sym, ◌∙◌, ap, subst}
-use Rattle.gix_ref_files.specs.Tree.{Tree, no_tree, IsShaped}
+use Rattle.std.proofs.Common.{List, sym, ◌∙◌, ap, subst}
+use Rattle.gix_ref_files.specs.Tree.{no_tree, IsShaped}
 use Rattle.gix_ref_files.specs.Disk.{reachable}
 use Rattle.gix_ref_files.proofs.LockLemmas.{if_ok}
 use Rattle.gix_ref_files.proofs.Shaped.{standing_shaped}

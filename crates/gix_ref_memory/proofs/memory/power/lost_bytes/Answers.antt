@@ -1,4 +1,4 @@
-use Rattle.std.proofs.Common.{◌≡◌, ◌++◌, ◌∷◌, [], ◌+◌, ◌-◌, ◌≤◌, ℕ, List, take, length, replicate, min, sym, ◌∙◌, ap, arith, rules, append-nil, append_assoc}
+use Rattle.std.proofs.Common.{◌≡◌, ◌++◌, ◌∷◌, [], ◌+◌, ◌-◌, ℕ, List, take, length, replicate, min, sym, ◌∙◌, ap, arith, rules, append-nil, append_assoc}
 use Rattle.std.proofs.lemmas.List.{take_min, replicate_more}
 use Rattle.gix_ref_memory.proofs.memory.power.lost_bytes.Goals as goal
 

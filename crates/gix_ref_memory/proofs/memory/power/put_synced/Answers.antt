@@ -1,5 +1,5 @@
-use Rattle.std.proofs.Common.{◌≡◌, refl, ◌∙◌, ap, true, List, rules}
-use Rattle.gix_ref_files.specs.Tree.{Tree, Path, put, no_tree}
+use Rattle.std.proofs.Common.{◌≡◌, refl, ◌∙◌, ap, List, rules}
+use Rattle.gix_ref_files.specs.Tree.{Path, put, no_tree}
 use Rattle.gix_ref_memory.specs.Changes.{after, content_of}
 use Rattle.gix_ref_memory.specs.declared.memory.changes.Change.{Change}
 use Rattle.gix_ref_memory.proofs.Grows.{after_push}

@@ -1,7 +1,7 @@
 use Rattle.std.proofs.Common.{◌≡◌, ◌≤◌, ◌+◌, ◌∷◌, ◌++◌, [], List, length, take, inl, inr, ⊎_elim, sym, ◌∙◌, ap, subst, arith}
 use Rattle.std.proofs.lemmas.List.{take_more, take_all}
-use Rattle.gix_ref_files.specs.Tree.{Path, no_tree}
-use Rattle.gix_ref_memory.specs.Changes.{after, IsPlaced, place_of}
+use Rattle.gix_ref_files.specs.Tree.{no_tree}
+use Rattle.gix_ref_memory.specs.Changes.{after, IsPlaced}
 use Rattle.gix_ref_memory.specs.Power.{Fills, IsReachable}
 use Rattle.gix_ref_memory.specs.declared.memory.changes.Change.{Change}
 use Rattle.gix_ref_memory.proofs.Knowing.{fills_more, placed_snoc, all_reached}
