@@ -369,10 +369,10 @@ fn ended_stays_ended(rt: HostRuntime) {
     let Ok(mut listing) = store.loose_iter(alloc) else {
         panic!(&rt; "a listing");
     };
-    let mut count = 0;
+    let mut count = 0u64;
     for item in &mut listing {
         assert!(&rt; item.is_ok(), "an item");
-        count += 1;
+        count = u64::saturating_add(count, 1);
     }
     assert!(&rt; count == 2, "items");
     assert!(&rt;
