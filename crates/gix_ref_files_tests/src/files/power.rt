@@ -74,6 +74,15 @@ fn seen<'m>(memory: &'m mut Memory, path: &[u8]) -> Option<&'m [u8]> {
     memory.get(path)
 }
 
+/// Whether this is at a path, as `seen` shows it.
+fn is_seen(memory: &mut Memory, path: &[u8], wanted: Option<&[u8]>) -> bool {
+    match (seen(memory, path), wanted) {
+        (Some(text), Some(wanted)) => text == wanted,
+        (None, None) => true,
+        _ => false,
+    }
+}
+
 #[test]
 fn each_call_is_lost_or_kept(rt: HostRuntime) -> Result<(), Fail> {
     let alloc = rt.alloc();
@@ -133,10 +142,10 @@ fn each_call_is_lost_or_kept(rt: HostRuntime) -> Result<(), Fail> {
     ];
     for (meaning, calls, pick, path, left) in rows {
         let mut memory = after_loss(alloc, calls, pick)?;
-        assert_eq!(rt; seen(&mut memory, path), left, "{meaning}, by {pick}");
+        assert!(rt; is_seen(&mut memory, path, left), "{meaning}, by {pick}");
         if pick == 7 {
             let mut all = after_loss(alloc, calls, u64::MAX)?;
-            assert_eq!(rt; seen(&mut all, path), left, "{meaning}, by all ones");
+            assert!(rt; is_seen(&mut all, path, left), "{meaning}, by all ones");
         }
     }
     Ok(())
@@ -231,7 +240,7 @@ fn each_sync_settles_what_it_names(rt: HostRuntime) -> Result<(), Fail> {
     ];
     for (meaning, calls, pick, path, left) in rows {
         let mut memory = after_loss(alloc, calls, pick)?;
-        assert_eq!(rt; seen(&mut memory, path), left, "{meaning}, by {pick}");
+        assert!(rt; is_seen(&mut memory, path, left), "{meaning}, by {pick}");
     }
     Ok(())
 }
