@@ -1,6 +1,6 @@
 //! What is proved of definitions alone, as contracts of functions that do nothing.
-pub use gix_ref_follow::laws::ends_of_followings;
 pub use gix_ref_files::theorems::losses_of_power;
+pub use gix_ref_follow::laws::ends_of_followings;
 pub use gix_ref_theory::theorems::{
     every_loss, every_stop, every_synced_run, every_tree, places_keep_the_laws,
 };
