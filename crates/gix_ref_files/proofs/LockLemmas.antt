@@ -5,12 +5,14 @@ use Rattle.std.specs.List.{list_any}
 use Rattle.std.proofs.lemmas.List.{length-take-le}
 use Rattle.gix_ref_files.specs.Tree.{Tree, Path, put, is_file, is_blocked, fronts, fronts_after, folders_to, with_folders}
 use Rattle.gix_ref_files.specs.Tree.Content.{Folder}
-use Rattle.gix_ref_files.specs.Files.{Meaning, Leaves}
+use Rattle.gix_ref_files.specs.Disk.{Disk, created_on, with_folders_on}
+use Rattle.gix_ref_files.specs.DiskCalls.{MakingFoldersOn, CreatingOn, after_create}
+use Rattle.gix_ref_files.specs.Files.{Meaning, disk_of, Leaves, Passes}
 use Rattle.gix_ref_files.specs.Calls.{MakesFolders, MakingFolders, is_in_the_way, Creates, Creating}
-use Rattle.gix_ref_files.specs.Lock.{Readies, Readying, MakesLock, Acquiring, readied, folders_up_to, lock_of}
+use Rattle.gix_ref_files.specs.Lock.{Readies, Readying, ReadyingOn, MakesLock, Acquiring, LockingOn, after_locking, readied, readied_on, folders_up_to, lock_of}
 use Rattle.gix_ref_files.specs.declared.files.Create.{Create}
 use Rattle.gix_ref_files.specs.declared.files.Create.TheVariants.{Made, Standing, Blocked}
-use Rattle.gix_ref_files.proofs.Moments.{weaken, joins}
+use Rattle.gix_ref_files.proofs.Moments.{weaken, joins, passes_weaken, passes_joins}
 use Rattle.gix_ref_files.proofs.PathFronts.{fronts_snoc, fronts_next}
 
 any_snoc : (P : Path → Bool) (fs : List Path) (f : Path) → list_any P (fs ++ f ∷ []) ≡ (P f || list_any P fs)
@@ -40,6 +42,13 @@ readying before q p some is T making =
     (λ made. inr (sym (way_is_blocked before q p some is) ∙ made.0, (made.1.0, made.1.1 ∙ ap (λ (l : List Path). with_folders before (take made.1.0 l)) (sym is))))
     making
 
+-- and the disks that are found meanwhile
+pub readying_on : (before : Disk) (q p : Path) → 0 < length q → fronts p ≡ folders_to q → (D : Disk) → MakingFoldersOn before q D → ReadyingOn before p D
+readying_on before q p some is D making =
+    ⊎_elim (λ same. inl same)
+    (λ made. inr (sym (way_is_blocked before.tree q p some is) ∙ made.0, (made.1.0, made.1.1 ∙ ap (λ (l : List Path). with_folders_on before (take made.1.0 l)) (sym is))))
+    making
+
 -- past the next byte
 pub end_next : (p : Path) (i end : ℕ) (slash : Bool) → 1 ≤ i → i < length p → (get_or p i 0 == 47) ≡ slash → fronts (take i p) ≡ folders_up_to p end → fronts (take (i + 1) p) ≡ folders_up_to p (if slash then i else end)
 end_next p zero end slash some lt is so_far = absurd (omega arith)
@@ -60,6 +69,10 @@ up_to_slash p (suc end) some = refl
 pub if_ok : {X E : Type 0} {P Q : X → Type 0} (r : Result X E) → ((x : X) → P x → Q x) → IfOk r P → IfOk r Q
 if_ok (Ok x) wider holds = wider x holds
 if_ok (Err e) wider holds = holds
+
+pub if_ok_both : {X E : Type 0} {P Q R : X → Type 0} (r : Result X E) → ((x : X) → P x → Q x → R x) → IfOk r P → IfOk r Q → IfOk r R
+if_ok_both (Ok x) wider one other = wider x one other
+if_ok_both (Err e) wider one other = one
 
 -- folders are no new files
 pub no_new_file : (T : Tree) (fs : List Path) (f : Path) → is_file (with_folders T fs f) ≡ true → is_file (T f) ≡ true
@@ -113,3 +126,18 @@ makes_lock before mid T path lock Made is ready creates = (ready.0, subst (λ (S
 makes_lock before mid T path lock Standing is ready creates = (ready.0, subst (λ (S : Tree). Creates S (lock_of path) T Standing) ready.1 (subst (λ (p : Path). Creates mid p T Standing) is creates))
 makes_lock before mid T path lock Blocked is ready creates =
     absurd (lock_free before path ready.0 (subst (λ (S : Tree). is_blocked S (lock_of path) ≡ true) ready.1 (subst (λ (p : Path). is_blocked mid p ≡ true) is creates.0)))
+
+-- and the disk after them
+pub locked_on : (before mid T : Disk) (path lock : Path) (create : Create) → lock ≡ lock_of path → is_blocked before.tree path ≡ false → mid.tree ≡ readied before.tree path → mid ≡ readied_on before path →
+    Creates mid.tree lock T.tree create → T ≡ after_create mid lock create → T ≡ after_locking before path create
+locked_on before mid T path lock Made is free tree ready creates after = after ∙ (ap (λ (l : Path). created_on mid l) is ∙ ap (λ (D : Disk). created_on D (lock_of path)) ready)
+locked_on before mid T path lock Standing is free tree ready creates after = after ∙ ready
+locked_on before mid T path lock Blocked is free tree ready creates after =
+    absurd (lock_free before.tree path free (subst (λ (S : Tree). is_blocked S (lock_of path) ≡ true) tree (subst (λ (p : Path). is_blocked mid.tree p ≡ true) is creates.0)))
+
+-- and the disks that are found in them
+pub locking_on : (old mid new : Meaning) (path lock : Path) → lock ≡ lock_of path → Passes old mid (ReadyingOn (disk_of old) path) → is_blocked old.tree path ≡ false → disk_of mid ≡ readied_on (disk_of old) path → Passes mid new (CreatingOn (disk_of mid) lock) →
+    Passes old new (LockingOn (disk_of old) path)
+locking_on old mid new path lock is first free ready second =
+    passes_joins (passes_weaken first (λ D found. inl found))
+    (passes_weaken second (λ D found. inr (free, subst (λ (S : Disk). CreatingOn S (lock_of path) D) ready (subst (λ (l : Path). CreatingOn (disk_of mid) l D) is found))))

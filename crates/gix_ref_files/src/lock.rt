@@ -3,9 +3,9 @@
 ghost use Rattle.std.specs.Prelude.{◌≡◌, ◌≤◌, IfOk, IfErr, OnOk, OnErr, IsErrOf, length};
 ghost use Rattle.gix_ref_files.specs.Tree.{fronts};
 ghost use Rattle.gix_ref_files.specs.Files.{disk_of, Leaves, Adds, Passes, count_after};
-ghost use Rattle.gix_ref_files.specs.DiskCalls.{after_write, WritingOn};
+ghost use Rattle.gix_ref_files.specs.DiskCalls.{after_write, WritingOn, RenamingOn, after_removal, RemovingFileOn};
 ghost use Rattle.gix_ref_files.specs.Calls.{Appends, Appending, Renaming, RemovesFile, RemovingFile};
-ghost use Rattle.gix_ref_files.specs.Lock.{lock_of, Readies, Readying, MakesLock, Acquires, Acquiring, Commits, count_unspent, folders_up_to};
+ghost use Rattle.gix_ref_files.specs.Lock.{lock_of, Readies, Readying, after_readying, ReadyingOn, MakesLock, after_locking, LockingOn, Acquires, Acquiring, after_acquire, Commits, after_commit, count_unspent, folders_up_to};
 
 use crate::files::{Create, FileError, Files, Rename};
 use std::alloc::{AllocError, Global};
@@ -77,6 +77,10 @@ fn ready<F: Files>(files: &mut F, path: &[u8]) -> Result<bool, FileError>
         IfOk result (Readies (F.means files.old).tree path.now (F.means files.new).tree) }
     ensures leaves { F.honest → Leaves (F.means files.old) (F.means files.new)
         (Readying (F.means files.old).tree path.now) }
+    ensures disk { F.honest → IfOk result (λ made. disk_of (F.means files.new)
+        ≡ after_readying (disk_of (F.means files.old)) path.now made) }
+    ensures passes { F.honest → Passes (F.means files.old) (F.means files.new)
+        (ReadyingOn (disk_of (F.means files.old)) path.now) }
     ensures count { F.faults files.new ≡ count_after result (F.faults files.old) }
     ensures memory { IsErrOf result FileError.Memory → ⊥ }
 {
@@ -108,6 +112,10 @@ pub fn make_lock<F: Files>(files: &mut F, path: &[u8], lock: &[u8]) -> Result<Cr
         OnErr result (Readying (F.means files.old).tree path.now (F.means files.new).tree) }
     ensures leaves { F.honest → Leaves (F.means files.old) (F.means files.new)
         (Acquiring (F.means files.old).tree path.now) }
+    ensures disk { F.honest → IfOk result (λ create. disk_of (F.means files.new)
+        ≡ after_locking (disk_of (F.means files.old)) path.now create) }
+    ensures passes { F.honest → Passes (F.means files.old) (F.means files.new)
+        (LockingOn (disk_of (F.means files.old)) path.now) }
     ensures count { F.faults files.new ≡ count_after result (F.faults files.old) }
     ensures memory { IsErrOf result FileError.Memory → ⊥ }
 {
@@ -115,6 +123,30 @@ pub fn make_lock<F: Files>(files: &mut F, path: &[u8], lock: &[u8]) -> Result<Cr
         return Ok(Create::Blocked);
     }
     files.create_new(lock)
+}
+
+/// Adds bytes to the file of a lock and syncs it: `Lock::write` for a caller who has the lock's path. False where it does not
+/// exist.
+pub fn write_lock<F: Files>(files: &mut F, lock: &[u8], bytes: &[u8]) -> Result<bool, FileError>
+    ensures answer { F.honest →
+        IfOk result (Appends (F.means files.old).tree lock.now bytes.now
+        (F.means files.new).tree) }
+    ensures leaves { F.honest → Leaves (F.means files.old) (F.means files.new)
+        (Appending (F.means files.old).tree lock.now bytes.now) }
+    ensures adds { F.honest →
+        OnOk result (Adds (F.means files.old) (F.means files.new)
+        (Appending (F.means files.old).tree lock.now bytes.now)) }
+    ensures disk { F.honest → IfOk result (λ there. disk_of (F.means files.new)
+        ≡ after_write (disk_of (F.means files.old)) lock.now bytes.now there) }
+    ensures passes { F.honest → Passes (F.means files.old) (F.means files.new)
+        (WritingOn (disk_of (F.means files.old)) lock.now bytes.now) }
+    ensures count { F.faults files.new ≡ count_after result (F.faults files.old) }
+    ensures memory { IsErrOf result FileError.Memory → ⊥ }
+{
+    if !files.append(lock, bytes)? {
+        return Ok(false);
+    }
+    files.sync_file(lock)
 }
 
 impl Lock {
@@ -145,6 +177,10 @@ impl Lock {
 
         ensures leaves { F.honest → Leaves (F.means files.old) (F.means files.new)
             (Acquiring (F.means files.old).tree path.now) }
+        ensures disk { F.honest → IfOk result (λ acquire. disk_of (F.means files.new)
+            ≡ after_acquire (disk_of (F.means files.old)) path.now acquire) }
+        ensures passes { F.honest → Passes (F.means files.old) (F.means files.new)
+            (LockingOn (disk_of (F.means files.old)) path.now) }
         ensures count { F.faults files.new ≡ count_after result (F.faults files.old) }
         ensures memory { IsErrOf result FileError.Memory → files.new ≡ files.old }
     {
@@ -176,10 +212,7 @@ impl Lock {
         ensures count { F.faults files.new ≡ count_after result (F.faults files.old) }
         ensures memory { IsErrOf result FileError.Memory → ⊥ }
     {
-        if !files.append(&self.lock, bytes)? {
-            return Ok(false);
-        }
-        files.sync_file(&self.lock)
+        write_lock(files, &self.lock, bytes)
     }
 
     /// Renames the file of the lock to the place. A fault gives the lock back; its file is where it was, or at
@@ -189,6 +222,10 @@ impl Lock {
             IfOk result (Commits (F.means files.old).tree self (F.means files.new).tree) }
         ensures leaves { F.honest → Leaves (F.means files.old) (F.means files.new)
             (Renaming (F.means files.old).tree (lock_of self) self) }
+        ensures disk { F.honest → IfOk result (λ commit. disk_of (F.means files.new)
+            ≡ after_commit (disk_of (F.means files.old)) self commit) }
+        ensures passes { F.honest → Passes (F.means files.old) (F.means files.new)
+            (RenamingOn (disk_of (F.means files.old)) (lock_of self) self) }
         ensures back { IfErr result (λ unspent. unspent.lock ≡ self) }
         ensures count { F.faults files.new ≡ count_unspent result (F.faults files.old) }
         ensures memory { IfErr result (λ unspent. unspent.error ≡ FileError.Memory → ⊥) }
@@ -211,6 +248,10 @@ impl Lock {
             (F.means files.new).tree) }
         ensures leaves { F.honest → Leaves (F.means files.old) (F.means files.new)
             (RemovingFile (F.means files.old).tree (lock_of self)) }
+        ensures disk { F.honest → IfOk result (λ removed. disk_of (F.means files.new)
+            ≡ after_removal (disk_of (F.means files.old)) (lock_of self) removed) }
+        ensures passes { F.honest → Passes (F.means files.old) (F.means files.new)
+            (RemovingFileOn (disk_of (F.means files.old)) (lock_of self)) }
         ensures back { IfErr result (λ unspent. unspent.lock ≡ self) }
         ensures count { F.faults files.new ≡ count_unspent result (F.faults files.old) }
         ensures memory { IfErr result (λ unspent. unspent.error ≡ FileError.Memory → ⊥) }
