@@ -1,2 +1,10 @@
 pub mod DerivedEquality
 pub mod DerivedOrders
+pub mod Doubled
+pub mod Finders
+pub mod Joining
+pub mod LendingItself
+pub mod ManyRounds
+pub mod OneEntry
+pub mod Rounds
+pub mod SplitChains

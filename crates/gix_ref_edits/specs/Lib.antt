@@ -1,2 +1,11 @@
+pub mod DoubledNames
 pub mod EditOrders
+pub mod EditValues
+pub mod LookUps
+pub mod MadeEntries
 pub mod RefEdits
+pub mod Rounds
+pub mod SplitErrors
+pub mod SplitChains
+pub mod SplitLists
+pub mod SplitResults

@@ -1,7 +1,9 @@
-//! The equality and the order of edits and their parts, each stated by a short caller of `==` and of `cmp`.
+//! The equality and the order of edits and their parts, each stated by a short caller of `==` and of `cmp`; split lists
+//! of chains of references.
 ghost use Rattle.std.specs.Prelude.{◌≡◌, ◌↔◌, IsTrue};
 ghost use Rattle.gix_ref_edits.specs.RefEdits.{SameLog, SameExpectation, SameChange};
 ghost use Rattle.gix_ref_edits.specs.EditOrders.{SameEdit, mode_cmp, log_cmp, expectation_cmp, change_cmp, edit_cmp};
+ghost use Rattle.gix_ref_edits.specs.SplitChains.{ChainOfFourSplits, ChainOfFiveIsTooLong, EditThatStaysIsKept};
 
 use crate::transaction::{Change, LogChange, PreviousValue, RefEdit, RefLog};
 use std::cmp::Ordering;
@@ -75,3 +77,11 @@ pub fn order_edits(a: &RefEdit, b: &RefEdit) -> Ordering
 {
     a.cmp(b)
 }
+
+/// An edit that follows a chain of four symbolic references has a split list, of five edits, and over a chain of five
+/// there is none; an edit that does not follow is its whole split list.
+pub fn splits_of_chains()
+    ensures four { ChainOfFourSplits }
+    ensures five { ChainOfFiveIsTooLong }
+    ensures none { EditThatStaysIsKept }
+{}

@@ -7,6 +7,10 @@ use gix_ref_base::name::FullName;
 use gix_ref_base::target::{Target, TargetRef};
 use std::alloc::{AllocError, Global};
 
+pub mod ext;
+
+pub use ext::{EditEntry, EditError, RefEditsExt, SplitError};
+
 /// What an edit is of.
 #[derive(Clone, Copy, Debug, PartialEq, Eq, PartialOrd, Ord, Hash)]
 pub enum RefLog {
