@@ -9,6 +9,7 @@ use Rattle.gix_ref_base.specs.Layout.{Layout}
 use Rattle.gix_ref_packed.specs.RecordsOfText.{records_of_text}
 use Rattle.gix_ref_lookup.specs.LooseText.{target_in}
 use Rattle.gix_ref_theory.specs.ConcreteStore.{Options}
+use Rattle.gix_ref_theory.specs.Roots.{root_of}
 use Rattle.gix_ref_lookup.specs.declared.folders.Dirs.{Dirs}
 
 -- the text in front of names: the namespace, or nothing
@@ -23,6 +24,10 @@ folders_of dirs namespace = record {
   common = common_of dirs.git_dir dirs.common_dir;
   namespace = namespace_text namespace;
 }
+
+-- how long the root of a path is, the folder up to which a change of it is synced
+abbrev pub root_in : Dirs → List ℕ → ℕ
+root_in dirs path = root_of dirs.git_dir.items (common_of dirs.git_dir dirs.common_dir) path
 
 -- what a store of ids of this kind reads: loose files and the records of `packed-refs`; a store that prohibits device names
 -- reads none of these

@@ -4,6 +4,7 @@ ghost use Rattle.std.specs.Prelude.{◌==◌, not};
 ghost use Rattle.std.specs.List.{list_all};
 ghost use Rattle.gix_ref_hash.specs.Bytes.{NoByte, components, without_front};
 ghost use Rattle.gix_ref_base.specs.Layout.{AreCompatible, LiesIn, below};
+ghost use Rattle.gix_ref_theory.specs.Roots.{root_of};
 ghost use Rattle.gix_ref_lookup.specs.CleanPaths.{is_clean, is_clean_component, common_of, are_clean, are_compatible};
 
 use gix_ref_hash::bytes::{split_component, strip_front};
@@ -23,6 +24,18 @@ impl Dirs {
         ensures { result.now ≡ common_of self.now.git_dir self.now.common_dir }
     {
         resolved(&self.git_dir, &self.common_dir)
+    }
+
+    /// How many bytes of the path of a change are its root, the folder up to which it is synced: the git folder for a path
+    /// below it, else the common folder.
+    pub fn root(&self, path: &[u8]) -> usize
+        ensures { result ≡ root_of self.now.git_dir.items
+            (common_of self.now.git_dir self.now.common_dir) path.now }
+    {
+        match rest_below(path, &self.git_dir) {
+            Some(_) => self.git_dir.len(),
+            None => self.common().len(),
+        }
     }
 }
 

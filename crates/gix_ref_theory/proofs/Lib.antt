@@ -1,8 +1,11 @@
 pub mod Bare
 pub mod Carrying
 pub mod Headline
+pub mod LockDisks
+pub mod LockPlaces
 pub mod Locks
 pub mod Logs
+pub mod LoneUpdates
 pub mod LossMain
 pub mod MergedRecords
 pub mod OnDisks
@@ -10,6 +13,7 @@ pub mod PlaceLaws
 pub mod Plans
 pub mod Reached
 pub mod ReadingLemmas
+pub mod Roots
 pub mod RunLosses
 pub mod SharedLogs
 pub mod SmallCommit

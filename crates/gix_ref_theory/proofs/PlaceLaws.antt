@@ -4,11 +4,12 @@ use Rattle.std.specs.List.{list_all, ends_with}
 use Rattle.std.specs.Option.{unwrap_or, is_none}
 use Rattle.std.proofs.lemmas.Bool.{false≢true, true≢false, cases_Bool, and_parts, or_cases, or_parts, eqb-true, eq-eqb, leb-true}
 use Rattle.std.proofs.lemmas.Bool.Decides.{Decides-eqb}
+use Rattle.std.proofs.lemmas.List.{append-nil}
 use Rattle.std.proofs.lemmas.Slice.Eq.{ends_is}
 use Rattle.gix_ref_hash.specs.Bytes.{BeginsWith, NoByte, is_empty}
 use Rattle.gix_ref_base.specs.NameGrammar.{is_pseudo_byte, is_locked, partial_error, IsPartialName}
 use Rattle.gix_ref_hash.proofs.ByteLemmas.{apart}
-use Rattle.gix_ref_base.proofs.PartialNames.{IsPath, rules_of, first_component, last_component}
+use Rattle.gix_ref_base.proofs.PartialNames.{IsPath, IsComponent, rules_of, first_component, last_component}
 use Rattle.gix_ref_theory.proofs.Writes.{same}
 use Rattle.gix_ref_base.proofs.LocationLemmas.{head, has_slash, EndsIn, ends_after, short, no_slash_test, test_no_slash, IsBy, HasSpot, has_spot}
 use Rattle.gix_ref_base.specs.Layout.{IsLayout, Layout, LiesIn, below, is_private_ref, packed_refs}
@@ -47,8 +48,9 @@ no_slash_end name front valid e =
 lock_end : (c : List ℕ) → is_locked (c ++ codes ".lock") ≡ true
 lock_end c = (ends_is Decides-eqb (c ++ codes ".lock") (codes ".lock") (is_locked (c ++ codes ".lock")) refl).1 c refl
 
-pub no_lock_end : (name front : List ℕ) → IsPartialName name → name ≢ front ++ codes ".lock"
-no_lock_end name front valid e = go [] front (λ k (lt : k < 0). absurd (omega arith)) (subst IsPath e (rules_of name valid).0)
+-- what ends with `.lock` and comes before such a rest of a path is no component
+no_lock_before : (rest : List ℕ) → ((c : List ℕ) → NoByte 47 c → IsPath (c ++ rest) → IsComponent c) → (name front : List ℕ) → IsPath name → name ≢ front ++ (codes ".lock" ++ rest)
+no_lock_before rest whole name front path e = go [] front (λ k (lt : k < 0). absurd (omega arith)) (subst IsPath e path)
   where
     slashless : (c : List ℕ) (x : ℕ) → has_slash c ≡ false → (x == 47) ≡ false → has_slash (c ++ x ∷ []) ≡ false
     slashless [] x h k = ap (λ b. b || false) k
@@ -58,18 +60,27 @@ no_lock_end name front valid e = go [] front (λ k (lt : k < 0). absurd (omega a
     locked [] h = refl
     locked (y ∷ c) h = let parts = or_parts (y == 47) (has_slash c) h in ap (λ b. b || has_slash (c ++ codes ".lock")) parts.0 ∙ locked c parts.1
 
-    go : (c z : List ℕ) → NoByte 47 c → IsPath (c ++ (z ++ codes ".lock")) → ⊥
+    go : (c z : List ℕ) → NoByte 47 c → IsPath (c ++ (z ++ (codes ".lock" ++ rest))) → ⊥
     go c [] none path =
-        let whole = last_component (c ++ codes ".lock") (test_no_slash (c ++ codes ".lock") (locked c (no_slash_test c none))) path in
-        false≢true (sym whole.locked ∙ lock_end c)
+        let last = whole (c ++ codes ".lock") (test_no_slash (c ++ codes ".lock") (locked c (no_slash_test c none))) (subst IsPath (sym (append_assoc c (codes ".lock") rest)) path) in
+        false≢true (sym last.locked ∙ lock_end c)
     go c (x ∷ z) none path = elim (cases_Bool (x == 47)) [
       | inl slash ↦
-          let cut : IsPath (c ++ 47 ∷ (z ++ codes ".lock")) = subst (λ y. IsPath (c ++ y ∷ (z ++ codes ".lock"))) (eqb-true x 47 slash) path in
-          go [] z (λ k (lt : k < 0). absurd (omega arith)) (first_component c (z ++ codes ".lock") none cut).1
+          let cut : IsPath (c ++ 47 ∷ (z ++ (codes ".lock" ++ rest))) = subst (λ y. IsPath (c ++ y ∷ (z ++ (codes ".lock" ++ rest)))) (eqb-true x 47 slash) path in
+          go [] z (λ k (lt : k < 0). absurd (omega arith)) (first_component c (z ++ (codes ".lock" ++ rest)) none cut).1
       | inr other ↦
           go (c ++ x ∷ []) z (test_no_slash (c ++ x ∷ []) (slashless c x (no_slash_test c none) other))
-          (subst IsPath (sym (append_assoc c (x ∷ []) (z ++ codes ".lock"))) path)
+          (subst IsPath (sym (append_assoc c (x ∷ []) (z ++ (codes ".lock" ++ rest)))) path)
     ]
+
+pub no_lock_end : (name front : List ℕ) → IsPartialName name → name ≢ front ++ codes ".lock"
+no_lock_end name front valid =
+    no_lock_before [] (λ c none path. last_component c none (subst IsPath (append-nil c) path)) name front (rules_of name valid).0
+
+-- nor does a component in front of a slash
+pub no_lock_inside : (name front rest : List ℕ) → IsPartialName name → name ≢ front ++ (codes ".lock" ++ 47 ∷ rest)
+no_lock_inside name front rest valid =
+    no_lock_before (47 ∷ rest) (λ c none path. (first_component c rest none path).0) name front (rules_of name valid).0
 
 -- each location that a valid name has is sound
 
@@ -177,7 +188,7 @@ pub start_private : (name : List ℕ) → IsPrivateName name → IsStart (head n
 start_private name (inl h) = start_r (head name) h.0
 start_private name (inr h) = start_pseudo (head name) h
 
-start_below : (n name : List ℕ) → IsNamespace n → IsStart (head name) → IsStart (head (n ++ name))
+pub start_below : (n name : List ℕ) → IsNamespace n → IsStart (head name) → IsStart (head (n ++ name))
 start_below n name (inl e) h = subst (λ x. IsStart (head (x ++ name))) (sym e) h
 start_below n name (inr e) h = subst (λ x. IsStart (head (x ++ name))) (sym e.1) (start_r 114 refl)
 
@@ -196,6 +207,12 @@ abbrev pub place_path : List ℕ → PlaceShape → List ℕ
 place_path n (Plain k) = n ++ k
 place_path n (Within w k) = codes "worktrees/" ++ (w ++ 47 ∷ (n ++ k))
 place_path n (Named w k) = n ++ (codes "worktrees/" ++ (w ++ 47 ∷ k))
+
+-- the end of a place that is the end of its name
+abbrev pub end_of : PlaceShape → List ℕ
+end_of (Plain k) = k
+end_of (Within w k) = k
+end_of (Named w k) = k
 
 abbrev pub log_path : List ℕ → LogShape → List ℕ
 log_path n (PlainLog k) = codes "logs/" ++ (n ++ k)
@@ -297,14 +314,23 @@ here_place f (inl same) k h = (Plain k, h, inl (ap (λ g. below g (f.namespace +
 here_place f (inr (inl r)) k h = (Within r.0 k, (r.1, h), inl (ap (λ g. below g (f.namespace ++ k)) r.2 ∙ inside f.common r.0 (f.namespace ++ k)))
 here_place f (inr (inr r)) k h = (Plain k, h, inr (r, refl))
 
-abbrev HasPlace : Layout → Location → Type 0
+abbrev pub HasPlace : Layout → Location → Type 0
 HasPlace f x = (shape : PlaceShape) × IsPlaceShape shape × Lies f (place_at f (Some x)) (place_path f.namespace shape)
 
-has_place : (f : Layout) → IsLaid f → (x : Location) → IsSpot x → HasPlace f x
+pub has_place : (f : Layout) → IsLaid f → (x : Location) → IsSpot x → HasPlace f x
 has_place f folders (Common k) h = (Plain k, start_r (head k) h.0, inl refl)
 has_place f folders (ThisWorktree k) h = let p = here_place f folders k h in (p.0, private_is_place p.0 p.1, p.2)
 has_place f folders (MainWorktree k) h = (Plain k, start_private k h, inl refl)
 has_place f folders (LinkedWorktree w k) h = (Named w k, (h.0, start_private k h.1), inl refl)
+
+pub ends_as : (f : Layout) (folders : IsLaid f) (x : Location) (h : IsSpot x) → end_of (has_place f folders x h).0 ≡ short x
+unfolding has_place here_place
+ends_as f folders (Common k) h = refl
+ends_as f (inl one) (ThisWorktree k) h = refl
+ends_as f (inr (inl r)) (ThisWorktree k) h = refl
+ends_as f (inr (inr r)) (ThisWorktree k) h = refl
+ends_as f folders (MainWorktree k) h = refl
+ends_as f folders (LinkedWorktree w k) h = refl
 
 abbrev HasLog : Layout → Location → Type 0
 HasLog f x = (shape : LogShape) × IsLogShape shape × Lies f (log_at f (Some x)) (log_path f.namespace shape)
@@ -396,7 +422,7 @@ log_ends f (LinkedWorktree w k) =
     (ends_after k (codes "logs/" ++ (f.namespace ++ k)) (47 ∷ []) (ends_after k (f.namespace ++ k) (codes "logs/") (f.namespace, refl)))))
 
 -- of two ends of one text, one ends in the other
-ends_compare : (a k b l : List ℕ) → a ++ k ≡ b ++ l → EndsIn l k ⊎ ((c : ℕ) × (z : List ℕ) × (l ≡ c ∷ z ++ k))
+pub ends_compare : (a k b l : List ℕ) → a ++ k ≡ b ++ l → EndsIn l k ⊎ ((c : ℕ) × (z : List ℕ) × (l ≡ c ∷ z ++ k))
 ends_compare [] k b l h = inl (b, h)
 ends_compare (x ∷ a) k [] l h = inr (x, a, sym h)
 ends_compare (x ∷ a) k (y ∷ b) l h = let t : a ++ k ≡ b ++ l = cc in ends_compare a k b l t

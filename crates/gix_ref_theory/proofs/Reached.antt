@@ -47,14 +47,14 @@ pub view_here : (p : Path) (file : Option (List ℕ)) (view : View) → changed_
 view_here p file view = cond-true (bytes_eq p p) file (view p) ((bytes_eq-Decides p p).1 refl)
 
 -- what is whole elsewhere stays whole
-whole_entered : (D : Disk) (p q : Path) (h : Item) (bytes : List ℕ) → p ≢ q → IsWhole D q bytes → IsWhole (with_item D p h) q bytes
+pub whole_entered : (D : Disk) (p q : Path) (h : Item) (bytes : List ℕ) → p ≢ q → IsWhole D q bytes → IsWhole (with_item D p h) q bytes
 whole_entered D p q h bytes apart whole = by (bytes_eq p q) refl
   where
     by : (b : Bool) → bytes_eq p q ≡ b → ((if b then h.content else D.tree q) ≡ Some (File bytes)) × ((if b then h.synced else D.unsynced.synced q) ≡ length bytes)
     by true e = absurd (apart ((bytes_eq-Decides p q).0 e))
     by false e = whole
 
-whole_appended : (D : Disk) (p q : Path) (more_bytes bytes : List ℕ) → p ≢ q → IsWhole D q bytes → IsWhole (appended_on D p more_bytes) q bytes
+pub whole_appended : (D : Disk) (p q : Path) (more_bytes bytes : List ℕ) → p ≢ q → IsWhole D q bytes → IsWhole (appended_on D p more_bytes) q bytes
 whole_appended D p q more_bytes bytes apart whole = (put_other D.tree p q (more (D.tree p) more_bytes) apart ∙ whole.0, whole.1)
 
 file_is_whole : (D : Disk) (p : Path) (bytes : List ℕ) → IsWhole D p bytes → is_file (D.tree p) ≡ true
@@ -68,7 +68,7 @@ whole_with_folder D f q bytes apart whole = by (is_folder (D.tree f))
     by false = whole_entered D f q a_folder bytes apart whole
 
 -- a whole file is no folder that is made
-whole_with_folders : (fs : List Path) (D : Disk) (q : Path) (bytes : List ℕ) → list_any (λ f. is_file (D.tree f)) fs ≡ false → IsWhole D q bytes → IsWhole (with_folders_on D fs) q bytes
+pub whole_with_folders : (fs : List Path) (D : Disk) (q : Path) (bytes : List ℕ) → list_any (λ f. is_file (D.tree f)) fs ≡ false → IsWhole D q bytes → IsWhole (with_folders_on D fs) q bytes
 whole_with_folders [] D q bytes none whole = whole
 whole_with_folders (f ∷ fs) D q bytes none whole =
     let parts = or_parts (is_file (D.tree f)) (list_any (λ g. is_file (D.tree g)) fs) none in

@@ -2,11 +2,13 @@ pub mod Between
 pub mod ConcreteStore
 pub mod Edits
 pub mod Lookups
+pub mod LockPlaces
 pub mod Losses
 pub mod OnDisks
 pub mod OnRealTrees
 pub mod Plan
 pub mod Readings
+pub mod Roots
 pub mod SmallCommit
 pub mod Theorems
 pub mod Views

@@ -102,6 +102,15 @@ EveryDoneRunIsKept =
     AllStay D staying → AreWhole texts D → IsAllSettled D → CarryOut (IsSpokenOf locked D) staying texts plan writes → IsSyncedAfter plan D E → Lost E T →
     (q : Path) → ((p : Path) → q ≢ lock_of p) → view_of T q ≡ after writes (view_of D.tree) q
 
+-- The disk E is among the writes, which began on the disk `first`, and the folders stay.
+abbrev pub IsAmong : (locked staying : List Path) → List Write → (first E : Disk) → Type 0
+IsAmong locked staying writes first E = IsWithin (IsSpokenOf locked first) writes (view_of first.tree) E × AllStay E staying
+
+-- On the disk E all is as on the disk `first` but for own locks: each path that is spoken of is settled with the file that it had,
+-- and the folders stay.
+abbrev pub IsAsBefore : (locked staying : List Path) → (first E : Disk) → Type 0
+IsAsBefore locked staying first E = IsAmong locked staying [] first E
+
 -- A step of `prepare` or `rollback`: on an own lock, or on folders.
 abbrev pub IsOwnStep : List Path → List Path → Step → Type 0
 IsOwnStep locked staying (Create p) = IsOwnLock locked p
@@ -115,15 +124,13 @@ IsOwnStep locked staying other = ⊥
 abbrev pub OwnStepsWriteNothing : Type 0
 OwnStepsWriteNothing =
     (locked staying : List Path) (D E F : Disk) (step : Step) → IsOwnStep locked staying step →
-    IsWithin (IsSpokenOf locked D) [] (view_of D.tree) E × AllStay E staying → BeginsOn step E F →
-    IsWithin (IsSpokenOf locked D) [] (view_of D.tree) F × AllStay F staying
+    IsAsBefore locked staying D E → BeginsOn step E F → IsAsBefore locked staying D F
 
 -- and so does every sync
 abbrev pub SyncsWriteNothing : Type 0
 SyncsWriteNothing =
     (locked staying : List Path) (D E F : Disk) (sync : Sync) →
-    IsWithin (IsSpokenOf locked D) [] (view_of D.tree) E × AllStay E staying → Settling sync E F →
-    IsWithin (IsSpokenOf locked D) [] (view_of D.tree) F × AllStay F staying
+    IsAsBefore locked staying D E → Settling sync E F → IsAsBefore locked staying D F
 
 -- Where the steps carry out some writes, every loss of power from old to new is one among these. It is what a run of the steps
 -- says to its caller, who may have removed own locks after it.

@@ -1,4 +1,6 @@
 //! The theorems of the store, as contracts of functions that do nothing.
+ghost use Rattle.gix_ref_theory.specs.LockPlaces.{NoLockIsBelowAnother};
+ghost use Rattle.gix_ref_theory.specs.Roots.{PlacesSettle};
 ghost use Rattle.gix_ref_theory.specs.Theorems.{EveryStopIsBetween, NoDeletionShowsFirst, UpdatesShowInOrder, WholePlanCommits, PlanSeesNoLocks, MergedRecordsAreOne, PathsAreTheTable, SafeNamesAreTested, PlacesKeepTheLaws, OnePlaceHasOneLog, OneLogHasOnePlace, PlacesLieInTheNamespace};
 ghost use Rattle.gix_ref_theory.specs.Losses.{EveryLossIsBetween, EveryLossAmongIsBetween, EveryWholeRunIsKept, StopLogsAreBetween};
 ghost use Rattle.gix_ref_theory.specs.OnDisks.{EveryDiskIsWithin, LockRemovalsKeepWithin, EveryLossWithin, EveryLossIsInOneWrite, EveryRunSettles, EveryDoneRunIsKept, OwnStepsWriteNothing, SyncsWriteNothing};
@@ -50,7 +52,7 @@ pub fn every_synced_run()
 {}
 
 /// The places of references are those of the table, they keep the laws that `every_stop` asks for, and each lies in the
-/// namespace.
+/// namespace. Each is settled by the syncs of its folders, up to the git folder or the common folder.
 pub fn places_keep_the_laws()
     ensures table { PathsAreTheTable }
     ensures safe { SafeNamesAreTested }
@@ -58,4 +60,6 @@ pub fn places_keep_the_laws()
     ensures one_log { OnePlaceHasOneLog }
     ensures one_place { OneLogHasOnePlace }
     ensures namespaces { PlacesLieInTheNamespace }
+    ensures settle { PlacesSettle }
+    ensures locks { NoLockIsBelowAnother }
 {}

@@ -1,7 +1,8 @@
 //! The loose file at a place, decoded.
 ghost use Rattle.std.specs.Prelude.{◌≡◌, IfOk, IfErr, Some};
-ghost use Rattle.gix_ref_files.specs.Files.{Leaves, count_after};
+ghost use Rattle.gix_ref_files.specs.Files.{disk_of, Leaves, Passes, count_after};
 ghost use Rattle.gix_ref_files.specs.Calls.{Unchanged};
+ghost use Rattle.gix_ref_files.specs.DiskCalls.{Untouched};
 ghost use Rattle.gix_ref_theory.specs.OnRealTrees.{view_of};
 ghost use Rattle.gix_ref_lookup.specs.LooseFiles.{IsDecoded};
 
@@ -45,6 +46,8 @@ pub fn loose_at<F: Files>(
         IfOk result (IsDecoded kind (view_of (F.means files.old).tree place.now)) }
     ensures leaves { F.honest → Leaves (F.means files.old) (F.means files.new)
         (Unchanged (F.means files.old).tree) }
+    ensures passes { F.honest → Passes (F.means files.old) (F.means files.new)
+        (Untouched (disk_of (F.means files.old))) }
     ensures count { F.faults files.new ≡ count_after result (F.faults files.old) }
 {
     let mut text = Vec::new(alloc);
