@@ -7,5 +7,6 @@ pub mod MergedListings
 pub mod OwnLemmas
 pub mod OwnListings
 pub mod PlainListings
+pub mod PrefixedRecords
 pub mod StoreWalks
 pub mod WalkLemmas

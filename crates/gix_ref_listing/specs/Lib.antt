@@ -4,6 +4,7 @@ pub mod Listings
 pub mod LooseListings
 pub mod OwnRecords
 pub mod PlainSettings
+pub mod PrefixedRecords
 pub mod Steps
 pub mod Walks
 pub mod WholeListings

@@ -5,9 +5,11 @@
 pub mod error;
 pub mod found;
 pub mod item;
+pub mod laws;
 pub mod list;
 pub mod merge;
 pub mod own_records;
 pub mod prefix;
+pub mod prefixed_records;
 pub mod store_walk;
 pub mod walk;
