@@ -23,7 +23,7 @@ pub either_way : {X : Type 0} (b : Bool) → (b ≡ true → X) → (b ≡ false
 either_way true so not_so = so refl
 either_way false so not_so = not_so refl
 
-or_cases : (a b : Bool) → (a || b) ≡ true → (a ≡ true) ⊎ (b ≡ true)
+pub or_cases : (a b : Bool) → (a || b) ≡ true → (a ≡ true) ⊎ (b ≡ true)
 or_cases true b h = inl refl
 or_cases false b h = inr h
 

@@ -1,15 +1,21 @@
 -- A commit from the store before its `prepare`, from what its renames and the release of its locks leave.
 use Rattle.std.proofs.Common.{◌≡◌, ◌⊎◌, inl, inr, ⊎_elim, ℕ, ◌<◌, ◌≤◌, List, [], true, false, Option, Some, None, refl, sym, ◌∙◌, ap, subst, length, get_or, arith}
 use Rattle.std.proofs.lemmas.List.{length-map}
-use Rattle.gix_ref_files.specs.declared.files.FileError.{FileError}
+use Rattle.gix_ref_store.specs.declared.file.transaction.commit.publish.Why.{Why}
+use Rattle.gix_ref_store.specs.declared.file.transaction.commit.publish.Why.TheVariants.{Fault, Folder, Memory as out_of_memory}
 use Rattle.gix_ref_files.specs.Tree.{Tree, Path, is_file, is_folder, Content}
 use Rattle.gix_ref_files.specs.Tree.Content.{File, Folder}
-use Rattle.gix_ref_files.specs.Files.{Meaning, Leaves}
+use Rattle.gix_ref_files.specs.Files.{Meaning, disk_of, Leaves, Passes}
+use Rattle.gix_ref_files.specs.Settled.{AllStay, IsAllSettled}
+use Rattle.gix_ref_files.specs.DiskSteps.{IsReachedBy, IsSyncedAfter}
+use Rattle.gix_ref_files.specs.declared.files.FileError.TheVariants.{Memory as no_room}
 use Rattle.gix_ref_files.specs.Steps.{IsAfter, IsLeftBy}
-use Rattle.gix_ref_store.specs.OwnLocks.{is_in, RemovesLocks}
-use Rattle.gix_ref_store.specs.CommitRenames.{renames_of, lock_at, stays_at, IsRaised}
-use Rattle.gix_ref_store.specs.CommitResult.{AreCommitted, EveryStopIsOldOrNew, SaysWhy, FailsFor, names_of}
-use Rattle.gix_ref_store.specs.Prepared.{IsOneUpdate, PreparesFrom, tree_of}
+use Rattle.gix_ref_files.proofs.Between.{none_begun}
+use Rattle.gix_ref_store.specs.OwnLocks.{is_in, RemovesLocks, OnlyRemoves}
+use Rattle.gix_ref_store.specs.CommitRenames.{renames_of, rename_at, synced_renames_of, lock_at, stays_at, place_at, IsCutAt, IsFolderInPlace, IsRaised}
+use Rattle.gix_ref_store.specs.CommitResult.{AreCommitted, EveryStopIsOldOrNew, EveryLossIsOldOrNew, SaysWhy, FailsFor, EndsAtEdit}
+use Rattle.gix_ref_store.specs.Causes.{names_of}
+use Rattle.gix_ref_store.specs.Prepared.{AreDirectUpdates, PreparesFrom, tree_of, disk_in, places_in, IsAtRest}
 use Rattle.gix_ref_store.specs.Store.{files_of, folders, kind_of, loose_meaning_of}
 use Rattle.gix_ref_store.specs.PrepareSteps.{lock_paths, place_paths}
 use Rattle.gix_ref_store.specs.CarriedEdits.{AreCarried}
@@ -17,25 +23,20 @@ use Rattle.gix_ref_edits.specs.declared.transaction.RefEdit.{RefEdit}
 use Rattle.gix_ref_store.specs.declared.file.store.Store.{Store}
 use Rattle.gix_ref_store.specs.declared.file.transaction.setting.Paths.{Paths}
 use Rattle.gix_ref_store.specs.declared.file.transaction.commit.error.Error.{Error}
-use Rattle.gix_ref_store.specs.declared.file.transaction.commit.error.Error.TheVariants.{LockCommit, FolderInPlace}
+use Rattle.gix_ref_store.specs.declared.file.transaction.commit.error.Error.TheVariants.{LockCommit, FolderInPlace, Memory}
 use Rattle.gix_ref_store.proofs.Adds.{clash, in_at}
-use Rattle.gix_ref_store.proofs.OneUpdate.{IsReady, begins, ends, gone, commits}
+use Rattle.gix_ref_store.proofs.Apart.{updates_are}
+use Rattle.gix_ref_store.proofs.Held.{IsReady}
+use Rattle.gix_ref_store.proofs.Updates.{begins, ends, gone, commits}
+use Rattle.gix_ref_store.proofs.CommitLosses as losses
+use Rattle.gix_ref_store.proofs.CommitLosses.{rest_kept}
+use Rattle.gix_ref_lookup.specs.StoreLayout.{folders_of}
+use Rattle.gix_ref_lookup.specs.declared.folders.Dirs.{Dirs}
+use Rattle.gix_ref_base.specs.Layout.{Layout}
+use Rattle.gix_ref_theory.specs.Roots.{roots}
 use Rattle.gix_ref_lookup.proofs.Laying.{folders_laid}
 
--- a store with other files
-abbrev pub with_files : {F : Type 0} → Store F → F → Store F
-with_files store files = record {
-  write_reflog = store.write_reflog;
-  namespace = store.namespace;
-  prohibit_windows_device_names = store.prohibit_windows_device_names;
-  precompose_unicode = store.precompose_unicode;
-  files = files;
-  dirs = store.dirs;
-  object_hash = store.object_hash;
-  packed_mmap_threshold = store.packed_mmap_threshold;
-}
-
-module _ {F : Type 0} (honest : Type 0) (means : F → Meaning) (faults : F → ℕ) (old start new : Store F) (given carried : List RefEdit) (paths : List Paths) (one : IsOneUpdate given) (from : PreparesFrom honest means faults old start given carried paths) where
+module _ {F : Type 0} (honest : Type 0) (means : F → Meaning) (faults : F → ℕ) (old start new : Store F) (given carried : List RefEdit) (paths : List Paths) (direct : AreDirectUpdates given) (from : PreparesFrom honest means faults old start given carried paths) where
   abbrev before : Tree
   before = tree_of means old
 
@@ -56,7 +57,7 @@ module _ {F : Type 0} (honest : Type 0) (means : F → Meaning) (faults : F → 
   }
 
   -- the renames began at `start` and left `mid`; then the locks of `rest`, which are those of `paths`, were released
-  module _ (mid : Meaning) (rest : List Paths) (left : List Path) (done total : ℕ) (same : lock_paths rest ≡ lock_paths paths) (all : length paths ≤ total) (renames : honest → Leaves first mid (IsLeftBy (renames_of carried paths) first.tree)) (how : honest → IsAfter (renames_of carried paths) first.tree mid.tree ⊎ (done < length carried)) (release : honest → Leaves mid now (RemovesLocks (lock_paths rest) mid.tree)) (released : honest → (k : ℕ) → k < total → stays_at carried done k ≡ true → is_in left (lock_at rest k) ≡ false → is_file (now.tree (lock_at rest k)) ≡ false) (ours : (q : Path) → is_in left q ≡ true → is_in (lock_paths rest) q ≡ true) where
+  module _ (mid : Meaning) (rest : List Paths) (left : List Path) (done total : ℕ) (same : lock_paths rest ≡ lock_paths paths) (all : length paths ≤ total) (renames : honest → Leaves first mid (IsLeftBy (renames_of carried paths) first.tree)) (within : done ≤ length paths) (how : honest → IsCutAt carried paths done first.tree mid.tree) (release : honest → Leaves mid now (RemovesLocks (lock_paths rest) mid.tree)) (released : honest → (k : ℕ) → k < total → stays_at carried done k ≡ true → is_in left (lock_at rest k) ≡ false → is_file (now.tree (lock_at rest k)) ≡ false) (ours : (q : Path) → is_in left q ≡ true → is_in (lock_paths rest) q ≡ true) where
     releases : honest → Leaves mid now (RemovesLocks (lock_paths paths) mid.tree)
     releases h = subst (λ locks. Leaves mid now (RemovesLocks locks mid.tree)) same (release h)
 
@@ -66,14 +67,39 @@ module _ {F : Type 0} (honest : Type 0) (means : F → Meaning) (faults : F → 
 
     pub well : EveryStopIsOldOrNew honest means faults old start new given left
     well = record {
-      began = λ h. begins (folders old) (kind_of old) (folders_laid old.dirs old.namespace) before first given carried paths one (ready h);
-      leaves = λ h. ends (folders old) (kind_of old) (folders_laid old.dirs old.namespace) before first given carried paths one (ready h) mid now (renames h) (releases h);
-      gone = λ h. gone (folders old) (kind_of old) (folders_laid old.dirs old.namespace) before first given carried paths one (ready h) mid.tree now.tree left done (how h) (releases h).tree (locks_gone h);
+      began = λ h. begins (folders old) (kind_of old) (folders_laid old.dirs old.namespace) before first given carried paths (updates_are given direct) (ready h);
+      leaves = λ h. ends (folders old) (kind_of old) (folders_laid old.dirs old.namespace) before first given carried paths (updates_are given direct) (ready h) mid now (renames h) (releases h);
+      gone = λ h. gone (folders old) (kind_of old) (folders_laid old.dirs old.namespace) before first given carried paths (updates_are given direct) (ready h) mid.tree now.tree left done within (how h) (releases h).tree (locks_gone h);
       ours = λ q h. subst (λ locks. is_in locks q ≡ true) (same ∙ from.locks) (ours q h);
     }
 
     pub committed : (h : honest) → IsAfter (renames_of carried paths) first.tree mid.tree → AreCommitted (loose_meaning_of old) given before left now.tree
-    committed h after = commits (folders old) (kind_of old) (folders_laid old.dirs old.namespace) before first given carried paths one (ready h) mid.tree now.tree left after (releases h).tree (well.gone h)
+    committed h after = commits (folders old) (kind_of old) (folders_laid old.dirs old.namespace) before first given carried paths (updates_are given direct) (ready h) mid.tree now.tree left after (releases h).tree (well.gone h)
+
+  -- what losses of power leave on the way, and what a commit that succeeds leaves settled
+  module _ (mid : Meaning) (rest : List Paths) (same : lock_paths rest ≡ lock_paths paths) (h : honest) (at_rest : IsAtRest means old) (release : OnlyRemoves (lock_paths rest) mid now) where
+    started : IsAllSettled (disk_of first) × AllStay (disk_of first) (roots (folders old))
+    started = rest_kept (places_in old given) (roots (folders old)) (disk_in means old) (disk_of first) at_rest.0 ((from.lost h).keeps (roots (folders old)) at_rest.1).disk
+
+    releases_alone : OnlyRemoves (lock_paths paths) mid now
+    releases_alone = subst (λ locks. OnlyRemoves locks mid now) same release
+
+    pub lost : Passes first mid (IsReachedBy (synced_renames_of start.dirs carried paths) (disk_of first)) → EveryLossIsOldOrNew honest means faults old start new given
+    lost passes = record {
+      began = losses.begins old.dirs old.namespace (kind_of old) before first given carried paths (updates_are given direct) (ready h) (from.whole h) started.0 started.1;
+      loses = losses.ends old.dirs old.namespace (kind_of old) before first given carried paths (updates_are given direct) (ready h) (from.whole h) started.0 started.1 mid now
+          (subst (λ (dirs : Dirs). Passes first mid (IsReachedBy (synced_renames_of dirs carried paths) (disk_of first))) from.held.same.dirs passes) releases_alone;
+    }
+
+    pub settled : IsSyncedAfter (synced_renames_of start.dirs carried paths) (disk_of first) (disk_of mid) → new.dirs ≡ start.dirs → new.namespace ≡ start.namespace → IsAtRest means new
+    settled done dirs_same namespace_same =
+        let end = losses.settles old.dirs old.namespace (kind_of old) before first given carried paths (updates_are given direct) (ready h) (from.whole h) started.0 started.1 mid now
+        (subst (λ (dirs : Dirs). IsSyncedAfter (synced_renames_of dirs carried paths) (disk_of first) (disk_of mid)) from.held.same.dirs done) releases_alone in
+        (end.0, subst (λ (f : Layout). AllStay (disk_of now) (roots f)) (sym (ap (λ (dirs : Dirs). folders_of dirs new.namespace) (dirs_same ∙ from.held.same.dirs) ∙ ap (folders_of old.dirs) (namespace_same ∙ from.held.same.namespace))) end.1)
+
+-- a run of all renames ended behind the last
+pub cut_behind : (carried : List RefEdit) (paths : List Paths) (S T : Tree) → IsAfter (renames_of carried paths) S T → IsCutAt carried paths (length carried) S T
+cut_behind carried paths S T after = (T, after, none_begun (rename_at carried paths (length carried)) T)
 
 -- a folder stays where locks are removed
 pub folder_stays : (locks : List Path) (T U : Tree) (q : Path) → RemovesLocks locks T U → is_folder (T q) ≡ true → is_folder (U q) ≡ true
@@ -85,21 +111,25 @@ folder_stays locks T U q removes folder = ⊎_elim (λ same. ap is_folder same �
     no_both None file folder = clash file refl
 
 -- why a commit failed
-pub fails : {F : Type 0} (honest : Type 0) (means : F → Meaning) (faults : F → ℕ) (start new : Store F) (edits : List RefEdit) (paths : List Paths) (at : ℕ) (place : Path) (source : Option FileError) (error : Error) →
-    SaysWhy edits at place source error → at < length edits → is_in (place_paths paths) place ≡ true → (honest → source ≡ None → is_folder (tree_of means new place) ≡ true) →
-    IsRaised (faults (files_of start)) (faults (files_of new)) source → FailsFor honest means faults start new edits paths error
-fails honest means faults start new edits paths at place None (FolderInPlace path) tells lt within folder raised = (
-  subst (λ (p : Path). is_in (place_paths paths) p ≡ true) (sym tells) within,
-  λ h. subst (λ (p : Path). is_folder (tree_of means new p) ≡ true) (sym tells) (folder h refl),
-)
-fails honest means faults start new edits paths at place (Some fault) (LockCommit source name) tells lt within folder raised = (
-  raised,
-  subst (λ (n : List ℕ). is_in (names_of edits) n ≡ true) (sym tells.1) (in_at (names_of edits) at [] (simp length-map lt)),
-)
-fails honest means faults start new edits paths at place None (LockCommit source name) tells lt within folder raised = absurd tells
-fails honest means faults start new edits paths at place (Some fault) (FolderInPlace path) tells lt within folder raised = absurd tells
+pub fails : {F : Type 0} (honest : Type 0) (means : F → Meaning) (faults : F → ℕ) (start new : Store F) (edits : List RefEdit) (paths : List Paths) (at : ℕ) (place : Path) (why : Why) (error : Error) →
+    SaysWhy edits at place why error → ((why ≡ out_of_memory → ⊥) → EndsAtEdit honest means faults start new edits paths at) → ((why ≡ out_of_memory → ⊥) → place ≡ place_at paths at) →
+    (why ≡ Fault no_room → ⊥) → (honest → why ≡ Folder → IsFolderInPlace (tree_of means start) (tree_of means new) place) →
+    (why ≡ out_of_memory → honest → RemovesLocks (lock_paths paths) (tree_of means start) (tree_of means new)) →
+    IsRaised (faults (files_of start)) (faults (files_of new)) why → FailsFor honest means faults start new edits paths error
+fails honest means faults start new edits paths at place Folder (FolderInPlace path) tells ended is none folder nothing raised =
+    (at, ended (λ e. cc), tells ∙ is (λ e. cc), λ h. subst (IsFolderInPlace (tree_of means start) (tree_of means new)) (sym tells) (folder h refl))
+fails honest means faults start new edits paths at place (Fault fault) (LockCommit source name) tells ended is none folder nothing raised =
+    (raised, λ e. none (ap Fault (sym tells.0 ∙ e)), (at, ended (λ e. cc), tells.1))
+fails honest means faults start new edits paths at place out_of_memory Memory tells ended is none folder nothing raised = nothing refl
+fails honest means faults start new edits paths at place Folder (LockCommit source name) tells ended is none folder nothing raised = absurd tells
+fails honest means faults start new edits paths at place Folder Memory tells ended is none folder nothing raised = absurd tells
+fails honest means faults start new edits paths at place (Fault fault) (FolderInPlace path) tells ended is none folder nothing raised = absurd tells
+fails honest means faults start new edits paths at place (Fault fault) Memory tells ended is none folder nothing raised = absurd tells
+fails honest means faults start new edits paths at place out_of_memory (FolderInPlace path) tells ended is none folder nothing raised = absurd tells
+fails honest means faults start new edits paths at place out_of_memory (LockCommit source name) tells ended is none folder nothing raised = absurd tells
 
-pub raised_on : (a b d : ℕ) (source : Option FileError) → b ≤ d → IsRaised a b source → IsRaised a d source
-raised_on a b d None le raised = tt
-raised_on a b d (Some error) le (inl more) = inl (omega (arith, le, more))
-raised_on a b d (Some error) le (inr full) = inr (omega (arith, le, full))
+pub raised_on : (a b d : ℕ) (why : Why) → b ≤ d → IsRaised a b why → IsRaised a d why
+raised_on a b d out_of_memory le raised = tt
+raised_on a b d Folder le raised = tt
+raised_on a b d (Fault error) le (inl more) = inl (omega (arith, le, more))
+raised_on a b d (Fault error) le (inr full) = inr (omega (arith, le, full))

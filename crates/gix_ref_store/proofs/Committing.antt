@@ -106,20 +106,8 @@ module _ (f : Layout) (kind : Kind) where
       ∙ (already_file (s.key name) (before (s.place name)) t
       ∙ ap (λ records. is_found (found_by s (s.key name) (decoded s (before (s.place name))) records) t) (sym (no_records (before s.packed_path))))
 
-  -- an update alters no record where records are removed alone
-  alters_none : (key : Option (List ℕ)) (t : TargetValue) (records : List Record) → alters_change DeletionsOnly key (Update t) records ≡ false
-  alters_none None t records = refl
-  alters_none (Some key) t records = refl
-
-  pub alters_no : (name : List ℕ) (r : Bool) (t : TargetValue) (records : List Record) → alters_packed s DeletionsOnly records (edit_with name r (Update t) ∷ []) ≡ false
-  alters_no name r t records = ap (λ a. (r && a) || false) (alters_none (s.key name) t records) ∙ last r
-    where
-      last : (r : Bool) → ((r && false) || false) ≡ false
-      last true = refl
-      last false = refl
-
   -- what becomes of the loose file
-  effect_is : (view : View) (name : List ℕ) (r : Bool) (t : TargetValue) (already : Bool) → has_already (reading s view name) t ≡ already →
+  pub effect_is : (view : View) (name : List ℕ) (r : Bool) (t : TargetValue) (already : Bool) → has_already (reading s view name) t ≡ already →
       effect s DeletionsOnly view (edit_with name r (Update t)) ≡ (if r && not already then Writes (loose_text t) else LeavesIt)
   effect_is view name r t already is = ap (λ a. if r then (if a then LeavesIt else Writes (loose_text t)) else LeavesIt) is ∙ pick r already
     where
@@ -127,25 +115,6 @@ module _ (f : Layout) (kind : Kind) where
       pick true true = refl
       pick true false = refl
       pick false a = refl
-
-  pub plan_is : (view : View) (name : List ℕ) (r : Bool) (t : TargetValue) (written : Bool) →
-      effect s DeletionsOnly view (edit_with name r (Update t)) ≡ (if written then Writes (loose_text t) else LeavesIt) →
-      plan s DeletionsOnly view (edit_with name r (Update t) ∷ []) [] ≡ (if written then Put (s.place name) (loose_text t) ∷ [] else [])
-  plan_is view name r t written is =
-      ap (λ alters. (place_writes place does ++ []) ++ ([] ++ ((if alters then Write.Remove s.packed_path ∷ [] else []) ++ (place_removal place does ++ [])))) (alters_no name r t (records_in s (view s.packed_path)))
-      ∙ (ap (λ e. (place_writes place e ++ []) ++ (place_removal place e ++ [])) is ∙ by written)
-    where
-      place : Path
-      place = s.place name
-
-      does : Effect
-      does = effect s DeletionsOnly view (edit_with name r (Update t))
-
-      by : (written : Bool) →
-          (place_writes place (if written then Writes (loose_text t) else LeavesIt) ++ []) ++ (place_removal place (if written then Writes (loose_text t) else LeavesIt) ++ [])
-          ≡ (if written then Put place (loose_text t) ∷ [] else [])
-      by true = refl
-      by false = refl
 
   -- what `prepare` has seen to
   pub reads_back : (t : TargetValue) → IsFullTarget (Some t) → IsOfKind kind (Some t) → IsWholeTarget (Some t) → target_in kind (loose_text t) ≡ Some t
@@ -155,42 +124,3 @@ module _ (f : Layout) (kind : Kind) where
   -- the digits of its id are read as it
   pub id_reads_as_written : (t : TargetValue) → IsWholeTarget (Some t) → (id : ObjectId) → t ≡ object_id id → id_read (written_id id) ≡ Some id
   id_reads_as_written t whole id is = written_is_read id (subst (λ u. IsWholeTarget (Some u)) is whole)
-
-  pub is_reference : (name : List ℕ) → IsPartialName name → is_safe name ≡ true → s.is_reference name ≡ true
-  is_reference name partial safe = ap (λ e. is_none e && is_safe name) partial ∙ safe
-
-  pub prepared : (view : View) (name : List ℕ) (r : Bool) (t : TargetValue) → s.is_reference name ≡ true → target_in kind (loose_text t) ≡ Some t → ((id : ObjectId) → t ≡ object_id id → id_read (written_id id) ≡ Some id) →
-      IsPrepared s DeletionsOnly view (edit_with name r (Update t) ∷ []) []
-  prepared view name r t is back read = record {
-    apart = (is, λ x h. absurd h, tt);
-    allowed = λ x h. no_device (components (below_folders f (s.place x.name)));
-    targets_read_back = λ x target h update. ⊎_elim (λ (here : edit_with name r (Update t) ≡ x). subst (λ u. target_in kind (loose_text u) ≡ Some u) (inner (ap (λ (y : Edit). y.change) here ∙ update)) back) (λ other. absurd other) h;
-    ids_read_back = λ x id h update. ⊎_elim (λ (here : edit_with name r (Update t) ≡ x). read id (inner (ap (λ (y : Edit). y.change) here ∙ update))) (λ other. absurd other) h;
-    records_are_merged = λ alters. clash alters (alters_no name r t (records_in s (view s.packed_path)));
-    records_read_back = λ alters. clash alters (alters_no name r t (records_in s (view s.packed_path)));
-  }
-    where
-      inner : {a b : TargetValue} → Update a ≡ Update b → a ≡ b
-      inner e = cc
-
-  -- the steps carry out the plan
-  pub carries : (view : View) (place : Path) (t : TargetValue) (written : Bool) → (written ≡ true → view (lock_of place) ≡ Some (loose_text t)) →
-      CarryOut (place ∷ []) view ((if written then Rename (lock_of place) place ∷ [] else []) ++ []) (if written then Put place (loose_text t) ∷ [] else [])
-  carries view place t true holds = ([], inl refl, ap (λ (file : Option (List ℕ)). Put place (file_bytes file) ∷ []) (sym (holds refl)), refl)
-  carries view place t false holds = refl
-
-  pub run_is : (before start : Tree) (name : List ℕ) (r : Bool) (t : TargetValue) (written : Bool) → s.is_reference name ≡ true → target_in kind (loose_text t) ≡ Some t →
-      ((id : ObjectId) → t ≡ object_id id → id_read (written_id id) ≡ Some id) → IsSameButLocks (s.place name ∷ []) (view_of before) (view_of start) →
-      has_already (reading s (view_of start) name) t ≡ is_found (found s (view_of before) name) t →
-      (r && not (is_found (found s (view_of before) name) t)) ≡ written →
-      (written ≡ true → view_of start (lock_of (s.place name)) ≡ Some (loose_text t)) →
-      IsCommitRun s DeletionsOnly (s.place name ∷ []) (edit_with name r (Update t) ∷ []) before start ((if written then Rename (lock_of (s.place name)) (s.place name) ∷ [] else []) ++ [])
-  run_is before start name r t written is back read alike already writes holds = record {
-    merged = [];
-    prepared = prepared (view_of start) name r t is back read;
-    locks = alike;
-    steps_are_planned = subst (CarryOut (s.place name ∷ []) (view_of start) ((if written then Rename (lock_of (s.place name)) (s.place name) ∷ [] else []) ++ []))
-        (sym (plan_is (view_of start) name r t written
-        (effect_is (view_of start) name r t (is_found (found s (view_of before) name) t) already ∙ ap (λ b. if b then Writes (loose_text t) else LeavesIt) writes)))
-        (carries (view_of start) (s.place name) t written holds);
-  }

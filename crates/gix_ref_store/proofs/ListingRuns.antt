@@ -1,50 +1,25 @@
 -- The runs of a listing of a store.
-use Rattle.std.proofs.Common.{◌≡◌, ℕ, Bool, true, List, [], ◌∷◌, refl, sym, ◌∙◌, ap, subst, Option, Some, None, Result}
-use denote.Ref.{Bor}
-use Rattle.std.specs.List.{All}
-use Rattle.std.specs.Prelude.{slice_index_or}
+use Rattle.std.proofs.Common.{◌≡◌, ℕ, arith, Bool, List, [], ◌∷◌, refl, sym, ◌∙◌, ap, subst, Option, Some, None, Result}
+use Rattle.std.specs.Prelude.{◌≤◌}
 use Rattle.std.specs.Iterator.{Yields}
-use Rattle.std.specs.Iterator.Runs.{YieldsRun, EachRunFrom}
 use Rattle.gix_ref_base.specs.declared.namespace.Namespace.{Namespace}
 use Rattle.gix_ref_hash.specs.declared.hash.Kind.{Kind}
 use Rattle.gix_ref_files.specs.Files.{Meaning}
-use Rattle.gix_ref_base.specs.PackedRecords.{Record}
-use Rattle.gix_ref_packed.specs.RecordGrammar.{Below, Ascending, Rising}
-use Rattle.gix_ref_packed.proofs.Halves.{not_both}
-use Rattle.gix_ref_packed.specs.declared.packed.buffer.Buffer.{Buffer}
+use Rattle.gix_ref_theory.specs.OnRealTrees.{view_of}
+use Rattle.gix_ref_theory.specs.Views.{View}
 use Rattle.gix_ref_packed.specs.declared.raw.Reference.{Reference}
 use Rattle.gix_ref_lookup.specs.declared.folders.Dirs.{Dirs}
 use Rattle.gix_ref_lookup.specs.declared.settings.Settings.{Settings}
 use Rattle.gix_ref_listing.specs.Listings.{Listed}
-use Rattle.gix_ref_listing.specs.Steps.{AreYet}
-use Rattle.gix_ref_listing.specs.WholeListings.{AreHeld as HeldFor}
+use Rattle.gix_ref_listing.specs.Items.{IsItem}
+use Rattle.gix_ref_listing.specs.Steps.{AreYet, GivesItem}
 use Rattle.gix_ref_listing.specs.declared.error.Error.{Error}
 use Rattle.gix_ref_store.specs.Store as stores
-use Rattle.gix_ref_store.specs.Lookup.{AreHeld, lent, settings_of}
-use Rattle.gix_ref_store.specs.Listings.{NextItem, AreItemsOf}
+use Rattle.gix_ref_store.specs.Lookup.{lent, settings_of, view_in}
+use Rattle.gix_ref_store.specs.Listings.{NextItem, AreFirst, GivesFirst, count_in}
 use Rattle.gix_ref_store.specs.declared.file.store.Store.{Store}
 use Rattle.gix_ref_store.specs.declared.file.iter.LooseThenPacked.{LooseThenPacked}
 use Rattle.gix_ref_store.specs.declared.file.iter.Remaining.{Remaining}
-
-rising_all : (r : Record) (rs : List Record) → All (λ s. Below r.name s.name) rs → All (λ s. Below s.name r.name → ⊥) rs
-rising_all r rs all = λ k d under over. not_both r.name (slice_index_or rs k d).name (all k d under) over
-
-rises : (rs : List Record) → Ascending rs → Rising rs
-rises [] up = _
-rises (r ∷ rs) up = (rising_all r rs up.0, rises rs up.1)
-
--- the records of a buffer are those of each prefix
-pub held_for : (prefix : List ℕ) (packed : Option (Bor Buffer)) (records : List Record) → AreHeld packed records → HeldFor prefix packed records
-held_for prefix None records none = none
-held_for prefix (Some buffer) records holds = record {
-  held = holds.held;
-  ascending = holds.ascending;
-  named = holds.named;
-  part = holds.held;
-  lines = holds.records;
-  rising = rises holds.held holds.ascending;
-  kept = refl;
-}
 
 abbrev made : Dirs → Option Namespace → Kind → (prohibits composes : Bool) → Settings
 made dirs namespace kind prohibits composes = record { dirs = lent dirs; namespace = lent namespace; kind = kind; prohibit_windows_device_names = prohibits; precompose_unicode = composes }
@@ -59,21 +34,59 @@ same_settings old new same =
     ∙ ap (λ c. made new.dirs new.namespace new.object_hash new.prohibit_windows_device_names c) (sym same.composes))))
 
 module _ {F : Type 0} (honest : Type 0) (means : F → Meaning) (faults : F → ℕ) where
-  items_law : (Ended : Type 0) (xs : List (Result Reference Error)) (s t : LooseThenPacked F Remaining) (listed : List Listed) → Yields (NextItem honest means faults) s xs t →
-      (Ended → (u : LooseThenPacked F Remaining) × NextItem honest means faults t None u) → AreYet (settings_of s.store.now) s.rest.merge listed → AreItemsOf honest means faults Ended s listed xs
-  items_law Ended [] s t listed y e yet = λ end.
-      let last = e end in
-      let step = subst (λ (x : LooseThenPacked F Remaining). NextItem honest means faults x None last.0) (sym y) last.1 in (step.gives.gives listed yet).0
-  items_law Ended (x ∷ xs) s t listed y e yet =
-      let first = y.1.gives.gives listed yet in
-      let more = subst (λ (settings : Settings). AreYet settings y.0.rest.merge first.1) (same_settings s.store.now y.0.store.now y.1.same_store) first.3 in
-      (y.0, first.0, first.1, first.2, first.4, items_law Ended xs y.0 t first.1 y.2 e more)
+  -- what is yet to come of a listing, while the files of the store stay as they are
+  record AreAhead (settings : Settings) (view : View) (s : LooseThenPacked F Remaining) (listed : List Listed) : Type 0 where
+    of_settings : settings_of s.store.now ≡ settings
+    of_view : view_in means s.store.now ≡ view
+    yet : AreYet settings s.rest.merge listed
+
+  step : (settings : Settings) (view : View) (s : LooseThenPacked F Remaining) (item : Option (Result Reference Error)) (t : LooseThenPacked F Remaining) (listed : List Listed) → honest →
+      AreAhead settings view s listed → NextItem honest means faults s item t →
+      GivesItem honest means faults settings (stores.files_of s.store.now) (stores.files_of t.store.now) listed item t.rest.merge
+  step settings view s item t listed h ahead next =
+      subst (λ (x : Settings). GivesItem honest means faults x (stores.files_of s.store.now) (stores.files_of t.store.now) listed item t.rest.merge) ahead.of_settings
+      (next.gives.gives listed (subst (λ (x : Settings). AreYet x s.rest.merge listed) (sym ahead.of_settings) ahead.yet))
+
+  after : (settings : Settings) (view : View) (s : LooseThenPacked F Remaining) (item : Option (Result Reference Error)) (t : LooseThenPacked F Remaining) (listed more : List Listed) → honest →
+      AreAhead settings view s listed → NextItem honest means faults s item t → AreYet settings t.rest.merge more → AreAhead settings view t more
+  after settings view s item t listed more h ahead next yet = record {
+    of_settings = sym (same_settings s.store.now t.store.now next.same_store) ∙ ahead.of_settings;
+    of_view = ap view_of (next.gives.leaves h).tree ∙ ahead.of_view;
+    yet = yet;
+  }
+
+  -- what calls of `next` give are the first of those that are yet to come
+  gives_first : (settings : Settings) (view : View) (items : List (Result Reference Error)) (s t : LooseThenPacked F Remaining) (listed : List Listed) → honest →
+      AreAhead settings view s listed → Yields (NextItem honest means faults) s items t →
+      (rest : List Listed) × AreAhead settings view t rest × AreFirst honest means faults settings view (count_in honest means faults s) (count_in honest means faults t) listed rest items
+  gives_first settings view [] s t listed h ahead y =
+      (listed, subst (λ (x : LooseThenPacked F Remaining). AreAhead settings view x listed) y ahead, (subst (λ (x : LooseThenPacked F Remaining). count_in honest means faults s ≤ count_in honest means faults x) y (omega arith), refl))
+  gives_first settings view (item ∷ items) s t listed h ahead (mid, next, y) =
+      let first = step settings view s (Some item) mid listed h ahead next in
+      let later = gives_first settings view items mid t first.1 h (after settings view s (Some item) mid listed first.1 h ahead next first.3) y in (
+        later.0,
+        later.1,
+        (
+          count_in honest means faults mid,
+          first.0,
+          first.1,
+          first.2,
+          next.gives.rises,
+          subst (λ (v : View). IsItem honest settings v (count_in honest means faults s) (count_in honest means faults mid) first.0 item) ahead.of_view first.4,
+          later.2,
+        ),
+      )
 
   -- the items of each run are those that are yet to come
-  pub each_run : (s : LooseThenPacked F Remaining) (listed : List Listed) → AreYet (settings_of s.store.now) s.rest.merge listed →
-      EachRunFrom (NextItem honest means faults) s (λ run. AreItemsOf honest means faults (run.whole ≡ true) s listed run.items)
-  unfolding YieldsRun
-  each_run s listed yet p seen begins =
-      let gave = p.gave.0 in
-      let start : Yields (NextItem honest means faults) s p.items gave.0 = subst (λ (x : LooseThenPacked F Remaining). Yields (NextItem honest means faults) x p.items gave.0) begins gave.1 in
-      items_law (p.whole ≡ true) p.items s gave.0 listed start gave.2 yet
+  pub each_run : (store : Store F) (s : LooseThenPacked F Remaining) (listed : List Listed) → honest → settings_of s.store.now ≡ settings_of store → view_in means s.store.now ≡ view_in means store →
+      AreYet (settings_of store) s.rest.merge listed → (items : List (Result Reference Error)) (t : LooseThenPacked F Remaining) → Yields (NextItem honest means faults) s items t →
+      GivesFirst honest means faults store listed s t items
+  each_run store s listed h of_settings of_view yet items t y =
+      let settings = settings_of store in
+      let view = view_in means store in
+      let first = gives_first settings view items s t listed h record { of_settings = of_settings; of_view = of_view; yet = yet } y in
+      record {
+        rest = first.0;
+        first = first.2;
+        ends = λ u next. (step settings view t None u first.0 h first.1 next).0;
+      }

@@ -4,11 +4,13 @@ use Rattle.std.specs.Prelude.{bytes_eq}
 use Rattle.std.specs.declared.alloc.Global.{Global}
 use Rattle.std.proofs.lemmas.List.{map-append, take-map}
 use Rattle.gix_ref_files.specs.Tree.{Tree, Path, is_file}
-use Rattle.gix_ref_files.specs.Files.{Meaning, Leaves}
-use Rattle.gix_ref_files.proofs.Moments.{weaken, joins}
-use Rattle.gix_ref_store.specs.OwnLocks.{paths_of, is_in, RemovesLocks, AddsLocks}
+use Rattle.gix_ref_files.specs.Files.{Meaning, disk_of, Leaves, Passes}
+use Rattle.gix_ref_files.specs.DiskCalls.{RemovingFileOn}
+use Rattle.gix_ref_files.proofs.Moments.{weaken, joins, passes_weaken, passes_joins}
+use Rattle.gix_ref_store.specs.OwnLocks.{paths_of, is_in, RemovesLocks, OnlyRemoves, AddsLocks}
 use Rattle.gix_ref_store.specs.PrepareSteps.{lock_paths}
 use Rattle.gix_ref_store.specs.Causes.{locks_of}
+use Rattle.gix_ref_theory.proofs.LockDisks.{removing_among}
 use Rattle.gix_ref_theory.specs.Readings.{Store}
 use Rattle.gix_ref_edits.specs.RefEdits.{name_of}
 use Rattle.gix_ref_files.specs.Lock.{lock_of}
@@ -68,6 +70,12 @@ module _ (all : List Path) (rest : List Paths) (path : Paths) (T U : Tree) (remo
 
 pub leaves_then : (locks : List Path) (lock : Path) (first mid now : Meaning) → is_in locks lock ≡ true → Leaves first mid (RemovesLocks locks first.tree) → Leaves mid now (RemovesLocks (lock ∷ []) mid.tree) → Leaves first now (RemovesLocks locks first.tree)
 leaves_then locks lock first mid now within run next = joins run (weaken next (λ T removes. removes_then locks lock first.tree mid.tree T within run.tree removes))
+
+-- one removal more
+pub removes_more : (locks : List Path) (lock : Path) (first mid now : Meaning) → is_in locks lock ≡ true → OnlyRemoves locks first mid → Passes mid now (RemovingFileOn (disk_of mid) lock) → OnlyRemoves locks first now
+removes_more locks lock first mid now within run next locked staying writes D own here =
+    let before = run locked staying writes D own here in
+    passes_joins before (passes_weaken next (λ E found. removing_among locked staying writes D (disk_of mid) E lock (own lock within) before.disk found))
 
 -- the locks that were taken are removed again
 module _ (all locks : List Path) (first mid now : Meaning) (free : (q : Path) → is_in locks q ≡ true → first.tree q ≡ None) (adds : AddsLocks locks all first.tree mid.tree) (known : (q : Path) → is_in locks q ≡ true → is_in all q ≡ true) (next : Leaves mid now (RemovesLocks locks mid.tree)) where

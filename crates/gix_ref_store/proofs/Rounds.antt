@@ -44,13 +44,13 @@ module _ (s : Store) (kind : Kind) (edits : List RefEdit) (apart : LocksAreApart
   abbrev T0 : Tree
   T0 = first.tree
 
-  more : take (i + 1) edits ≡ seen ++ edit ∷ []
+  pub more : take (i + 1) edits ≡ seen ++ edit ∷ []
   more = seen_of edits i edit lt is
 
   known : (q : Path) → is_in (locks_of s seen) q ≡ true → is_in all q ≡ true
   known q h = front_in s kind edits i q h
 
-  within : is_in all (lock_of (s.place (name_of edit))) ≡ true
+  pub within : is_in all (lock_of (s.place (name_of edit))) ≡ true
   within = front_in s kind edits (i + 1) _ (subst (λ l. is_in (locks_of s l) (lock_of (s.place (name_of edit))) ≡ true) (sym more) (more_here s kind seen edit _ refl))
 
   place_apart : is_in all (s.place (name_of edit)) ≡ false
@@ -79,7 +79,7 @@ module _ (s : Store) (kind : Kind) (edits : List RefEdit) (apart : LocksAreApart
     fills' : (T : Tree) → FillsLock one.tree lock T → FillsLock one.tree (lock_of (s.place (name_of edit))) T
     fills' T fills = subst (λ l. FillsLock one.tree l T) at fills
 
-    same_as_first : found s (view_of one.tree) (name_of edit) ≡ found s (view_of T0) (name_of edit)
+    pub same_as_first : found s (view_of one.tree) (name_of edit) ≡ found s (view_of T0) (name_of edit)
     same_as_first = same_found s kind edits apart T0 seen known edit within mid.tree held one.tree adds' new' place_apart
 
     lockable' : IsLockable s kind T0 seen edit

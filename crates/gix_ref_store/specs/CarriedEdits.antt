@@ -2,7 +2,7 @@
 use Rattle.std.specs.Prelude.{◌≡◌, ◌<◌, ℕ, List, Option, Some, None, MatchOption, length, slice_index_or}
 use Rattle.gix_ref_base.specs.Targets.{TargetValue, target_value}
 use Rattle.gix_ref_theory.specs.Edits as plan
-use Rattle.gix_ref_edits.specs.RefEdits.{name_of, expected_of, mode_of, is_of_reference, matched}
+use Rattle.gix_ref_edits.specs.RefEdits.{name_of, expected_of, mode_of, is_forced, message_of, is_of_reference, matched}
 use Rattle.gix_ref_edits.specs.declared.transaction.Change.{Change}
 use Rattle.gix_ref_edits.specs.declared.transaction.Change.TheVariants.{Update, Delete}
 use Rattle.gix_ref_edits.specs.declared.transaction.RefEdit.{RefEdit}
@@ -27,6 +27,8 @@ pub record IsCarried (before : RefEdit) (found : Option TargetValue) (after : Re
   pub deref : after.deref ≡ before.deref
   pub change : change_of after.change ≡ change_of before.change
   pub mode : mode_of after.change ≡ mode_of before.change
+  pub forced : is_forced after.change ≡ is_forced before.change
+  pub message : message_of after.change ≡ message_of before.change
   pub expected : MatchOption found (expected_of after.change ≡ expected_of before.change) (λ target. matched (expected_of after.change) ≡ Some target)
 
 -- edits that carry what was found of each

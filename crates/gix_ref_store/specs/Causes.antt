@@ -19,12 +19,14 @@ use Rattle.gix_ref_theory.specs.Readings.{Store, as_read, records_in}
 use Rattle.gix_ref_base.specs.Locations.{is_safe}
 use Rattle.gix_ref_store.specs.OwnLocks.{is_in}
 use Rattle.gix_ref_store.specs.First.{AllPass, FirstFault}
+use Rattle.gix_ref_edits.specs.DoubledNames.{NoneDoubled, IsLeastDoubled}
+use Rattle.gix_ref_edits.specs.declared.transaction.ext.error.EditError.TheVariants.{DoubledName}
 use Rattle.gix_ref_edits.specs.RefEdits.{name_of, new_of, expected_of, previous_of, Expects}
 use Rattle.gix_ref_edits.specs.declared.transaction.PreviousValue.{PreviousValue}
 use Rattle.gix_ref_edits.specs.declared.transaction.PreviousValue.TheVariants.{MustExist, MustNotExist as must_not_exist, MustExistAndMatch}
 use Rattle.gix_ref_edits.specs.declared.transaction.RefEdit.{RefEdit}
 use Rattle.gix_ref_store.specs.declared.file.transaction.prepare.error.Error.{Error}
-use Rattle.gix_ref_store.specs.declared.file.transaction.prepare.error.Error.TheVariants.{UnsafeName, TargetNotFull, OtherHashKind, PathCollision, LockAcquire, MustExist as must_exist, MustNotExist, ReferenceOutOfDate, Io, Memory}
+use Rattle.gix_ref_store.specs.declared.file.transaction.prepare.error.Error.TheVariants.{UnsafeName, TargetNotFull, OtherHashKind, PreprocessingFailed, PathCollision, LockAcquire, MustExist as must_exist, MustNotExist, ReferenceOutOfDate, Io, Memory}
 
 -- how a fault of files is reported
 abbrev pub cause_of : FileError → Error
@@ -87,6 +89,17 @@ AllValid kind seen edits = AllPass {E = Error} (λ _ edit. IsValidEdit kind edit
 
 abbrev pub IsFirstInvalid : Kind → List RefEdit → List RefEdit → Error → Type 0
 IsFirstInvalid kind seen edits error = FirstFault (λ _ edit. IsValidEdit kind edit) (λ _ edit error. IsInvalidEdit kind edit error) seen edits error
+
+-- No two edits have one name.
+
+-- the names of edits
+abbrev pub names_of : List RefEdit → List (List ℕ)
+names_of edits = map name_of edits
+
+-- the least name that occurs twice
+abbrev pub IsDoubling : List RefEdit → Error → Type 0
+IsDoubling edits (PreprocessingFailed (DoubledName name)) = IsLeastDoubled (names_of edits) (full_bytes name)
+IsDoubling edits other = ⊥
 
 -- What is found of a reference: its reading, with a file that holds no target counted as none.
 
@@ -169,12 +182,15 @@ NoCause s kind T seen edits = AllPass (Passes s kind T) (IsFault s kind T) seen 
 abbrev pub IsFirstCause : Store → Kind → Tree → List RefEdit → List RefEdit → Error → Type 0
 IsFirstCause s kind T seen edits error = FirstFault (Passes s kind T) (IsFault s kind T) seen edits error
 
--- The first cause: each edit by itself; then, edit by edit, its lock and what it expects.
+-- The first cause: each edit by itself; then a name of two edits; then, edit by edit, its lock and what it expects.
 abbrev pub Refuses : Store → Kind → Tree → List RefEdit → Error → Type 0
 Refuses s kind T edits error =
-    IsIoOrMemory error ⊎ (IsFirstInvalid kind [] edits error ⊎ (AllValid kind [] edits × IsFirstCause s kind T [] edits error))
+    IsIoOrMemory error
+    ⊎ (IsFirstInvalid kind [] edits error
+    ⊎ (AllValid kind [] edits × (IsDoubling edits error ⊎ (NoneDoubled (names_of edits) × IsFirstCause s kind T [] edits error))))
 
 -- no cause applies
 pub record IsAccepted (s : Store) (kind : Kind) (T : Tree) (edits : List RefEdit) : Type 0 where
   pub sound : AllValid kind [] edits
+  pub single : NoneDoubled (names_of edits)
   pub no_cause : NoCause s kind T [] edits

@@ -1,19 +1,22 @@
 -- What `commit` returns and leaves.
-use Rattle.std.specs.Prelude.{◌≡◌, ℕ, List, true, false, map, get_or, [], Option, Some, None, Result, Ok, Err}
+use Rattle.std.specs.Prelude.{◌≡◌, ◌≢◌, ◌<◌, ℕ, List, true, false, map, get_or, length, [], Result, Ok, Err}
 use Rattle.gix_ref_base.specs.Names.{full_bytes}
-use Rattle.gix_ref_files.specs.Tree.{Tree, Path, is_file, is_folder}
-use Rattle.gix_ref_files.specs.Files.{Meaning, Leaves, HasRisen}
-use Rattle.gix_ref_store.specs.OwnLocks.{is_in, paths_of}
+use Rattle.gix_ref_files.specs.Tree.{Tree, Path, is_file}
+use Rattle.gix_ref_files.specs.declared.files.FileError.TheVariants.{Memory as no_memory}
+use Rattle.gix_ref_files.specs.Disk.{Lost}
+use Rattle.gix_ref_files.specs.Files.{Meaning, Leaves, Loses, HasRisen}
+use Rattle.gix_ref_store.specs.OwnLocks.{is_in, paths_of, RemovesLocks}
 use Rattle.gix_ref_theory.specs.Between.{IsCommitted}
+use Rattle.gix_ref_theory.specs.Losses.{IsLostWell}
 use Rattle.gix_ref_theory.specs.OnRealTrees.{view_of, IsOldOrNewTree}
-use Rattle.gix_ref_store.specs.Causes.{locks_of}
+use Rattle.gix_ref_store.specs.Causes.{locks_of, names_of}
 use Rattle.gix_ref_theory.specs.Edits as plan
 use Rattle.gix_ref_theory.specs.Edits.Mode.{DeletionsOnly}
-use Rattle.gix_ref_store.specs.Prepared.{IsOneUpdate, PreparesFrom, tree_of, locks_in}
+use Rattle.gix_ref_store.specs.Prepared.{AreDirectUpdates, PreparesFrom, tree_of, disk_in, IsAtRest, locks_in, places_in}
 use Rattle.gix_ref_theory.specs.Readings as readings
 use Rattle.gix_ref_store.specs.Store.{files_of, loose_meaning_of}
-use Rattle.gix_ref_store.specs.PrepareSteps.{place_paths, places_of}
-use Rattle.gix_ref_edits.specs.RefEdits.{name_of}
+use Rattle.gix_ref_store.specs.PrepareSteps.{lock_paths, places_of}
+use Rattle.gix_ref_store.specs.CommitRenames.{is_written_at, place_at, IsCutAt, IsFolderInPlace}
 use Rattle.gix_ref_store.specs.CarriedEdits.{edit_of}
 use Rattle.gix_ref_theory.specs.Views.{IsOwnLock}
 use Rattle.gix_ref_edits.specs.declared.transaction.RefEdit.{RefEdit}
@@ -21,10 +24,11 @@ use Rattle.gix_ref_store.specs.declared.file.store.Store.{Store}
 use Rattle.gix_ref_store.specs.declared.file.transaction.Done.{Done}
 use Rattle.gix_ref_store.specs.declared.file.transaction.PackedRefs.{PackedRefs}
 use Rattle.gix_ref_store.specs.declared.file.transaction.Failed.{Failed}
-use Rattle.gix_ref_files.specs.declared.files.FileError.{FileError}
+use Rattle.gix_ref_store.specs.declared.file.transaction.commit.publish.Why.{Why}
+use Rattle.gix_ref_store.specs.declared.file.transaction.commit.publish.Why.TheVariants.{Fault, Folder, Memory as out_of_memory}
 use Rattle.gix_ref_store.specs.declared.file.transaction.setting.Paths.{Paths}
 use Rattle.gix_ref_store.specs.declared.file.transaction.commit.error.Error.{Error}
-use Rattle.gix_ref_store.specs.declared.file.transaction.commit.error.Error.TheVariants.{LockCommit, FolderInPlace}
+use Rattle.gix_ref_store.specs.declared.file.transaction.commit.error.Error.TheVariants.{LockCommit, FolderInPlace, Memory}
 
 -- the edits as the plan of a commit has them
 abbrev pub planned : List RefEdit → List plan.Edit
@@ -42,10 +46,6 @@ pub record IsOldOrNew (s : readings.Store) (edits : List RefEdit) (before T : Tr
   pub well : IsOldOrNewTree s DeletionsOnly (places_of s edits) (planned edits) before T
   pub elsewhere : (q : Path) → is_in (places_of s edits) q ≡ false → is_in (locks_of s edits) q ≡ false → view_of T q ≡ view_of before q
 
--- the names of edits
-abbrev pub names_of : List RefEdit → List (List ℕ)
-names_of edits = map name_of edits
-
 -- the locks that the result of a commit names
 abbrev pub left_of : Result Done Failed → List Path
 left_of (Ok done) = paths_of done.locks_left.items
@@ -57,10 +57,11 @@ mode_of (Ok done) = done.packed_refs
 mode_of (Err failed) = failed.packed_refs
 
 -- what an error reports of the renames of these edits, where they ended at one of them, by this fault or by a folder at this place
-abbrev pub SaysWhy : List RefEdit → (at : ℕ) → Path → Option FileError → Error → Type 0
-SaysWhy edits at place None (FolderInPlace path) = path.items ≡ place
-SaysWhy edits at place (Some fault) (LockCommit source name) = (source ≡ fault) × (full_bytes name ≡ get_or (names_of edits) at [])
-SaysWhy edits at place fault error = ⊥
+abbrev pub SaysWhy : List RefEdit → (at : ℕ) → Path → Why → Error → Type 0
+SaysWhy edits at place Folder (FolderInPlace path) = path.items ≡ place
+SaysWhy edits at place (Fault fault) (LockCommit source name) = (source ≡ fault) × (full_bytes name ≡ get_or (names_of edits) at [])
+SaysWhy edits at place out_of_memory Memory = Unit {0}
+SaysWhy edits at place why error = ⊥
 
 module _ {F : Type 0} (honest : Type 0) (means : F → Meaning) (faults : F → ℕ) where
   -- A commit, from the store `start` with these edits and paths of a `prepare` that began with the store `old`: every stop leaves each
@@ -72,21 +73,51 @@ module _ {F : Type 0} (honest : Type 0) (means : F → Meaning) (faults : F → 
     pub gone : honest → (q : Path) → is_in (locks_in old given) q ≡ true → is_in left q ≡ false → is_file (tree_of means new q) ≡ false
     pub ours : (q : Path) → is_in left q ≡ true → is_in (locks_in old given) q ≡ true
 
-  -- and so for every store and every update from which `prepare` gave these edits and paths
+  -- and so for every store and all updates from which `prepare` gave these edits and paths
   abbrev pub EveryStopFrom : (start new : Store F) → List RefEdit → List Paths → List Path → Type 0
   EveryStopFrom start new edits paths left =
-      (old : Store F) (given : List RefEdit) → IsOneUpdate given → PreparesFrom honest means faults old start given edits paths →
+      (old : Store F) (given : List RefEdit) → AreDirectUpdates given → PreparesFrom honest means faults old start given edits paths →
       EveryStopIsOldOrNew old start new given left
 
   -- a commit that succeeds: the edits are committed
   abbrev pub CommitsFrom : (start new : Store F) → List RefEdit → List Paths → List Path → Type 0
   CommitsFrom start new edits paths left =
-      (old : Store F) (given : List RefEdit) → IsOneUpdate given → PreparesFrom honest means faults old start given edits paths → honest →
+      (old : Store F) (given : List RefEdit) → AreDirectUpdates given → PreparesFrom honest means faults old start given edits paths → honest →
       AreCommitted (loose_meaning_of old) given (tree_of means old) left (tree_of means new)
 
-  -- Why a commit failed, with these edits and paths: a rename that failed, only where a fault came; or a folder at the place of a reference.
+  -- Where a commit ended early: at an edit whose reference is written. The renames of the edits before it are done, its own is perhaps
+  -- done, and none of a later one is begun; then locks were removed.
+  pub record EndsAtEdit (start new : Store F) (edits : List RefEdit) (paths : List Paths) (at : ℕ) : Type 0 where
+    pub within : at < length edits
+    pub written : is_written_at edits at ≡ true
+    pub cut : honest → (mid : Tree) × IsCutAt edits paths at (tree_of means start) mid × RemovesLocks (lock_paths paths) mid (tree_of means new)
+
+  -- Why a commit failed, with these edits and paths: the rename of the edit at which it ended failed, only where a fault came, and its
+  -- source is no want of memory; or a folder is at the place of that edit, and was there as the commit began; or a want of memory, and
+  -- then only locks were removed.
   abbrev pub FailsFor : (start new : Store F) → List RefEdit → List Paths → Error → Type 0
   FailsFor start new edits paths (LockCommit source name) =
-      HasRisen (faults (files_of start)) (faults (files_of new)) × (is_in (names_of edits) (full_bytes name) ≡ true)
+      HasRisen (faults (files_of start)) (faults (files_of new)) × (source ≢ no_memory)
+      × ((at : ℕ) × EndsAtEdit start new edits paths at × (full_bytes name ≡ get_or (names_of edits) at []))
   FailsFor start new edits paths (FolderInPlace path) =
-      (is_in (place_paths paths) path.items ≡ true) × (honest → is_folder (tree_of means new path.items) ≡ true)
+      (at : ℕ) × EndsAtEdit start new edits paths at × (path.items ≡ place_at paths at)
+      × (honest → IsFolderInPlace (tree_of means start) (tree_of means new) path.items)
+  FailsFor start new edits paths Memory = honest → RemovesLocks (lock_paths paths) (tree_of means start) (tree_of means new)
+
+  -- Every loss of power inside a commit, from the store `start` with these edits and paths of a `prepare` that began with the store `old`,
+  -- where all was at rest: each reference reads as before or as edited, and all else is as it was, but for locks.
+  pub record EveryLossIsOldOrNew (old start new : Store F) (given : List RefEdit) : Type 0 where
+    -- on the disk with which it begins
+    pub began : (T : Tree) → Lost (disk_in means start) T → IsLostWell (loose_meaning_of old) DeletionsOnly (places_in old given) (planned given) (disk_in means start) (tree_of means old) T
+    pub loses : Loses (means (files_of start)) (means (files_of new)) (IsLostWell (loose_meaning_of old) DeletionsOnly (places_in old given) (planned given) (disk_in means start) (tree_of means old))
+
+  abbrev pub EveryLossFrom : (start new : Store F) → List RefEdit → List Paths → Type 0
+  EveryLossFrom start new edits paths =
+      (old : Store F) (given : List RefEdit) → AreDirectUpdates given → PreparesFrom honest means faults old start given edits paths → honest → IsAtRest means old →
+      EveryLossIsOldOrNew old start new given
+
+  -- a commit that succeeds leaves all at rest: a later loss of power leaves what it did
+  abbrev pub SettlesFrom : (start new : Store F) → List RefEdit → List Paths → Type 0
+  SettlesFrom start new edits paths =
+      (old : Store F) (given : List RefEdit) → AreDirectUpdates given → PreparesFrom honest means faults old start given edits paths → honest → IsAtRest means old →
+      IsAtRest means new

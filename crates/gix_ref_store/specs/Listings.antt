@@ -1,16 +1,21 @@
 -- What a listing of a store gives (`git for-each-ref`).
-use Rattle.std.specs.Prelude.{◌≡◌, ◌⊎◌, ℕ, List, [], ◌∷◌, Option, Some, None, Result, true, codes}
-use Rattle.std.specs.Iterator.Runs.{EachRunFrom}
+use Rattle.std.specs.Prelude.{◌≡◌, ◌⊎◌, ◌≤◌, ℕ, List, [], ◌∷◌, Option, Some, None, Result, codes}
+use denote.Ref.{Bor}
+use Rattle.std.specs.Iterator.{Yields}
 use Rattle.std.specs.List.{AllByRecursion}
 use Rattle.gix_ref_base.specs.declared.namespace.Namespace.{Namespace}
 use Rattle.gix_ref_base.specs.PackedRecords.{Record}
 use Rattle.gix_ref_files.specs.Files.{Meaning, HasRisen}
+use Rattle.gix_ref_packed.specs.declared.packed.buffer.Buffer.{Buffer}
 use Rattle.gix_ref_packed.specs.declared.raw.Reference.{Reference}
 use Rattle.gix_ref_listing.specs.Items.{IsItem}
 use Rattle.gix_ref_listing.specs.Listings.{Listed, merge_left}
+use Rattle.gix_ref_listing.specs.PrefixedRecords.{IsHeldFor}
 use Rattle.gix_ref_listing.specs.Steps.{GivesNext}
-use Rattle.gix_ref_listing.specs.WholeListings.{IsListing, IsName}
+use Rattle.gix_ref_listing.specs.WholeListings.{AreHeld, IsListing, IsName, key_in}
 use Rattle.gix_ref_listing.specs.declared.error.Error.{Error}
+use Rattle.gix_ref_lookup.specs.declared.settings.Settings.{Settings}
+use Rattle.gix_ref_theory.specs.Views.{View}
 use Rattle.gix_ref_store.specs.Store as stores
 use Rattle.gix_ref_store.specs.Lookup.{settings_of, view_in}
 use Rattle.gix_ref_store.specs.declared.file.store.Store.{Store}
@@ -27,25 +32,49 @@ module _ {F : Type 0} where
   abbrev pub items_left : LooseThenPacked F Remaining → ℕ
   items_left it = merge_left it.rest.merge
 
+  -- the store that it lists
+  abbrev pub store_of : LooseThenPacked F Remaining → Store F
+  store_of it = it.store.now
+
+  -- the buffer was read for the prefix, and has those of these records; or there is no `packed-refs`
+  abbrev pub IsReadFor : Store F → (prefix : List ℕ) → Option Buffer → List Record → Type 0
+  IsReadFor store prefix found records = IsHeldFor (key_in (settings_of store) prefix) found records
+
+  -- the buffer has the records of the prefix of these; or there is none, and there are none
+  abbrev pub AreHeldFor : Store F → (prefix : List ℕ) → Option (Bor Buffer) → List Record → Type 0
+  AreHeldFor store prefix packed records = AreHeld (key_in (settings_of store) prefix) packed records
+
   module _ (honest : Type 0) (means : F → Meaning) (faults : F → ℕ) where
+    -- the count of faults
+    abbrev pub count_in : LooseThenPacked F Remaining → ℕ
+    count_in it = faults (stores.files_of it.store.now)
+
     -- One call of `next`: it gives the next item, and changes no file and nothing of the store.
     pub record NextItem (s : LooseThenPacked F Remaining) (r : Option (Result Reference Error)) (t : LooseThenPacked F Remaining) : Type 0 where
       pub same_reference : t.store.ghost_name ≡ s.store.ghost_name
       pub same_store : stores.IsSameStore s.store.now t.store.now
       pub gives : GivesNext honest means faults (settings_of s.store.now) (stores.files_of s.store.now) (stores.files_of t.store.now) s.rest.merge r t.rest.merge
 
-    -- the items of a run are those of a listing; `Ended` holds where it went on to the end
-    abbrev pub AreItemsOf : (Ended : Type 0) → LooseThenPacked F Remaining → List Listed → List (Result Reference Error) → Type 0
-    AreItemsOf Ended s listed [] = Ended → listed ≡ []
-    AreItemsOf Ended s listed (item ∷ items) =
-        (t : LooseThenPacked F Remaining) × (one : Listed) × (more : List Listed) × (listed ≡ one ∷ more)
-        × IsItem honest (settings_of s.store.now) (view_in means s.store.now) (faults (stores.files_of s.store.now)) (faults (stores.files_of t.store.now)) one item
-        × AreItemsOf Ended t more items
+    -- These are the first items of a listing, in its order, and `rest` is yet to come. Each is made between two counts of faults, the
+    -- first of which is `before`, and the last at most `now`.
+    abbrev pub AreFirst : Settings → View → (before now : ℕ) → (listed rest : List Listed) → List (Result Reference Error) → Type 0
+    AreFirst settings view before now listed rest [] = (before ≤ now) × (listed ≡ rest)
+    AreFirst settings view before now listed rest (item ∷ items) =
+        (mid : ℕ) × (one : Listed) × (more : List Listed) × (listed ≡ one ∷ more)
+        × (before ≤ mid) × IsItem honest settings view before mid one item × AreFirst settings view mid now more rest items
 
-    -- An iterator over the listing of a prefix of a store: the items of each of its runs are those of the listing. A folder that could
-    -- not be listed is among them only where the count of faults rose.
+    -- What calls of `next` gave up to the iterator t: the first items of the listing, each as the files of the store are; and a call
+    -- gives none only where none is left.
+    pub record GivesFirst (store : Store F) (listed : List Listed) (it t : LooseThenPacked F Remaining) (items : List (Result Reference Error)) : Type 0 where
+      pub rest : List Listed
+      pub first : AreFirst (settings_of store) (view_in means store) (count_in it) (count_in t) listed rest items
+      pub ends : (u : LooseThenPacked F Remaining) → NextItem t None u → rest ≡ []
+
+    -- An iterator over the listing of a prefix of a store: whatever its calls give are the first items of the listing. A folder that
+    -- could not be listed is among them only where the count of faults rose.
     pub record Lists (store : Store F) (records : List Record) (prefix : List ℕ) (it : LooseThenPacked F Remaining) : Type 0 where
       pub listed : List Listed
       pub is : IsListing (settings_of store) (view_in means store) records prefix listed
-      pub names : AllByRecursion IsName listed ⊎ HasRisen (faults (stores.files_of store)) (faults (stores.files_of it.store.now))
-      pub runs : EachRunFrom (NextItem) it (λ run. AreItemsOf (run.whole ≡ true) it listed run.items)
+      pub counts : faults (stores.files_of store) ≤ count_in it
+      pub names : AllByRecursion IsName listed ⊎ HasRisen (faults (stores.files_of store)) (count_in it)
+      pub runs : (items : List (Result Reference Error)) (t : LooseThenPacked F Remaining) → Yields (NextItem) it items t → GivesFirst store listed it t items

@@ -3,6 +3,10 @@ use Rattle.std.specs.Prelude.{◌≡◌, ◌⊎◌, ℕ, List, Bool, true, Optio
 use Rattle.std.specs.List.{list_any}
 use Rattle.std.specs.declared.alloc.Global.{Global}
 use Rattle.gix_ref_files.specs.Tree.{Tree, Path, Content, fronts, is_file}
+use Rattle.gix_ref_files.specs.Disk.{Disk}
+use Rattle.gix_ref_files.specs.Files.{Meaning, disk_of, Passes}
+use Rattle.gix_ref_theory.specs.OnDisks.{IsAmong}
+use Rattle.gix_ref_theory.specs.Views.{Write, IsOwnLock}
 use Rattle.gix_ref_files.specs.Tree.Content.{File, Folder}
 
 -- q is one of these
@@ -30,3 +34,10 @@ AddsLocks taken all before T = (q : Path) → (T q ≡ before q) ⊎ ((before q 
 -- Nothing changed but that files at some of these locks are gone.
 abbrev pub RemovesLocks : List Path → Tree → Tree → Type 0
 RemovesLocks locks before T = (q : Path) → (T q ≡ before q) ⊎ ((is_in locks q ≡ true) × (T q ≡ None) × (is_file (before q) ≡ true))
+
+-- All that was done is that some of these locks were removed: where they are the transaction's, a disk that was among its writes
+-- stays where it was.
+abbrev pub OnlyRemoves : List Path → Meaning → Meaning → Type 0
+OnlyRemoves locks old new =
+    (locked staying : List Path) (writes : List Write) (first : Disk) → ((q : Path) → is_in locks q ≡ true → IsOwnLock locked q) →
+    IsAmong locked staying writes first (disk_of old) → Passes old new (IsAmong locked staying writes first)

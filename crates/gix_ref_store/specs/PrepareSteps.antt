@@ -6,6 +6,9 @@ use Rattle.gix_ref_base.specs.Targets.{TargetValue, target_value, stripped_targe
 use Rattle.gix_ref_base.specs.declared.target.Target.{Target}
 use Rattle.gix_ref_files.specs.Tree.{Tree, Path, is_blocked, put}
 use Rattle.gix_ref_files.specs.Tree.Content.{File}
+use Rattle.gix_ref_files.specs.Disk.{Disk}
+use Rattle.gix_ref_files.specs.DiskCalls.{WritingOn}
+use Rattle.gix_ref_files.specs.Settled.{IsWhole}
 use Rattle.gix_ref_files.specs.Lock.{lock_of}
 use Rattle.gix_ref_theory.specs.OnRealTrees.{view_of}
 use Rattle.gix_ref_theory.specs.Edits.{is_same_id}
@@ -67,6 +70,10 @@ pub record IsNewLock (before : Tree) (lock : Path) (T : Tree) : Type 0 where
 abbrev pub FillsLock : Tree → Path → Tree → Type 0
 FillsLock before lock T = (T ≡ before) ⊎ ((text : List ℕ) × (T ≡ put before lock (Some (File text))))
 
+-- the disks that are found while a lock gets its text, or none
+abbrev pub FillingOn : Disk → Path → Disk → Type 0
+FillingOn before lock D = (D ≡ before) ⊎ ((text : List ℕ) × WritingOn before lock text D)
+
 -- what is found of each edit
 abbrev pub old_targets : Store → Tree → List RefEdit → List (Option TargetValue)
 old_targets s T edits = map (λ (edit : RefEdit). found s (view_of T) (name_of edit)) edits
@@ -105,3 +112,9 @@ HoldTexts s before T [] = Unit {0}
 HoldTexts s before T (edit ∷ edits) =
     (T (lock_of (s.place (name_of edit))) ≡ Some (File (lock_text edit.change (found s (view_of before) (name_of edit)))))
     × HoldTexts s before T edits
+
+-- And so on the disk D, where each of these locks is whole: all of its text is synced.
+abbrev pub HoldWhole : Store → (before : Tree) (D : Disk) → List RefEdit → Type 0
+HoldWhole s before D [] = Unit {0}
+HoldWhole s before D (edit ∷ edits) =
+    IsWhole D (lock_of (s.place (name_of edit))) (lock_text edit.change (found s (view_of before) (name_of edit))) × HoldWhole s before D edits

@@ -1,12 +1,17 @@
 -- What `prepare` returns and leaves.
-use Rattle.std.specs.Prelude.{◌≡◌, ◌≤◌, ◌⊎◌, ℕ, List, [], ◌∷◌, true, false, Option, IsSome}
+use Rattle.std.specs.Prelude.{◌≡◌, ◌≤◌, ◌⊎◌, ℕ, List, [], true, false, Option, IsSome, All}
 use Rattle.gix_ref_base.specs.Targets.{TargetValue}
 use Rattle.gix_ref_files.specs.Tree.{Tree, Path, is_file}
-use Rattle.gix_ref_files.specs.Files.{Meaning, Leaves, HasRisen}
-use Rattle.gix_ref_store.specs.OwnLocks.{is_in, AddsLocks, RemovesLocks}
+use Rattle.gix_ref_files.specs.Disk.{Disk}
+use Rattle.gix_ref_files.specs.Files.{Meaning, disk_of, Leaves, Passes, Loses, HasRisen}
+use Rattle.gix_ref_files.specs.Settled.{AllStay, IsAllSettled}
+use Rattle.gix_ref_theory.specs.OnDisks.{IsSpokenOf, IsAsBefore}
+use Rattle.gix_ref_theory.specs.OnRealTrees.{view_of}
+use Rattle.gix_ref_theory.specs.Roots.{roots}
+use Rattle.gix_ref_store.specs.OwnLocks.{is_in, AddsLocks, RemovesLocks, OnlyRemoves}
 use Rattle.gix_ref_store.specs.Causes.{Refuses, IsAccepted, IsCounted, locks_of}
-use Rattle.gix_ref_store.specs.Store.{files_of, kind_of, loose_meaning_of, IsSameStore}
-use Rattle.gix_ref_store.specs.PrepareSteps.{HoldTexts, old_targets, lock_paths, place_paths, places_of}
+use Rattle.gix_ref_store.specs.Store.{files_of, kind_of, folders, loose_meaning_of, IsSameStore}
+use Rattle.gix_ref_store.specs.PrepareSteps.{HoldTexts, HoldWhole, old_targets, lock_paths, place_paths, places_of}
 use Rattle.gix_ref_edits.specs.RefEdits.{new_of}
 use Rattle.gix_ref_store.specs.CarriedEdits.{AreCarried}
 use Rattle.gix_ref_edits.specs.declared.transaction.RefEdit.{RefEdit}
@@ -14,22 +19,44 @@ use Rattle.gix_ref_store.specs.declared.file.store.Store.{Store}
 use Rattle.gix_ref_store.specs.declared.file.transaction.setting.Paths.{Paths}
 use Rattle.gix_ref_store.specs.declared.file.transaction.prepare.error.Error.{Error}
 
--- The list is one update that follows no symbolic reference: what a transaction takes today.
-pub record IsOneUpdate (edits : List RefEdit) : Type 0 where
-  pub edit : RefEdit
-  pub one : edits ≡ edit ∷ []
-  pub update : IsSome (new_of edit.change)
-  pub no_deref : edit.deref ≡ false
+-- Each edit is an update that follows no symbolic reference: what a transaction takes today.
+abbrev pub AreDirectUpdates : List RefEdit → Type 0
+AreDirectUpdates edits = All (λ edit. IsSome (new_of edit.change) × (edit.deref ≡ false)) edits
 
 module _ {F : Type 0} (means : F → Meaning) where
   -- the tree of a store
   abbrev pub tree_of : Store F → Tree
   tree_of store = (means (files_of store)).tree
 
+  -- its disk
+  abbrev pub disk_in : Store F → Disk
+  disk_in store = disk_of (means (files_of store))
+
+  -- Nothing of a store is unsynced but locks, and folders that hold no other file; and the git folder, the common folder and those above
+  -- them stay after every loss of power.
+  abbrev pub IsAtRest : Store F → Type 0
+  IsAtRest store = IsAllSettled (disk_in store) × AllStay (disk_in store) (roots (folders store))
+
+  -- from the store `old` to `new`, every disk that is found is as that of `old` but for locks of these edits
+  abbrev pub KeepsAll : (old new : Store F) → List RefEdit → Type 0
+  KeepsAll old new edits =
+      (staying : List Path) → AllStay (disk_in old) staying →
+      Passes (means (files_of old)) (means (files_of new)) (IsAsBefore (places_of (loose_meaning_of old) edits) staying (disk_in old))
+
+  -- Every loss of power meanwhile leaves each file that was settled, but for these locks; and all stays as settled as it was.
+  pub record LosesNothing (old new : Store F) (edits : List RefEdit) : Type 0 where
+    pub keeps : KeepsAll old new edits
+    pub loses : Loses (means (files_of old)) (means (files_of new))
+        (λ T. (q : Path) → IsSpokenOf (places_of (loose_meaning_of old) edits) (disk_in old) q → view_of T q ≡ view_of (tree_of old) q)
+
 module _ {F : Type 0} where
   -- the locks of edits in a store
   abbrev pub locks_in : Store F → List RefEdit → List Path
   locks_in store edits = locks_of (loose_meaning_of store) edits
+
+  -- and their places
+  abbrev pub places_in : Store F → List RefEdit → List Path
+  places_in store edits = places_of (loose_meaning_of store) edits
 
 module _ {F : Type 0} (honest : Type 0) (means : F → Meaning) (faults : F → ℕ) where
   -- A refusal: its error is the first cause that applies; `Io` came with a fault; all is as before but for the locks that are named, and
@@ -58,6 +85,9 @@ module _ {F : Type 0} (honest : Type 0) (means : F → Meaning) (faults : F → 
   pub record PreparesFrom (old new : Store F) (edits after : List RefEdit) (paths : List Paths) : Type 0 where
     pub was : List (Option TargetValue)
     pub held : HoldsFrom old new edits was
+    pub lost : honest → LosesNothing means old new edits
+    -- each lock is whole: a loss of power once it is renamed leaves all of its text
+    pub whole : honest → HoldWhole (loose_meaning_of old) (tree_of means old) (disk_in means new) edits
     pub carried : AreCarried edits was after
     pub places : place_paths paths ≡ places_of (loose_meaning_of old) edits
     pub locks : lock_paths paths ≡ locks_of (loose_meaning_of old) edits
@@ -68,4 +98,5 @@ module _ {F : Type 0} (honest : Type 0) (means : F → Meaning) (faults : F → 
     pub ours : (q : Path) → is_in left q ≡ true → is_in locks q ≡ true
     pub named : (left ≡ []) ⊎ HasRisen (faults (files_of old)) (faults (files_of new))
     pub leaves : honest → Leaves (means (files_of old)) (means (files_of new)) (RemovesLocks locks (tree_of means old))
+    pub removes : honest → OnlyRemoves locks (means (files_of old)) (means (files_of new))
     pub same : IsSameStore old new

@@ -41,6 +41,19 @@ loose_meaning_of store = store_of (folders store) (loose_alone (kind_of store))
 abbrev pub threshold_of : {F : Type 0} → Store F → ℕ
 threshold_of store = store.packed_mmap_threshold
 
+-- a store with other files
+abbrev pub with_files : {F : Type 0} → Store F → F → Store F
+with_files store files = record {
+  write_reflog = store.write_reflog;
+  namespace = store.namespace;
+  prohibit_windows_device_names = store.prohibit_windows_device_names;
+  precompose_unicode = store.precompose_unicode;
+  files = files;
+  dirs = store.dirs;
+  object_hash = store.object_hash;
+  packed_mmap_threshold = store.packed_mmap_threshold;
+}
+
 -- the same store, but for what its files hold
 pub record IsSameStore {F : Type 0} (old new : Store F) : Type 0 where
   pub dirs : new.dirs ≡ old.dirs

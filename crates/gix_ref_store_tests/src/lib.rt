@@ -14,11 +14,15 @@ mod folders;
 #[cfg(test)]
 mod listings;
 #[cfg(test)]
+mod lists;
+#[cfg(test)]
 mod lookups;
 #[cfg(test)]
 mod loose;
 #[cfg(test)]
 mod made;
+#[cfg(test)]
+mod power;
 #[cfg(test)]
 mod slow;
 #[cfg(test)]

@@ -1,5 +1,5 @@
 //! One update, prepared and then committed or rolled back: each cause, the files after it, and the values handed back.
-ghost use Rattle.gix_ref_store.specs.Prepared.{IsOneUpdate};
+ghost use Rattle.gix_ref_store.specs.Prepared.{AreDirectUpdates};
 
 use crate::made::{Id, digits, files, full_name, object, partial, store};
 use gix_ref_base::namespace::expand;
@@ -24,7 +24,7 @@ const ONE: &[u8] = b"1111111111111111111111111111111111111111\n";
 
 /// What an update expects.
 #[derive(Clone, Copy, Debug, PartialEq, Eq)]
-enum Expect {
+pub enum Expect {
     Any,
     MustExist,
     MustNotExist,
@@ -34,11 +34,12 @@ enum Expect {
 
 /// What `prepare` returns.
 #[derive(Clone, Copy, Debug, PartialEq, Eq)]
-enum Answer {
+pub enum Answer {
     Prepared,
     UnsafeName,
     TargetNotFull,
     OtherHashKind,
+    PreprocessingFailed,
     PathCollision,
     LockAcquire,
     MustExist,
@@ -49,11 +50,12 @@ enum Answer {
 }
 
 /// The variant of an error.
-fn answer_of(error: &Error) -> Answer {
+pub fn answer_of(error: &Error) -> Answer {
     match error {
         Error::UnsafeName => Answer::UnsafeName,
         Error::TargetNotFull => Answer::TargetNotFull,
         Error::OtherHashKind => Answer::OtherHashKind,
+        Error::PreprocessingFailed { .. } => Answer::PreprocessingFailed,
         Error::PathCollision { .. } => Answer::PathCollision,
         Error::LockAcquire { .. } => Answer::LockAcquire,
         Error::MustExist { .. } => Answer::MustExist,
@@ -65,7 +67,7 @@ fn answer_of(error: &Error) -> Answer {
 }
 
 /// An expectation as the store takes it.
-fn expected(rt: &impl Abort, expect: Expect) -> PreviousValue {
+pub fn expected(rt: &impl Abort, expect: Expect) -> PreviousValue {
     match expect {
         Expect::Any => PreviousValue::Any,
         Expect::MustExist => PreviousValue::MustExist,
@@ -76,14 +78,14 @@ fn expected(rt: &impl Abort, expect: Expect) -> PreviousValue {
 }
 
 /// One update of a name.
-fn update(
+pub fn update(
     rt: &impl Abort,
     alloc: Global,
     name: &str,
     expected: PreviousValue,
     new: Target,
 ) -> Vec<RefEdit>
-    ensures { IsOneUpdate result.items }
+    ensures { AreDirectUpdates result.items }
 {
     let edit = RefEdit {
         change: Change::Update {
@@ -101,12 +103,9 @@ fn update(
 
 /// Prepares an update and rolls it back. Answers what `prepare` did, with the files.
 fn prepared(alloc: Global, mut store: Store<Memory>, edits: Vec<RefEdit>) -> (Answer, Memory)
-    requires { IsOneUpdate edits.items }
+    requires { AreDirectUpdates edits.items }
 {
-    let answer = match store
-        .transaction(PackedRefs::default())
-        .prepare(alloc, edits)
-    {
+    let answer = match store.transaction().prepare(alloc, edits) {
         Err(refused) => answer_of(&refused.error),
         Ok(prepared) => {
             let _ = prepared.rollback();
@@ -310,7 +309,7 @@ fn a_symbolic_target_is_a_full_name(rt: HostRuntime) {
 #[test]
 fn each_call_fails_once(rt: HostRuntime) {
     let alloc = rt.alloc();
-    for k in 1..5u64 {
+    for k in 1..6u64 {
         let mut memory = Memory::new(alloc);
         memory.fail_at(k);
         let store = store(&rt, alloc, memory, "", "");
@@ -334,10 +333,7 @@ fn a_stop_leaves_the_whole_text_in_the_lock(rt: HostRuntime) {
     let mut store = store(&rt, alloc, memory, "", "");
     let new = object(&rt, Id::Two);
     let edits = update(&rt, alloc, "refs/heads/a", PreviousValue::Any, new);
-    match store
-        .transaction(PackedRefs::DeletionsOnly)
-        .prepare(alloc, edits)
-    {
+    match store.transaction().prepare(alloc, edits) {
         Ok(prepared) => {
             let _ = prepared.rollback();
             panic!(rt; "the process ends");
@@ -364,13 +360,10 @@ fn committed(
     store: &mut Store<Memory>,
     edits: Vec<RefEdit>,
 ) -> Result<Vec<RefEdit>, commit::Error>
-    requires { IsOneUpdate edits.items }
+    requires { AreDirectUpdates edits.items }
 {
     store.write_reflog = WriteReflog::Disable;
-    match store
-        .transaction(PackedRefs::default())
-        .prepare(alloc, edits)
-    {
+    match store.transaction().prepare(alloc, edits) {
         Err(_) => Ok(Vec::new(alloc)),
         Ok(prepared) => match prepared.commit(alloc, None) {
             Ok(done) => Ok(done.edits),
@@ -484,7 +477,10 @@ fn a_folder_in_place(rt: HostRuntime) {
 fn given_up_before(rt: HostRuntime) {
     let alloc = rt.alloc();
     let mut store = store(&rt, alloc, Memory::new(alloc), "", "");
-    let back = store.transaction(PackedRefs::DeletionsOnly).rollback(alloc);
+    let back = store
+        .transaction()
+        .packed_refs(PackedRefs::DeletionsOnly)
+        .rollback(alloc);
     assert!(rt; back.edits.is_empty() && back.locks_left.is_empty());
     assert_eq!(rt; back.packed_refs, PackedRefs::DeletionsOnly);
     assert_eq!(rt; store.into_files().calls(), 0, "no file is touched");

@@ -22,7 +22,7 @@ pub mod loose_then_packed {
 }
 
 /// What the names of a whole listing begin with: `refs/`, or in a namespace nothing.
-fn prefix_of_all(namespace: &Option<Namespace>) -> &'static [u8]
+pub fn prefix_of_all(namespace: &Option<Namespace>) -> &'static [u8]
     ensures { result.now ≡ prefix_of_all namespace.now }
 {
     match namespace {
@@ -63,17 +63,30 @@ impl<'p, F: Files> Iterator for LooseThenPacked<'p, F> {
     }
 }
 
+impl<'p, F> LooseThenPacked<'p, F> {
+    ghost use Rattle.std.specs.Prelude.{◌≡◌};
+
+    /// Ends the listing, and gives the store back.
+    pub fn into_store(self) -> &'p mut Store<F>
+        ensures same_reference { result.ghost_name ≡ self.entry.store.ghost_name }
+        ensures same { result.now ≡ self.entry.store.now }
+    {
+        let LooseThenPacked { store, rest: _ } = self;
+        store
+    }
+}
+
 impl<F: Files> Store<F> {
     ghost use Rattle.std.specs.Prelude.{◌≡◌, ◌⊎◌, ◌≤◌, ◌+◌, [], List, IfOk, IfErr, OnOk, OnErr};
     ghost use Rattle.gix_ref_base.specs.PackedRecords.{Record};
     ghost use Rattle.gix_ref_listing.specs.declared.prefix.Error.TheVariants.{Memory};
-    ghost use Rattle.gix_ref_store.specs.Lookup.{AreHeld, LooksUp, settings_of};
+    ghost use Rattle.gix_ref_store.specs.Lookup.{LooksUp, settings_of};
     ghost use Rattle.std.specs.Option.{option_len};
     ghost use Rattle.gix_ref_listing.specs.Listings.{merge_left};
     ghost use Rattle.gix_ref_listing.specs.CleanPrefixes.{IsTaken, IsRefused};
     ghost use Rattle.gix_ref_listing.specs.Steps.{GivesNext};
     ghost use Rattle.gix_ref_store.specs.Store.{files_of, IsSameStore};
-    ghost use Rattle.gix_ref_store.specs.Listings.{Lists, prefix_of_all};
+    ghost use Rattle.gix_ref_store.specs.Listings.{AreHeldFor, Lists, prefix_of_all};
     ghost use Rattle.gix_ref_store.specs.contracts.file.store.Store.{the_row};
 
     /// The next item of a listing.
@@ -111,7 +124,7 @@ impl<F: Files> Store<F> {
             (λ it. it.store.ghost_name ≡ self.entry.ghost_name) }
         ensures looks_up { IfOk result (λ it. LooksUp F.honest F.means self.entry.now it.store.now) }
         ensures lists { F.honest → (records : List Record) →
-            AreHeld packed.entry records →
+            AreHeldFor self.entry.now prefix.now packed.entry records →
             IfOk result (Lists F.honest F.means F.faults self.entry.now records prefix.now) }
         ensures memory { IfErr result (λ error. error ≡ Memory) }
     {
@@ -157,7 +170,8 @@ impl<F: Files> Store<F> {
         ensures same_reference { IfOk result
             (λ it. it.store.ghost_name ≡ self.entry.ghost_name) }
         ensures looks_up { IfOk result (λ it. LooksUp F.honest F.means self.entry.now it.store.now) }
-        ensures lists { F.honest → (records : List Record) → AreHeld packed.entry records →
+        ensures lists { F.honest → (records : List Record) →
+            AreHeldFor self.entry.now (prefix_of_all self.entry.now.namespace) packed.entry records →
             IfOk result (Lists F.honest F.means F.faults self.entry.now records
             (prefix_of_all self.entry.now.namespace)) }
         ensures memory { IfErr result (λ error. error ≡ Memory) }
@@ -167,7 +181,8 @@ impl<F: Files> Store<F> {
     }
 
     /// As `iter_packed`, of the references whose names begin with the prefix. Of the folders only those are listed that such
-    /// names may be in, and of a sorted buffer only the records of the prefix are looked at.
+    /// names may be in, and of a sorted buffer only the records of the prefix are looked at. The buffer may be one that was read
+    /// for this prefix by `open_packed_prefixed`.
     ///
     /// `EmptyPrefix` where the prefix is empty and the store is in no namespace; `PrefixNotClean` where it begins with a slash,
     /// has two slashes in a row or a NUL, or a component of it is `.` or `..`; `Memory`.
@@ -189,7 +204,8 @@ impl<F: Files> Store<F> {
         ensures same_reference { IfOk result
             (λ it. it.store.ghost_name ≡ self.entry.ghost_name) }
         ensures looks_up { IfOk result (λ it. LooksUp F.honest F.means self.entry.now it.store.now) }
-        ensures lists { F.honest → (records : List Record) → AreHeld packed.entry records →
+        ensures lists { F.honest → (records : List Record) →
+            AreHeldFor self.entry.now prefix.now packed.entry records →
             IfOk result (Lists F.honest F.means F.faults self.entry.now records prefix.now) }
         ensures taken { OnOk result (IsTaken self.entry.now.namespace prefix.now) }
         ensures refused { IfErr result (λ error. (error ≡ Memory)

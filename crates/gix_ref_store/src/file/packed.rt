@@ -1,6 +1,8 @@
 //! The `packed-refs` of a store (`git pack-refs`).
 use crate::file::store::Store;
 use gix_ref_files::files::Files;
+use gix_ref_listing::prefixed_records::open_prefixed;
+use gix_ref_lookup::settings::Settings;
 use gix_ref_packed::packed::Buffer;
 use gix_ref_packed::packed::buffer::open::Error;
 use std::alloc::Global;
@@ -24,10 +26,14 @@ impl<F> Store<F> {
 }
 
 impl<F: Files> Store<F> {
-    ghost use Rattle.std.specs.Prelude.{◌≡◌, IfOk, IfErr, OnOk};
+    ghost use Rattle.std.specs.Prelude.{◌≡◌, List, IfOk, IfErr, OnOk, is_some};
+    ghost use Rattle.gix_ref_base.specs.PackedRecords.{Record};
+    ghost use Rattle.gix_ref_files.specs.Tree.{is_file};
     ghost use Rattle.gix_ref_packed.specs.Buffers.{count_open};
+    ghost use Rattle.gix_ref_packed.specs.OpenFiles.{CountsRefusal};
     ghost use Rattle.gix_ref_store.specs.Store.{files_of};
-    ghost use Rattle.gix_ref_store.specs.Lookup.{LooksUp, OpensBuffer, RefusesBuffer};
+    ghost use Rattle.gix_ref_store.specs.Listings.{IsReadFor};
+    ghost use Rattle.gix_ref_store.specs.Lookup.{LooksUp, OpensBuffer, RefusesBuffer, AreRecordsIn, packed_refs_at};
 
     /// The `packed-refs` of the store in memory; `None` where there is no such file. `Io` where it cannot be read,
     /// `HeaderParsing` where it begins with `#` and has no header, `Iter` at the first line that is no record where the records
@@ -61,6 +67,43 @@ impl<F: Files> Store<F> {
         ensures unchanged { LooksUp F.honest F.means self.old self.new }
     {
         self.open_packed_buffer(alloc)
+    }
+
+    /// The records of the `packed-refs` of the store whose names begin with the prefix, for `iter_prefixed_packed` of that
+    /// prefix; other records may be among them. `None` where there is no such file. Of a file whose header says `sorted` only
+    /// the lines of these records are read, and the few that halving looks at; any other file is read as a whole. The errors are
+    /// those of `open_packed_buffer`.
+    ///
+    /// ```text
+    /// let packed = store.open_packed_prefixed(alloc, b"refs/tags/")?;
+    /// for tag in store.iter_prefixed_packed(alloc, b"refs/tags/", packed.as_ref())? {
+    ///     println!(rt; "{}", tag?.name)?;
+    /// }
+    /// ```
+    pub fn open_packed_prefixed(
+        &mut self,
+        alloc: Global,
+        prefix: &[u8],
+    ) -> Result<Option<Buffer>, Error>
+        ensures holds { F.honest → (records : List Record) → AreRecordsIn F.means self.old records →
+            IfOk result (λ found. IsReadFor self.old prefix.now found records) }
+        ensures there { F.honest → IfOk result (λ found. is_some found
+            ≡ is_file (packed_refs_at F.means self.old)) }
+        ensures refused { F.honest → IfErr result (RefusesBuffer F.means self.old) }
+        ensures no_fault { OnOk result (F.faults (files_of self.new) ≡ F.faults
+            (files_of self.old)) }
+        ensures failed { F.honest → IfErr result (CountsRefusal F.Reader.faults
+            (F.faults (files_of self.old)) (F.faults (files_of self.new))) }
+        ensures unchanged { LooksUp F.honest F.means self.old self.new }
+    {
+        let settings = Settings {
+            dirs: &self.dirs,
+            namespace: &self.namespace,
+            kind: self.object_hash,
+            prohibit_windows_device_names: self.prohibit_windows_device_names,
+            precompose_unicode: self.precompose_unicode,
+        };
+        open_prefixed(alloc, &mut self.files, settings, prefix)
     }
 
     /// Tries to open the `packed-refs` of the store, and keeps nothing of it: the errors are those of `open_packed_buffer`.

@@ -1,10 +1,10 @@
 //! Transactions of references: prepared, with all locks held, and then committed or rolled back.
-ghost use Rattle.std.specs.Prelude.{◌≡◌, ◌≤◌, ◌⊎◌, [], IfOk, IfErr, vec_len, length};
+ghost use Rattle.std.specs.Prelude.{◌≡◌, ◌≤◌, ◌⊎◌, [], OnOk, IfOk, IfErr, vec_len, length};
 ghost use Rattle.std.specs.Vec.{vec_capacity};
 ghost use Rattle.std.specs.Borrow.{sem, RestsIfErr};
 ghost use Rattle.gix_ref_files.specs.Files.{HasRisen};
 ghost use Rattle.gix_ref_store.specs.OwnLocks.{paths_of};
-ghost use Rattle.gix_ref_store.specs.Prepared.{IsOneUpdate, RefusesFrom, PreparesFrom, RollsBackFrom};
+ghost use Rattle.gix_ref_store.specs.Prepared.{AreDirectUpdates, RefusesFrom, LosesNothing, PreparesFrom, RollsBackFrom};
 
 pub mod commit;
 pub mod prepare;
@@ -13,7 +13,7 @@ pub(crate) mod setting;
 
 use crate::file::store::Store;
 use crate::file::transaction::commit::failure::{failure, take_place};
-use crate::file::transaction::commit::publish::{Unpublished, publish};
+use crate::file::transaction::commit::publish::Unpublished;
 use crate::file::transaction::prepare::carry::carry_edits;
 use crate::file::transaction::prepare::hold::{Taken, Untaken};
 use crate::file::transaction::release::{release_locks, remove_locks};
@@ -116,23 +116,41 @@ pub struct RolledBack {
 }
 
 impl<F: Files> Store<F> {
-    /// A transaction on this store. It borrows the store until it is committed or rolled back.
+    /// A transaction on this store, which changes `packed-refs` for deletions alone. It borrows the store until it is committed
+    /// or rolled back.
     ///
     /// ```text
-    /// match store.transaction(PackedRefs::default()).prepare(alloc, edits) {
+    /// match store.transaction().prepare(alloc, edits) {
     ///     Ok(prepared) => prepared.commit(alloc, None),
     ///     Err(refused) => return Err(refused.error),
     /// }
     /// ```
-    pub fn transaction(&mut self, packed_refs: PackedRefs) -> Transaction<'_, F>
+    pub fn transaction(&mut self) -> Transaction<'_, F>
         ensures same_reference { result.store.ghost_name ≡ self.entry.ghost_name }
         ensures value { result.store.now ≡ self.old }
-        ensures packed_refs { result.packed_refs ≡ packed_refs }
+        ensures packed_refs { result.packed_refs ≡ PackedRefs.DeletionsOnly }
     {
         Transaction {
             store: self,
-            packed_refs,
+            packed_refs: PackedRefs::DeletionsOnly,
         }
+    }
+}
+
+impl<'s, F: Files> Transaction<'s, F> {
+    ghost use Rattle.std.specs.Prelude.{◌≡◌};
+
+    /// The transaction with another use of `packed-refs`.
+    pub fn packed_refs(self, packed_refs: PackedRefs) -> Transaction<'s, F>
+        ensures same_reference { result.store.ghost_name ≡ self.entry.store.ghost_name }
+        ensures value { result.store.now ≡ self.entry.store.now }
+        ensures packed_refs { result.packed_refs ≡ packed_refs }
+    {
+        let Transaction {
+            store,
+            packed_refs: _,
+        } = self;
+        Transaction { store, packed_refs }
     }
 }
 
@@ -141,17 +159,19 @@ impl<'s, F: Files> Transaction<'s, F> {
     ghost use Rattle.gix_ref_store.specs.PreparedFields.{prepared_edits, prepared_mode, prepared_paths};
 
     /// Checks the edits, and takes their locks with their whole texts (`prepare` of `git update-ref --stdin`). For now
-    /// the list is one update of an object or a symbolic target that follows no symbolic reference, and no log line is
+    /// each edit is an update of an object or a symbolic target that follows no symbolic reference, and no log line is
     /// written.
     ///
     /// `Refused` has the first cause that applies, in the order of `prepare::Error`; then all is as before but for
-    /// the locks that it names, and folders on the way to locks. Reads one file, and makes one.
+    /// the locks that it names, and folders on the way to locks. Reads one file for each edit, and makes one; the names of
+    /// the edits are sorted.
     pub fn prepare(self, alloc: Global, edits: Vec<RefEdit>) -> Result<Prepared<'s, F>, Refused>
-        requires { IsOneUpdate edits.items }
+        requires { AreDirectUpdates edits.items }
         ensures* rests { sem 𝓛 (RestsIfErr (the_row F.row) self.entry.store
             (λ p. p.store.ghost_name) result
             (λ n. IfErr result (λ r. RefusesFrom F.honest F.means F.faults self.entry.store.now n
             edits.items r.error (paths_of r.locks_left.items)
+            × (F.honest → LosesNothing F.means self.entry.store.now n edits.items)
             × (r.packed_refs ≡ self.entry.packed_refs)))) }
         ensures same_reference { IfOk result
             (λ p. p.store.ghost_name ≡ self.entry.store.ghost_name) }
@@ -209,19 +229,21 @@ impl<F: Files> Transaction<'_, F> {
 }
 
 impl<F: Files> Prepared<'_, F> {
-    ghost use Rattle.gix_ref_store.specs.CommitResult.{left_of, mode_of, EveryStopFrom, CommitsFrom, FailsFor};
+    ghost use Rattle.gix_ref_store.specs.CommitResult.{left_of, mode_of, EveryStopFrom, EveryLossFrom, SettlesFrom, CommitsFrom, FailsFor};
     ghost use Rattle.gix_ref_store.specs.PrepareSteps.{lock_paths};
     ghost use Rattle.gix_ref_store.specs.PreparedFields.{prepared_edits, prepared_mode, prepared_paths};
     ghost use Rattle.gix_ref_store.specs.Store.{files_of, IsSameStore};
 
     /// Renames the lock of each reference that changes to its place, in the order of the edits, and removes the other locks.
-    /// At every stop on the way each reference reads as before or as edited. Takes no memory; costs one rename for a
-    /// reference that changes, and one removal for one that has its new object already. (`commit` of
-    /// `git update-ref --stdin`)
+    /// At every stop on the way, and after every loss of power, each reference reads as before or as edited: the text of a
+    /// lock was synced by `prepare`, and the folders above a place are synced before the next rename. A commit that succeeds
+    /// leaves all synced. Costs one rename and the syncs of the folders for a reference that changes, and one removal for one
+    /// that has its new object already. (`commit` of `git update-ref --stdin`)
     ///
-    /// `LockCommit` where a rename failed, `FolderInPlace` where a folder is at the place of a reference. The edits
-    /// before that one are done then, and the locks are removed but for those that are named. No log line is written yet,
-    /// so the store must write none, and the committer is not looked at. The allocator is for an empty list.
+    /// `LockCommit` where a rename or a sync after it failed, `FolderInPlace` where a folder is at the place of a reference. The
+    /// edits before that one are done then, and the locks are removed but for those that are named. `Memory` where there was
+    /// none for the plan of the renames; nothing is done then but the removal of locks. No log line is written yet, so the
+    /// store must write none, and the committer is not looked at.
     pub fn commit(self, alloc: Global, _committer: Option<SignatureRef<'_>>) -> Result<Done, Failed>
         requires quiet { self.store.now.write_reflog ≡ WriteReflog.Disable }
         ensures edits { IfOk result (λ done. done.edits.items ≡ prepared_edits self.entry.plan) }
@@ -234,6 +256,10 @@ impl<F: Files> Prepared<'_, F> {
             f.error) }
         ensures ended { EveryStopFrom F.honest F.means F.faults self.entry.store.now self.exit.0.now
             (prepared_edits self.entry.plan) (prepared_paths self.entry.plan) (left_of result) }
+        ensures lost { EveryLossFrom F.honest F.means F.faults self.entry.store.now self.exit.0.now
+            (prepared_edits self.entry.plan) (prepared_paths self.entry.plan) }
+        ensures settled { OnOk result (SettlesFrom F.honest F.means F.faults self.entry.store.now
+            self.exit.0.now (prepared_edits self.entry.plan) (prepared_paths self.entry.plan)) }
         ensures named { (left_of result ≡ []) ⊎ HasRisen (F.faults (files_of self.entry.store.now))
             (F.faults (files_of self.exit.0.now)) }
         ensures same { IsSameStore self.entry.store.now self.exit.0.now }
@@ -245,11 +271,11 @@ impl<F: Files> Prepared<'_, F> {
             mut paths,
             left,
         } = plan;
-        if let Err(Unpublished { at, source }) = publish(&mut store.files, &edits, &paths) {
+        if let Err(Unpublished { at, why }) = store.publish(alloc, &edits, &paths) {
             let place = take_place(alloc, &mut paths, at);
             let locks_left = release_locks(&mut store.files, &edits, at, paths, left);
             return Err(Failed {
-                error: failure(edits, at, place, source),
+                error: failure(edits, at, place, why),
                 packed_refs,
                 locks_left,
             });

@@ -3,8 +3,9 @@ ghost use Rattle.std.specs.Prelude.{◌≡◌, ◌≤◌, ◌<◌, ◌⊎◌, �
 ghost use Rattle.std.specs.Vec.{vec_capacity};
 ghost use Rattle.std.specs.Bool.{OnFalse};
 ghost use Rattle.gix_ref_files.specs.Tree.{Path, is_file};
-ghost use Rattle.gix_ref_files.specs.Files.{Leaves, HasRisen};
-ghost use Rattle.gix_ref_store.specs.OwnLocks.{paths_of, RemovesLocks, is_in};
+ghost use Rattle.gix_ref_files.specs.Files.{disk_of, Leaves, Passes, HasRisen};
+ghost use Rattle.gix_ref_files.specs.DiskCalls.{RemovingFileOn};
+ghost use Rattle.gix_ref_store.specs.OwnLocks.{paths_of, RemovesLocks, OnlyRemoves, is_in};
 ghost use Rattle.gix_ref_store.specs.CommitRenames.{lock_at, stays_at};
 ghost use Rattle.gix_ref_store.specs.PrepareSteps.{lock_paths};
 
@@ -18,6 +19,8 @@ fn remove_lock<F: Files>(files: &mut F, lock: &[u8]) -> bool
     ensures gone { F.honest → IsTrue result → is_file ((F.means files.new).tree lock.now) ≡ false }
     ensures leaves { F.honest → Leaves (F.means files.old) (F.means files.new)
         (RemovesLocks (lock.now ∷ []) (F.means files.old).tree) }
+    ensures passes { F.honest → Passes (F.means files.old) (F.means files.new)
+        (RemovingFileOn (disk_of (F.means files.old)) lock.now) }
     ensures no_fewer { F.faults files.old ≤ F.faults files.new }
     ensures counted { OnFalse result (HasRisen (F.faults files.old) (F.faults files.new)) }
 {
@@ -35,6 +38,8 @@ fn release<F: Files>(files: &mut F, edits: &[RefEdit], done: usize, at: usize, l
         is_file ((F.means files.new).tree lock.now) ≡ false }
     ensures leaves { F.honest → Leaves (F.means files.old) (F.means files.new)
         (RemovesLocks (lock.now ∷ []) (F.means files.old).tree) }
+    ensures passes { F.honest → Passes (F.means files.old) (F.means files.new)
+        (RemovingFileOn (disk_of (F.means files.old)) lock.now) }
     ensures no_fewer { F.faults files.old ≤ F.faults files.new }
     ensures counted { OnFalse result (HasRisen (F.faults files.old) (F.faults files.new)) }
 {
@@ -65,6 +70,8 @@ pub(crate) fn release_locks<F: Files>(
         is_in (lock_paths paths.items) q ≡ true }
     ensures leaves { F.honest → Leaves (F.means files.old) (F.means files.new)
         (RemovesLocks (lock_paths paths.items) (F.means files.old).tree) }
+    ensures passes { F.honest → OnlyRemoves (lock_paths paths.items) (F.means files.old)
+        (F.means files.new) }
     ensures no_fewer { F.faults files.old ≤ F.faults files.new }
     ensures counted { (result.items ≡ []) ⊎ HasRisen (F.faults files.old) (F.faults files.new) }
 {
@@ -90,6 +97,8 @@ pub(crate) fn remove_locks<F: Files>(
         is_in (lock_paths locks.items) q ≡ true }
     ensures leaves { F.honest → Leaves (F.means files.old) (F.means files.new)
         (RemovesLocks (lock_paths locks.items) (F.means files.old).tree) }
+    ensures passes { F.honest → OnlyRemoves (lock_paths locks.items) (F.means files.old)
+        (F.means files.new) }
     ensures no_fewer { F.faults files.old ≤ F.faults files.new }
     ensures counted { (result.items ≡ []) ⊎ HasRisen (F.faults files.old) (F.faults files.new) }
 {

@@ -5,35 +5,34 @@ ghost use Rattle.gix_ref_store.specs.CommitResult.{SaysWhy};
 ghost use Rattle.gix_ref_store.specs.PrepareSteps.{lock_paths};
 
 use crate::file::transaction::commit::Error;
+use crate::file::transaction::commit::publish::Why;
 use crate::file::transaction::setting::Paths;
 use gix_ref_edits::transaction::RefEdit;
-use gix_ref_files::files::FileError;
 use std::alloc::Global;
 use std::mem;
 
-/// Takes the place at an index out of the paths; their locks stay. Takes no memory.
+/// Takes the place at an index out of the paths, if there is one; their locks stay. Takes no memory.
 pub(crate) fn take_place(alloc: Global, paths: &mut Vec<Paths>, at: usize) -> Vec<u8>
-    requires { at < vec_len paths.old }
-    ensures place { result.items ≡ place_at paths.old.items at }
+    ensures place { at < vec_len paths.old → result.items ≡ place_at paths.old.items at }
     ensures locks { lock_paths paths.new.items ≡ lock_paths paths.old.items }
     ensures len { vec_len paths.new ≡ vec_len paths.old }
 {
-    mem::replace(&mut paths[at].place, Vec::new(alloc))
+    if at < paths.len() {
+        mem::replace(&mut paths[at].place, Vec::new(alloc))
+    } else {
+        Vec::new(alloc)
+    }
 }
 
-/// The error of renames that ended at an edit: by a fault, or by a folder at its place.
-pub(crate) fn failure(
-    mut edits: Vec<RefEdit>,
-    at: usize,
-    place: Vec<u8>,
-    source: Option<FileError>,
-) -> Error
-    requires { at < vec_len edits }
-    ensures { SaysWhy edits.items at place.items source result }
+/// The error of renames that ended at an edit.
+pub(crate) fn failure(mut edits: Vec<RefEdit>, at: usize, place: Vec<u8>, why: Why) -> Error
+    requires { (why ≡ Why.Memory → ⊥) → at < vec_len edits }
+    ensures { SaysWhy edits.items at place.items why result }
 {
-    match source {
-        None => Error::FolderInPlace { path: place },
-        Some(source) => {
+    match why {
+        Why::Memory => Error::Memory,
+        Why::Folder => Error::FolderInPlace { path: place },
+        Why::Fault(source) => {
             let edit = edits.swap_remove(at);
             Error::LockCommit {
                 source,

@@ -1,15 +1,15 @@
 //! The checks and locks of a transaction, from a store.
-ghost use Rattle.std.specs.Prelude.{◌≡◌, ◌≤◌, [], IfOk, IfErr, vec_len, length, map};
+ghost use Rattle.std.specs.Prelude.{◌≡◌, ◌≤◌, [], OnOk, IfOk, IfErr, vec_len, length, map};
 ghost use Rattle.std.specs.Vec.{vec_capacity};
 ghost use Rattle.gix_ref_store.specs.OwnLocks.{paths_of};
-ghost use Rattle.gix_ref_store.specs.Prepared.{IsOneUpdate, RefusesFrom, HoldsFrom};
+ghost use Rattle.gix_ref_store.specs.Prepared.{AreDirectUpdates, RefusesFrom, HoldsFrom, LosesNothing, tree_of, disk_in};
 ghost use Rattle.gix_ref_store.specs.Store.{loose_meaning_of};
-ghost use Rattle.gix_ref_store.specs.PrepareSteps.{value_of, lock_paths, place_paths, places_of};
+ghost use Rattle.gix_ref_store.specs.PrepareSteps.{value_of, HoldWhole, lock_paths, place_paths, places_of};
 ghost use Rattle.gix_ref_store.specs.Causes.{locks_of};
 
 use crate::file::store::Store;
 use crate::file::transaction::prepare::Error;
-use crate::file::transaction::prepare::check::check_edits;
+use crate::file::transaction::prepare::check::{check_edits, check_names};
 use crate::file::transaction::prepare::hold::{Taken, Untaken, hold, reserve};
 use crate::file::transaction::setting::Setting;
 use gix_ref_edits::transaction::RefEdit;
@@ -29,19 +29,22 @@ fn untouched(alloc: Global, error: Error) -> Untaken
 
 impl<F: Files> Store<F> {
     /// Looks at all edits, and takes their locks with their texts.
-    pub(crate) fn begin(&mut self, alloc: Global, edits: &[RefEdit]) -> Result<Taken, Untaken>
-        requires { IsOneUpdate edits.now }
+    pub(crate) fn begin(&mut self, alloc: Global, edits: &Vec<RefEdit>) -> Result<Taken, Untaken>
+        requires { AreDirectUpdates edits.now.items }
         ensures refused { IfErr result (λ u. RefusesFrom F.honest F.means F.faults self.old self.new
-            edits.now u.error (paths_of u.locks_left.items)) }
+            edits.now.items u.error (paths_of u.locks_left.items)) }
         ensures held { IfOk result (λ t. HoldsFrom F.honest F.means F.faults self.old self.new
-            edits.now (map value_of t.found.items)) }
-        ensures len { IfOk result (λ t. vec_len t.found ≡ length edits.now) }
-        ensures paths { IfOk result (λ t. vec_len t.paths ≡ length edits.now) }
+            edits.now.items (map value_of t.found.items)) }
+        ensures lost { F.honest → LosesNothing F.means self.old self.new edits.now.items }
+        ensures whole { F.honest → OnOk result (HoldWhole (loose_meaning_of self.old)
+            (tree_of F.means self.old) (disk_in F.means self.new) edits.now.items) }
+        ensures len { IfOk result (λ t. vec_len t.found ≡ length edits.now.items) }
+        ensures paths { IfOk result (λ t. vec_len t.paths ≡ length edits.now.items) }
         ensures places { IfOk result (λ t. place_paths t.paths.items ≡ places_of
-            (loose_meaning_of self.old) edits.now) }
+            (loose_meaning_of self.old) edits.now.items) }
         ensures locks { IfOk result (λ t. lock_paths t.paths.items ≡ locks_of (loose_meaning_of
             self.old)
-            edits.now) }
+            edits.now.items) }
         ensures room { IfOk result (λ t. vec_len t.paths ≤ vec_capacity t.left) }
         ensures none { IfOk result (λ t. t.left.items ≡ []) }
     {
@@ -51,6 +54,9 @@ impl<F: Files> Store<F> {
             kind: self.object_hash,
         };
         if let Err(error) = check_edits(edits, setting.kind) {
+            return Err(untouched(alloc, error));
+        }
+        if let Err(error) = check_names(alloc, edits) {
             return Err(untouched(alloc, error));
         }
         match reserve(alloc, &setting, edits) {

@@ -1,9 +1,10 @@
 //! What each edit has to meet by itself.
-ghost use Rattle.std.specs.Prelude.{◌≡◌, ◌↔◌, [], IsTrue, MatchResult, IfErr, Option, Some, None};
+ghost use Rattle.std.specs.Prelude.{◌≡◌, ◌↔◌, ◌⊎◌, [], IsTrue, MatchResult, OnOk, IfErr, Option, Some, None};
 ghost use Rattle.std.specs.Option.{option_map};
 ghost use Rattle.gix_ref_hash.specs.Ids.{id_kind, IsWhole};
 ghost use Rattle.gix_ref_base.specs.Targets.{target_ref_value};
-ghost use Rattle.gix_ref_store.specs.Causes.{IsValidEdit, IsInvalidEdit, AllValid, IsFirstInvalid, IsFullTarget, IsOfKind, IsWholeTarget, HasKind, IsNotIo};
+ghost use Rattle.gix_ref_store.specs.Causes.{IsValidEdit, IsInvalidEdit, AllValid, IsFirstInvalid, IsFullTarget, IsOfKind, IsWholeTarget, HasKind, IsNotIo, IsDoubling, names_of};
+ghost use Rattle.gix_ref_edits.specs.DoubledNames.{NoneDoubled};
 ghost use Rattle.gix_ref_base.specs.Locations.{is_safe};
 ghost use Rattle.gix_ref_edits.specs.RefEdits.{name_of, new_of};
 
@@ -11,8 +12,9 @@ use crate::file::transaction::prepare::Error;
 use gix_ref_base::layout::location_of;
 use gix_ref_base::name::FullNameRef;
 use gix_ref_base::target::TargetRef;
-use gix_ref_edits::transaction::RefEdit;
+use gix_ref_edits::transaction::{EditError, RefEdit, RefEditsExt};
 use gix_ref_hash::hash::{Kind, ObjectId};
+use std::alloc::Global;
 
 /// Whether the name of a new symbolic target is a full name.
 fn is_full_target(new: Option<TargetRef<'_>>) -> bool
@@ -78,4 +80,20 @@ pub(crate) fn check_edits(edits: &[RefEdit], kind: Kind) -> Result<(), Error>
         check_edit(edit, kind)?;
     }
     Ok(())
+}
+
+/// The names of all edits: no two are the same.
+pub(crate) fn check_names(alloc: Global, edits: &Vec<RefEdit>) -> Result<(), Error>
+    ensures single { OnOk result (NoneDoubled (names_of edits.now.items)) }
+    ensures doubled { IfErr result (λ error. (error ≡ Error.Memory)
+        ⊎ IsDoubling edits.now.items error) }
+    ensures inside { IfErr result IsNotIo }
+{
+    match edits.assure_one_name_has_one_edit(alloc) {
+        Ok(()) => Ok(()),
+        Err(EditError::DoubledName(name)) => Err(Error::PreprocessingFailed {
+            source: EditError::DoubledName(name),
+        }),
+        Err(EditError::Memory) => Err(Error::Memory),
+    }
 }

@@ -1,12 +1,13 @@
 //! Why a transaction is not prepared.
 use gix_ref_base::name::FullName;
 use gix_ref_base::target::Target;
+use gix_ref_edits::transaction::EditError;
 use gix_ref_files::files::FileError;
 use std::alloc::AllocError;
 use thiserror::Error;
 
-/// The causes of a refusal, in the order in which `prepare` reports them: the first three of each edit by itself,
-/// before it takes any lock; the others edit by edit. `Io` and `Memory` can come anywhere.
+/// The causes of a refusal, in the order in which `prepare` reports them: the first three of each edit by itself, then a name
+/// that two edits have, before it takes any lock; the others edit by edit. `Io` and `Memory` can come anywhere.
 #[derive(Debug, Drop, Error)]
 pub enum Error {
     /// The name of an edit neither begins with `refs/` nor has a category, so it may lie where Git keeps something else.
@@ -18,6 +19,11 @@ pub enum Error {
     /// An id of an edit, new or expected, is not of the store's kind.
     #[error("an id of an edit is of another kind than those of the store")]
     OtherHashKind,
+    /// More than one edit has a name: `source` is `DoubledName` with the least such name.
+    #[error("{source}")]
+    PreprocessingFailed {
+        source: EditError,
+    },
     /// A file is in the path of the edit's lock.
     #[error("a file stands in the path of the lock of {full_name}")]
     PathCollision {

@@ -1,11 +1,13 @@
 //! All locks of a transaction, or none.
-ghost use Rattle.std.specs.Prelude.{◌≡◌, ◌≤◌, ◌⊎◌, [], true, OnOk, IfOk, IfErr, vec_len, length, map};
+ghost use Rattle.std.specs.Prelude.{◌≡◌, ◌≤◌, ◌⊎◌, List, [], true, OnOk, IfOk, IfErr, vec_len, length, map};
 ghost use Rattle.std.specs.Vec.{vec_capacity};
-ghost use Rattle.gix_ref_files.specs.Files.{Leaves, HasRisen};
+ghost use Rattle.gix_ref_files.specs.Files.{disk_of, Leaves, Passes, HasRisen};
+ghost use Rattle.gix_ref_files.specs.Settled.{AllStay};
+ghost use Rattle.gix_ref_theory.specs.OnDisks.{IsAsBefore};
 ghost use Rattle.gix_ref_files.specs.Tree.{Path};
 ghost use Rattle.gix_ref_store.specs.OwnLocks.{paths_of, is_in, AddsLocks};
 ghost use Rattle.gix_ref_store.specs.Causes.{AllValid, LocksAreApart, IsAccepted, IsCounted, IsNotIo, IsFirstCause, IsFirstInvalid, NoCause, Refuses, locks_of};
-ghost use Rattle.gix_ref_store.specs.PrepareSteps.{setting_of, value_of, lock_paths, place_paths, places_of, HoldTexts, old_targets};
+ghost use Rattle.gix_ref_store.specs.PrepareSteps.{setting_of, value_of, lock_paths, place_paths, places_of, HoldTexts, HoldWhole, old_targets};
 ghost use Rattle.gix_ref_edits.specs.RefEdits.{AreUpdates};
 
 use crate::file::transaction::prepare::Error;
@@ -97,6 +99,12 @@ pub(crate) fn hold<F: Files>(
     ensures leaves { F.honest → Leaves (F.means files.old) (F.means files.new)
         (AddsLocks (locks_of (setting_of setting.now) edits.now)
         (locks_of (setting_of setting.now) edits.now) (F.means files.old).tree) }
+    ensures whole { F.honest →
+        OnOk result (HoldWhole (setting_of setting.now) (F.means files.old).tree
+        (disk_of (F.means files.new)) edits.now) }
+    ensures passes { F.honest → (staying : List Path) → AllStay (disk_of (F.means files.old)) staying →
+        Passes (F.means files.old) (F.means files.new) (IsAsBefore (places_of (setting_of setting.now)
+        edits.now) staying (disk_of (F.means files.old))) }
     ensures no_fewer { F.faults files.old ≤ F.faults files.new }
     ensures counted { IfErr result (λ u. IsCounted (F.faults files.old) (F.faults files.new)
         u.error) }

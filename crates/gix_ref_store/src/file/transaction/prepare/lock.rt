@@ -2,16 +2,18 @@
 ghost use Rattle.std.specs.Prelude.{◌≡◌, ◌≤◌, ◌⊎◌, ℕ, List, [], ◌∷◌, OnOk, OnErr, IfOk, IfErr, IsSome, Some, true, length, vec_len};
 ghost use Rattle.gix_ref_files.specs.Tree.{Tree, Path, is_blocked, put};
 ghost use Rattle.gix_ref_files.specs.Tree.Content.{File};
-ghost use Rattle.gix_ref_files.specs.Files.{Leaves};
+ghost use Rattle.gix_ref_files.specs.Files.{disk_of, Leaves, Passes};
 ghost use Rattle.gix_ref_files.specs.Calls.{Unchanged};
+ghost use Rattle.gix_ref_files.specs.DiskCalls.{Untouched, WritingOn};
+ghost use Rattle.gix_ref_files.specs.Settled.{IsWhole};
 ghost use Rattle.gix_ref_base.specs.Targets.{target_value};
 ghost use Rattle.gix_ref_lookup.specs.StoreLayout.{namespace_text};
-ghost use Rattle.gix_ref_files.specs.Lock.{lock_of};
+ghost use Rattle.gix_ref_files.specs.Lock.{lock_of, LockingOn};
 ghost use Rattle.gix_ref_theory.specs.OnRealTrees.{view_of};
 ghost use Rattle.gix_ref_store.specs.OwnLocks.{AddsLocks};
 ghost use Rattle.gix_ref_store.specs.Causes.{found, IsCounted, IsNotIo, IsMismatch, IsIoOrMemory, locks_of};
 ghost use Rattle.gix_ref_edits.specs.RefEdits.{name_of, expected_of, new_of, Expects};
-ghost use Rattle.gix_ref_store.specs.PrepareSteps.{setting_of, value_of, places_of, place_paths, lock_paths, lock_text, is_new, held_by, IsText, IsRefusedLock, IsNewLock, FillsLock};
+ghost use Rattle.gix_ref_store.specs.PrepareSteps.{setting_of, value_of, places_of, place_paths, lock_paths, lock_text, is_new, held_by, IsText, IsRefusedLock, IsNewLock, FillsLock, FillingOn};
 
 use crate::file::transaction::prepare::Error;
 use crate::file::transaction::prepare::expect::check_expected;
@@ -20,7 +22,7 @@ use gix_ref_base::namespace::Namespace;
 use gix_ref_base::target::Target;
 use gix_ref_edits::transaction::{Change, RefEdit, RefLog};
 use gix_ref_files::files::{Create, Files};
-use gix_ref_files::lock::make_lock;
+use gix_ref_files::lock::{make_lock, write_lock};
 use gix_ref_lookup::find::loose::{Loose, loose_at};
 use gix_ref_lookup::find::strip;
 use gix_ref_lookup::layout::layout_in;
@@ -101,6 +103,9 @@ pub(crate) fn acquire<F: Files>(
         (F.means files.new).tree) }
     ensures leaves { F.honest → Leaves (F.means files.old) (F.means files.new)
         (AddsLocks (lock.now ∷ []) (lock.now ∷ []) (F.means files.old).tree) }
+    ensures whole { F.honest → OnOk result (IsWhole (disk_of (F.means files.new)) lock.now []) }
+    ensures passes { F.honest → Passes (F.means files.old) (F.means files.new)
+        (LockingOn (disk_of (F.means files.old)) place.now) }
     ensures no_fewer { F.faults files.old ≤ F.faults files.new }
     ensures counted { IfErr result (IsCounted (F.faults files.old) (F.faults files.new)) }
 {
@@ -138,6 +143,8 @@ fn found_at<F: Files>(
     ensures outside { IfErr result IsIoOrMemory }
     ensures leaves { F.honest → Leaves (F.means files.old) (F.means files.new)
         (Unchanged (F.means files.old).tree) }
+    ensures passes { F.honest → Passes (F.means files.old) (F.means files.new)
+        (Untouched (disk_of (F.means files.old))) }
     ensures no_fewer { F.faults files.old ≤ F.faults files.new }
     ensures counted { IfErr result (IsCounted (F.faults files.old) (F.faults files.new)) }
 {
@@ -172,7 +179,7 @@ pub(crate) fn text_for(
     }
 }
 
-/// Puts the text into the lock.
+/// Puts the text into the lock, which is empty, and syncs it.
 fn fill<F: Files>(files: &mut F, lock: &[u8], text: &[u8]) -> Result<(), Error>
     ensures filled { F.honest → (F.means files.old).tree lock.now ≡ Some (File []) →
         OnOk result ((F.means files.new).tree ≡ put (F.means files.old).tree lock.now
@@ -181,10 +188,14 @@ fn fill<F: Files>(files: &mut F, lock: &[u8], text: &[u8]) -> Result<(), Error>
     ensures leaves { F.honest → (F.means files.old).tree lock.now ≡ Some (File []) →
         Leaves (F.means files.old) (F.means files.new) (FillsLock (F.means files.old).tree
         lock.now) }
+    ensures whole { F.honest → IsWhole (disk_of (F.means files.old)) lock.now [] →
+        OnOk result (IsWhole (disk_of (F.means files.new)) lock.now text.now) }
+    ensures passes { F.honest → Passes (F.means files.old) (F.means files.new)
+        (WritingOn (disk_of (F.means files.old)) lock.now text.now) }
     ensures no_fewer { F.faults files.old ≤ F.faults files.new }
     ensures counted { IfErr result (IsCounted (F.faults files.old) (F.faults files.new)) }
 {
-    files.append(lock, text)?;
+    write_lock(files, lock, text)?;
     Ok(())
 }
 
@@ -217,6 +228,12 @@ pub(crate) fn settle<F: Files>(
     ensures leaves { F.honest → (F.means files.old).tree paths.now.lock.items ≡ Some (File []) →
         Leaves (F.means files.old) (F.means files.new) (FillsLock (F.means files.old).tree
         paths.now.lock.items) }
+    ensures whole { F.honest → IsWhole (disk_of (F.means files.old)) paths.now.lock.items [] →
+        OnOk result (IsWhole (disk_of (F.means files.new)) paths.now.lock.items
+        (lock_text edit.now.change
+        (found (setting_of setting.now) (view_of (F.means files.old).tree) (name_of edit.now)))) }
+    ensures passes { F.honest → Passes (F.means files.old) (F.means files.new)
+        (FillingOn (disk_of (F.means files.old)) paths.now.lock.items) }
     ensures no_fewer { F.faults files.old ≤ F.faults files.new }
     ensures counted { IfErr result (IsCounted (F.faults files.old) (F.faults files.new)) }
 {

@@ -1,7 +1,6 @@
-use Rattle.std.proofs.Common.{refl}
-use Rattle.gix_ref_listing.specs.WholeListings.{key_in}
-use Rattle.gix_ref_store.specs.Lookup.{settings_of}
-use Rattle.gix_ref_store.proofs.ListingRuns.{each_run, held_for}
+use Rattle.std.proofs.Common.{refl, ap}
+use Rattle.gix_ref_theory.specs.OnRealTrees.{view_of}
+use Rattle.gix_ref_store.proofs.ListingRuns.{each_run}
 use Rattle.gix_ref_store.proofs.file.store.Store.list.Goals as goal
 
 pub returns-in-Ok : goal.returns-in-Ok
@@ -15,8 +14,14 @@ returns-in-Ok g c = (
       same = record { dirs = refl; namespace = refl; of_kind = refl; reflogs = refl; composes = refl; prohibits = refl };
     };
     lists = λ h records held.
-        let found = c.in-Ok.ensures.lists h records (held_for (key_in (settings_of c.args.self.now) c.args.prefix.now) c.args.packed records held) in
-        record { listed = found.listed; is = found.is; names = found.names; runs = each_run g.F.Files.honest g.F.Files.means g.F.Files.faults _ found.listed found.yet };
+        let found = c.in-Ok.ensures.lists h records held in
+        record {
+          listed = found.listed;
+          is = found.is;
+          counts = c.in-Ok.ensures.rises;
+          names = found.names;
+          runs = each_run g.F.Files.honest g.F.Files.means g.F.Files.faults c.args.self.now _ found.listed h refl (ap view_of (c.in-Ok.ensures.leaves h).tree) found.yet;
+        };
     memory = _;
   },
 )

@@ -1,23 +1,30 @@
-use Rattle.std.proofs.Common.{◌≡◌, ◌<◌, inl, inr, true, [], length, refl, sym, subst, arith, vec_len}
+use Rattle.std.proofs.Common.{◌≡◌, ◌<◌, ◌≤◌, ◌∙◌, true, [], length, refl, sym, ap, subst, arith, vec_len}
 use Rattle.std.proofs.lemmas.List.{length-map}
-use Rattle.gix_ref_files.specs.Tree.{Path, is_folder}
-use Rattle.gix_ref_store.specs.OwnLocks.{is_in, paths_of}
-use Rattle.gix_ref_store.specs.CommitRenames.{place_at}
-use Rattle.gix_ref_store.specs.PrepareSteps.{place_paths}
+use Rattle.gix_ref_files.specs.Tree.{Tree, Path, is_folder}
+use Rattle.gix_ref_store.specs.OwnLocks.{is_in, paths_of, RemovesLocks}
+use Rattle.gix_ref_store.specs.declared.file.store.Store.{Store}
+use Rattle.gix_ref_store.specs.declared.file.transaction.commit.publish.Why.TheVariants.{Folder, Memory}
+use Rattle.gix_ref_store.specs.CommitRenames.{place_at, IsCutAt, IsFolderInPlace}
+use Rattle.gix_ref_store.specs.PrepareSteps.{lock_paths, place_paths}
+use Rattle.gix_ref_store.specs.Store.{with_files}
 use Rattle.gix_ref_store.proofs.Adds.{in_at}
-use Rattle.gix_ref_store.proofs.Commits.{with_files, well, committed, folder_stays, fails, raised_on}
+use Rattle.gix_ref_store.proofs.Commits.{well, committed, lost, settled, cut_behind, folder_stays, fails, raised_on}
 use Rattle.gix_ref_store.proofs.file.transaction.Prepared+F.commit.Goals as goal
+
+no_folder : Folder ≡ Memory → ⊥
+no_folder e = cc
 
 pub returns-in-Err-clause-ended : goal.returns-in-Err-clause-ended
 returns-in-Err-clause-ended g c old given one from =
     let edits = c.args.self.plan.edits.items in
     let paths = c.args.self.plan.paths.items in
-    let mid = g.F.Files.means c.publish.new.files in
+    let mid = g.F.Files.means c.publish.new.self.files in
     let rest = c.take_place-place.new.paths in
     well g.F.Files.honest g.F.Files.means g.F.Files.faults old c.args.self.store.now _ given edits paths one from mid rest.items (paths_of c.release_locks-locks_left.result.items) c.in-Err.field-0.at (vec_len rest)
     c.take_place-place.ensures.locks (omega (arith, c.take_place-place.ensures.len))
     (λ h. rw (c.deref.ensures.value, c.deref-2.ensures.value) at (c.publish.ensures.leaves h))
-    (λ h. inr (rw c.deref.ensures.value at c.in-Err.ensures.place))
+    (let within : c.in-Err.field-0.at ≤ length edits = rw c.deref.ensures.value at c.in-Err.ensures.within in omega (arith, within, c.args.self.plan.len))
+    (λ h. rw (c.deref.ensures.value, c.deref-2.ensures.value) at (c.in-Err.ensures.ended h))
     (λ h. c.release_locks-locks_left.ensures.leaves h)
     (λ h. rw c.deref-in-Err.ensures.value at (c.release_locks-locks_left.ensures.gone h))
     c.release_locks-locks_left.ensures.ours
@@ -26,11 +33,13 @@ pub returns-clause-ended : goal.returns-clause-ended
 returns-clause-ended g c old given one from =
     let edits = c.args.self.plan.edits.items in
     let paths = c.args.self.plan.paths.items in
-    let mid = g.F.Files.means c.publish.new.files in
+    let mid = g.F.Files.means c.publish.new.self.files in
     well g.F.Files.honest g.F.Files.means g.F.Files.faults old c.args.self.store.now _ given edits paths one from mid paths (paths_of c.release_locks-locks_left-2.result.items) c.len.result (vec_len c.args.self.plan.paths)
     refl (omega arith)
     (λ h. rw (c.deref.ensures.value, c.deref-2.ensures.value) at (c.publish.ensures.leaves h))
-    (λ h. inl (rw (c.deref.ensures.value, c.deref-2.ensures.value) at (c.in_default.ensures.done h)))
+    (omega (arith, c.args.self.plan.len))
+    (λ h. subst (λ n. IsCutAt edits paths n (g.F.Files.means c.args.self.store.now.files).tree mid.tree) (omega arith)
+    (cut_behind edits paths (g.F.Files.means c.args.self.store.now.files).tree mid.tree (rw (c.deref.ensures.value, c.deref-2.ensures.value) at (c.in_default.ensures.done h))))
     (λ h. c.release_locks-locks_left-2.ensures.leaves h)
     (λ h. rw c.deref-3.ensures.value at (c.release_locks-locks_left-2.ensures.gone h))
     c.release_locks-locks_left-2.ensures.ours
@@ -41,11 +50,13 @@ returns-clause-committed g c old given one from h =
     let paths = c.args.self.plan.paths.items in
     let store = c.args.self.store.now in
     let new = with_files store c.release_locks-locks_left-2.new.files in
-    let mid = g.F.Files.means c.publish.new.files in
+    let mid = g.F.Files.means c.publish.new.self.files in
     committed g.F.Files.honest g.F.Files.means g.F.Files.faults old store new given edits paths one from mid paths (paths_of c.release_locks-locks_left-2.result.items) c.len.result (vec_len c.args.self.plan.paths)
     refl (omega arith)
     (λ h. rw (c.deref.ensures.value, c.deref-2.ensures.value) at (c.publish.ensures.leaves h))
-    (λ h. inl (rw (c.deref.ensures.value, c.deref-2.ensures.value) at (c.in_default.ensures.done h)))
+    (omega (arith, c.args.self.plan.len))
+    (λ h. subst (λ n. IsCutAt edits paths n (g.F.Files.means c.args.self.store.now.files).tree mid.tree) (omega arith)
+    (cut_behind edits paths (g.F.Files.means c.args.self.store.now.files).tree mid.tree (rw (c.deref.ensures.value, c.deref-2.ensures.value) at (c.in_default.ensures.done h))))
     (λ h. c.release_locks-locks_left-2.ensures.leaves h)
     (λ h. rw c.deref-3.ensures.value at (c.release_locks-locks_left-2.ensures.gone h))
     c.release_locks-locks_left-2.ensures.ours h
@@ -53,13 +64,57 @@ returns-clause-committed g c old given one from h =
 
 pub returns-in-Err-clause-failed : goal.returns-in-Err-clause-failed
 returns-in-Err-clause-failed g c =
+    let edits = c.args.self.plan.edits.items in
     let paths = c.args.self.plan.paths.items in
     let place = c.take_place-place.result.items in
-    let here : place ≡ place_at paths c.in-Err.field-0.at = c.take_place-place.ensures.place in
-    let lt : c.in-Err.field-0.at < length paths = omega (arith, rw c.deref.ensures.value at c.in-Err.ensures.place, c.args.self.plan.len) in
-    fails g.F.Files.honest g.F.Files.means g.F.Files.faults c.args.self.store.now (with_files c.args.self.store.now c.release_locks-locks_left.new.files) c.args.self.plan.edits.items paths c.in-Err.field-0.at place c.in-Err.field-0.source c.failure.result
+    let why = c.in-Err.field-0.why in
+    let at = c.in-Err.field-0.at in
+    let some : (why ≡ Memory → ⊥) → at < length edits = rw c.deref.ensures.value at c.in-Err.ensures.place in
+    let within : (why ≡ Memory → ⊥) → at < length paths = λ other. let lt = some other in omega (arith, lt, c.args.self.plan.len) in
+    let here : (why ≡ Memory → ⊥) → place ≡ place_at paths at = λ other. let lt = within other in c.take_place-place.ensures.place (omega (arith, lt)) in
+    let start = g.F.Files.means c.args.self.store.now.files in
+    let mid = g.F.Files.means c.publish.new.self.files in
+    let now = g.F.Files.means c.release_locks-locks_left.new.files in
+    let folder : why ≡ Folder → why ≡ Memory → ⊥ = λ is none. no_folder (sym is ∙ none) in
+    let removed : g.F.Files.honest → RemovesLocks (lock_paths paths) mid.tree now.tree = λ h. subst (λ locks. RemovesLocks locks mid.tree now.tree) c.take_place-place.ensures.locks (c.release_locks-locks_left.ensures.leaves h).tree in
+    fails g.F.Files.honest g.F.Files.means g.F.Files.faults c.args.self.store.now (with_files c.publish.new.self c.release_locks-locks_left.new.files) edits paths at place why c.failure.result
     c.failure.ensures
-    (rw c.deref.ensures.value at c.in-Err.ensures.place)
-    (subst (λ (p : Path). is_in (place_paths paths) p ≡ true) (sym here) (in_at (place_paths paths) c.in-Err.field-0.at [] (simp length-map lt)))
-    (λ h none. folder_stays _ _ _ place (c.release_locks-locks_left.ensures.leaves h).tree (subst (λ (p : Path). is_folder ((g.F.Files.means c.publish.new.files).tree p) ≡ true) (sym here) (rw c.deref-2.ensures.value at (c.in-Err.ensures.folder h none))))
-    (raised_on _ _ _ c.in-Err.field-0.source c.release_locks-locks_left.ensures.no_fewer c.in-Err.ensures.counted)
+    (λ other. record {
+      within = some other;
+      written = rw c.deref.ensures.value at (c.in-Err.ensures.written other);
+      cut = λ h. (mid.tree, rw (c.deref.ensures.value, c.deref-2.ensures.value) at (c.in-Err.ensures.ended h), removed h);
+    })
+    here
+    c.in-Err.ensures.source
+    (λ h is.
+    let both = subst (IsFolderInPlace start.tree mid.tree) (sym (here (folder is))) (rw c.deref-2.ensures.value at (c.in-Err.ensures.folder h is)) in
+    (both.0, folder_stays (lock_paths paths) mid.tree now.tree place (removed h) both.1))
+    (λ none h.
+    let still : mid.tree ≡ start.tree = ap (λ files. (g.F.Files.means files).tree) (c.in-Err.ensures.memory none) in
+    subst (λ (S : Tree). RemovesLocks (lock_paths paths) S now.tree) still (removed h))
+    (raised_on _ _ _ why c.release_locks-locks_left.ensures.no_fewer c.in-Err.ensures.counted)
+
+pub returns-in-Err-clause-lost : goal.returns-in-Err-clause-lost
+returns-in-Err-clause-lost g c old given one from h at_rest =
+    let edits = c.args.self.plan.edits.items in
+    let paths = c.args.self.plan.paths.items in
+    let mid = g.F.Files.means c.publish.new.self.files in
+    lost g.F.Files.honest g.F.Files.means g.F.Files.faults old c.args.self.store.now _ given edits paths one from mid c.take_place-place.new.paths.items c.take_place-place.ensures.locks h at_rest
+    (c.release_locks-locks_left.ensures.passes h) (rw (c.deref.ensures.value, c.deref-2.ensures.value) at (c.publish.ensures.passes h))
+
+pub returns-clause-lost : goal.returns-clause-lost
+returns-clause-lost g c old given one from h at_rest =
+    let edits = c.args.self.plan.edits.items in
+    let paths = c.args.self.plan.paths.items in
+    let mid = g.F.Files.means c.publish.new.self.files in
+    lost g.F.Files.honest g.F.Files.means g.F.Files.faults old c.args.self.store.now _ given edits paths one from mid paths refl h at_rest
+    (c.release_locks-locks_left-2.ensures.passes h) (rw (c.deref.ensures.value, c.deref-2.ensures.value) at (c.publish.ensures.passes h))
+
+pub returns-clause-settled : goal.returns-clause-settled
+returns-clause-settled g c old given one from h at_rest =
+    let edits = c.args.self.plan.edits.items in
+    let paths = c.args.self.plan.paths.items in
+    let mid = g.F.Files.means c.publish.new.self.files in
+    settled g.F.Files.honest g.F.Files.means g.F.Files.faults old c.args.self.store.now (with_files c.publish.new.self c.release_locks-locks_left-2.new.files) given edits paths one from mid paths refl h at_rest
+    (c.release_locks-locks_left-2.ensures.passes h) (rw (c.deref.ensures.value, c.deref-2.ensures.value) at (c.in_default.ensures.synced h))
+    (ap (λ (store : Store g.row.F.Denot). store.dirs) c.publish.ensures.same) (ap (λ (store : Store g.row.F.Denot). store.namespace) c.publish.ensures.same)

@@ -1,14 +1,15 @@
 use Rattle.std.proofs.Common.{◌≡◌, ◌≤◌, ◌<◌, ◌+◌, ◌⊎◌, inl, inr, ⊎_elim, ℕ, List, [], ◌∷◌, ◌++◌, true, false, refl, sym, ◌∙◌, ap, subst, arith, is_ok, Vec, vec_len, length, append_assoc}
 use Rattle.std.specs.declared.alloc.Global.{Global}
 use Rattle.std.specs.Vec.{vec_capacity}
-use Rattle.gix_ref_files.specs.Files.{Leaves, HasRisen}
+use Rattle.gix_ref_files.specs.Files.{disk_of, Leaves, Passes, HasRisen}
+use Rattle.gix_ref_files.specs.DiskCalls.{RemovingFileOn}
 use Rattle.gix_ref_files.specs.Tree.{Path, is_file}
 use Rattle.gix_ref_store.specs.OwnLocks.{paths_of, RemovesLocks, is_in}
 use Rattle.gix_ref_store.proofs.Adds.{clash}
 use Rattle.gix_ref_store.specs.CommitRenames.{lock_at}
 use Rattle.gix_ref_store.specs.PrepareSteps.{lock_paths}
 use Rattle.gix_ref_store.specs.declared.file.transaction.setting.Paths.{Paths}
-use Rattle.gix_ref_store.proofs.Removing.{path_left, path_here, path_cases, leaves_then}
+use Rattle.gix_ref_store.proofs.Removing.{path_left, path_here, path_cases, leaves_then, removes_more}
 use Rattle.gix_ref_store.proofs.Renames.{lock_there, lock_within, released}
 use Rattle.gix_ref_store.proofs.file.transaction.release.release_locks.Goals as goal
 
@@ -59,6 +60,8 @@ loop-own-preserved-then-not-release g c =
           (λ stays out. clash (subst (λ (l : List (Vec ℕ Global)). is_in (paths_of l) own.lock.items ≡ true) (sym pushed) (path_here c.loop-own.left.items own.lock own.lock.items refl)) out)
           (λ k le. x.gone h k (omega (arith, le, len, c.in-Some.ensures.len)))
           j (omega (arith, first_le, c.len.ensures));
+      passes = λ h.
+          removes_more (lock_paths all) own.lock.items first mid now within (x.passes h) (subst (λ (p : Path). Passes mid now (RemovingFileOn (disk_of mid) p)) c.deref.ensures.value (c.release.ensures.passes h));
       leaves = λ h.
           let run = x.leaves h in
           let next = subst (λ (p : Path). Leaves mid now (RemovesLocks (p ∷ []) mid.tree)) c.deref.ensures.value (c.release.ensures.leaves h) in
@@ -94,6 +97,8 @@ loop-own-preserved g c =
           (λ stays out. subst (λ (p : Path). is_file (now.tree p) ≡ false) c.deref.ensures.value (c.if-not-release.ensures.gone h stays refl))
           (λ k le. x.gone h k (omega (arith, le, len, c.in-Some.ensures.len)))
           j (omega (arith, first_le, c.len.ensures));
+      passes = λ h.
+          removes_more (lock_paths all) own.lock.items first mid now within (x.passes h) (subst (λ (p : Path). Passes mid now (RemovingFileOn (disk_of mid) p)) c.deref.ensures.value (c.release.ensures.passes h));
       leaves = λ h.
           let run = x.leaves h in
           let next = subst (λ (p : Path). Leaves mid now (RemovesLocks (p ∷ []) mid.tree)) c.deref.ensures.value (c.release.ensures.leaves h) in

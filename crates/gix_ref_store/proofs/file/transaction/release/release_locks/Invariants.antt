@@ -4,7 +4,7 @@ use Rattle.gix_ref_files.specs.Files.{Leaves, HasRisen}
 use Rattle.gix_ref_files.specs.Tree.{Path, is_file}
 use Rattle.gix_ref_store.specs.CommitRenames.{lock_at, stays_at}
 use Rattle.gix_ref_store.specs.PrepareSteps.{lock_paths}
-use Rattle.gix_ref_store.specs.OwnLocks.{paths_of, RemovesLocks, is_in}
+use Rattle.gix_ref_store.specs.OwnLocks.{paths_of, RemovesLocks, OnlyRemoves, is_in}
 use Rattle.gix_ref_store.specs.declared.file.transaction.setting.Paths.{Paths}
 use Rattle.gix_ref_store.proofs.file.transaction.release.release_locks.Given as goal
 
@@ -26,6 +26,7 @@ invariant-loop-own g l =
       front : (tail : List Paths) × (all ≡ l.paths.items ++ tail);
       ours : (q : Path) → is_in left q ≡ true → is_in (lock_paths all) q ≡ true;
       gone : g.F.Files.honest → (k : ℕ) → vec_len l.paths ≤ k → k < vec_len l.fn.paths → stays_at l.edits l.done k ≡ true → is_in left (lock_at all k) ≡ false → is_file (now.tree (lock_at all k)) ≡ false;
+      passes : g.F.Files.honest → OnlyRemoves (lock_paths all) first now;
       leaves : g.F.Files.honest → Leaves first now (RemovesLocks (lock_paths all) first.tree);
     }
 

@@ -1,9 +1,12 @@
-use Rattle.std.proofs.Common.{◌≡◌, List, true, take, sym, ◌∙◌, ap, subst}
+use Rattle.std.proofs.Common.{◌≡◌, List, [], true, take, sym, ◌∙◌, ap, subst}
 use Rattle.gix_ref_files.specs.Tree.{Path}
 use Rattle.gix_ref_store.specs.OwnLocks.{paths_of, AddsLocks, is_in}
 use Rattle.gix_ref_store.specs.Causes.{locks_of}
-use Rattle.gix_ref_store.specs.PrepareSteps.{setting_of, lock_paths}
+use Rattle.gix_ref_store.specs.PrepareSteps.{setting_of, places_of, lock_paths}
 use Rattle.gix_ref_store.proofs.Removing.{locks_front, cleaned, cleaning}
+use Rattle.gix_ref_files.specs.Files.{disk_of}
+use Rattle.gix_ref_files.proofs.Moments.{passes_joins}
+use Rattle.gix_ref_store.proofs.LockRounds.{own_lock}
 use Rattle.gix_ref_store.proofs.Taking.{front_in}
 use Rattle.gix_ref_store.proofs.file.transaction.prepare.hold.hold.Goals as goal
 
@@ -50,3 +53,14 @@ returns-in-Err-clause-ours g c q left =
     let n = c.take_locks.new.taken in
     let same : lock_paths c.truncate.new.self.items ≡ locks_of s (take n edits) = ap lock_paths c.truncate.ensures.items ∙ locks_front s edits c.args.paths.items n c.requires.locks in
     front_in s c.args.setting.now.kind edits n q (subst (λ (l : List Path). is_in l q ≡ true) same (c.remove_locks-locks_left.ensures.ours q left))
+
+pub returns-in-Err-clause-passes : goal.returns-in-Err-clause-passes
+returns-in-Err-clause-passes g c h staying stays =
+    let first = g.F.Files.means c.args.files.now in
+    let s = setting_of c.args.setting.now in
+    let edits = c.args.edits.now in
+    let n = c.take_locks.new.taken in
+    let same : lock_paths c.truncate.new.self.items ≡ locks_of s (take n edits) = ap lock_paths c.truncate.ensures.items ∙ locks_front s edits c.args.paths.items n c.requires.locks in
+    let run = c.take_locks.ensures.passes h staying stays in
+    passes_joins run (c.remove_locks-locks_left.ensures.passes h (places_of s edits) staying [] (disk_of first)
+    (λ q within. own_lock s edits q (front_in s c.args.setting.now.kind edits n q (subst (λ (l : List Path). is_in l q ≡ true) same within))) run.disk)

@@ -1,14 +1,16 @@
 use Rattle.std.proofs.Common.{◌≡◌, ◌+◌, ◌<◌, [], ◌∷◌, length, take, sym, ◌∙◌, ap, subst, arith, refl, is_ok, true, vec_len, inl}
 use Rattle.std.proofs.lemmas.List.{length-map}
 use Rattle.std.proofs.lemmas.Result.{err_from_is_err_and}
-use Rattle.gix_ref_files.specs.Files.{Leaves}
-use Rattle.gix_ref_files.specs.Tree.{Path}
+use Rattle.gix_ref_files.specs.Files.{disk_of, Leaves}
+use Rattle.gix_ref_files.specs.Settled.{IsWhole}
+use Rattle.gix_ref_files.specs.Tree.{Path, is_file}
 use Rattle.gix_ref_store.specs.OwnLocks.{AddsLocks}
 use Rattle.gix_ref_store.specs.PrepareSteps.{setting_of, IsNewLock, IsRefusedLock}
 use Rattle.gix_ref_edits.specs.RefEdits.{name_of}
 use Rattle.gix_ref_files.specs.Lock.{lock_of}
 use Rattle.gix_ref_store.specs.declared.file.transaction.prepare.error.Error.TheVariants.{Memory}
 use Rattle.gix_ref_store.proofs.Rounds.{lock_at, place_at, lock_refused, lock_still, lock_leaves, found_refused, free_then, adds_then_text, text_leaves, later_fault, all_pass, held_then, found_then}
+use Rattle.gix_ref_store.proofs.LockRounds.{locking_round, filling_round, whole_round}
 use Rattle.gix_ref_store.proofs.Taking.{Held}
 use Rattle.gix_ref_store.proofs.file.transaction.prepare.take.take_locks.Goals as goal
 
@@ -281,6 +283,81 @@ returns-in_err-map_err-clause-leaves g c h =
     let filled = c.settle.ensures.leaves h new.empty in
     text_leaves s kind edits c.requires.apart first mid i edit lt c.index-edits-i.is lock at held run one began new two filled
 
+pub returns-in_err-acquire-clause-passes : goal.returns-in_err-acquire-clause-passes
+returns-in_err-acquire-clause-passes g c h staying stays =
+    let x = c.loop-i.invariant in
+    let first = g.F.Files.means c.args.files.now in
+    let mid = g.F.Files.means c.loop-i.files in
+    let s = setting_of c.args.setting.now in
+    let kind = c.args.setting.now.kind in
+    let edits = c.args.edits.now in
+    let i = c.loop-i.i in
+    let edit = c.index-edits-i.result in
+    let lock = c.index-paths-i.result.lock.items in
+    let run = x.leaves h in
+    let lt : i < length edits = omega arith in
+    let lt_paths : i < length c.args.paths.now = omega (arith, simp length-map at (ap length c.requires.locks)) in
+    let at : lock ≡ lock_of (s.place (name_of edit)) = lock_at s edits c.args.paths.now c.requires.locks i edit c.index-paths-i.result lt lt_paths c.index-edits-i.is c.index-paths-i.is in
+    let held : Held s kind edits c.requires.apart first.tree (take i edits) mid.tree = record { adds = x.adds h; free = x.free h; texts = x.texts h } in
+    let one = g.F.Files.means c.acquire.new.files in
+    let same = c.deref-in-loop-i.ensures.value in
+    let began : Leaves mid one (AddsLocks (lock ∷ []) (lock ∷ []) mid.tree) = subst (λ (l : Path). Leaves mid one (AddsLocks (l ∷ []) (l ∷ []) mid.tree)) same (c.acquire.ensures.leaves h) in
+    let placed : c.deref.result.now ≡ s.place (name_of edit) = c.deref.ensures.value ∙ place_at s edits c.args.paths.now c.requires.places i edit c.index-paths-i.result lt lt_paths c.index-edits-i.is c.index-paths-i.is in
+    let before = x.passes h staying stays in
+    locking_round s kind edits c.requires.apart first mid i edit lt c.index-edits-i.is lock at held run c.deref.result.now placed staying one before (c.acquire.ensures.passes h)
+
+pub returns-in_err-was-clause-passes : goal.returns-in_err-was-clause-passes
+returns-in_err-was-clause-passes g c h staying stays =
+    let x = c.loop-i.invariant in
+    let first = g.F.Files.means c.args.files.now in
+    let mid = g.F.Files.means c.loop-i.files in
+    let s = setting_of c.args.setting.now in
+    let kind = c.args.setting.now.kind in
+    let edits = c.args.edits.now in
+    let i = c.loop-i.i in
+    let edit = c.index-edits-i.result in
+    let lock = c.index-paths-i.result.lock.items in
+    let run = x.leaves h in
+    let lt : i < length edits = omega arith in
+    let lt_paths : i < length c.args.paths.now = omega (arith, simp length-map at (ap length c.requires.locks)) in
+    let at : lock ≡ lock_of (s.place (name_of edit)) = lock_at s edits c.args.paths.now c.requires.locks i edit c.index-paths-i.result lt lt_paths c.index-edits-i.is c.index-paths-i.is in
+    let held : Held s kind edits c.requires.apart first.tree (take i edits) mid.tree = record { adds = x.adds h; free = x.free h; texts = x.texts h } in
+    let one = g.F.Files.means c.acquire.new.files in
+    let same = c.deref-in-loop-i.ensures.value in
+    let began : Leaves mid one (AddsLocks (lock ∷ []) (lock ∷ []) mid.tree) = subst (λ (l : Path). Leaves mid one (AddsLocks (l ∷ []) (l ∷ []) mid.tree)) same (c.acquire.ensures.leaves h) in
+    let new : IsNewLock mid.tree lock one.tree = subst (λ (l : Path). IsNewLock mid.tree l one.tree) same (c.in_ok-acquire.ensures.taken h) in
+    let two = g.F.Files.means c.settle.new.files in
+    let filled = c.settle.ensures.leaves h new.empty in
+    let placed : c.deref.result.now ≡ s.place (name_of edit) = c.deref.ensures.value ∙ place_at s edits c.args.paths.now c.requires.places i edit c.index-paths-i.result lt lt_paths c.index-edits-i.is c.index-paths-i.is in
+    let before = x.passes h staying stays in
+    filling_round s kind edits c.requires.apart first mid i edit lt c.index-edits-i.is lock at held run c.deref.result.now placed staying one two before (c.acquire.ensures.passes h) (ap is_file new.empty) (c.settle.ensures.passes h)
+
+pub returns-in_err-map_err-clause-passes : goal.returns-in_err-map_err-clause-passes
+returns-in_err-map_err-clause-passes g c h staying stays =
+    let x = c.loop-i.invariant in
+    let first = g.F.Files.means c.args.files.now in
+    let mid = g.F.Files.means c.loop-i.files in
+    let s = setting_of c.args.setting.now in
+    let kind = c.args.setting.now.kind in
+    let edits = c.args.edits.now in
+    let i = c.loop-i.i in
+    let edit = c.index-edits-i.result in
+    let lock = c.index-paths-i.result.lock.items in
+    let run = x.leaves h in
+    let lt : i < length edits = omega arith in
+    let lt_paths : i < length c.args.paths.now = omega (arith, simp length-map at (ap length c.requires.locks)) in
+    let at : lock ≡ lock_of (s.place (name_of edit)) = lock_at s edits c.args.paths.now c.requires.locks i edit c.index-paths-i.result lt lt_paths c.index-edits-i.is c.index-paths-i.is in
+    let held : Held s kind edits c.requires.apart first.tree (take i edits) mid.tree = record { adds = x.adds h; free = x.free h; texts = x.texts h } in
+    let one = g.F.Files.means c.acquire.new.files in
+    let same = c.deref-in-loop-i.ensures.value in
+    let began : Leaves mid one (AddsLocks (lock ∷ []) (lock ∷ []) mid.tree) = subst (λ (l : Path). Leaves mid one (AddsLocks (l ∷ []) (l ∷ []) mid.tree)) same (c.acquire.ensures.leaves h) in
+    let new : IsNewLock mid.tree lock one.tree = subst (λ (l : Path). IsNewLock mid.tree l one.tree) same (c.in_ok-acquire.ensures.taken h) in
+    let two = g.F.Files.means c.settle.new.files in
+    let filled = c.settle.ensures.leaves h new.empty in
+    let placed : c.deref.result.now ≡ s.place (name_of edit) = c.deref.ensures.value ∙ place_at s edits c.args.paths.now c.requires.places i edit c.index-paths-i.result lt lt_paths c.index-edits-i.is c.index-paths-i.is in
+    let before = x.passes h staying stays in
+    filling_round s kind edits c.requires.apart first mid i edit lt c.index-edits-i.is lock at held run c.deref.result.now placed staying one two before (c.acquire.ensures.passes h) (ap is_file new.empty) (c.settle.ensures.passes h)
+
 pub loop-i-preserved : goal.loop-i-preserved
 loop-i-preserved g c =
     let x = c.loop-i.invariant in
@@ -412,6 +489,54 @@ loop-i-preserved g c =
           let two = g.F.Files.means c.settle.new.files in
           let filled = c.settle.ensures.leaves h new.empty in
           (held_then s kind edits c.requires.apart first mid i edit lt c.index-edits-i.is lock at held run one began new two.tree (c.in_ok-was.ensures.filled h new.empty)).texts;
+      whole = λ h.
+          let x = c.loop-i.invariant in
+          let first = g.F.Files.means c.args.files.now in
+          let mid = g.F.Files.means c.loop-i.files in
+          let s = setting_of c.args.setting.now in
+          let kind = c.args.setting.now.kind in
+          let edits = c.args.edits.now in
+          let i = c.loop-i.i in
+          let edit = c.index-edits-i.result in
+          let lock = c.index-paths-i.result.lock.items in
+          let run = x.leaves h in
+          let lt : i < length edits = omega arith in
+          let lt_paths : i < length c.args.paths.now = omega (arith, simp length-map at (ap length c.requires.locks)) in
+          let at : lock ≡ lock_of (s.place (name_of edit)) = lock_at s edits c.args.paths.now c.requires.locks i edit c.index-paths-i.result lt lt_paths c.index-edits-i.is c.index-paths-i.is in
+          let held : Held s kind edits c.requires.apart first.tree (take i edits) mid.tree = record { adds = x.adds h; free = x.free h; texts = x.texts h } in
+          let one = g.F.Files.means c.acquire.new.files in
+          let same = c.deref-in-loop-i.ensures.value in
+          let began : Leaves mid one (AddsLocks (lock ∷ []) (lock ∷ []) mid.tree) = subst (λ (l : Path). Leaves mid one (AddsLocks (l ∷ []) (l ∷ []) mid.tree)) same (c.acquire.ensures.leaves h) in
+          let new : IsNewLock mid.tree lock one.tree = subst (λ (l : Path). IsNewLock mid.tree l one.tree) same (c.in_ok-acquire.ensures.taken h) in
+          let two = g.F.Files.means c.settle.new.files in
+          let filled = c.settle.ensures.leaves h new.empty in
+          let placed : c.deref.result.now ≡ s.place (name_of edit) = c.deref.ensures.value ∙ place_at s edits c.args.paths.now c.requires.places i edit c.index-paths-i.result lt lt_paths c.index-edits-i.is c.index-paths-i.is in
+          let empty : IsWhole (disk_of one) lock [] = subst (λ (l : Path). IsWhole (disk_of one) l []) same (c.in_ok-acquire.ensures.whole h) in
+          whole_round s kind edits c.requires.apart first mid i edit lt c.index-edits-i.is lock at held run c.deref.result.now placed one two began new (x.whole h) (c.acquire.ensures.passes h) (c.settle.ensures.passes h) (c.in_ok-was.ensures.whole h empty);
+      passes = λ h staying stays.
+          let x = c.loop-i.invariant in
+          let first = g.F.Files.means c.args.files.now in
+          let mid = g.F.Files.means c.loop-i.files in
+          let s = setting_of c.args.setting.now in
+          let kind = c.args.setting.now.kind in
+          let edits = c.args.edits.now in
+          let i = c.loop-i.i in
+          let edit = c.index-edits-i.result in
+          let lock = c.index-paths-i.result.lock.items in
+          let run = x.leaves h in
+          let lt : i < length edits = omega arith in
+          let lt_paths : i < length c.args.paths.now = omega (arith, simp length-map at (ap length c.requires.locks)) in
+          let at : lock ≡ lock_of (s.place (name_of edit)) = lock_at s edits c.args.paths.now c.requires.locks i edit c.index-paths-i.result lt lt_paths c.index-edits-i.is c.index-paths-i.is in
+          let held : Held s kind edits c.requires.apart first.tree (take i edits) mid.tree = record { adds = x.adds h; free = x.free h; texts = x.texts h } in
+          let one = g.F.Files.means c.acquire.new.files in
+          let same = c.deref-in-loop-i.ensures.value in
+          let began : Leaves mid one (AddsLocks (lock ∷ []) (lock ∷ []) mid.tree) = subst (λ (l : Path). Leaves mid one (AddsLocks (l ∷ []) (l ∷ []) mid.tree)) same (c.acquire.ensures.leaves h) in
+          let new : IsNewLock mid.tree lock one.tree = subst (λ (l : Path). IsNewLock mid.tree l one.tree) same (c.in_ok-acquire.ensures.taken h) in
+          let two = g.F.Files.means c.settle.new.files in
+          let filled = c.settle.ensures.leaves h new.empty in
+          let placed : c.deref.result.now ≡ s.place (name_of edit) = c.deref.ensures.value ∙ place_at s edits c.args.paths.now c.requires.places i edit c.index-paths-i.result lt lt_paths c.index-edits-i.is c.index-paths-i.is in
+          let before = x.passes h staying stays in
+          filling_round s kind edits c.requires.apart first mid i edit lt c.index-edits-i.is lock at held run c.deref.result.now placed staying one two before (c.acquire.ensures.passes h) (ap is_file new.empty) (c.settle.ensures.passes h);
       leaves = λ h.
           let x = c.loop-i.invariant in
           let first = g.F.Files.means c.args.files.now in

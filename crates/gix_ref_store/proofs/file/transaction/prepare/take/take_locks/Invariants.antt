@@ -1,9 +1,11 @@
-use Rattle.std.proofs.Common.{◌≡◌, ◌≤◌, [], true, None, take, drop, map, vec_len}
-use Rattle.gix_ref_files.specs.Files.{Leaves}
+use Rattle.std.proofs.Common.{◌≡◌, ◌≤◌, List, [], true, None, take, drop, map, vec_len}
+use Rattle.gix_ref_files.specs.Files.{disk_of, Leaves, Passes}
+use Rattle.gix_ref_files.specs.Settled.{AllStay}
+use Rattle.gix_ref_theory.specs.OnDisks.{IsAsBefore}
 use Rattle.gix_ref_files.specs.Tree.{Path}
 use Rattle.gix_ref_store.specs.OwnLocks.{AddsLocks, is_in}
 use Rattle.gix_ref_store.specs.Causes.{NoCause, IsFirstCause, locks_of}
-use Rattle.gix_ref_store.specs.PrepareSteps.{setting_of, value_of, HoldTexts, old_targets}
+use Rattle.gix_ref_store.specs.PrepareSteps.{setting_of, value_of, HoldTexts, HoldWhole, places_of, old_targets}
 use Rattle.gix_ref_store.specs.declared.file.transaction.prepare.error.Error.{Error}
 use Rattle.gix_ref_store.proofs.file.transaction.prepare.take.take_locks.Given as goal
 
@@ -28,5 +30,7 @@ invariant-loop-i g l =
       adds : g.F.Files.honest → AddsLocks (locks_of s seen) all first.tree now.tree;
       free : g.F.Files.honest → (q : Path) → is_in (locks_of s seen) q ≡ true → first.tree q ≡ None;
       texts : g.F.Files.honest → HoldTexts s first.tree now.tree seen;
+      whole : g.F.Files.honest → HoldWhole s first.tree (disk_of now) seen;
+      passes : g.F.Files.honest → (staying : List Path) → AllStay (disk_of first) staying → Passes first now (IsAsBefore (places_of s l.edits) staying (disk_of first));
       leaves : g.F.Files.honest → Leaves first now (AddsLocks all all first.tree);
     }
