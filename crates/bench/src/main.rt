@@ -2,9 +2,11 @@
 //! prints the number of hits, and on standard error the nanoseconds that this took. The work of the modes that end in
 //! `-make` is to write the files that the others read; `tiny` does a little of each.
 //!
-//! The modes `find-hit`, `find-miss` and `open-find` look up names in a repository and print `MODE TURNS NANOSECONDS HITS`.
+//! The modes `find-hit`, `find-miss` and `open-find` look up names in a repository, `list` and `list-prefix` list its references,
+//! and `log10` and `logall` read a reflog; they print `MODE TURNS NANOSECONDS HITS`.
 #![tactic(auto)]
 
+mod listings;
 mod logs;
 mod lookups;
 mod packed;
@@ -21,6 +23,16 @@ fn tiny(rt: &HostRuntime, folder: &str, turns: u64) -> Result<u64> {
     let packed = packed::tiny(rt.alloc(), &mut files, turns);
     let logs = logs::run(rt, "log-forward", folder, turns)?;
     Ok(packed.saturating_add(logs.unwrap_or(0)))
+}
+
+/// The work of a mode over a repository; `None` for another mode, or where the repository cannot be read.
+fn repository_hits(rt: &HostRuntime, mode: &str, folder: &str, turns: u64) -> Result<Option<u64>> {
+    let alloc = rt.alloc();
+    let found = lookups::run(alloc, Disk::new(rt.clone()?), mode, folder, turns);
+    if found.is_some() {
+        return Ok(found);
+    }
+    Ok(listings::run(alloc, Disk::new(rt.clone()?), mode, folder, turns))
 }
 
 /// The work of a mode.
@@ -42,8 +54,7 @@ fn main(rt: HostRuntime) -> Result<()> {
     };
     let turns = turns.parse::<u64>().context("TURNS")?;
     let start = Instant::now(&rt)?;
-    let files = Disk::new(rt.clone()?);
-    if let Some(hits) = lookups::run(rt.alloc(), files, mode.as_str(), folder.as_str(), turns) {
+    if let Some(hits) = repository_hits(&rt, mode.as_str(), folder.as_str(), turns)? {
         let nanoseconds = start.elapsed(&rt)?.as_nanos();
         println!(rt; "{mode} {turns} {nanoseconds} {hits}")?;
         return Ok(());

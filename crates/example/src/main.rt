@@ -2,11 +2,10 @@
 #![tactic(auto)]
 
 ghost use Rattle.std.specs.Prelude.{IfOk};
-ghost use Rattle.gix_ref_store.specs.Prepared.{IsOneUpdate};
+ghost use Rattle.gix_ref_store.specs.Prepared.{AreDirectUpdates};
 
 use anyhow::{Context, Result, bail};
 use gix_ref::file::Store;
-use gix_ref::file::transaction::PackedRefs;
 use gix_ref::files::Disk;
 use gix_ref::hash::{Kind, ObjectId};
 use gix_ref::name::{FullName, FullNameRef};
@@ -15,9 +14,9 @@ use gix_ref::target::Target;
 use gix_ref::transaction::{Change, LogChange, PreviousValue, RefEdit};
 use std::alloc::Global;
 
-/// The list of one update: this name gets this id, if there is no other value before.
+/// One update: this name gets this id, if there is no other value before.
 fn update(alloc: Global, name: FullName, id: ObjectId) -> Result<Vec<RefEdit>>
-    ensures { IfOk result (λ edits. IsOneUpdate edits.items) }
+    ensures { IfOk result (λ edits. AreDirectUpdates edits.items) }
 {
     let change = Change::Update {
         log: LogChange::new_in(alloc),
@@ -48,10 +47,7 @@ fn main(rt: HostRuntime) -> Result<()> {
     };
 
     let edits = update(alloc, name.to_owned(alloc)?, id)?;
-    match store
-        .transaction(PackedRefs::default())
-        .prepare(alloc, edits)
-    {
+    match store.transaction().prepare(alloc, edits) {
         Ok(prepared) => match prepared.commit(alloc, None) {
             Ok(done) => println!(rt; "{} edit", done.edits.len())?,
             Err(failed) => bail!(

@@ -3,4 +3,6 @@ pub mod Printing
 pub mod RunLemmas
 pub mod Updating
 pub mod WordLemmas
-pub mod LogLemmas
+pub mod ItemLemmas
+pub mod Listing
+pub mod ListLoop

@@ -16,7 +16,8 @@ use Rattle.gix_ref_reflog.specs.declared.error.Error.{Error as LogError}
 use Rattle.gix_ref_reflog.specs.declared.error.Error.TheVariants as log_errors
 use Rattle.gix_ref_store.specs.Reflogs.{reflog_at, ReadsBackward, EndsAtErrors, IsNoReverse, IsNoReflog}
 use Rattle.gix_ref_store.specs.declared.file.store.Store.{Store}
-use Rattle.gix_ref_program.specs.LogPrinting.{log_text, log_status}
+use Rattle.gix_ref_program.specs.LogPrinting.{log_text}
+use Rattle.gix_ref_program.specs.Printed.{items_status}
 use Rattle.gix_ref_program.specs.Outcomes.{printed, status_of}
 use Rattle.gix_ref_program.specs.Runs.{Ran, Prints, LogRan, UpdateOutcome, NoEdit}
 use Rattle.gix_ref_program.specs.Runs.Ran.{Said, Logged}
@@ -40,7 +41,7 @@ prints_more Does More out now status more p = record { ran = p.ran; does = more 
 -- the items of a log are printed
 pub logged : {F R E : Type 0} (G : Ghosts R) (honest : Type 0) (means : F → Meaning) (old new : Store F) (name : List ℕ) (lines : Reverse R) (out now : Option (List ℕ)) (status : Result ℕ E) →
     full_error name ≡ None → (honest → ReadsBackward G (reflog_at means old name) 4096 (Some lines)) → EndsAtErrors G (Some lines) →
-    IfOk status (λ s. WholeRun (NextStep G.honest G.bytes G.faults) lines (λ run. (s ≡ log_status run.items) × Appends out now (log_text run.items))) →
+    IfOk status (λ s. WholeRun (NextStep G.honest G.bytes G.faults) lines (λ run. (s ≡ items_status run.items) × Appends out now (log_text run.items))) →
     Prints (LogRan honest means old new name) out now status
 logged G honest means old new name lines out now (Ok s) full reads ends ran =
     let run = ran.0 in
@@ -63,6 +64,7 @@ no_edit honest means faults store kind name id before (refusals.Name error) lock
 no_edit honest means faults store kind name id before refusals.Memory locks none empty = (refl, empty)
 no_edit honest means faults store kind name id before refusals.PathNotClean locks none empty = absurd none
 no_edit honest means faults store kind name id before (refusals.Find error) locks none empty = absurd none
+no_edit honest means faults store kind name id before (refusals.List error) locks none empty = absurd none
 no_edit honest means faults store kind name id before (refusals.Log error) locks none empty = absurd none
 no_edit honest means faults store kind name id before (refusals.Update error) locks none empty = absurd none
 no_edit honest means faults store kind name id before refusals.NotFound locks none empty = absurd none

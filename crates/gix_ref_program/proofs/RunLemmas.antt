@@ -1,10 +1,11 @@
 -- The outcomes of the parts of a run, put together.
-use Rattle.std.proofs.Common.{◌≡◌, ◌⊎◌, inl, inr, ⊎_elim, ℕ, List, [], ◌∷◌, false, Option, IsSome, subst}
+use Rattle.std.proofs.Common.{◌≡◌, ◌⊎◌, inl, inr, ⊎_elim, ℕ, List, [], ◌∷◌, false, Option, IsSome, sym, subst}
+use Rattle.std.proofs.lemmas.List.Elements.{All-nil, All-cons}
 use Rattle.gix_ref_hash.specs.declared.hash.Kind.{Kind}
 use Rattle.gix_ref_hash.specs.declared.hash.ObjectId.{ObjectId}
 use Rattle.gix_ref_files.specs.Files.{Meaning, Leaves}
 use Rattle.gix_ref_files.proofs.Moments.{weaken}
-use Rattle.gix_ref_store.specs.Prepared.{IsOneUpdate, tree_of}
+use Rattle.gix_ref_store.specs.Prepared.{AreDirectUpdates, tree_of}
 use Rattle.gix_ref_store.specs.Store.{files_of, loose_meaning_of}
 use Rattle.gix_ref_edits.specs.RefEdits.{new_of}
 use Rattle.gix_ref_store.specs.declared.file.store.Store.{Store}
@@ -17,8 +18,9 @@ use Rattle.gix_ref_program.specs.declared.outcome.Outcome.{Outcome}
 use Rattle.gix_ref_program.specs.declared.outcome.Outcome.TheVariants as outcomes
 use Rattle.gix_ref_program.specs.declared.refusal.Refusal.TheVariants as refusals
 
-pub one : (edits : List RefEdit) (edit : RefEdit) → edits ≡ edit ∷ [] → IsSome (new_of edit.change) → edit.deref ≡ false → IsOneUpdate edits
-one edits edit are update no_deref = record { edit = edit; one = are; update = update; no_deref = no_deref }
+pub one : (edits : List RefEdit) (edit : RefEdit) → edits ≡ edit ∷ [] → IsSome (new_of edit.change) → edit.deref ≡ false → AreDirectUpdates edits
+one edits edit are update no_deref =
+    subst AreDirectUpdates (sym are) (All-cons (λ e. IsSome (new_of e.change) × (e.deref ≡ false)) edit [] (update, no_deref) (All-nil (λ (e : RefEdit). IsSome (new_of e.change) × (e.deref ≡ false))))
 
 module _ {F : Type 0} (honest : Type 0) (means : F → Meaning) (faults : F → ℕ) where
   pub update_comes : (old new : Store F) (kind : Kind) (name : List ℕ) (id : ObjectId) (before : Option ObjectId) (edit : RefEdit) (outcome : Outcome) → IsAskedFor kind name id before edit →
@@ -29,6 +31,7 @@ module _ {F : Type 0} (honest : Type 0) (means : F → Meaning) (faults : F → 
   update_comes old new kind name id before edit (outcomes.Refused refusals.PathNotClean locks) asked comes = absurd comes
   update_comes old new kind name id before edit (outcomes.Refused (refusals.Name error) locks) asked comes = absurd comes
   update_comes old new kind name id before edit (outcomes.Refused (refusals.Find error) locks) asked comes = absurd comes
+  update_comes old new kind name id before edit (outcomes.Refused (refusals.List error) locks) asked comes = absurd comes
   update_comes old new kind name id before edit (outcomes.Refused (refusals.Log error) locks) asked comes = absurd comes
   update_comes old new kind name id before edit (outcomes.Refused refusals.NotFound locks) asked comes = absurd comes
   update_comes old new kind name id before edit outcomes.WrongWords asked comes = absurd comes

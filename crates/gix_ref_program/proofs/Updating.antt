@@ -1,15 +1,17 @@
 -- An update whose preparation succeeded: what its commit returns, seen from before the preparation.
-use Rattle.std.proofs.Common.{◌≡◌, ◌≤◌, ◌⊎◌, inl, inr, ⊎_elim, ℕ, List, [], ◌∷◌, true, Option, Some, None, Result, Ok, Err, IfOk, IfErr, IfSome, sym, ◌∙◌, ap, subst, arith}
+use Rattle.std.proofs.Common.{◌≡◌, ◌≤◌, ◌⊎◌, inl, inr, ⊎_elim, ℕ, suc, ◌<◌, List, [], ◌∷◌, length, get_or, true, Option, Some, None, Result, Ok, Err, OnOk, IfOk, IfErr, IfSome, refl, sym, ◌∙◌, ap, subst, arith}
 use Rattle.gix_ref_base.specs.Names.{full_bytes}
 use Rattle.gix_ref_base.specs.Targets.{TargetValue}
-use Rattle.gix_ref_files.specs.Tree.{Path}
-use Rattle.gix_ref_files.specs.Files.{Meaning, Leaves, HasRisen}
+use Rattle.gix_ref_files.specs.Tree.{Tree, Path, file_of}
+use Rattle.gix_ref_files.specs.Files.{Meaning, Leaves, Loses, HasRisen}
 use Rattle.gix_ref_files.proofs.Moments.{weaken, joins}
 use Rattle.gix_ref_store.specs.OwnLocks.{is_in, paths_of}
-use Rattle.gix_ref_store.specs.CommitResult.{AreCommitted, CommitsFrom, EveryStopFrom, FailsFor, left_of, names_of}
-use Rattle.gix_ref_store.specs.Prepared.{IsOneUpdate, PreparesFrom, RefusesFrom, tree_of}
-use Rattle.gix_ref_store.specs.Store.{files_of, loose_meaning_of}
+use Rattle.gix_ref_store.specs.Causes.{names_of}
+use Rattle.gix_ref_store.specs.CommitResult.{AreCommitted, CommitsFrom, EveryStopFrom, EveryLossFrom, SettlesFrom, FailsFor, left_of}
+use Rattle.gix_ref_store.specs.Prepared.{AreDirectUpdates, PreparesFrom, RefusesFrom, LosesNothing, IsAtRest, tree_of, disk_in, locks_in, places_in}
+use Rattle.gix_ref_store.specs.Store.{files_of, folders, loose_meaning_of}
 use Rattle.gix_ref_store.specs.CarriedEdits.{AreCarried}
+use Rattle.gix_ref_edits.specs.RefEdits.{name_of}
 use Rattle.gix_ref_edits.specs.declared.transaction.RefEdit.{RefEdit}
 use Rattle.gix_ref_store.specs.declared.file.store.Store.{Store}
 use Rattle.gix_ref_store.specs.declared.file.transaction.Done.{Done}
@@ -17,8 +19,14 @@ use Rattle.gix_ref_store.specs.declared.file.transaction.Failed.{Failed}
 use Rattle.gix_ref_store.specs.declared.file.transaction.setting.Paths.{Paths}
 use Rattle.gix_ref_store.specs.declared.file.transaction.prepare.error.Error.{Error as Cause}
 use Rattle.gix_ref_store.specs.declared.file.transaction.commit.error.Error.{Error}
-use Rattle.gix_ref_store.specs.declared.file.transaction.commit.error.Error.TheVariants.{LockCommit, FolderInPlace}
-use Rattle.gix_ref_program.specs.Updates.{IsStopOf, IsUpdateError, AreNamed, HasFailed, error_of}
+use Rattle.gix_ref_store.specs.declared.file.transaction.commit.error.Error.TheVariants.{LockCommit, FolderInPlace, Memory}
+use Rattle.gix_ref_store.specs.CommitRenames.{place_at}
+use Rattle.gix_ref_store.specs.PrepareSteps.{place_paths}
+use Rattle.gix_ref_store.proofs.Adds.{clash, in_at, same_view}
+use Rattle.std.proofs.lemmas.List.{length-map}
+use Rattle.gix_ref_store.proofs.CommitLosses.{rest_kept}
+use Rattle.gix_ref_theory.specs.Roots.{roots}
+use Rattle.gix_ref_program.specs.Updates.{IsStopOf, IsLossOf, IsUpdateError, AreNamed, HasFailed, error_of}
 use Rattle.gix_ref_program.specs.declared.update.UpdateError.{UpdateError}
 use Rattle.gix_ref_program.specs.declared.update.UpdateError.TheVariants.{Commit}
 
@@ -31,18 +39,36 @@ rose_before a b d le (inl more) = inl (omega (arith, le, more))
 rose_before a b d le (inr full) = inr full
 
 -- edits keep their names when they carry what was found
-names_kept : (given carried : List RefEdit) (was : List (Option TargetValue)) → IsOneUpdate given → AreCarried given was carried → names_of carried ≡ names_of given
-names_kept [] carried was one carries = cc
-  where
-    none : [] ≡ one.edit ∷ []
-    none = one.one
-names_kept (e ∷ x ∷ given) carried was one carries = cc
-  where
-    more : e ∷ x ∷ given ≡ one.edit ∷ []
-    more = one.one
-names_kept (e ∷ []) [] was one carries = absurd (omega (arith, carries.len))
-names_kept (e ∷ []) (a ∷ b ∷ carried) was one carries = absurd (omega (arith, carries.len))
-names_kept (e ∷ []) (a ∷ []) was one carries = ap (λ name. full_bytes name ∷ []) (carries.each 0 e (omega arith)).name
+same_names : (given carried : List RefEdit) → length carried ≡ length given → ((k : ℕ) (d : RefEdit) → k < length given → (get_or carried k d).name ≡ (get_or given k d).name) → names_of carried ≡ names_of given
+same_names [] [] len each = refl
+same_names [] (a ∷ carried) len each = absurd (omega (arith, len))
+same_names (e ∷ given) [] len each = absurd (omega (arith, len))
+same_names (e ∷ given) (a ∷ carried) len each =
+    ap (λ name. full_bytes name ∷ names_of carried) (each 0 e (omega arith))
+    ∙ ap (λ names. name_of e ∷ names) (same_names given carried (omega (arith, len)) (λ k d lt. each (suc k) d (omega (arith, lt))))
+
+names_kept : (given carried : List RefEdit) (was : List (Option TargetValue)) → AreCarried given was carried → names_of carried ≡ names_of given
+names_kept given carried was carries = same_names given carried carries.len (λ k d lt. (carries.each k d lt).name)
+
+-- what losses of power leave in one run, and then in another
+loses_weaken : {old new : Meaning} {P Q : Tree → Type 0} → Loses old new P → ((T : Tree) → P T → Q T) → Loses old new Q
+loses_weaken run wider = record {
+  now = λ T lost. wider T (run.now T lost);
+  later = run.later;
+  since = λ t T le lost. ⊎_elim (λ past. inl past) (λ p. inr (wider T p)) (run.since t T le lost);
+  keeps = run.keeps;
+}
+
+loses_joins : {old mid new : Meaning} {P : Tree → Type 0} → Loses old mid P → Loses mid new P → Loses old new P
+loses_joins first second = record {
+  now = second.now;
+  later = omega (arith, first.later, second.later);
+  since = λ t T le lost. ⊎_elim (first.since t T le) (λ p. inr p) (second.since t T (omega (arith, le, first.later)) lost);
+  keeps = λ t T le lost. second.keeps t T (omega (arith, le, first.later)) (first.keeps t T le lost);
+}
+
+pub refused_loses : {F : Type 0} (means : F → Meaning) (old new : Store F) (edits : List RefEdit) → LosesNothing means old new edits → Loses (means (files_of old)) (means (files_of new)) (IsLossOf means old edits)
+refused_loses means old new edits lost = loses_weaken lost.loses (λ T kept. inl kept)
 
 -- a preparation that was refused
 module _ {F : Type 0} (honest : Type 0) (means : F → Meaning) (faults : F → ℕ) (old new : Store F) (edits : List RefEdit) (error : Cause) (left : List Path) (from : RefusesFrom honest means faults old new edits error left) where
@@ -53,12 +79,12 @@ module _ {F : Type 0} (honest : Type 0) (means : F → Meaning) (faults : F → 
   refused_stops h = weaken (from.leaves h) (λ T adds. inl adds)
 
 -- one that was committed, or whose commit failed
-module _ {F : Type 0} (honest : Type 0) (means : F → Meaning) (faults : F → ℕ) (old mid new : Store F) (edits carried : List RefEdit) (paths : List Paths) (one : IsOneUpdate edits) (from : PreparesFrom honest means faults old mid edits carried paths) where
+module _ {F : Type 0} (honest : Type 0) (means : F → Meaning) (faults : F → ℕ) (old mid new : Store F) (edits carried : List RefEdit) (paths : List Paths) (direct : AreDirectUpdates edits) (from : PreparesFrom honest means faults old mid edits carried paths) where
   pub done : (answer : Result Done Failed) (error : Option UpdateError) (left : List Path) → error ≡ error_of answer → left ≡ left_of answer →
       IfOk answer (λ d. CommitsFrom honest means faults mid new carried paths (paths_of d.locks_left.items)) → honest → error ≡ None →
       AreCommitted (loose_meaning_of old) edits (tree_of means old) left (tree_of means new)
   done (Ok d) error left told same commits h none =
-      subst (λ l. AreCommitted (loose_meaning_of old) edits (tree_of means old) l (tree_of means new)) (sym same) (commits old edits one from h)
+      subst (λ l. AreCommitted (loose_meaning_of old) edits (tree_of means old) l (tree_of means new)) (sym same) (commits old edits direct from h)
   done (Err f) error left told same commits h none = cc
     where
       no : Some (Commit f.error) ≡ None
@@ -67,9 +93,31 @@ module _ {F : Type 0} (honest : Type 0) (means : F → Meaning) (faults : F → 
   failed : (error : Error) → FailsFor honest means faults mid new carried paths error → HasFailed honest means faults old new edits error
   failed (LockCommit source name) fails = (
     rose_before _ _ _ from.held.no_fewer fails.0,
-    subst (λ names. is_in names (full_bytes name) ≡ true) (names_kept edits carried from.was one from.carried) fails.1,
+    subst (λ n. is_in (names_of edits) n ≡ true) (sym fails.2.2)
+        (subst (λ names. is_in names (get_or (names_of carried) fails.2.0 []) ≡ true) (names_kept edits carried from.was from.carried)
+        (in_at (names_of carried) fails.2.0 [] (let lt = fails.2.1.within in simp length-map lt))),
   )
-  failed (FolderInPlace path) fails = (subst (λ places. is_in places path.items ≡ true) from.places fails.0, fails.1)
+  failed (FolderInPlace path) fails = (
+    subst (λ p. is_in (places_in old edits) p ≡ true) (sym fails.2)
+        (subst (λ places. is_in places (place_at paths fails.0) ≡ true) from.places
+        (in_at (place_paths paths) fails.0 [] (omega (arith, fails.1.within, from.carried.len, ap length from.places, length-map edits (λ (edit : RefEdit). (loose_meaning_of old).place (name_of edit)))))),
+    λ h. (fails.3 h).1,
+  )
+  failed Memory fails = λ h q apart.
+      ⊎_elim (λ same. ap file_of same) (λ gone. clash (subst (λ locks. is_in locks q ≡ true) from.locks gone.0) apart) (fails h q)
+      ∙ same_view file_of refl (locks_in old edits) (locks_in old edits) (tree_of means old) (tree_of means mid) q (from.held.adds h) apart
+
+  pub loses : honest → IsAtRest means old → EveryLossFrom honest means faults mid new carried paths → Loses (means (files_of old)) (means (files_of new)) (IsLossOf means old edits)
+  loses h at_rest losses =
+      let started = rest_kept (places_in old edits) (roots (folders old)) (disk_in means old) (disk_in means mid) at_rest.0 ((from.lost h).keeps (roots (folders old)) at_rest.1).disk in
+      loses_joins (loses_weaken (from.lost h).loses (λ T kept. inl kept)) (loses_weaken (losses old edits direct from h at_rest).loses (λ T well. inr (disk_in means mid, started.0, well)))
+
+  pub settles : (answer : Result Done Failed) (error : Option UpdateError) → error ≡ error_of answer → OnOk answer (SettlesFrom honest means faults mid new carried paths) → honest → error ≡ None → IsAtRest means old → IsAtRest means new
+  settles (Ok d) error is settled h none at_rest = settled old edits direct from h at_rest
+  settles (Err f) error is settled h none at_rest = cc
+    where
+      no : Some (Commit f.error) ≡ None
+      no = sym is ∙ none
 
   pub told : (answer : Result Done Failed) (error : Option UpdateError) (left : List Path) → error ≡ error_of answer → left ≡ left_of answer →
       IfErr answer (λ f. FailsFor honest means faults mid new carried paths f.error) → EveryStopFrom honest means faults mid new carried paths (left_of answer) →
@@ -77,15 +125,15 @@ module _ {F : Type 0} (honest : Type 0) (means : F → Meaning) (faults : F → 
   told (Ok d) error left is same fails ends = subst (λ r. IfSome r (λ u. IsUpdateError honest means faults old new edits u left)) (sym is) tt
   told (Err f) error left is same fails ends =
       subst (λ r. IfSome r (λ u. IsUpdateError honest means faults old new edits u left)) (sym is)
-      (subst (λ l. IsUpdateError honest means faults old new edits (Commit f.error) l) (sym same) (failed f.error fails, (ends old edits one from).gone))
+      (subst (λ l. IsUpdateError honest means faults old new edits (Commit f.error) l) (sym same) (failed f.error fails, (ends old edits direct from).gone))
 
   pub stops : (left : List Path) → EveryStopFrom honest means faults mid new carried paths left → honest →
       Leaves (means (files_of old)) (means (files_of new)) (IsStopOf (loose_meaning_of old) edits (tree_of means old))
-  stops left ends h = joins (weaken (from.held.leaves h) (λ T adds. inl adds)) (weaken ((ends old edits one from).leaves h) (λ T well. inr well))
+  stops left ends h = joins (weaken (from.held.leaves h) (λ T adds. inl adds)) (weaken ((ends old edits direct from).leaves h) (λ T well. inr well))
 
   pub named : (left all : List Path) → left ≡ all → (all ≡ []) ⊎ HasRisen (faults (files_of mid)) (faults (files_of new)) → EveryStopFrom honest means faults mid new carried paths all →
       AreNamed honest means faults old new edits left
   named left all same counted ends = subst (AreNamed honest means faults old new edits) (sym same) (record {
-    ours = (ends old edits one from).ours;
+    ours = (ends old edits direct from).ours;
     named = ⊎_elim (λ none. inl none) (λ rose. inr (rose_before _ _ _ from.held.no_fewer rose)) counted;
   })

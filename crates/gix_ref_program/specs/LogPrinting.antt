@@ -1,11 +1,11 @@
 -- How a reflog is printed, newest first (`git reflog show`).
-use Rattle.std.specs.Prelude.{◌≡◌, ◌⊎◌, ℕ, List, [], ◌++◌, Bool, true, false, codes, Option, Result, Ok, Err, if◌then◌else◌}
-use Rattle.std.specs.List.{flat_map, list_any}
-use Rattle.std.specs.Result.{is_err}
+use Rattle.std.specs.Prelude.{◌≡◌, ◌⊎◌, ℕ, List, [], ◌++◌, Bool, true, false, codes, Option, Result, Ok, Err}
+use Rattle.std.specs.List.{flat_map}
 use Rattle.hex.specs.Hex.{encode_lower}
 use Rattle.gix_ref_hash.specs.Ids.{id_bytes}
 use Rattle.gix_ref_files.specs.Tree.{Content, is_file, bytes_of}
 use Rattle.gix_ref_log.specs.LogItems.{IsRun, items_from}
+use Rattle.gix_ref_program.specs.Printed.{fault_line}
 use Rattle.gix_ref_log.specs.declared.log.line.Line.{Line}
 use Rattle.gix_ref_log.specs.declared.log.iter.error.ReverseError.{ReverseError}
 use Rattle.gix_ref_log.specs.declared.log.iter.error.ReverseError.TheVariants.{Io, Decode, BufferTooSmall, Memory}
@@ -20,14 +20,10 @@ fault_word Memory = codes "Memory"
 abbrev pub item_text : Result Line ReverseError → List ℕ
 item_text (Ok l) =
     encode_lower (id_bytes l.previous_oid) ++ (codes " " ++ (encode_lower (id_bytes l.new_oid) ++ (codes " " ++ (l.message.items ++ codes "\n"))))
-item_text (Err e) = codes "fault: " ++ (fault_word e ++ codes "\n")
+item_text (Err e) = fault_line (fault_word e)
 
 abbrev pub log_text : List (Result Line ReverseError) → List ℕ
 log_text items = flat_map item_text items
-
--- 1 where there is a fault
-abbrev pub log_status : List (Result Line ReverseError) → ℕ
-log_status items = if list_any is_err items then 1 else 0
 
 -- the items of a log, newest first, for which 4,096 bytes have room, all where `whole` says so; none where there is no log
 abbrev pub AreItemsOf : Option Content → (whole : Bool) → List (Result Line ReverseError) → Type 0

@@ -15,6 +15,11 @@ use Rattle.gix_ref_store.specs.declared.file.transaction.commit.error.Error as c
 use Rattle.gix_ref_store.specs.declared.file.transaction.commit.error.Error.TheVariants as commit
 use Rattle.gix_ref_lookup.specs.declared.find.error.Error as finds
 use Rattle.gix_ref_lookup.specs.declared.find.error.Error.TheVariants as find
+use Rattle.gix_ref_packed.specs.declared.raw.Reference.{Reference}
+use Rattle.gix_ref_packed.specs.declared.packed.buffer.open.Error as opens
+use Rattle.gix_ref_packed.specs.declared.packed.buffer.open.Error.TheVariants as opening
+use Rattle.gix_ref_listing.specs.declared.prefix.Error as lists
+use Rattle.gix_ref_listing.specs.declared.prefix.Error.TheVariants as list
 use Rattle.gix_ref_reflog.specs.declared.error.Error as logs
 use Rattle.gix_ref_reflog.specs.declared.error.Error.TheVariants as log
 use Rattle.gix_ref_program.specs.declared.update.UpdateError.TheVariants as error
@@ -45,6 +50,7 @@ abbrev pub prepare_word : prepares.Error → List ℕ
 prepare_word prepare.UnsafeName = codes "UnsafeName"
 prepare_word prepare.TargetNotFull = codes "TargetNotFull"
 prepare_word prepare.OtherHashKind = codes "OtherHashKind"
+prepare_word (prepare.PreprocessingFailed source) = codes "PreprocessingFailed"
 prepare_word (prepare.PathCollision name) = codes "PathCollision"
 prepare_word (prepare.LockAcquire name) = codes "LockAcquire"
 prepare_word (prepare.MustExist name expected) = codes "MustExist"
@@ -56,6 +62,7 @@ prepare_word prepare.Memory = codes "Memory"
 abbrev pub commit_word : commits.Error → List ℕ
 commit_word (commit.LockCommit source name) = codes "LockCommit"
 commit_word (commit.FolderInPlace path) = codes "FolderInPlace"
+commit_word commit.Memory = codes "Memory"
 
 abbrev pub find_word : finds.Error → List ℕ
 find_word (find.RefnameValidation error) = codes "RefnameValidation"
@@ -72,12 +79,25 @@ log_word log.DeviceName = codes "DeviceName"
 log_word log.EmptyBuffer = codes "EmptyBuffer"
 log_word log.Memory = codes "Memory"
 
+abbrev pub open_word : opens.Error → List ℕ
+open_word (opening.Iter line) = codes "Iter"
+open_word opening.HeaderParsing = codes "HeaderParsing"
+open_word (opening.Io error) = codes "Io"
+open_word opening.Memory = codes "Memory"
+
+abbrev pub list_word : lists.Error → List ℕ
+list_word list.EmptyPrefix = codes "EmptyPrefix"
+list_word list.PrefixNotClean = codes "PrefixNotClean"
+list_word (list.PackedOpen error) = open_word error
+list_word list.Memory = codes "Memory"
+
 abbrev pub word_of : Refusal → List ℕ
 word_of refusals.PathNotClean = codes "PathNotClean"
 word_of (refusals.Name error) = name_word error
 word_of (refusals.Update (error.Prepare error)) = prepare_word error
 word_of (refusals.Update (error.Commit error)) = commit_word error
 word_of (refusals.Find error) = find_word error
+word_of (refusals.List error) = list_word error
 word_of (refusals.Log error) = log_word error
 word_of refusals.NotFound = codes "NotFound"
 word_of refusals.Memory = codes "Memory"
@@ -93,10 +113,14 @@ abbrev pub shown_target : TargetValue → List ℕ
 shown_target (object_id id) = encode_lower (id_bytes id)
 shown_target (symbolic_name name) = codes "ref: " ++ name
 
+-- a target and a name
+abbrev pub reference_line : Reference → List ℕ
+reference_line reference = shown_target (target_value reference.target) ++ (codes " " ++ (full_bytes reference.name ++ codes "\n"))
+
 abbrev pub printed : Outcome → List ℕ
 printed outcomes.WrongWords = codes "wrong words\n"
 printed (outcomes.Updated locks) = lock_lines locks.items
-printed (outcomes.Shown reference) = shown_target (target_value reference.target) ++ (codes " " ++ (full_bytes reference.name ++ codes "\n"))
+printed (outcomes.Shown reference) = reference_line reference
 printed (outcomes.Refused refusal locks) = codes "refused: " ++ (word_of refusal ++ (codes "\n" ++ lock_lines locks.items))
 
 -- the status: 0 for what is done, 1 for a refusal, 2 for wrong words

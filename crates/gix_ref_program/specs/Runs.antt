@@ -1,6 +1,7 @@
 -- The outcome of a run of the program.
 use Rattle.std.specs.Prelude.{◌≡◌, ◌⊎◌, ℕ, List, [], ◌∷◌, Bool, true, false, codes, Option, Some, None, Result, IfOk}
 use Rattle.std.specs.Io.KnownBytes.{Appends}
+use Rattle.std.specs.List.{AllByRecursion}
 use Rattle.gix_ref_hash.specs.Ids.{null_id}
 use Rattle.gix_ref_base.specs.NameGrammar.{full_error, partial_error}
 use Rattle.gix_ref_base.specs.Namespaces.{expanded}
@@ -8,18 +9,29 @@ use Rattle.gix_ref_base.specs.Targets.TargetValue.{object_id}
 use Rattle.gix_ref_hash.specs.declared.hash.Kind.{Kind}
 use Rattle.gix_ref_hash.specs.declared.hash.ObjectId.{ObjectId}
 use Rattle.gix_ref_files.specs.Tree.{Tree}
-use Rattle.gix_ref_files.specs.Files.{Meaning, Leaves}
+use Rattle.gix_ref_files.specs.Files.{Meaning, Leaves, HasRisen}
 use Rattle.gix_ref_store.specs.OwnLocks.{paths_of}
 use Rattle.gix_ref_lookup.specs.CleanPaths.{is_clean}
 use Rattle.gix_ref_store.specs.CommitResult.{AreCommitted}
 use Rattle.gix_ref_base.specs.PackedRecords.{Record}
 use Rattle.gix_ref_files.specs.declared.files.ReadAt.{Ghosts}
 use Rattle.gix_ref_lookup.specs.Lookups.{IsSound}
+use Rattle.gix_ref_lookup.specs.declared.settings.Settings.{Settings}
+use Rattle.gix_ref_theory.specs.Views.{View}
 use Rattle.gix_ref_lookup.specs.declared.find.records.Records.TheVariants.{Unopened}
-use Rattle.gix_ref_store.specs.Lookup.{AreRecordsIn, FindsAmong, HitsIn, FailsIn}
+use Rattle.gix_ref_store.specs.Lookup.{AreRecordsIn, FindsAmong, HitsIn, FailsIn, RefusesBuffer, settings_of, view_in}
 use Rattle.gix_ref_store.specs.Prepared.{tree_of}
 use Rattle.gix_ref_store.specs.Store.{files_of, folders, kind_of, loose_meaning_of}
 use Rattle.gix_ref_store.specs.Reflogs.{reflog_at, IsNoReflog}
+use Rattle.gix_ref_store.specs.Listings.{prefix_of_all, AreFirst}
+use Rattle.gix_ref_packed.specs.OpenFiles.{CountsRefusal}
+use Rattle.gix_ref_packed.specs.declared.raw.Reference.{Reference}
+use Rattle.gix_ref_listing.specs.CleanPrefixes.{IsTaken, IsRefused}
+use Rattle.gix_ref_listing.specs.Listings.{Listed as ListedName}
+use Rattle.gix_ref_listing.specs.WholeListings.{IsListing, IsName}
+use Rattle.gix_ref_listing.specs.declared.error.Error.{Error as ListError}
+use Rattle.gix_ref_listing.specs.declared.prefix.Error.{Error as PrefixError}
+use Rattle.gix_ref_listing.specs.declared.prefix.Error.TheVariants as no_list
 use Rattle.gix_ref_log.specs.LogItems.{EndsAtError}
 use Rattle.gix_ref_log.specs.declared.log.line.Line.{Line as LogLine}
 use Rattle.gix_ref_log.specs.declared.log.iter.error.ReverseError.{ReverseError}
@@ -32,8 +44,10 @@ use Rattle.gix_ref_edits.specs.declared.transaction.RefEdit.{RefEdit}
 use Rattle.gix_ref_edits.specs.declared.transaction.RefLog.TheVariants.{AndReference}
 use Rattle.gix_ref_program.specs.Outcomes.{printed, status_of}
 use Rattle.gix_ref_program.specs.Updates.{IsUpdateError, AreNamed, IsStopOf}
-use Rattle.gix_ref_program.specs.LogPrinting.{log_text, log_status, AreItemsOf}
-use Rattle.gix_ref_program.specs.Words.{Asked, Update, Show, Log, Line, IsLine}
+use Rattle.gix_ref_program.specs.ListPrinting.{list_text}
+use Rattle.gix_ref_program.specs.LogPrinting.{log_text, AreItemsOf}
+use Rattle.gix_ref_program.specs.Printed.{items_status}
+use Rattle.gix_ref_program.specs.Words.{Asked, Update, Show, Listing as AskedListing, Log, Line, IsLine}
 use Rattle.gix_ref_program.specs.declared.outcome.Outcome.{Outcome}
 use Rattle.gix_ref_program.specs.declared.outcome.Outcome.TheVariants as outcomes
 use Rattle.gix_ref_program.specs.declared.refusal.Refusal.{Refusal}
@@ -73,24 +87,28 @@ NoNamespace (Some name) (refusals.Name error) = partial_error name ≡ Some erro
 NoNamespace name refusals.Memory = Unit {0}
 NoNamespace name refusal = ⊥
 
--- What a line comes to: an outcome, which is printed as a whole; or the items of a reflog, each printed as it comes, all
--- where `whole` says so.
+-- What a line comes to: an outcome, which is printed as a whole; or the items of a listing or of a reflog, each printed as it
+-- comes, all where `whole` says so.
 pub data Ran : Type 0 where
   Said : Outcome → Ran
+  Listed : (whole : Bool) (items : List (Result Reference ListError)) → Ran
   Logged : (whole : Bool) (items : List (Result LogLine ReverseError)) → Ran
 
 -- what is printed of it, and the status
 abbrev pub text_of : Ran → List ℕ
 text_of (Said outcome) = printed outcome
+text_of (Listed whole items) = list_text items
 text_of (Logged whole items) = log_text items
 
 abbrev pub status_after : Ran → ℕ
 status_after (Said outcome) = status_of outcome
-status_after (Logged whole items) = log_status items
+status_after (Listed whole items) = items_status items
+status_after (Logged whole items) = items_status items
 
 -- it went on to the end
 abbrev pub IsWhole : Ran → Type 0
 IsWhole (Said outcome) = Unit {0}
+IsWhole (Listed whole items) = whole ≡ true
 IsWhole (Logged whole items) = whole ≡ true
 
 -- What was done, and what is printed of it unless the writer fails: all of it, and its status.
@@ -142,6 +160,11 @@ module _ {F : Type 0} where
     pub quiet : store.write_reflog ≡ Disable
     pub plain : IsPlain store
 
+  -- what the names of a listing begin with
+  abbrev pub prefix_asked : Store F → Option (List ℕ) → List ℕ
+  prefix_asked store None = prefix_of_all store.namespace
+  prefix_asked store (Some prefix) = prefix
+
   -- A reflog is refused: it is not read, or its name breaks a rule.
   abbrev pub LogOutcome : (old new : Store F) → (name : List ℕ) → Outcome → Type 0
   LogOutcome old new name (outcomes.Refused (refusals.Log error) locks) = IsNoReflog old name error × (locks.items ≡ [])
@@ -151,6 +174,7 @@ module _ {F : Type 0} where
   -- A reflog: it is refused; or its items are printed, newest first.
   abbrev pub LogRan : (honest : Type 0) (means : F → Meaning) → (old new : Store F) → (name : List ℕ) → Ran → Type 0
   LogRan honest means old new name (Said outcome) = LogOutcome old new name outcome
+  LogRan honest means old new name (Listed whole items) = ⊥
   LogRan honest means old new name (Logged whole items) =
       (full_error name ≡ None) × (honest → AreItemsOf (reflog_at means old name) whole items) × EndsAtError items
 
@@ -186,9 +210,44 @@ module _ {F : Type 0} where
     ShowOutcome G old new name (outcomes.Refused (refusals.Name error) locks) = (partial_error name ≡ Some error) × (new ≡ old) × (locks.items ≡ [])
     ShowOutcome G old new name outcome = ⊥
 
+    -- Items of the listing of a prefix, between two counts of faults: the first ones, all where `whole` says so. A folder that could
+    -- not be listed is among them only where the count rose.
+    pub record AreListed (settings : Settings) (view : View) (before now : ℕ) (records : List Record) (prefix : List ℕ) (whole : Bool) (items : List (Result Reference ListError)) : Type 0 where
+      pub listed : List ListedName
+      pub is : IsListing settings view records prefix listed
+      pub names : AllByRecursion IsName listed ⊎ HasRisen before now
+      pub rest : List ListedName
+      pub first : AreFirst honest means faults settings view before now listed rest items
+      pub ends : whole ≡ true → rest ≡ []
+
+    -- A listing among these records: the prefix has none, or no memory; or its items are printed, by ascending names.
+    abbrev pub ListRanAmong : (old new : Store F) → (prefix : List ℕ) → (Are : List Record → Type 0) → Ran → Type 0
+    ListRanAmong old new prefix Are (Said (outcomes.Refused (refusals.List error) locks)) =
+        ((error ≡ no_list.Memory) ⊎ IsRefused old.namespace prefix error) × (locks.items ≡ [])
+    ListRanAmong old new prefix Are (Listed whole items) =
+        IsTaken old.namespace prefix
+        × (honest → (records : List Record) → Are records → AreListed (settings_of old) (view_in means old) (faults (files_of old)) (faults (files_of new)) records prefix whole items)
+    ListRanAmong old new prefix Are ran = ⊥
+
+    -- why there is no listing: `packed-refs` is not opened, as a fault or its text has it; or the prefix has none; no memory
+    abbrev pub IsNoListing : {R : Type 0} (G : Ghosts R) → (old new : Store F) → (prefix : List ℕ) → PrefixError → Type 0
+    IsNoListing G old new prefix (no_list.PackedOpen error) =
+        honest → RefusesBuffer means old error × CountsRefusal G.faults (faults (files_of old)) (faults (files_of new)) error
+    IsNoListing G old new prefix no_list.Memory = Unit {0}
+    IsNoListing G old new prefix error = IsRefused old.namespace prefix error
+
+    -- A listing: it is refused; or its items are printed.
+    abbrev pub ListRan : {R : Type 0} (G : Ghosts R) → (old new : Store F) → (prefix : List ℕ) → Ran → Type 0
+    ListRan G old new prefix (Said (outcomes.Refused (refusals.List error) locks)) = IsNoListing G old new prefix error × (locks.items ≡ [])
+    ListRan G old new prefix (Listed whole items) =
+        IsTaken old.namespace prefix
+        × (honest → (records : List Record) → AreRecordsIn means old records → AreListed (settings_of old) (view_in means old) (faults (files_of old)) (faults (files_of new)) records prefix whole items)
+    ListRan G old new prefix ran = ⊥
+
     abbrev pub CommandRan : {R : Type 0} (G : Ghosts R) → (old new : Store F) → Kind → Asked → Ran → Type 0
     CommandRan G old new kind (Update name id before) (Said outcome) = UpdateOutcome old new kind name id before outcome
     CommandRan G old new kind (Show name) (Said outcome) = ShowOutcome G old new name outcome
+    CommandRan G old new kind (AskedListing prefix) ran = ListRan G old new (prefix_asked old prefix) ran
     CommandRan G old new kind (Log name) ran = LogRan honest means old new name ran
     CommandRan G old new kind asked ran = ⊥
 
@@ -198,6 +257,7 @@ module _ {F : Type 0} where
         (T ≡ tree_of means old)
         ⊎ ((edit : RefEdit) × IsAskedFor kind name id before edit × IsStopOf (loose_meaning_of old) (edit ∷ []) (tree_of means old) T)
     IsStop old kind (Show name) T = T ≡ tree_of means old
+    IsStop old kind (AskedListing prefix) T = T ≡ tree_of means old
     IsStop old kind (Log name) T = T ≡ tree_of means old
 
     -- a line that is not begun

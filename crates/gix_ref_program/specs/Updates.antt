@@ -2,11 +2,17 @@
 use Rattle.std.specs.Prelude.{◌≡◌, ◌⊎◌, ℕ, List, [], true, false, Option, Some, None, Result, Ok, Err}
 use Rattle.gix_ref_base.specs.Names.{full_bytes}
 use Rattle.gix_ref_files.specs.Tree.{Tree, Path, is_file, is_folder}
+use Rattle.gix_ref_files.specs.Disk.{Disk}
 use Rattle.gix_ref_files.specs.Files.{Meaning, HasRisen}
+use Rattle.gix_ref_files.specs.Settled.{IsAllSettled}
+use Rattle.gix_ref_theory.specs.Edits.Mode.{DeletionsOnly}
+use Rattle.gix_ref_theory.specs.Losses.{IsLostWell}
+use Rattle.gix_ref_theory.specs.OnDisks.{IsSpokenOf}
+use Rattle.gix_ref_theory.specs.OnRealTrees.{view_of}
 use Rattle.gix_ref_store.specs.OwnLocks.{is_in, AddsLocks}
-use Rattle.gix_ref_store.specs.Causes.{locks_of}
-use Rattle.gix_ref_store.specs.CommitResult.{IsOldOrNew, names_of}
-use Rattle.gix_ref_store.specs.Prepared.{RefusesFrom, tree_of, locks_in}
+use Rattle.gix_ref_store.specs.Causes.{locks_of, names_of}
+use Rattle.gix_ref_store.specs.CommitResult.{IsOldOrNew, planned}
+use Rattle.gix_ref_store.specs.Prepared.{RefusesFrom, tree_of, disk_in, locks_in, places_in}
 use Rattle.gix_ref_theory.specs.Readings as readings
 use Rattle.gix_ref_store.specs.Store.{files_of, loose_meaning_of}
 use Rattle.gix_ref_store.specs.PrepareSteps.{places_of}
@@ -15,7 +21,7 @@ use Rattle.gix_ref_edits.specs.declared.transaction.RefEdit.{RefEdit}
 use Rattle.gix_ref_store.specs.declared.file.transaction.Done.{Done}
 use Rattle.gix_ref_store.specs.declared.file.transaction.Failed.{Failed}
 use Rattle.gix_ref_store.specs.declared.file.transaction.commit.error.Error as commits
-use Rattle.gix_ref_store.specs.declared.file.transaction.commit.error.Error.TheVariants.{LockCommit, FolderInPlace}
+use Rattle.gix_ref_store.specs.declared.file.transaction.commit.error.Error.TheVariants.{LockCommit, FolderInPlace, Memory}
 use Rattle.gix_ref_program.specs.declared.update.UpdateError.{UpdateError}
 use Rattle.gix_ref_program.specs.declared.update.UpdateError.TheVariants.{Prepare, Commit}
 
@@ -23,6 +29,14 @@ use Rattle.gix_ref_program.specs.declared.update.UpdateError.TheVariants.{Prepar
 -- before or as edited.
 abbrev pub IsStopOf : readings.Store → List RefEdit → (before T : Tree) → Type 0
 IsStopOf s edits before T = AddsLocks (locks_of s edits) (locks_of s edits) before T ⊎ IsOldOrNew s edits before T
+
+module _ {F : Type 0} (means : F → Meaning) where
+  -- A loss of power in an update: before its commit each file that was settled is as before, but for the locks of the edits; in it each
+  -- reference reads as before or as edited. The commit begins on a disk of which all is settled but locks.
+  abbrev pub IsLossOf : Store F → List RefEdit → Tree → Type 0
+  IsLossOf old edits T =
+      ((q : Path) → IsSpokenOf (places_in old edits) (disk_in means old) q → view_of T q ≡ view_of (tree_of means old) q)
+      ⊎ ((D : Disk) × IsAllSettled D × IsLostWell (loose_meaning_of old) DeletionsOnly (places_in old edits) (planned edits) D (tree_of means old) T)
 
 -- why a commit did not do it, if it did not
 abbrev pub error_of : Result Done Failed → Option UpdateError
@@ -40,12 +54,14 @@ module _ {F : Type 0} (honest : Type 0) (means : F → Meaning) (faults : F → 
   OnlyStay old new edits left =
       (q : Path) → is_in (locks_in old edits) q ≡ true → is_in left q ≡ false → is_file (tree_of means new q) ≡ false
 
-  -- why a commit failed: a rename failed, only where a fault came; or a folder is at the place of an edit
+  -- why a commit failed: a rename failed, only where a fault came; a folder is at the place of an edit; or there was no memory, and then every
+  -- file but locks is as before
   abbrev pub HasFailed : (old new : Store F) → List RefEdit → commits.Error → Type 0
   HasFailed old new edits (LockCommit source name) =
       HasRisen (faults (files_of old)) (faults (files_of new)) × (is_in (names_of edits) (full_bytes name) ≡ true)
   HasFailed old new edits (FolderInPlace path) =
       (is_in (places_of (loose_meaning_of old) edits) path.items ≡ true) × (honest → is_folder (tree_of means new path.items) ≡ true)
+  HasFailed old new edits Memory = honest → (q : Path) → is_in (locks_in old edits) q ≡ false → view_of (tree_of means new) q ≡ view_of (tree_of means old) q
 
   -- Why an update was not made, and the locks that stay: it was refused by the first cause against it, and all is as before but for
   -- these locks; or its commit failed.

@@ -15,6 +15,7 @@ use Rattle.gix_ref_program.specs.declared.words.Line.{Line as Parsed}
 pub data Asked : Type 0 where
   Update : (name : List ℕ) (id : ObjectId) (old : Option ObjectId) → Asked
   Show : (name : List ℕ) → Asked
+  Listing : (prefix : Option (List ℕ)) → Asked
   Log : (name : List ℕ) → Asked
 
 -- What a line asks for, and where.
@@ -47,10 +48,16 @@ pub record IsUpdate (words : List (List ℕ)) (name : List ℕ) (id : ObjectId) 
   pub expected : IsOld rest old
   pub words_are : words ≡ name ∷ (digits ∷ rest)
 
--- `update NAME ID [OLD]`, `show NAME`, or `log NAME`
+-- `[PREFIX]`
+abbrev pub prefix_words : Option (List ℕ) → List (List ℕ)
+prefix_words None = []
+prefix_words (Some prefix) = prefix ∷ []
+
+-- `update NAME ID [OLD]`, `show NAME`, `list [PREFIX]`, or `log NAME`
 abbrev pub IsCommand : List (List ℕ) → Asked → Type 0
 IsCommand words (Update name id old) = (rest : List (List ℕ)) × (words ≡ codes "update" ∷ rest) × IsUpdate rest name id old
 IsCommand words (Show name) = words ≡ codes "show" ∷ (name ∷ [])
+IsCommand words (Listing prefix) = words ≡ codes "list" ∷ prefix_words prefix
 IsCommand words (Log name) = words ≡ codes "log" ∷ (name ∷ [])
 
 -- `[--sha256]`
@@ -80,6 +87,7 @@ pub record IsLine (words : List (List ℕ)) (line : Line) : Type 0 where
 abbrev pub asked_of : Command → Asked
 asked_of (commands.Update name id old) = Update name.now id old
 asked_of (commands.Show name) = Show name.now
+asked_of (commands.List prefix) = Listing (option_map (λ text. text.now) prefix)
 asked_of (commands.Log name) = Log name.now
 
 abbrev pub line_of : Parsed → Line

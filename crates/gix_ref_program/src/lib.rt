@@ -1,6 +1,8 @@
 //! What the program `refs` does: its words, its commands and what it prints.
 #![tactic(auto)]
 
+mod block;
+pub mod list;
 pub mod log;
 pub mod outcome;
 pub mod refusal;

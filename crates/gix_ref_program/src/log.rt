@@ -1,19 +1,19 @@
 //! The reflog of a reference, printed (`git reflog show`).
 ghost use Rattle.std.specs.Prelude.{◌≡◌, ◌++◌, Ok, IfOk, OnOk};
-ghost use Rattle.std.specs.Io.KnownBytes.{Appends, Keeps, append_known};
+ghost use Rattle.std.specs.Io.KnownBytes.{Appends};
 ghost use Rattle.std.specs.Iterator.Runs.{WholeRun};
 ghost use Rattle.gix_ref_log.specs.LogWindows.{NextStep};
-ghost use Rattle.gix_ref_program.specs.LogPrinting.{fault_word, item_text, log_text, log_status};
+ghost use Rattle.gix_ref_program.specs.LogPrinting.{fault_word, item_text, log_text};
+ghost use Rattle.gix_ref_program.specs.Printed.{items_status};
 
+use crate::block::{push_fault, write_block};
+use crate::outcome::push_id;
 use gix_ref_files::files::ReadAt;
 use gix_ref_log::log::Line;
 use gix_ref_log::log::iter::{Reverse, ReverseError};
 use std::alloc::{AllocError, Global};
 use std::io;
 use std::io::Write;
-
-/// From how many bytes on the text is written.
-const BLOCK: usize = 8192;
 
 /// The variant of the error of a line.
 fn fault_variant(error: &ReverseError) -> &'static str
@@ -28,12 +28,12 @@ fn fault_variant(error: &ReverseError) -> &'static str
 }
 
 /// Adds a line of a log: its ids and its message.
-fn push_line(alloc: Global, text: &mut Vec<u8>, line: &Line) -> Result<(), AllocError>
+fn push_line(text: &mut Vec<u8>, line: &Line) -> Result<(), AllocError>
     ensures { OnOk result (text.new.items ≡ text.old.items ++ item_text (Ok line.now)) }
 {
-    text.extend_from_slice(line.previous_oid.to_string(alloc)?.as_bytes())?;
+    push_id(text, &line.previous_oid)?;
     text.extend_from_slice(b" ")?;
-    text.extend_from_slice(line.new_oid.to_string(alloc)?.as_bytes())?;
+    push_id(text, &line.new_oid)?;
     text.extend_from_slice(b" ")?;
     text.extend_from_slice(&line.message)?;
     text.extend_from_slice(b"\n")?;
@@ -41,34 +41,13 @@ fn push_line(alloc: Global, text: &mut Vec<u8>, line: &Line) -> Result<(), Alloc
 }
 
 /// Adds an item of a log: a line, or the variant of a fault.
-fn push_item(
-    alloc: Global,
-    text: &mut Vec<u8>,
-    item: &Result<Line, ReverseError>,
-) -> Result<(), AllocError>
+fn push_item(text: &mut Vec<u8>, item: &Result<Line, ReverseError>) -> Result<(), AllocError>
     ensures { OnOk result (text.new.items ≡ text.old.items ++ item_text item.now) }
 {
     match item {
-        Ok(line) => push_line(alloc, text, line),
-        Err(error) => {
-            text.extend_from_slice(b"fault: ")?;
-            text.extend_from_slice(fault_variant(error).as_bytes())?;
-            text.extend_from_slice(b"\n")?;
-            Ok(())
-        }
+        Ok(line) => push_line(text, line),
+        Err(error) => push_fault(text, fault_variant(error)),
     }
-}
-
-/// Writes the text if it has the bytes of a block.
-fn write_block<W: Write>(text: &mut Vec<u8>, out: &mut W) -> io::Result<()>
-    ensures { OnOk result (Keeps (append_known (W.contents out.old) text.old.items)
-        (append_known (W.contents out.new) text.new.items)) }
-{
-    if text.len() >= BLOCK {
-        out.write_all(text)?;
-        text.clear();
-    }
-    Ok(())
 }
 
 /// Prints the items of a log in blocks, and returns the status: 1 where one of them is a fault. The error is the writer's,
@@ -79,7 +58,7 @@ pub fn print_items<R: ReadAt + Drop, W: Write>(
     out: &mut W,
 ) -> io::Result<u8>
     ensures { IfOk result (λ status. WholeRun (NextStep R.honest R.bytes R.faults) lines.old (λ run.
-        (status ≡ log_status run.items)
+        (status ≡ items_status run.items)
         × Appends (W.contents out.old) (W.contents out.new) (log_text run.items))) }
 {
     let mut text = Vec::new(alloc);
@@ -88,7 +67,7 @@ pub fn print_items<R: ReadAt + Drop, W: Write>(
         if item.is_err() {
             status = 1;
         }
-        push_item(alloc, &mut text, &item)?;
+        push_item(&mut text, &item)?;
         write_block(&mut text, out)?;
     }
     out.write_all(&text)?;

@@ -1,11 +1,14 @@
 //! The outcome of a line, and how it is printed.
 ghost use Rattle.std.specs.Prelude.{◌≡◌, ◌++◌, IfOk, OnOk};
 ghost use Rattle.std.specs.Io.KnownBytes.{Appends};
+ghost use Rattle.hex.specs.Hex.{encode_lower};
+ghost use Rattle.gix_ref_hash.specs.Ids.{id_bytes};
 ghost use Rattle.gix_ref_base.specs.Targets.{target_value};
-ghost use Rattle.gix_ref_program.specs.Outcomes.{lock_lines, shown_target, printed, status_of};
+ghost use Rattle.gix_ref_program.specs.Outcomes.{lock_lines, shown_target, reference_line, printed, status_of};
 
 use crate::refusal::Refusal;
 use gix_ref_base::target::Target;
+use gix_ref_hash::hash::ObjectId;
 use gix_ref_store::raw::Reference;
 use std::alloc::{AllocError, Global};
 use std::io;
@@ -41,18 +44,40 @@ fn push_locks(text: &mut Vec<u8>, locks: &[Vec<u8>]) -> Result<(), AllocError>
     Ok(())
 }
 
+/// Adds the digits of an id.
+pub(crate) fn push_id(text: &mut Vec<u8>, id: &ObjectId) -> Result<(), AllocError>
+    ensures { OnOk result (text.new.items ≡ text.old.items ++ encode_lower (id_bytes id.now)) }
+{
+    let mut room = [0u8; 64];
+    let digits = &mut room[..id.kind().len_in_hex()];
+    hex::encode_to_slice(id.as_bytes(), digits).unwrap();
+    text.extend_from_slice(digits)?;
+    Ok(())
+}
+
 /// Adds a target: the digits of its id, or `ref: ` and its name.
-fn push_target(alloc: Global, text: &mut Vec<u8>, target: &Target) -> Result<(), AllocError>
+fn push_target(text: &mut Vec<u8>, target: &Target) -> Result<(), AllocError>
     ensures { OnOk result (text.new.items ≡ text.old.items ++ shown_target
         (target_value target.now)) }
 {
     match target {
-        Target::Object(id) => text.extend_from_slice(id.to_string(alloc)?.as_bytes())?,
+        Target::Object(id) => push_id(text, id)?,
         Target::Symbolic(name) => {
             text.extend_from_slice(b"ref: ")?;
             text.extend_from_slice(name.to_path())?;
         }
     }
+    Ok(())
+}
+
+/// Adds the line of a reference: its target and its name.
+pub(crate) fn push_reference(text: &mut Vec<u8>, reference: &Reference) -> Result<(), AllocError>
+    ensures { OnOk result (text.new.items ≡ text.old.items ++ reference_line reference.now) }
+{
+    push_target(text, &reference.target)?;
+    text.extend_from_slice(b" ")?;
+    text.extend_from_slice(reference.name.to_path())?;
+    text.extend_from_slice(b"\n")?;
     Ok(())
 }
 
@@ -64,12 +89,7 @@ fn text_of(alloc: Global, outcome: &Outcome) -> Result<Vec<u8>, AllocError>
     match outcome {
         Outcome::WrongWords => text.extend_from_slice(b"wrong words\n")?,
         Outcome::Updated { locks_left } => push_locks(&mut text, locks_left)?,
-        Outcome::Shown(reference) => {
-            push_target(alloc, &mut text, &reference.target)?;
-            text.extend_from_slice(b" ")?;
-            text.extend_from_slice(reference.name.to_path())?;
-            text.extend_from_slice(b"\n")?;
-        }
+        Outcome::Shown(reference) => push_reference(&mut text, reference)?,
         Outcome::Refused {
             refusal,
             locks_left,

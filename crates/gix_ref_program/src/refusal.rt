@@ -1,11 +1,12 @@
 //! Why a command is refused, and the name that is printed of it: the variant of the error.
 ghost use Rattle.std.specs.Prelude.{◌≡◌};
-ghost use Rattle.gix_ref_program.specs.Outcomes.{name_word, prepare_word, commit_word, find_word, log_word, word_of};
+ghost use Rattle.gix_ref_program.specs.Outcomes.{name_word, prepare_word, commit_word, find_word, open_word, list_word, log_word, word_of};
 
 use crate::update::UpdateError;
 use gix_ref_base::name;
+use gix_ref_packed::packed::buffer::open;
 use gix_ref_store::file::transaction::{commit, prepare};
-use gix_ref_store::file::{find, log};
+use gix_ref_store::file::{find, iter, log};
 
 /// Why a line is refused.
 #[derive(Debug, Drop)]
@@ -18,6 +19,8 @@ pub enum Refusal {
     Update(UpdateError),
     /// The lookup failed.
     Find(find::Error),
+    /// There is no listing.
+    List(iter::Error),
     /// The log could not be read.
     Log(log::Error),
     /// There is no such reference.
@@ -56,6 +59,7 @@ fn prepare_variant(error: &prepare::Error) -> &'static str
         prepare::Error::UnsafeName => "UnsafeName",
         prepare::Error::TargetNotFull => "TargetNotFull",
         prepare::Error::OtherHashKind => "OtherHashKind",
+        prepare::Error::PreprocessingFailed { .. } => "PreprocessingFailed",
         prepare::Error::PathCollision { .. } => "PathCollision",
         prepare::Error::LockAcquire { .. } => "LockAcquire",
         prepare::Error::MustExist { .. } => "MustExist",
@@ -73,6 +77,7 @@ fn commit_variant(error: &commit::Error) -> &'static str
     match error {
         commit::Error::LockCommit { .. } => "LockCommit",
         commit::Error::FolderInPlace { .. } => "FolderInPlace",
+        commit::Error::Memory => "Memory",
     }
 }
 
@@ -87,6 +92,30 @@ fn find_variant(error: &find::Error) -> &'static str
         find::Error::PackedRef(_) => "PackedRef",
         find::Error::PackedOpen(_) => "PackedOpen",
         find::Error::Memory => "Memory",
+    }
+}
+
+/// The variant of an error of opening `packed-refs`.
+fn open_variant(error: &open::Error) -> &'static str
+    ensures { result.now ≡ open_word error.now }
+{
+    match error {
+        open::Error::Iter { .. } => "Iter",
+        open::Error::HeaderParsing => "HeaderParsing",
+        open::Error::Io(_) => "Io",
+        open::Error::Memory => "Memory",
+    }
+}
+
+/// The variant of an error of a listing; of one that is from opening `packed-refs`, the variant of that.
+fn list_variant(error: &iter::Error) -> &'static str
+    ensures { result.now ≡ list_word error.now }
+{
+    match error {
+        iter::Error::EmptyPrefix => "EmptyPrefix",
+        iter::Error::PrefixNotClean => "PrefixNotClean",
+        iter::Error::PackedOpen(error) => open_variant(error),
+        iter::Error::Memory => "Memory",
     }
 }
 
@@ -114,6 +143,7 @@ impl Refusal {
             Refusal::Update(UpdateError::Prepare(error)) => prepare_variant(error),
             Refusal::Update(UpdateError::Commit(error)) => commit_variant(error),
             Refusal::Find(error) => find_variant(error),
+            Refusal::List(error) => list_variant(error),
             Refusal::Log(error) => log_variant(error),
             Refusal::NotFound => "NotFound",
             Refusal::Memory => "Memory",

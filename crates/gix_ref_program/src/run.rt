@@ -3,14 +3,17 @@ ghost use Rattle.std.specs.Prelude.{◌≡◌, ◌⊎◌, [], ◌∷◌, false, 
 ghost use Rattle.std.specs.Option.{option_map};
 ghost use Rattle.gix_ref_lookup.specs.StoreLayout.{namespace_text};
 ghost use Rattle.gix_ref_store.specs.Store.{files_of, loose_meaning_of};
+ghost use Rattle.gix_ref_store.specs.Listings.{AreHeldFor};
+ghost use Rattle.gix_ref_store.specs.Lookup.{LooksUp};
 ghost use Rattle.gix_ref_store.specs.Prepared.{tree_of};
 ghost use Rattle.gix_ref_edits.specs.RefEdits.{new_of};
 ghost use Rattle.gix_ref_files.specs.Calls.{Unchanged};
 ghost use Rattle.gix_ref_files.specs.Files.{Leaves};
-ghost use Rattle.gix_ref_program.specs.Runs.{IsExpected, IsEditOf, NoNamespace, NoEdit, IsNoFolder, IsAt, namespace_of, IsOpened, EditOutcome, ShowOutcome, Prints, CommandRan, LogRan, IsStop, IsUnopened, LineRan, IsStopIn, RunsWrong, RunsLine};
+ghost use Rattle.gix_ref_program.specs.Runs.{IsExpected, IsEditOf, NoNamespace, NoEdit, IsNoFolder, IsAt, namespace_of, IsOpened, EditOutcome, ShowOutcome, Prints, CommandRan, LogRan, ListRan, ListRanAmong, prefix_asked, IsStop, IsUnopened, LineRan, IsStopIn, RunsWrong, RunsLine};
 ghost use Rattle.gix_ref_program.specs.Updates.{IsStopOf};
 ghost use Rattle.gix_ref_program.specs.Words.{texts, line_of, asked_of};
 
+use crate::list;
 use crate::log::print_items;
 use crate::outcome::{Outcome, print};
 use crate::refusal::Refusal;
@@ -22,6 +25,8 @@ use gix_ref_base::target::Target;
 use gix_ref_edits::transaction::{Change, LogChange, PreviousValue, RefEdit};
 use gix_ref_files::files::Files;
 use gix_ref_hash::hash::{Kind, ObjectId};
+use gix_ref_packed::packed::Buffer;
+use gix_ref_store::file::iter::{self, prefix_of_all};
 use gix_ref_store::file::transaction::PackedRefs;
 use gix_ref_store::file::{Store, store};
 use gix_ref_store::store::{Options, WriteReflog};
@@ -227,6 +232,54 @@ fn print_log<F: Files, W: Write>(
     }
 }
 
+/// Prints the listing of a prefix, among the records of a buffer that was read for it.
+fn print_among<F: Files, W: Write>(
+    alloc: Global,
+    store: &mut Store<F>,
+    prefix: &[u8],
+    packed: Option<&Buffer>,
+    out: &mut W,
+) -> io::Result<u8>
+    ensures prints { Prints (ListRanAmong F.honest F.means F.faults store.old store.new prefix.now
+        (AreHeldFor store.old prefix.now packed.entry))
+        (W.contents out.old) (W.contents out.new) result }
+    ensures unchanged { LooksUp F.honest F.means store.old store.new }
+{
+    match store.iter_prefixed_packed(alloc, prefix, packed) {
+        Ok(mut items) => {
+            let status = list::print_items(alloc, &mut items, out);
+            items.into_store();
+            status
+        }
+        Err(error) => print(alloc, refused(alloc, Refusal::List(error)), out),
+    }
+}
+
+/// Prints the listing of a prefix, or of all references.
+fn print_listing<F: Files, W: Write>(
+    alloc: Global,
+    store: &mut Store<F>,
+    prefix: Option<&[u8]>,
+    out: &mut W,
+) -> io::Result<u8>
+    ensures prints { Prints (ListRan F.honest F.means F.faults F.Reader.ReadAt store.old store.new
+        (prefix_asked store.old (option_map (λ text. text.now) prefix.entry)))
+        (W.contents out.old) (W.contents out.new) result }
+    ensures unchanged { LooksUp F.honest F.means store.old store.new }
+{
+    let prefix = match prefix {
+        Some(prefix) => prefix,
+        None => prefix_of_all(&store.namespace),
+    };
+    match store.open_packed_prefixed(alloc, prefix) {
+        Ok(packed) => print_among(alloc, store, prefix, packed.as_ref(), out),
+        Err(error) => {
+            let error = iter::Error::PackedOpen(error);
+            print(alloc, refused(alloc, Refusal::List(error)), out)
+        }
+    }
+}
+
 /// Does what a command asks for, and prints it.
 fn execute<F: Files, W: Write>(
     alloc: Global,
@@ -246,6 +299,7 @@ fn execute<F: Files, W: Write>(
     let kind = line.object_hash;
     match &line.command {
         Command::Show { name } => (packed_refs, print(alloc, show(alloc, store, name), out)),
+        Command::List { prefix } => (packed_refs, print_listing(alloc, store, *prefix, out)),
         Command::Log { name } => (packed_refs, print_log(alloc, store, name, out)),
         Command::Update { name, id, old } => match edit_of(alloc, name, *id, expected(*old, kind)) {
             Ok(edit) => {
@@ -292,10 +346,11 @@ fn run_line<F: Files, W: Write>(
 /// that is shown; for a reflog, newest first, the ids and the message of each line, or `fault: ` and the variant of the
 /// error; else `refused: ` and the variant of the error, or `wrong words`; and a line for each lock that could not be
 /// removed. The status is 0, 1 for a refusal or a fault, 2 for wrong words; it is an error where the writer failed, or where
-/// there was no memory for the text. (`git update-ref`, `git show-ref`, `git reflog show`)
+/// there was no memory for the text. (`git update-ref`, `git show-ref`, `git for-each-ref`, `git reflog show`)
 ///
 /// The words are those behind the name of the program. Costs five calls of files for an update, one for a reference that
-/// is shown. A reflog is read and written in blocks.
+/// is shown. A listing of a prefix reads the folders and files that its names may be in, and of a sorted `packed-refs` the
+/// records of the prefix. A listing and a reflog are written in blocks.
 pub fn run<F: Files, W: Write>(
     alloc: Global,
     files: F,

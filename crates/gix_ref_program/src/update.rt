@@ -1,11 +1,11 @@
-//! An update from its preparation to its commit.
+//! Updates from their preparation to their commit.
 ghost use Rattle.std.specs.Prelude.{◌≡◌, None, IfSome};
-ghost use Rattle.gix_ref_files.specs.Files.{Leaves};
+ghost use Rattle.gix_ref_files.specs.Files.{Leaves, Loses};
 ghost use Rattle.gix_ref_store.specs.OwnLocks.{paths_of};
 ghost use Rattle.gix_ref_store.specs.CommitResult.{AreCommitted, left_of, mode_of};
-ghost use Rattle.gix_ref_store.specs.Prepared.{IsOneUpdate, tree_of};
+ghost use Rattle.gix_ref_store.specs.Prepared.{AreDirectUpdates, tree_of, IsAtRest};
 ghost use Rattle.gix_ref_store.specs.Store.{files_of, loose_meaning_of, IsSameStore};
-ghost use Rattle.gix_ref_program.specs.Updates.{IsStopOf, IsUpdateError, AreNamed, error_of};
+ghost use Rattle.gix_ref_program.specs.Updates.{IsStopOf, IsLossOf, IsUpdateError, AreNamed, error_of};
 
 use gix_ref_edits::transaction::RefEdit;
 use gix_ref_files::files::Files;
@@ -34,10 +34,11 @@ pub struct UpdateReport {
     pub locks_left: Vec<Vec<u8>>,
 }
 
-/// Prepares one update, and commits it. The store writes no log line.
+/// Prepares updates that follow no symbolic reference, and commits them in their order. The store writes no log line.
 ///
-/// The result says why it was not made: the first cause against it, or what stopped its commit. Each lock that could
-/// not be removed is named. Costs what `prepare` and `commit` do: five calls of files for a reference that changes.
+/// The result says why they were not made: the first cause against them, or what stopped their commit. Each lock that could
+/// not be removed is named. Costs what `prepare` and `commit` do: five calls of files for a reference that changes, the sync of
+/// its lock, and one sync for each folder from that of its file up to the git folder.
 /// (`git update-ref`)
 pub fn update<F: Files>(
     alloc: Global,
@@ -45,7 +46,7 @@ pub fn update<F: Files>(
     packed_refs: PackedRefs,
     edits: Vec<RefEdit>,
 ) -> UpdateReport
-    requires one { IsOneUpdate edits.items }
+    requires direct { AreDirectUpdates edits.items }
     requires quiet { store.old.write_reflog ≡ WriteReflog.Disable }
     ensures done { F.honest → result.error ≡ None → AreCommitted (loose_meaning_of store.old)
         edits.items
@@ -54,12 +55,20 @@ pub fn update<F: Files>(
         store.new edits.items error (paths_of result.locks_left.items)) }
     ensures leaves { F.honest → Leaves (F.means (files_of store.old)) (F.means (files_of store.new))
         (IsStopOf (loose_meaning_of store.old) edits.items (tree_of F.means store.old)) }
+    ensures lost { F.honest → IsAtRest F.means store.old → Loses (F.means (files_of store.old))
+        (F.means (files_of store.new)) (IsLossOf F.means store.old edits.items) }
+    ensures settled { F.honest → result.error ≡ None → IsAtRest F.means store.old →
+        IsAtRest F.means store.new }
     ensures named { AreNamed F.honest F.means F.faults store.old store.new edits.items
         (paths_of result.locks_left.items) }
     ensures packed_refs { result.packed_refs ≡ packed_refs }
     ensures same { IsSameStore store.old store.new }
 {
-    match store.transaction(packed_refs).prepare(alloc, edits) {
+    match store
+        .transaction()
+        .packed_refs(packed_refs)
+        .prepare(alloc, edits)
+    {
         Err(refused) => {
             let Refused {
                 error,

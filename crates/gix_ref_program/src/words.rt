@@ -1,9 +1,9 @@
 //! The words of the program: `DIR [--sha256] [--namespace NAME] COMMAND`, where a command is `update NAME ID [OLD]`,
-//! `show NAME` or `log NAME`.
+//! `show NAME`, `list [PREFIX]` or `log NAME`.
 ghost use Rattle.std.specs.Prelude.{◌≡◌, ◌++◌, ℕ, List, MatchOption, Option, codes, ◌∷◌, [], false};
 ghost use Rattle.std.specs.Option.{option_map};
 ghost use Rattle.gix_ref_hash.specs.declared.hash.ObjectId.{ObjectId};
-ghost use Rattle.gix_ref_program.specs.Words.{Asked, Line as AskedLine, texts, first_is, IsOld, IsUpdate, IsCommand, HasOptions, IsLine, kind_words, asked_of, line_of};
+ghost use Rattle.gix_ref_program.specs.Words.{Asked, Line as AskedLine, texts, first_is, IsOld, IsUpdate, IsCommand, prefix_words, HasOptions, IsLine, kind_words, asked_of, line_of};
 
 use gix_ref_hash::hash::{Kind, ObjectId};
 
@@ -19,6 +19,10 @@ pub enum Command<'w> {
     /// `show NAME`
     Show {
         name: &'w [u8],
+    },
+    /// `list [PREFIX]`
+    List {
+        prefix: Option<&'w [u8]>,
     },
     /// `log NAME`
     Log {
@@ -96,6 +100,21 @@ fn name_of(words: &[String]) -> Option<&[u8]>
     Some(name.as_bytes())
 }
 
+/// `[PREFIX]`: the first `None` is for other words.
+fn prefix_of(words: &[String]) -> Option<Option<&[u8]>>
+    ensures { MatchOption result
+        ((prefix : Option (List ℕ)) → texts words.now ≡ prefix_words prefix → ⊥)
+        (λ prefix. texts words.now ≡ prefix_words (option_map (λ text. text.now) prefix)) }
+{
+    let Some((prefix, rest)) = words.split_first() else {
+        return Some(None);
+    };
+    if !rest.is_empty() {
+        return None;
+    }
+    Some(Some(prefix.as_bytes()))
+}
+
 /// The command of these words.
 fn command_of(words: &[String]) -> Option<Command<'_>>
     ensures { MatchOption result ((asked : Asked) → IsCommand (texts words.now) asked → ⊥)
@@ -107,6 +126,11 @@ fn command_of(words: &[String]) -> Option<Command<'_>>
     if let Some(rest) = strip_word(words, b"log") {
         return Some(Command::Log {
             name: name_of(rest)?,
+        });
+    }
+    if let Some(rest) = strip_word(words, b"list") {
+        return Some(Command::List {
+            prefix: prefix_of(rest)?,
         });
     }
     let rest = strip_word(words, b"show")?;

@@ -1,4 +1,5 @@
 //! The program over the disk, in a folder that the test makes and removes.
+use crate::listings::{FILES, WHOLE, memory_of};
 use crate::ran::{I1, I2, ONE, run_words};
 use gix_ref_files::disk::Disk;
 use gix_ref_files::files::{Create, Files, Node};
@@ -58,6 +59,41 @@ fn updates_shows_and_refuses(rt: HostRuntime) -> Result<(), Fail> {
     fs::remove_dir_all(&rt, "v")?;
     assert!(rt; text.as_slice() == ONE.as_bytes(), "the file");
     assert!(rt; lock.is_err(), "no lock");
+    Ok(())
+}
+
+/// The folder that a file is in.
+fn folder_of(path: &str) -> &str {
+    match path.rsplit_once('/') {
+        Some((folder, _)) => folder,
+        None => "",
+    }
+}
+
+#[test]
+fn lists_the_same_as_in_memory(rt: HostRuntime) -> Result<(), Fail> {
+    let alloc = rt.alloc();
+    for (path, text) in FILES {
+        fs::create_dir_all(&rt, folder_of(path))?;
+        fs::write(&rt, path, text.as_bytes())?;
+    }
+    fs::create_dir_all(&rt, "r/refs/heads/empty/er")?;
+    let lines: [&[&str]; 3] = [
+        &["r", "list"],
+        &["r", "list", "refs/heads/a"],
+        &["r", "--namespace", "n", "list"],
+    ];
+    let mut same = true;
+    for words in lines {
+        let there = run_words(&rt, alloc, Disk::new(rt.clone()?), words);
+        let here = run_words(&rt, alloc, memory_of(&rt, alloc, FILES), words);
+        same = same && there.output.as_slice() == here.output.as_slice();
+        same = same && there.status == here.status;
+    }
+    let whole = run_words(&rt, alloc, Disk::new(rt.clone()?), &["r", "list"]);
+    fs::remove_dir_all(&rt, "r")?;
+    assert!(rt; same, "as in memory");
+    assert!(rt; whole.output.as_slice() == WHOLE.as_bytes(), "on the disk");
     Ok(())
 }
 

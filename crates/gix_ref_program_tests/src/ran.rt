@@ -4,6 +4,7 @@ use gix_ref_memory::memory::Memory;
 use gix_ref_program::run::run;
 use gix_ref_store::file::transaction::PackedRefs;
 use std::alloc::Global;
+use std::io;
 use std::process::Abort;
 
 /// Ids of one digit, in words: forty digits, or sixty-four.
@@ -26,6 +27,28 @@ pub const TWO: &str = "2222222222222222222222222222222222222222\n";
 pub const A: &str = "/r/refs/heads/a";
 
 pub const LOCK: &str = "/r/refs/heads/a.lock";
+
+/// A writer that takes so many bytes, and then fails.
+#[derive(Drop)]
+pub struct Full {
+    pub room: usize,
+    pub kept: usize,
+}
+
+impl io::Write for Full {
+    fn write(&mut self, buf: &[u8]) -> io::Result<usize> {
+        if buf.len() > self.room {
+            return Err(io::Error::from(io::ErrorKind::StorageFull));
+        }
+        self.room -= buf.len();
+        self.kept = self.kept.saturating_add(buf.len());
+        Ok(buf.len())
+    }
+
+    fn flush(&mut self) -> io::Result<()> {
+        Ok(())
+    }
+}
 
 /// What a run printed, and its status.
 #[derive(Drop)]

@@ -12,9 +12,12 @@ const SHOW: [&str; 3] = ["/r", "show", "refs/heads/a"];
 
 const NEW: &[u8] = b"1111111111111111111111111111111111111111 refs/heads/a\n";
 
-/// The number of calls of files that the update makes: it makes the folders of the lock and the lock, reads the reference,
-/// writes the text and renames the lock.
-const CALLS: u64 = 5;
+/// The call that renames the lock: before it the update makes the folders of the lock and the lock, reads the reference,
+/// writes the text and syncs it.
+const RENAME: u64 = 6;
+
+/// The number of calls of files that the update makes: after the rename it syncs `refs/heads`, `refs` and the git folder.
+const CALLS: u64 = 9;
 
 /// After a restart: the reference is absent or new. The next update meets the lock where there is one; without it, it works.
 fn recovers(rt: &impl Abort, alloc: Global, mut memory: Memory) {
@@ -43,7 +46,7 @@ fn recovers(rt: &impl Abort, alloc: Global, mut memory: Memory) {
 }
 
 #[test]
-fn five_calls_of_files(rt: HostRuntime) {
+fn nine_calls_of_files(rt: HostRuntime) {
     let alloc = rt.alloc();
     let ran = run_words(&rt, alloc, with_file(&rt, alloc, "", ""), &UPDATE);
     assert_eq!(rt; ran.files.calls(), CALLS);
@@ -72,13 +75,17 @@ fn failed_at_each_call(rt: HostRuntime) {
         let mut memory = with_file(&rt, alloc, "", "");
         memory.fail_at(k);
         let ran = run_words(&rt, alloc, memory, &UPDATE);
-        let want: &[u8] = if k == CALLS {
-            b"refused: LockCommit\n"
-        } else {
+        let want: &[u8] = if k < RENAME {
             b"refused: Io\n"
+        } else {
+            b"refused: LockCommit\n"
         };
         assert!(rt; ran.output.as_slice() == want, "call {k}");
-        assert!(rt; ran.files.get(A.as_bytes()).is_none());
+        assert_eq!(rt;
+            ran.files.get(A.as_bytes()).is_some(),
+            k > RENAME,
+            "the rename is done where a sync after it fails"
+        );
         assert!(rt; ran.files.get(LOCK.as_bytes()).is_none(), "no lock");
         recovers(&rt, alloc, ran.files);
     }
@@ -89,7 +96,7 @@ fn a_lock_that_stays_is_named(rt: HostRuntime) {
     let alloc = rt.alloc();
     // From the stopped rename on every call fails, so the lock cannot be removed.
     let mut memory = with_file(&rt, alloc, "", "");
-    memory.stop_at(CALLS, 0);
+    memory.stop_at(RENAME, 0);
     let ran = run_words(&rt, alloc, memory, &UPDATE);
     let want: &[u8] = b"refused: LockCommit\nlock left: /r/refs/heads/a.lock\n";
     assert!(rt; ran.output.as_slice() == want);

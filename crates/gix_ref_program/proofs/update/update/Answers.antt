@@ -1,11 +1,11 @@
 use Rattle.std.proofs.Common.{rules, ◌≡◌, None, IfSome}
-use Rattle.gix_ref_files.specs.Files.{Leaves}
+use Rattle.gix_ref_files.specs.Files.{Leaves, Loses}
 use Rattle.gix_ref_store.specs.OwnLocks.{paths_of}
 use Rattle.gix_ref_store.specs.CommitResult.{AreCommitted, left_of}
-use Rattle.gix_ref_store.specs.Prepared.{PreparesFrom, RefusesFrom, tree_of}
+use Rattle.gix_ref_store.specs.Prepared.{PreparesFrom, RefusesFrom, LosesNothing, IsAtRest, tree_of}
 use Rattle.gix_ref_store.specs.Store.{files_of, loose_meaning_of}
-use Rattle.gix_ref_program.specs.Updates.{IsStopOf, IsUpdateError, AreNamed}
-use Rattle.gix_ref_program.proofs.Updating.{at_same, refused_named, refused_stops, done, told, stops, named}
+use Rattle.gix_ref_program.specs.Updates.{IsStopOf, IsLossOf, IsUpdateError, AreNamed}
+use Rattle.gix_ref_program.proofs.Updating.{at_same, refused_named, refused_stops, refused_loses, done, told, stops, named, loses, settles}
 use Rattle.gix_ref_program.proofs.update.update.Goals as goal
 
 pub returns-in-Ok-clause-named : goal.returns-in-Ok-clause-named
@@ -14,9 +14,9 @@ returns-in-Ok-clause-named g c =
     let edits = c.in-Ok.prepared.plan.edits.items in
     let paths = c.in-Ok.prepared.plan.paths.items in
     let left = paths_of c.report_of_commit.result.locks_left.items in
-    let from : PreparesFrom F.honest F.means F.faults c.args.store.now c.in-Ok.prepared.store.now c.args.edits.items edits paths = rw c.transaction.ensures.value at c.in-Ok.ensures.prepared in
+    let from : PreparesFrom F.honest F.means F.faults c.args.store.now c.in-Ok.prepared.store.now c.args.edits.items edits paths = rw (c.packed_refs.ensures.value, c.transaction.ensures.value) at c.in-Ok.ensures.prepared in
     let found : AreNamed F.honest F.means F.faults c.args.store.now c.commit.new.self.0 c.args.edits.items left =
-    named F.honest F.means F.faults c.args.store.now c.in-Ok.prepared.store.now c.commit.new.self.0 c.args.edits.items edits paths c.requires.one from left (left_of c.commit.result) c.report_of_commit.ensures.left c.commit.ensures.named c.commit.ensures.ended in
+    named F.honest F.means F.faults c.args.store.now c.in-Ok.prepared.store.now c.commit.new.self.0 c.args.edits.items edits paths c.requires.direct from left (left_of c.commit.result) c.report_of_commit.ensures.left c.commit.ensures.named c.commit.ensures.ended in
     search rules
 
 pub returns-in-Ok-clause-error : goal.returns-in-Ok-clause-error
@@ -25,9 +25,9 @@ returns-in-Ok-clause-error g c =
     let edits = c.in-Ok.prepared.plan.edits.items in
     let paths = c.in-Ok.prepared.plan.paths.items in
     let left = paths_of c.report_of_commit.result.locks_left.items in
-    let from : PreparesFrom F.honest F.means F.faults c.args.store.now c.in-Ok.prepared.store.now c.args.edits.items edits paths = rw c.transaction.ensures.value at c.in-Ok.ensures.prepared in
+    let from : PreparesFrom F.honest F.means F.faults c.args.store.now c.in-Ok.prepared.store.now c.args.edits.items edits paths = rw (c.packed_refs.ensures.value, c.transaction.ensures.value) at c.in-Ok.ensures.prepared in
     let found : IfSome c.report_of_commit.result.error (λ error. IsUpdateError F.honest F.means F.faults c.args.store.now c.commit.new.self.0 c.args.edits.items error left) =
-    told F.honest F.means F.faults c.args.store.now c.in-Ok.prepared.store.now c.commit.new.self.0 c.args.edits.items edits paths c.requires.one from c.commit.result c.report_of_commit.result.error left c.report_of_commit.ensures.error c.report_of_commit.ensures.left c.commit.ensures.failed c.commit.ensures.ended in
+    told F.honest F.means F.faults c.args.store.now c.in-Ok.prepared.store.now c.commit.new.self.0 c.args.edits.items edits paths c.requires.direct from c.commit.result c.report_of_commit.result.error left c.report_of_commit.ensures.error c.report_of_commit.ensures.left c.commit.ensures.failed c.commit.ensures.ended in
     search rules
 
 pub returns-in-Ok-clause-leaves : goal.returns-in-Ok-clause-leaves
@@ -36,9 +36,9 @@ returns-in-Ok-clause-leaves g c =
     let edits = c.in-Ok.prepared.plan.edits.items in
     let paths = c.in-Ok.prepared.plan.paths.items in
     let left = paths_of c.report_of_commit.result.locks_left.items in
-    let from : PreparesFrom F.honest F.means F.faults c.args.store.now c.in-Ok.prepared.store.now c.args.edits.items edits paths = rw c.transaction.ensures.value at c.in-Ok.ensures.prepared in
+    let from : PreparesFrom F.honest F.means F.faults c.args.store.now c.in-Ok.prepared.store.now c.args.edits.items edits paths = rw (c.packed_refs.ensures.value, c.transaction.ensures.value) at c.in-Ok.ensures.prepared in
     let found : F.honest → Leaves (F.means (files_of c.args.store.now)) (F.means (files_of c.commit.new.self.0)) (IsStopOf (loose_meaning_of c.args.store.now) c.args.edits.items (tree_of F.means c.args.store.now)) =
-    stops F.honest F.means F.faults c.args.store.now c.in-Ok.prepared.store.now c.commit.new.self.0 c.args.edits.items edits paths c.requires.one from (left_of c.commit.result) c.commit.ensures.ended in
+    stops F.honest F.means F.faults c.args.store.now c.in-Ok.prepared.store.now c.commit.new.self.0 c.args.edits.items edits paths c.requires.direct from (left_of c.commit.result) c.commit.ensures.ended in
     search rules
 
 pub returns-in-Ok-clause-done : goal.returns-in-Ok-clause-done
@@ -47,9 +47,9 @@ returns-in-Ok-clause-done g c =
     let edits = c.in-Ok.prepared.plan.edits.items in
     let paths = c.in-Ok.prepared.plan.paths.items in
     let left = paths_of c.report_of_commit.result.locks_left.items in
-    let from : PreparesFrom F.honest F.means F.faults c.args.store.now c.in-Ok.prepared.store.now c.args.edits.items edits paths = rw c.transaction.ensures.value at c.in-Ok.ensures.prepared in
+    let from : PreparesFrom F.honest F.means F.faults c.args.store.now c.in-Ok.prepared.store.now c.args.edits.items edits paths = rw (c.packed_refs.ensures.value, c.transaction.ensures.value) at c.in-Ok.ensures.prepared in
     at_same (λ new. F.honest → c.report_of_commit.result.error ≡ None → AreCommitted (loose_meaning_of c.args.store.now) c.args.edits.items (tree_of F.means c.args.store.now) left (tree_of F.means new)) {x = c.store-in-Ok-1.given.0} {y = c.commit.new.self.0} (search rules)
-    (done F.honest F.means F.faults c.args.store.now c.in-Ok.prepared.store.now c.commit.new.self.0 c.args.edits.items edits paths c.requires.one from c.commit.result c.report_of_commit.result.error left c.report_of_commit.ensures.error c.report_of_commit.ensures.left c.commit.ensures.committed)
+    (done F.honest F.means F.faults c.args.store.now c.in-Ok.prepared.store.now c.commit.new.self.0 c.args.edits.items edits paths c.requires.direct from c.commit.result c.report_of_commit.result.error left c.report_of_commit.ensures.error c.report_of_commit.ensures.left c.commit.ensures.committed)
 
 pub returns-in-Err-clause-named : goal.returns-in-Err-clause-named
 returns-in-Err-clause-named g c =
@@ -70,3 +70,29 @@ returns-in-Err-clause-leaves g c =
     let found : F.honest → Leaves (F.means (files_of c.args.store.now)) (F.means (files_of new)) (IsStopOf (loose_meaning_of c.args.store.now) c.args.edits.items (tree_of F.means c.args.store.now)) =
     refused_stops F.honest F.means F.faults c.args.store.now new c.args.edits.items c.in-Err.refused.error left from in
     search rules
+
+pub returns-in-Ok-clause-lost : goal.returns-in-Ok-clause-lost
+returns-in-Ok-clause-lost g c =
+    let F = g.F.Files in
+    let edits = c.in-Ok.prepared.plan.edits.items in
+    let paths = c.in-Ok.prepared.plan.paths.items in
+    let from : PreparesFrom F.honest F.means F.faults c.args.store.now c.in-Ok.prepared.store.now c.args.edits.items edits paths = rw (c.packed_refs.ensures.value, c.transaction.ensures.value) at c.in-Ok.ensures.prepared in
+    at_same (λ new. F.honest → IsAtRest F.means c.args.store.now → Loses (F.means (files_of c.args.store.now)) (F.means (files_of new)) (IsLossOf F.means c.args.store.now c.args.edits.items)) {x = c.store-in-Ok-1.given.0} {y = c.commit.new.self.0} (search rules)
+    (λ h at_rest. loses F.honest F.means F.faults c.args.store.now c.in-Ok.prepared.store.now c.commit.new.self.0 c.args.edits.items edits paths c.requires.direct from h at_rest c.commit.ensures.lost)
+
+pub returns-in-Ok-clause-settled : goal.returns-in-Ok-clause-settled
+returns-in-Ok-clause-settled g c =
+    let F = g.F.Files in
+    let edits = c.in-Ok.prepared.plan.edits.items in
+    let paths = c.in-Ok.prepared.plan.paths.items in
+    let from : PreparesFrom F.honest F.means F.faults c.args.store.now c.in-Ok.prepared.store.now c.args.edits.items edits paths = rw (c.packed_refs.ensures.value, c.transaction.ensures.value) at c.in-Ok.ensures.prepared in
+    at_same (λ new. F.honest → c.report_of_commit.result.error ≡ None → IsAtRest F.means c.args.store.now → IsAtRest F.means new) {x = c.store-in-Ok-1.given.0} {y = c.commit.new.self.0} (search rules)
+    (settles F.honest F.means F.faults c.args.store.now c.in-Ok.prepared.store.now c.commit.new.self.0 c.args.edits.items edits paths c.requires.direct from c.commit.result c.report_of_commit.result.error c.report_of_commit.ensures.error c.commit.ensures.settled)
+
+pub returns-in-Err-clause-lost : goal.returns-in-Err-clause-lost
+returns-in-Err-clause-lost g c =
+    let F = g.F.Files in
+    let new = c.prepare.follows.lender-at-none in
+    let from : F.honest → LosesNothing F.means c.args.store.now new c.args.edits.items = search rules in
+    at_same (λ now. F.honest → IsAtRest F.means c.args.store.now → Loses (F.means (files_of c.args.store.now)) (F.means (files_of now)) (IsLossOf F.means c.args.store.now c.args.edits.items)) {x = c.store-in-Err-2.given.0} {y = new} (search rules)
+    (λ h at_rest. refused_loses F.means c.args.store.now new c.args.edits.items (from h))

@@ -1,4 +1,4 @@
--- The text of a log, item by item.
+-- Text that is printed item by item.
 use Rattle.std.proofs.Common.{◌≡◌, ℕ, List, [], ◌∷◌, ◌++◌, Option, Some, None, Result, true, false, refl, sym, ◌∙◌, ap, subst, append-nil}
 use Rattle.std.specs.Prelude.{◌||◌, Bool, if◌then◌else◌, length}
 use Rattle.std.specs.Option.{option_map}
@@ -12,11 +12,10 @@ use Rattle.std.specs.Io.KnownBytes.{Appends, Keeps, append_known}
 use Rattle.std.proofs.KnownBytes.{Appends-trans, Appends-kept, append_known-grown}
 use Rattle.std.proofs.lemmas.List.Folds.{list_any-append}
 use Rattle.std.proofs.lemmas.Grind.{flat_map-append}
-use Rattle.gix_ref_log.specs.declared.log.line.Line.{Line}
-use Rattle.gix_ref_log.specs.declared.log.iter.error.ReverseError.{ReverseError}
-use Rattle.gix_ref_program.specs.LogPrinting.{item_text, log_text, log_status}
+use Rattle.std.specs.List.{flat_map}
+use Rattle.gix_ref_program.specs.Printed.{items_status}
 
-one_fault : (items : List (Result Line ReverseError)) (item : Result Line ReverseError) → is_err item ≡ true → list_any is_err (items ++ item ∷ []) ≡ true
+one_fault : {A E : Type 0} (items : List (Result A E)) (item : Result A E) → is_err item ≡ true → list_any is_err (items ++ item ∷ []) ≡ true
 one_fault items item fault = list_any-append is_err items (item ∷ []) ∙ (ap (λ b. list_any is_err items || (b || false)) fault ∙ or_true (list_any is_err items))
   where
     or_true : (b : Bool) → (b || (true || false)) ≡ true
@@ -24,11 +23,11 @@ one_fault items item fault = list_any-append is_err items (item ∷ []) ∙ (ap 
     or_true false = refl
 
 -- a fault gives the status 1
-pub status_fault : (items : List (Result Line ReverseError)) (item : Result Line ReverseError) → is_err item ≡ true → 1 ≡ log_status (items ++ item ∷ [])
+pub status_fault : {A E : Type 0} (items : List (Result A E)) (item : Result A E) → is_err item ≡ true → 1 ≡ items_status (items ++ item ∷ [])
 status_fault items item fault = rw (one_fault items item fault) refl
 
 -- and a line leaves it
-pub status_line : (items : List (Result Line ReverseError)) (item : Result Line ReverseError) (status : ℕ) → status ≡ log_status items → is_err item ≡ false → status ≡ log_status (items ++ item ∷ [])
+pub status_line : {A E : Type 0} (items : List (Result A E)) (item : Result A E) (status : ℕ) → status ≡ items_status items → is_err item ≡ false → status ≡ items_status (items ++ item ∷ [])
 status_line items item status is line = is ∙ ap (λ b. if b then 1 else 0) (sym (list_any-append is_err items (item ∷ []) ∙ (ap (λ b. list_any is_err items || (b || false)) line ∙ or_false (list_any is_err items))))
   where
     or_false : (b : Bool) → (b || (false || false)) ≡ b
@@ -36,13 +35,13 @@ status_line items item status is line = is ∙ ap (λ b. if b then 1 else 0) (sy
     or_false false = refl
 
 -- the text of an item is added, and a block of it perhaps written
-pub item_printed : (a b c : Option (List ℕ)) (text more left : List ℕ) (items : List (Result Line ReverseError)) (item : Result Line ReverseError) →
-    Appends a (append_known b text) (log_text items) → more ≡ text ++ item_text item → Keeps (append_known b more) (append_known c left) →
-    Appends a (append_known c left) (log_text (items ++ item ∷ []))
-item_printed a b c text more left items item before added kept =
+pub item_printed : {A : Type 0} (item_text : A → List ℕ) (a b c : Option (List ℕ)) (text more left : List ℕ) (items : List A) (item : A) →
+    Appends a (append_known b text) (flat_map item_text items) → more ≡ text ++ item_text item → Keeps (append_known b more) (append_known c left) →
+    Appends a (append_known c left) (flat_map item_text (items ++ item ∷ []))
+item_printed item_text a b c text more left items item before added kept =
     let grown = append_known-grown (append_known b text) b text more (item_text item) (same (append_known b text)) added in
-    let all = Appends-kept a (append_known b more) (append_known c left) (log_text items ++ item_text item) (Appends-trans a (append_known b text) (append_known b more) (log_text items) (item_text item) before grown) kept in
-    subst (λ t. Appends a (append_known c left) t) (ap (λ t. log_text items ++ t) (sym (append-nil (item_text item))) ∙ sym (flat_map-append item_text items (item ∷ []))) all
+    let all = Appends-kept a (append_known b more) (append_known c left) (flat_map item_text items ++ item_text item) (Appends-trans a (append_known b text) (append_known b more) (flat_map item_text items) (item_text item) before grown) kept in
+    subst (λ t. Appends a (append_known c left) t) (ap (λ t. flat_map item_text items ++ t) (sym (append-nil (item_text item))) ∙ sym (flat_map-append item_text items (item ∷ []))) all
   where
     same : (x : Option (List ℕ)) → Keeps x x
     same None = _

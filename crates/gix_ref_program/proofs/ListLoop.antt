@@ -1,0 +1,94 @@
+-- A listing that is printed, item by item.
+use Rattle.std.proofs.Common.{◌≡◌, arith, ℕ, List, [], ◌∷◌, ◌++◌, Bool, true, false, Option, Some, None, Result, Ok, Err, refl, sym, ◌∙◌, ap, subst}
+use Rattle.std.specs.Prelude.{◌≤◌, if◌then◌else◌}
+use Rattle.std.specs.Result.{is_err}
+use Rattle.std.specs.Iterator.{Yields}
+use Rattle.std.specs.Io.KnownBytes.{Appends, Keeps, append_known}
+use Rattle.gix_ref_files.specs.Files.{Meaning}
+use Rattle.gix_ref_files.proofs.Moments.{starts}
+use Rattle.gix_ref_packed.specs.declared.raw.Reference.{Reference}
+use Rattle.gix_ref_listing.specs.declared.error.Error.{Error}
+use Rattle.gix_ref_store.specs.Store.{files_of}
+use Rattle.gix_ref_store.specs.Lookup.{LooksUp}
+use Rattle.gix_ref_store.specs.Listings.{NextItem, count_in, store_of}
+use Rattle.gix_ref_store.specs.declared.file.store.Store.{Store}
+use Rattle.gix_ref_store.specs.declared.file.iter.LooseThenPacked.{LooseThenPacked}
+use Rattle.gix_ref_store.specs.declared.file.iter.Remaining.{Remaining}
+use Rattle.gix_ref_program.specs.ListPrinting.{item_text, list_text, PrintsAll}
+use Rattle.gix_ref_program.specs.Printed.{items_status}
+use Rattle.gix_ref_program.proofs.ItemLemmas.{status_fault, status_line, item_printed, rest_printed}
+use Rattle.gix_ref_program.proofs.Listing.{looks_on}
+
+-- one item more
+yields_more : {S A : Type 0} (steps : S → Option A → S → Type 0) (s t u : S) (items : List A) (item : A) → Yields steps s items t → steps t (Some item) u → Yields steps s (items ++ item ∷ []) u
+yields_more steps s t u [] item gave next = (u, subst (λ x. steps x (Some item) u) (sym gave) next, refl)
+yields_more steps s t u (first ∷ items) item (mid, one, gave) next = (mid, one, yields_more steps mid t u items item gave next)
+
+-- nothing is printed yet
+none_printed : (out : Option (List ℕ)) → Appends out (append_known out []) []
+none_printed None = _
+none_printed (Some x) = refl
+
+module _ {F : Type 0} (honest : Type 0) (means : F → Meaning) (faults : F → ℕ) where
+  -- from one state of an iterator to another: the same store, with the same files
+  pub record Follows (first it : LooseThenPacked F Remaining) : Type 0 where
+    pub same_reference : it.store.ghost_name ≡ first.store.ghost_name
+    pub rises : count_in honest means faults first ≤ count_in honest means faults it
+    pub unchanged : LooksUp honest means (store_of first) (store_of it)
+
+  -- and what is printed of the items in between
+  pub record AreSoFar (first it : LooseThenPacked F Remaining) (out now : Option (List ℕ)) (text : List ℕ) (status : ℕ) : Type 0 where
+    pub items : List (Result Reference Error)
+    pub gives : Yields (NextItem honest means faults) first items it
+    pub status_is : status ≡ items_status items
+    pub prints : Appends out (append_known now text) (list_text items)
+    pub follows : Follows first it
+
+  pub begins : (it : LooseThenPacked F Remaining) (out : Option (List ℕ)) → AreSoFar it it out out [] 0
+  begins it out = record {
+    items = [];
+    gives = refl;
+    status_is = refl;
+    prints = none_printed out;
+    follows = record {
+      same_reference = refl;
+      rises = omega arith;
+      unchanged = record {
+        leaves = λ h. starts (means (files_of (store_of it))) _ refl;
+        same = record { dirs = refl; namespace = refl; of_kind = refl; reflogs = refl; composes = refl; prohibits = refl };
+      };
+    };
+  }
+
+  pub on : (first it next : LooseThenPacked F Remaining) (item : Option (Result Reference Error)) → Follows first it → NextItem honest means faults it item next → Follows first next
+  on first it next item follows step = record {
+    same_reference = step.same_reference ∙ follows.same_reference;
+    rises = omega (arith, follows.rises, step.gives.rises);
+    unchanged = looks_on honest means faults (store_of first) (store_of it) (store_of next) follows.unchanged record { leaves = step.gives.leaves; same = step.same_store };
+  }
+
+  pub more : (first it next : LooseThenPacked F Remaining) (out before now : Option (List ℕ)) (text left : List ℕ) (status after : ℕ) (item : Result Reference Error) →
+      AreSoFar first it out before text status → NextItem honest means faults it (Some item) next → Keeps (append_known before (text ++ item_text item)) (append_known now left) →
+      after ≡ (if is_err item then 1 else status) → AreSoFar first next out now left after
+  more first it next out before now text left status after item so_far step kept is = record {
+    items = so_far.items ++ item ∷ [];
+    gives = yields_more (NextItem honest means faults) first it next so_far.items item so_far.gives step;
+    status_is = is ∙ by (is_err item) refl;
+    prints = item_printed item_text out before now text (text ++ item_text item) left so_far.items item so_far.prints refl kept;
+    follows = on first it next (Some item) so_far.follows step;
+  }
+    where
+      by : (b : Bool) → is_err item ≡ b → (if b then 1 else status) ≡ items_status (so_far.items ++ item ∷ [])
+      by true fault = status_fault so_far.items item fault
+      by false line = status_line so_far.items item status so_far.status_is line
+
+  pub all : (first it last : LooseThenPacked F Remaining) (out before now : Option (List ℕ)) (text : List ℕ) (status : ℕ) → AreSoFar first it out before text status →
+      NextItem honest means faults it None last → Appends before now text → PrintsAll honest means faults first last out now status
+  all first it last out before now text status so_far step written = record {
+    items = so_far.items;
+    last = it;
+    gives = so_far.gives;
+    ends = step;
+    status_is = so_far.status_is;
+    prints = rest_printed out before now text (list_text so_far.items) so_far.prints written;
+  }

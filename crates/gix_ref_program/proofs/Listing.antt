@@ -1,0 +1,180 @@
+-- What is printed of a listing, put together.
+use Rattle.std.proofs.Common.{◌≡◌, ◌⊎◌, inl, inr, ⊎_elim, arith, ℕ, List, [], ◌∷◌, Bool, true, false, Option, Some, None, Result, Ok, Err, refl, sym, ◌∙◌, ap, subst}
+use Rattle.std.specs.Prelude.{◌≤◌, ◌^◌, IfOk}
+use denote.Ref.{Bor}
+use Rattle.std.specs.List.{AllByRecursion}
+use Rattle.std.specs.Option.{option_copied}
+use Rattle.std.specs.Io.KnownBytes.{Appends}
+use Rattle.gix_ref_base.specs.PackedRecords.{Record}
+use Rattle.gix_ref_files.specs.Files.{Meaning, Leaves, HasRisen}
+use Rattle.gix_ref_files.specs.Calls.{Unchanged}
+use Rattle.gix_ref_files.specs.declared.files.ReadAt.{Ghosts}
+use Rattle.gix_ref_theory.specs.OnRealTrees.{view_of}
+use Rattle.gix_ref_theory.specs.Views.{View}
+use Rattle.gix_ref_packed.specs.Buffers.{buffer_kind, buffer_text}
+use Rattle.gix_ref_packed.specs.declared.packed.buffer.Buffer.{Buffer}
+use Rattle.gix_ref_packed.specs.declared.raw.Reference.{Reference}
+use Rattle.gix_ref_lookup.specs.declared.settings.Settings.{Settings}
+use Rattle.gix_ref_lookup.specs.declared.find.error.ReadError.TheVariants.{File as file_error, DeviceName}
+use Rattle.gix_ref_listing.specs.CleanPrefixes.{IsTaken, IsRefused}
+use Rattle.gix_ref_listing.specs.Items.{IsItem}
+use Rattle.gix_ref_listing.specs.Listings.{Listed as ListedName}
+use Rattle.gix_ref_listing.specs.Listings.Listed.{Walked, InPacked}
+use Rattle.gix_ref_listing.specs.WholeListings.{IsListing, IsName, HoldsFor, key_in}
+use Rattle.gix_ref_listing.specs.declared.found.Found.TheVariants.{File, Unlisted}
+use Rattle.gix_ref_listing.specs.declared.error.Error.{Error}
+use Rattle.gix_ref_listing.specs.declared.error.Error.TheVariants.{Traversal, ReadFileContents, ReferenceCreation, PackedReference, Memory}
+use Rattle.gix_ref_listing.specs.declared.prefix.Error.{Error as PrefixError}
+use Rattle.gix_ref_listing.specs.declared.prefix.Error.TheVariants as no_list
+use Rattle.gix_ref_listing.proofs.FolderWalks.{unchanged_on}
+use Rattle.gix_ref_store.specs.Store.{files_of, IsSameStore}
+use Rattle.gix_ref_store.specs.Lookup.{LooksUp, AreRecordsIn, settings_of, view_in}
+use Rattle.gix_ref_store.specs.Listings.{NextItem, Lists, AreFirst, AreHeldFor, IsReadFor, count_in, store_of}
+use Rattle.gix_ref_store.proofs.ListingRuns.{same_settings}
+use Rattle.gix_ref_store.specs.declared.file.store.Store.{Store}
+use Rattle.gix_ref_store.specs.declared.file.iter.LooseThenPacked.{LooseThenPacked}
+use Rattle.gix_ref_store.specs.declared.file.iter.Remaining.{Remaining}
+use Rattle.gix_ref_program.specs.ListPrinting.{PrintsAll}
+use Rattle.gix_ref_program.specs.Runs.{Ran, Prints, AreListed, ListRan, ListRanAmong, IsNoListing}
+use Rattle.gix_ref_program.specs.Runs.Ran.{Said, Listed, Logged}
+use Rattle.gix_ref_program.specs.declared.outcome.Outcome.TheVariants as outcomes
+use Rattle.gix_ref_program.specs.declared.refusal.Refusal.TheVariants as refusals
+
+-- a count that rose from a greater one
+risen_from : (before mid now : ℕ) → before ≤ mid → HasRisen mid now → HasRisen before now
+risen_from before mid now le (inl below) = inl (omega (arith, le, below))
+risen_from before mid now le (inr top) = inr top
+
+-- and to a greater one
+risen_to : (before mid now : ℕ) → mid ≤ now → HasRisen before mid → HasRisen before now
+risen_to before mid now le (inl below) = inl (omega (arith, le, below))
+risen_to before mid now le (inr top) = inr (omega (arith, le, top))
+
+module _ (honest : Type 0) (settings : Settings) (view : View) where
+  item_from : (before mid now : ℕ) (one : ListedName) (item : Result Reference Error) → before ≤ mid → IsItem honest settings view mid now one item → IsItem honest settings view before now one item
+  item_from before mid now (InPacked own) item le is = is
+  item_from before mid now (Walked (key, File name path)) (Ok r) le is = is
+  item_from before mid now (Walked (key, File name path)) (Err (ReadFileContents (file_error source) at)) le is = ⊎_elim (λ risen. inl (risen_from before mid now le risen.0, risen.1, risen.2)) (λ gone. inr gone) is
+  item_from before mid now (Walked (key, File name path)) (Err (ReadFileContents DeviceName at)) le is = is
+  item_from before mid now (Walked (key, File name path)) (Err (ReferenceCreation source at)) le is = is
+  item_from before mid now (Walked (key, File name path)) (Err Memory) le is = is
+  item_from before mid now (Walked (key, File name path)) (Err (Traversal source at)) le is = is
+  item_from before mid now (Walked (key, File name path)) (Err (PackedReference line number)) le is = is
+  item_from before mid now (Walked (key, Unlisted path source)) (Ok r) le is = is
+  item_from before mid now (Walked (key, Unlisted path source)) (Err error) le is = is
+
+module _ {F : Type 0} (honest : Type 0) (means : F → Meaning) (faults : F → ℕ) where
+  -- the same items between counts that are farther apart
+  first_to : (settings : Settings) (view : View) (before mid now : ℕ) (listed rest : List ListedName) (items : List (Result Reference Error)) → mid ≤ now →
+      AreFirst honest means faults settings view before mid listed rest items → AreFirst honest means faults settings view before now listed rest items
+  first_to settings view before mid now listed rest [] le are = (omega (arith, are.0, le), are.1)
+  first_to settings view before mid now listed rest (item ∷ items) le (m, one, more, same, up, is, later) = (m, one, more, same, up, is, first_to settings view m mid now more rest items le later)
+
+  first_from : (settings : Settings) (view : View) (before mid now : ℕ) (listed rest : List ListedName) (items : List (Result Reference Error)) → before ≤ mid →
+      AreFirst honest means faults settings view mid now listed rest items → AreFirst honest means faults settings view before now listed rest items
+  first_from settings view before mid now listed rest [] le are = (omega (arith, are.0, le), are.1)
+  first_from settings view before mid now listed rest (item ∷ items) le (m, one, more, same, up, is, later) = (m, one, more, same, omega (arith, le, up), item_from honest settings view before mid m one item le is, later)
+
+  -- the items of a listing are printed
+  pub printed_all : {E : Type 0} (old new : Store F) (prefix : List ℕ) (Are : List Record → Type 0) (it t : LooseThenPacked F Remaining) (out now : Option (List ℕ)) (status : Result ℕ E) →
+      IsTaken old.namespace prefix → (honest → (records : List Record) → Are records → Lists honest means faults old records prefix it) →
+      count_in honest means faults it ≤ count_in honest means faults t → store_of t ≡ new →
+      IfOk status (PrintsAll honest means faults it t out now) → Prints (ListRanAmong honest means faults old new prefix Are) out now status
+  printed_all old new prefix Are it t out now (Ok s) taken lists rises is all = record {
+    ran = Listed true all.items;
+    does = (
+      taken,
+      λ h records are.
+          let l = lists h records are in
+          let first = l.runs all.items all.last all.gives in
+          let last : count_in honest means faults all.last ≤ faults (files_of new) = subst (λ (x : Store F). count_in honest means faults all.last ≤ faults (files_of x)) is all.ends.gives.rises in
+          let after : count_in honest means faults it ≤ faults (files_of new) = subst (λ (x : Store F). count_in honest means faults it ≤ faults (files_of x)) is rises in
+          record {
+            listed = l.listed;
+            is = l.is;
+            names = ⊎_elim (λ names. inl names) (λ risen. inr (risen_to (faults (files_of old)) (count_in honest means faults it) (faults (files_of new)) after risen)) l.names;
+            rest = first.rest;
+            first = first_from (settings_of old) (view_in means old) (faults (files_of old)) (count_in honest means faults it) (faults (files_of new)) l.listed first.rest all.items l.counts
+                (first_to (settings_of old) (view_in means old) (count_in honest means faults it) (count_in honest means faults all.last) (faults (files_of new)) l.listed first.rest all.items last first.first);
+            ends = λ whole. first.ends t all.ends;
+          },
+    );
+    prints = (refl, all.status_is, all.prints);
+  }
+  printed_all old new prefix Are it t out now (Err e) taken lists rises is all = record {
+    ran = Listed false [];
+    does = (
+      taken,
+      λ h records are.
+          let l = lists h records are in
+          let after : count_in honest means faults it ≤ faults (files_of new) = subst (λ (x : Store F). count_in honest means faults it ≤ faults (files_of x)) is rises in
+          record {
+            listed = l.listed;
+            is = l.is;
+            names = ⊎_elim (λ names. inl names) (λ risen. inr (risen_to (faults (files_of old)) (count_in honest means faults it) (faults (files_of new)) after risen)) l.names;
+            rest = l.listed;
+            first = (omega (arith, l.counts, after), refl);
+            ends = λ whole. absurd (cc);
+          },
+    );
+    prints = _;
+  }
+
+  -- a prefix without a listing
+  no_listing : {R : Type 0} (G : Ghosts R) (old new : Store F) (prefix : List ℕ) (error : PrefixError) → (error ≡ no_list.Memory) ⊎ IsRefused old.namespace prefix error →
+      IsNoListing honest means faults G old new prefix error
+  no_listing G old new prefix no_list.Memory why = _
+  no_listing G old new prefix no_list.EmptyPrefix (inl none) = cc
+  no_listing G old new prefix no_list.EmptyPrefix (inr refused) = refused
+  no_listing G old new prefix no_list.PrefixNotClean (inl none) = cc
+  no_listing G old new prefix no_list.PrefixNotClean (inr refused) = refused
+  no_listing G old new prefix (no_list.PackedOpen error) (inl none) = cc
+  no_listing G old new prefix (no_list.PackedOpen error) (inr refused) = absurd refused
+
+  -- a listing among the records that were read before it, without a fault
+  pub listed_from : {R : Type 0} (G : Ghosts R) (old mid new : Store F) (prefix : List ℕ) (Are : List Record → Type 0) → LooksUp honest means old mid → faults (files_of mid) ≡ faults (files_of old) →
+      (honest → (records : List Record) → AreRecordsIn means old records → Are records) → (ran : Ran) →
+      ListRanAmong honest means faults mid new prefix Are ran → ListRan honest means faults G old new prefix ran
+  listed_from G old mid new prefix Are looks counts read (Said (outcomes.Refused (refusals.List error) locks)) (why, none) =
+      (no_listing G old new prefix error (subst (λ (n : _). (error ≡ no_list.Memory) ⊎ IsRefused n prefix error) looks.same.namespace why), none)
+  listed_from G old mid new prefix Are looks counts read (Listed whole items) (taken, among) = (
+    subst (λ (n : _). IsTaken n prefix) looks.same.namespace taken,
+    λ h records are.
+        subst (λ (n : ℕ). AreListed honest means faults (settings_of old) (view_in means old) n (faults (files_of new)) records prefix whole items) counts
+        (subst (λ (v : View). AreListed honest means faults (settings_of old) v (faults (files_of mid)) (faults (files_of new)) records prefix whole items) (ap view_of (looks.leaves h).tree)
+        (subst (λ (x : Settings). AreListed honest means faults x (view_in means mid) (faults (files_of mid)) (faults (files_of new)) records prefix whole items) (sym (same_settings old mid looks.same))
+        (among h records (read h records are)))),
+  )
+  listed_from G old mid new prefix Are looks counts read (Said outcomes.WrongWords) ran = absurd ran
+  listed_from G old mid new prefix Are looks counts read (Said (outcomes.Updated locks)) ran = absurd ran
+  listed_from G old mid new prefix Are looks counts read (Said (outcomes.Shown reference)) ran = absurd ran
+  listed_from G old mid new prefix Are looks counts read (Said (outcomes.Refused refusals.PathNotClean locks)) ran = absurd ran
+  listed_from G old mid new prefix Are looks counts read (Said (outcomes.Refused (refusals.Name error) locks)) ran = absurd ran
+  listed_from G old mid new prefix Are looks counts read (Said (outcomes.Refused (refusals.Update error) locks)) ran = absurd ran
+  listed_from G old mid new prefix Are looks counts read (Said (outcomes.Refused (refusals.Find error) locks)) ran = absurd ran
+  listed_from G old mid new prefix Are looks counts read (Said (outcomes.Refused (refusals.Log error) locks)) ran = absurd ran
+  listed_from G old mid new prefix Are looks counts read (Said (outcomes.Refused refusals.NotFound locks)) ran = absurd ran
+  listed_from G old mid new prefix Are looks counts read (Said (outcomes.Refused refusals.Memory locks)) ran = absurd ran
+  listed_from G old mid new prefix Are looks counts read (Logged whole items) ran = absurd ran
+
+  -- what was read for a prefix is held for it, as it is lent
+  pub read_for : (old mid : Store F) (prefix : List ℕ) (found : Option Buffer) (lent : Option (Bor Buffer)) (records : List Record) → LooksUp honest means old mid →
+      option_copied lent ≡ found → IsReadFor old prefix found records → AreHeldFor mid prefix lent records
+  read_for old mid prefix found None records looks value is = subst (λ (f : Option Buffer). IsReadFor old prefix f records) (sym value) is
+  read_for old mid prefix found (Some r) records looks value is =
+      subst (λ (x : Settings). HoldsFor (buffer_kind r.now) (key_in x prefix) records (buffer_text r.now)) (same_settings old mid looks.same)
+      (subst (λ (f : Option Buffer). IsReadFor old prefix f records) (sym value) is)
+
+  -- one look after another
+  pub looks_on : (old mid new : Store F) → LooksUp honest means old mid → LooksUp honest means mid new → LooksUp honest means old new
+  looks_on old mid new first second = record {
+    leaves = λ h. unchanged_on (means (files_of old)) (means (files_of mid)) (means (files_of new)) (first.leaves h) (second.leaves h);
+    same = record {
+      dirs = second.same.dirs ∙ first.same.dirs;
+      namespace = second.same.namespace ∙ first.same.namespace;
+      of_kind = second.same.of_kind ∙ first.same.of_kind;
+      reflogs = second.same.reflogs ∙ first.same.reflogs;
+      composes = second.same.composes ∙ first.same.composes;
+      prohibits = second.same.prohibits ∙ first.same.prohibits;
+    };
+  }

@@ -1,0 +1,38 @@
+-- How a listing is printed (`git for-each-ref`).
+use Rattle.std.specs.Prelude.{◌≡◌, ℕ, List, ◌++◌, codes, None, Option, Result, Ok, Err}
+use Rattle.std.specs.List.{flat_map}
+use Rattle.std.specs.Io.KnownBytes.{Appends}
+use Rattle.std.specs.Iterator.{Yields}
+use Rattle.gix_ref_files.specs.Files.{Meaning}
+use Rattle.gix_ref_packed.specs.declared.raw.Reference.{Reference}
+use Rattle.gix_ref_listing.specs.declared.error.Error.{Error}
+use Rattle.gix_ref_listing.specs.declared.error.Error.TheVariants.{Traversal, ReadFileContents, ReferenceCreation, PackedReference, Memory}
+use Rattle.gix_ref_store.specs.Listings.{NextItem}
+use Rattle.gix_ref_store.specs.declared.file.iter.LooseThenPacked.{LooseThenPacked}
+use Rattle.gix_ref_store.specs.declared.file.iter.Remaining.{Remaining}
+use Rattle.gix_ref_program.specs.Outcomes.{reference_line}
+use Rattle.gix_ref_program.specs.Printed.{fault_line, items_status}
+
+abbrev pub fault_word : Error → List ℕ
+fault_word (Traversal source path) = codes "Traversal"
+fault_word (ReadFileContents source path) = codes "ReadFileContents"
+fault_word (ReferenceCreation source path) = codes "ReferenceCreation"
+fault_word (PackedReference line number) = codes "PackedReference"
+fault_word Memory = codes "Memory"
+
+-- the line of a reference; or a fault
+abbrev pub item_text : Result Reference Error → List ℕ
+item_text (Ok reference) = reference_line reference
+item_text (Err error) = fault_line (fault_word error)
+
+abbrev pub list_text : List (Result Reference Error) → List ℕ
+list_text items = flat_map item_text items
+
+-- All that an iterator gives is printed, and gives the status.
+pub record PrintsAll {F : Type 0} (honest : Type 0) (means : F → Meaning) (faults : F → ℕ) (old new : LooseThenPacked F Remaining) (out now : Option (List ℕ)) (status : ℕ) : Type 0 where
+  pub items : List (Result Reference Error)
+  pub last : LooseThenPacked F Remaining
+  pub gives : Yields (NextItem honest means faults) old items last
+  pub ends : NextItem honest means faults last None new
+  pub status_is : status ≡ items_status items
+  pub prints : Appends out now (list_text items)
