@@ -5,26 +5,28 @@ use Rattle.gix_ref_base.specs.Targets.{TargetValue}
 use Rattle.gix_ref_files.specs.Tree.{Tree, Path, file_of}
 use Rattle.gix_ref_files.specs.Files.{Meaning, Leaves, Loses, HasRisen}
 use Rattle.gix_ref_files.proofs.Moments.{weaken, joins}
-use Rattle.gix_ref_store.specs.OwnLocks.{is_in, paths_of}
-use Rattle.gix_ref_store.specs.Causes.{names_of}
-use Rattle.gix_ref_store.specs.CommitResult.{AreCommitted, CommitsFrom, EveryStopFrom, EveryLossFrom, SettlesFrom, FailsFor, left_of}
-use Rattle.gix_ref_store.specs.Prepared.{AreDirectUpdates, PreparesFrom, RefusesFrom, LosesNothing, IsAtRest, tree_of, disk_in, locks_in, places_in}
+use Rattle.gix_ref_transaction.specs.OwnLocks.{is_in, paths_of}
+use Rattle.gix_ref_transaction.specs.Causes.{names_of}
+use Rattle.gix_ref_transaction.specs.CommittedEdits.{AreCommitted}
+use Rattle.gix_ref_store.specs.CommitResult.{CommitsFrom, EveryStopFrom, EveryLossFrom, SettlesFrom, FailsFor, left_of}
+use Rattle.gix_ref_transaction.specs.DirectUpdates.{AreDirectUpdates}
+use Rattle.gix_ref_store.specs.Prepared.{PreparesFrom, RefusesFrom, LosesNothing, IsAtRest, tree_of, disk_in, locks_in, places_in}
 use Rattle.gix_ref_store.specs.Store.{files_of, folders, loose_meaning_of}
-use Rattle.gix_ref_store.specs.CarriedEdits.{AreCarried}
+use Rattle.gix_ref_transaction.specs.CarriedEdits.{AreCarried}
 use Rattle.gix_ref_edits.specs.RefEdits.{name_of}
 use Rattle.gix_ref_edits.specs.declared.transaction.RefEdit.{RefEdit}
 use Rattle.gix_ref_store.specs.declared.file.store.Store.{Store}
 use Rattle.gix_ref_store.specs.declared.file.transaction.Done.{Done}
 use Rattle.gix_ref_store.specs.declared.file.transaction.Failed.{Failed}
-use Rattle.gix_ref_store.specs.declared.file.transaction.setting.Paths.{Paths}
-use Rattle.gix_ref_store.specs.declared.file.transaction.prepare.error.Error.{Error as Cause}
-use Rattle.gix_ref_store.specs.declared.file.transaction.commit.error.Error.{Error}
-use Rattle.gix_ref_store.specs.declared.file.transaction.commit.error.Error.TheVariants.{LockCommit, FolderInPlace, Memory}
-use Rattle.gix_ref_store.specs.CommitRenames.{place_at}
-use Rattle.gix_ref_store.specs.PrepareSteps.{place_paths}
-use Rattle.gix_ref_store.proofs.Adds.{clash, in_at, same_view}
+use Rattle.gix_ref_transaction.specs.declared.setting.Paths.{Paths}
+use Rattle.gix_ref_transaction.specs.declared.prepare.error.Error.{Error as Cause}
+use Rattle.gix_ref_transaction.specs.declared.commit.error.Error.{Error}
+use Rattle.gix_ref_transaction.specs.declared.commit.error.Error.TheVariants.{LockCommit, FolderInPlace, Memory}
+use Rattle.gix_ref_transaction.specs.CommitRenames.{place_at}
+use Rattle.gix_ref_transaction.specs.PrepareSteps.{place_paths}
+use Rattle.gix_ref_transaction.proofs.Adds.{clash, in_at, same_view}
 use Rattle.std.proofs.lemmas.List.{length-map}
-use Rattle.gix_ref_store.proofs.CommitLosses.{rest_kept}
+use Rattle.gix_ref_transaction.proofs.CommitLosses.{rest_kept}
 use Rattle.gix_ref_theory.specs.Roots.{roots}
 use Rattle.gix_ref_program.specs.Updates.{IsStopOf, IsLossOf, IsUpdateError, AreNamed, HasFailed, error_of}
 use Rattle.gix_ref_program.specs.declared.update.UpdateError.{UpdateError}

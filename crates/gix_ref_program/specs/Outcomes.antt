@@ -9,10 +9,10 @@ use Rattle.gix_ref_base.specs.Targets.{TargetValue, target_value}
 use Rattle.gix_ref_base.specs.Targets.TargetValue.{object_id, symbolic_name}
 use Rattle.gix_ref_base.specs.declared.name.error.Error as names
 use Rattle.gix_ref_base.specs.declared.name.error.Error.TheVariants as name
-use Rattle.gix_ref_store.specs.declared.file.transaction.prepare.error.Error as prepares
-use Rattle.gix_ref_store.specs.declared.file.transaction.prepare.error.Error.TheVariants as prepare
-use Rattle.gix_ref_store.specs.declared.file.transaction.commit.error.Error as commits
-use Rattle.gix_ref_store.specs.declared.file.transaction.commit.error.Error.TheVariants as commit
+use Rattle.gix_ref_transaction.specs.declared.prepare.error.Error as prepares
+use Rattle.gix_ref_transaction.specs.declared.prepare.error.Error.TheVariants as prepare
+use Rattle.gix_ref_transaction.specs.declared.commit.error.Error as commits
+use Rattle.gix_ref_transaction.specs.declared.commit.error.Error.TheVariants as commit
 use Rattle.gix_ref_lookup.specs.declared.find.error.Error as finds
 use Rattle.gix_ref_lookup.specs.declared.find.error.Error.TheVariants as find
 use Rattle.gix_ref_packed.specs.declared.raw.Reference.{Reference}

@@ -10,9 +10,9 @@ use Rattle.gix_ref_hash.specs.declared.hash.Kind.{Kind}
 use Rattle.gix_ref_hash.specs.declared.hash.ObjectId.{ObjectId}
 use Rattle.gix_ref_files.specs.Tree.{Tree}
 use Rattle.gix_ref_files.specs.Files.{Meaning, Leaves, HasRisen}
-use Rattle.gix_ref_store.specs.OwnLocks.{paths_of}
+use Rattle.gix_ref_transaction.specs.OwnLocks.{paths_of}
 use Rattle.gix_ref_lookup.specs.CleanPaths.{is_clean}
-use Rattle.gix_ref_store.specs.CommitResult.{AreCommitted}
+use Rattle.gix_ref_transaction.specs.CommittedEdits.{AreCommitted}
 use Rattle.gix_ref_base.specs.PackedRecords.{Record}
 use Rattle.gix_ref_files.specs.declared.files.ReadAt.{Ghosts}
 use Rattle.gix_ref_lookup.specs.Lookups.{IsSound}

@@ -9,19 +9,19 @@ use Rattle.gix_ref_theory.specs.Edits.Mode.{DeletionsOnly}
 use Rattle.gix_ref_theory.specs.Losses.{IsLostWell}
 use Rattle.gix_ref_theory.specs.OnDisks.{IsSpokenOf}
 use Rattle.gix_ref_theory.specs.OnRealTrees.{view_of}
-use Rattle.gix_ref_store.specs.OwnLocks.{is_in, AddsLocks}
-use Rattle.gix_ref_store.specs.Causes.{locks_of, names_of}
-use Rattle.gix_ref_store.specs.CommitResult.{IsOldOrNew, planned}
+use Rattle.gix_ref_transaction.specs.OwnLocks.{is_in, AddsLocks}
+use Rattle.gix_ref_transaction.specs.Causes.{locks_of, names_of}
+use Rattle.gix_ref_transaction.specs.CommittedEdits.{IsOldOrNew, planned}
 use Rattle.gix_ref_store.specs.Prepared.{RefusesFrom, tree_of, disk_in, locks_in, places_in}
 use Rattle.gix_ref_theory.specs.Readings as readings
 use Rattle.gix_ref_store.specs.Store.{files_of, loose_meaning_of}
-use Rattle.gix_ref_store.specs.PrepareSteps.{places_of}
+use Rattle.gix_ref_transaction.specs.PrepareSteps.{places_of}
 use Rattle.gix_ref_store.specs.declared.file.store.Store.{Store}
 use Rattle.gix_ref_edits.specs.declared.transaction.RefEdit.{RefEdit}
 use Rattle.gix_ref_store.specs.declared.file.transaction.Done.{Done}
 use Rattle.gix_ref_store.specs.declared.file.transaction.Failed.{Failed}
-use Rattle.gix_ref_store.specs.declared.file.transaction.commit.error.Error as commits
-use Rattle.gix_ref_store.specs.declared.file.transaction.commit.error.Error.TheVariants.{LockCommit, FolderInPlace, Memory}
+use Rattle.gix_ref_transaction.specs.declared.commit.error.Error as commits
+use Rattle.gix_ref_transaction.specs.declared.commit.error.Error.TheVariants.{LockCommit, FolderInPlace, Memory}
 use Rattle.gix_ref_program.specs.declared.update.UpdateError.{UpdateError}
 use Rattle.gix_ref_program.specs.declared.update.UpdateError.TheVariants.{Prepare, Commit}
 

@@ -1,9 +1,11 @@
 //! Updates from their preparation to their commit.
 ghost use Rattle.std.specs.Prelude.{◌≡◌, None, IfSome};
 ghost use Rattle.gix_ref_files.specs.Files.{Leaves, Loses};
-ghost use Rattle.gix_ref_store.specs.OwnLocks.{paths_of};
-ghost use Rattle.gix_ref_store.specs.CommitResult.{AreCommitted, left_of, mode_of};
-ghost use Rattle.gix_ref_store.specs.Prepared.{AreDirectUpdates, tree_of, IsAtRest};
+ghost use Rattle.gix_ref_transaction.specs.OwnLocks.{paths_of};
+ghost use Rattle.gix_ref_transaction.specs.CommittedEdits.{AreCommitted};
+ghost use Rattle.gix_ref_store.specs.CommitResult.{left_of, mode_of};
+ghost use Rattle.gix_ref_transaction.specs.DirectUpdates.{AreDirectUpdates};
+ghost use Rattle.gix_ref_store.specs.Prepared.{tree_of, IsAtRest};
 ghost use Rattle.gix_ref_store.specs.Store.{files_of, loose_meaning_of, IsSameStore};
 ghost use Rattle.gix_ref_program.specs.Updates.{IsStopOf, IsLossOf, IsUpdateError, AreNamed, error_of};
 

@@ -1,8 +1,8 @@
 -- A commit from the store before its `prepare`, from what its renames and the release of its locks leave.
 use Rattle.std.proofs.Common.{◌≡◌, ◌⊎◌, inl, inr, ⊎_elim, ℕ, ◌<◌, ◌≤◌, List, [], true, false, Option, Some, None, refl, sym, ◌∙◌, ap, subst, length, get_or, arith}
 use Rattle.std.proofs.lemmas.List.{length-map}
-use Rattle.gix_ref_store.specs.declared.file.transaction.commit.publish.Why.{Why}
-use Rattle.gix_ref_store.specs.declared.file.transaction.commit.publish.Why.TheVariants.{Fault, Folder, Memory as out_of_memory}
+use Rattle.gix_ref_transaction.specs.declared.commit.renames.Why.{Why}
+use Rattle.gix_ref_transaction.specs.declared.commit.renames.Why.TheVariants.{Fault, Folder, Memory as out_of_memory}
 use Rattle.gix_ref_files.specs.Tree.{Tree, Path, is_file, is_folder, Content}
 use Rattle.gix_ref_files.specs.Tree.Content.{File, Folder}
 use Rattle.gix_ref_files.specs.Files.{Meaning, disk_of, Leaves, Passes}
@@ -11,25 +11,27 @@ use Rattle.gix_ref_files.specs.DiskSteps.{IsReachedBy, IsSyncedAfter}
 use Rattle.gix_ref_files.specs.declared.files.FileError.TheVariants.{Memory as no_room}
 use Rattle.gix_ref_files.specs.Steps.{IsAfter, IsLeftBy}
 use Rattle.gix_ref_files.proofs.Between.{none_begun}
-use Rattle.gix_ref_store.specs.OwnLocks.{is_in, RemovesLocks, OnlyRemoves}
-use Rattle.gix_ref_store.specs.CommitRenames.{renames_of, rename_at, synced_renames_of, lock_at, stays_at, place_at, IsCutAt, IsFolderInPlace, IsRaised}
-use Rattle.gix_ref_store.specs.CommitResult.{AreCommitted, EveryStopIsOldOrNew, EveryLossIsOldOrNew, SaysWhy, FailsFor, EndsAtEdit}
-use Rattle.gix_ref_store.specs.Causes.{names_of}
-use Rattle.gix_ref_store.specs.Prepared.{AreDirectUpdates, PreparesFrom, tree_of, disk_in, places_in, IsAtRest}
+use Rattle.gix_ref_transaction.specs.OwnLocks.{is_in, RemovesLocks, OnlyRemoves}
+use Rattle.gix_ref_transaction.specs.CommitRenames.{renames_of, rename_at, synced_renames_of, lock_at, stays_at, place_at, IsCutAt, IsFolderInPlace, IsRaised}
+use Rattle.gix_ref_transaction.specs.CommittedEdits.{AreCommitted, SaysWhy}
+use Rattle.gix_ref_store.specs.CommitResult.{EveryStopIsOldOrNew, EveryLossIsOldOrNew, FailsFor, EndsAtEdit}
+use Rattle.gix_ref_transaction.specs.Causes.{names_of}
+use Rattle.gix_ref_transaction.specs.DirectUpdates.{AreDirectUpdates}
+use Rattle.gix_ref_store.specs.Prepared.{PreparesFrom, tree_of, disk_in, places_in, IsAtRest}
 use Rattle.gix_ref_store.specs.Store.{files_of, folders, kind_of, loose_meaning_of}
-use Rattle.gix_ref_store.specs.PrepareSteps.{lock_paths, place_paths}
-use Rattle.gix_ref_store.specs.CarriedEdits.{AreCarried}
+use Rattle.gix_ref_transaction.specs.PrepareSteps.{lock_paths, place_paths}
+use Rattle.gix_ref_transaction.specs.CarriedEdits.{AreCarried}
 use Rattle.gix_ref_edits.specs.declared.transaction.RefEdit.{RefEdit}
 use Rattle.gix_ref_store.specs.declared.file.store.Store.{Store}
-use Rattle.gix_ref_store.specs.declared.file.transaction.setting.Paths.{Paths}
-use Rattle.gix_ref_store.specs.declared.file.transaction.commit.error.Error.{Error}
-use Rattle.gix_ref_store.specs.declared.file.transaction.commit.error.Error.TheVariants.{LockCommit, FolderInPlace, Memory}
-use Rattle.gix_ref_store.proofs.Adds.{clash, in_at}
-use Rattle.gix_ref_store.proofs.Apart.{updates_are}
-use Rattle.gix_ref_store.proofs.Held.{IsReady}
-use Rattle.gix_ref_store.proofs.Updates.{begins, ends, gone, commits}
-use Rattle.gix_ref_store.proofs.CommitLosses as losses
-use Rattle.gix_ref_store.proofs.CommitLosses.{rest_kept}
+use Rattle.gix_ref_transaction.specs.declared.setting.Paths.{Paths}
+use Rattle.gix_ref_transaction.specs.declared.commit.error.Error.{Error}
+use Rattle.gix_ref_transaction.specs.declared.commit.error.Error.TheVariants.{LockCommit, FolderInPlace, Memory}
+use Rattle.gix_ref_transaction.proofs.Adds.{clash, in_at}
+use Rattle.gix_ref_transaction.proofs.Apart.{updates_are}
+use Rattle.gix_ref_transaction.proofs.Held.{IsReady}
+use Rattle.gix_ref_transaction.proofs.Updates.{begins, ends, gone, commits}
+use Rattle.gix_ref_transaction.proofs.CommitLosses as losses
+use Rattle.gix_ref_transaction.proofs.CommitLosses.{rest_kept}
 use Rattle.gix_ref_lookup.specs.StoreLayout.{folders_of}
 use Rattle.gix_ref_lookup.specs.declared.folders.Dirs.{Dirs}
 use Rattle.gix_ref_base.specs.Layout.{Layout}

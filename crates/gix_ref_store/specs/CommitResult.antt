@@ -1,50 +1,29 @@
 -- What `commit` returns and leaves.
-use Rattle.std.specs.Prelude.{◌≡◌, ◌≢◌, ◌<◌, ℕ, List, true, false, map, get_or, length, [], Result, Ok, Err}
+use Rattle.std.specs.Prelude.{◌≡◌, ◌≢◌, ◌<◌, ℕ, List, true, false, get_or, length, [], Result, Ok, Err}
 use Rattle.gix_ref_base.specs.Names.{full_bytes}
 use Rattle.gix_ref_files.specs.Tree.{Tree, Path, is_file}
 use Rattle.gix_ref_files.specs.declared.files.FileError.TheVariants.{Memory as no_memory}
 use Rattle.gix_ref_files.specs.Disk.{Lost}
 use Rattle.gix_ref_files.specs.Files.{Meaning, Leaves, Loses, HasRisen}
-use Rattle.gix_ref_store.specs.OwnLocks.{is_in, paths_of, RemovesLocks}
-use Rattle.gix_ref_theory.specs.Between.{IsCommitted}
+use Rattle.gix_ref_transaction.specs.OwnLocks.{is_in, paths_of, RemovesLocks}
 use Rattle.gix_ref_theory.specs.Losses.{IsLostWell}
-use Rattle.gix_ref_theory.specs.OnRealTrees.{view_of, IsOldOrNewTree}
-use Rattle.gix_ref_store.specs.Causes.{locks_of, names_of}
-use Rattle.gix_ref_theory.specs.Edits as plan
+use Rattle.gix_ref_transaction.specs.Causes.{names_of}
 use Rattle.gix_ref_theory.specs.Edits.Mode.{DeletionsOnly}
-use Rattle.gix_ref_store.specs.Prepared.{AreDirectUpdates, PreparesFrom, tree_of, disk_in, IsAtRest, locks_in, places_in}
-use Rattle.gix_ref_theory.specs.Readings as readings
+use Rattle.gix_ref_transaction.specs.CommittedEdits.{planned, AreCommitted, IsOldOrNew}
+use Rattle.gix_ref_transaction.specs.DirectUpdates.{AreDirectUpdates}
+use Rattle.gix_ref_store.specs.Prepared.{PreparesFrom, tree_of, disk_in, IsAtRest, locks_in, places_in}
 use Rattle.gix_ref_store.specs.Store.{files_of, loose_meaning_of}
-use Rattle.gix_ref_store.specs.PrepareSteps.{lock_paths, places_of}
-use Rattle.gix_ref_store.specs.CommitRenames.{is_written_at, place_at, IsCutAt, IsFolderInPlace}
-use Rattle.gix_ref_store.specs.CarriedEdits.{edit_of}
-use Rattle.gix_ref_theory.specs.Views.{IsOwnLock}
+use Rattle.gix_ref_transaction.specs.PrepareSteps.{lock_paths}
+use Rattle.gix_ref_transaction.specs.CommitRenames.{is_written_at, place_at, IsCutAt, IsFolderInPlace}
 use Rattle.gix_ref_edits.specs.declared.transaction.RefEdit.{RefEdit}
 use Rattle.gix_ref_store.specs.declared.file.store.Store.{Store}
 use Rattle.gix_ref_store.specs.declared.file.transaction.Done.{Done}
 use Rattle.gix_ref_store.specs.declared.file.transaction.PackedRefs.{PackedRefs}
 use Rattle.gix_ref_store.specs.declared.file.transaction.Failed.{Failed}
-use Rattle.gix_ref_store.specs.declared.file.transaction.commit.publish.Why.{Why}
-use Rattle.gix_ref_store.specs.declared.file.transaction.commit.publish.Why.TheVariants.{Fault, Folder, Memory as out_of_memory}
-use Rattle.gix_ref_store.specs.declared.file.transaction.setting.Paths.{Paths}
-use Rattle.gix_ref_store.specs.declared.file.transaction.commit.error.Error.{Error}
-use Rattle.gix_ref_store.specs.declared.file.transaction.commit.error.Error.TheVariants.{LockCommit, FolderInPlace, Memory}
-
--- the edits as the plan of a commit has them
-abbrev pub planned : List RefEdit → List plan.Edit
-planned edits = map edit_of edits
-
--- From the tree `before` the locks were taken, the edits are committed in T, but for these locks that stay.
-abbrev pub AreCommitted : readings.Store → List RefEdit → (before : Tree) (left : List Path) → Tree → Type 0
-AreCommitted s edits before left T =
-    (staying : List Path) → ((q : Path) → is_in left q ≡ true → IsOwnLock staying q) →
-    IsCommitted s DeletionsOnly staying (planned edits) (view_of before) (view_of T)
-
--- In T every reference reads as before or as edited, and every file is as before or as edited; one that is at no place and no lock of the
--- edits is as before, and so is all that lies outside of the store's namespace.
-pub record IsOldOrNew (s : readings.Store) (edits : List RefEdit) (before T : Tree) : Type 0 where
-  pub well : IsOldOrNewTree s DeletionsOnly (places_of s edits) (planned edits) before T
-  pub elsewhere : (q : Path) → is_in (places_of s edits) q ≡ false → is_in (locks_of s edits) q ≡ false → view_of T q ≡ view_of before q
+use Rattle.gix_ref_transaction.specs.declared.commit.renames.Why.{Why}
+use Rattle.gix_ref_transaction.specs.declared.setting.Paths.{Paths}
+use Rattle.gix_ref_transaction.specs.declared.commit.error.Error.{Error}
+use Rattle.gix_ref_transaction.specs.declared.commit.error.Error.TheVariants.{LockCommit, FolderInPlace, Memory}
 
 -- the locks that the result of a commit names
 abbrev pub left_of : Result Done Failed → List Path
@@ -55,13 +34,6 @@ left_of (Err failed) = paths_of failed.locks_left.items
 abbrev pub mode_of : Result Done Failed → PackedRefs
 mode_of (Ok done) = done.packed_refs
 mode_of (Err failed) = failed.packed_refs
-
--- what an error reports of the renames of these edits, where they ended at one of them, by this fault or by a folder at this place
-abbrev pub SaysWhy : List RefEdit → (at : ℕ) → Path → Why → Error → Type 0
-SaysWhy edits at place Folder (FolderInPlace path) = path.items ≡ place
-SaysWhy edits at place (Fault fault) (LockCommit source name) = (source ≡ fault) × (full_bytes name ≡ get_or (names_of edits) at [])
-SaysWhy edits at place out_of_memory Memory = Unit {0}
-SaysWhy edits at place why error = ⊥
 
 module _ {F : Type 0} (honest : Type 0) (means : F → Meaning) (faults : F → ℕ) where
   -- A commit, from the store `start` with these edits and paths of a `prepare` that began with the store `old`: every stop leaves each

@@ -1,13 +1,7 @@
-pub mod CarriedEdits
-pub mod Causes
-pub mod CommitRenames
 pub mod CommitResult
-pub mod First
 pub mod Listings
 pub mod Lookup
 pub mod Options
-pub mod OwnLocks
-pub mod PrepareSteps
 pub mod Prepared
 pub mod PreparedFields
 pub mod Reflogs

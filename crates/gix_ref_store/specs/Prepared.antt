@@ -1,5 +1,5 @@
 -- What `prepare` returns and leaves.
-use Rattle.std.specs.Prelude.{◌≡◌, ◌≤◌, ◌⊎◌, ℕ, List, [], true, false, Option, IsSome, All}
+use Rattle.std.specs.Prelude.{◌≡◌, ◌≤◌, ◌⊎◌, ℕ, List, [], true, false, Option}
 use Rattle.gix_ref_base.specs.Targets.{TargetValue}
 use Rattle.gix_ref_files.specs.Tree.{Tree, Path, is_file}
 use Rattle.gix_ref_files.specs.Disk.{Disk}
@@ -8,20 +8,15 @@ use Rattle.gix_ref_files.specs.Settled.{AllStay, IsAllSettled}
 use Rattle.gix_ref_theory.specs.OnDisks.{IsSpokenOf, IsAsBefore}
 use Rattle.gix_ref_theory.specs.OnRealTrees.{view_of}
 use Rattle.gix_ref_theory.specs.Roots.{roots}
-use Rattle.gix_ref_store.specs.OwnLocks.{is_in, AddsLocks, RemovesLocks, OnlyRemoves}
-use Rattle.gix_ref_store.specs.Causes.{Refuses, IsAccepted, IsCounted, locks_of}
+use Rattle.gix_ref_transaction.specs.OwnLocks.{is_in, AddsLocks, RemovesLocks, OnlyRemoves}
+use Rattle.gix_ref_transaction.specs.Causes.{Refuses, IsAccepted, IsCounted, locks_of}
 use Rattle.gix_ref_store.specs.Store.{files_of, kind_of, folders, loose_meaning_of, IsSameStore}
-use Rattle.gix_ref_store.specs.PrepareSteps.{HoldTexts, HoldWhole, old_targets, lock_paths, place_paths, places_of}
-use Rattle.gix_ref_edits.specs.RefEdits.{new_of}
-use Rattle.gix_ref_store.specs.CarriedEdits.{AreCarried}
+use Rattle.gix_ref_transaction.specs.PrepareSteps.{HoldTexts, HoldWhole, old_targets, lock_paths, place_paths, places_of}
+use Rattle.gix_ref_transaction.specs.CarriedEdits.{AreCarried}
 use Rattle.gix_ref_edits.specs.declared.transaction.RefEdit.{RefEdit}
 use Rattle.gix_ref_store.specs.declared.file.store.Store.{Store}
-use Rattle.gix_ref_store.specs.declared.file.transaction.setting.Paths.{Paths}
-use Rattle.gix_ref_store.specs.declared.file.transaction.prepare.error.Error.{Error}
-
--- Each edit is an update that follows no symbolic reference: what a transaction takes today.
-abbrev pub AreDirectUpdates : List RefEdit → Type 0
-AreDirectUpdates edits = All (λ edit. IsSome (new_of edit.change) × (edit.deref ≡ false)) edits
+use Rattle.gix_ref_transaction.specs.declared.setting.Paths.{Paths}
+use Rattle.gix_ref_transaction.specs.declared.prepare.error.Error.{Error}
 
 module _ {F : Type 0} (means : F → Meaning) where
   -- the tree of a store

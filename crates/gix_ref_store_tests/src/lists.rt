@@ -1,5 +1,5 @@
 //! Transactions of several updates: the causes against them in their order, and what stops, faults and losses of power leave.
-ghost use Rattle.gix_ref_store.specs.Prepared.{AreDirectUpdates};
+ghost use Rattle.gix_ref_transaction.specs.DirectUpdates.{AreDirectUpdates};
 
 use crate::made::{Id, bytes, full_name, object, store};
 use crate::power::pick_at;

@@ -1,6 +1,6 @@
 //! One update that is stopped at each of its file calls, or fails in it, and then loses power: the reference reads as before or as
 //! edited, and once the update is done it stays.
-ghost use Rattle.gix_ref_store.specs.Prepared.{AreDirectUpdates};
+ghost use Rattle.gix_ref_transaction.specs.DirectUpdates.{AreDirectUpdates};
 
 use crate::made::{Id, object, store};
 use crate::transactions::update;

@@ -1,5 +1,5 @@
 //! One update, prepared and then committed or rolled back: each cause, the files after it, and the values handed back.
-ghost use Rattle.gix_ref_store.specs.Prepared.{AreDirectUpdates};
+ghost use Rattle.gix_ref_transaction.specs.DirectUpdates.{AreDirectUpdates};
 
 use crate::made::{Id, digits, files, full_name, object, partial, store};
 use gix_ref_base::namespace::expand;

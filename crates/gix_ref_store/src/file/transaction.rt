@@ -3,25 +3,24 @@ ghost use Rattle.std.specs.Prelude.{◌≡◌, ◌≤◌, ◌⊎◌, [], OnOk, I
 ghost use Rattle.std.specs.Vec.{vec_capacity};
 ghost use Rattle.std.specs.Borrow.{sem, RestsIfErr};
 ghost use Rattle.gix_ref_files.specs.Files.{HasRisen};
-ghost use Rattle.gix_ref_store.specs.OwnLocks.{paths_of};
-ghost use Rattle.gix_ref_store.specs.Prepared.{AreDirectUpdates, RefusesFrom, LosesNothing, PreparesFrom, RollsBackFrom};
+ghost use Rattle.gix_ref_transaction.specs.OwnLocks.{paths_of};
+ghost use Rattle.gix_ref_transaction.specs.DirectUpdates.{AreDirectUpdates};
+ghost use Rattle.gix_ref_store.specs.Prepared.{RefusesFrom, LosesNothing, PreparesFrom, RollsBackFrom};
 
 pub mod commit;
 pub mod prepare;
-pub(crate) mod release;
-pub(crate) mod setting;
 
 use crate::file::store::Store;
-use crate::file::transaction::commit::failure::{failure, take_place};
-use crate::file::transaction::commit::publish::Unpublished;
-use crate::file::transaction::prepare::carry::carry_edits;
-use crate::file::transaction::prepare::hold::{Taken, Untaken};
-use crate::file::transaction::release::{release_locks, remove_locks};
-use crate::file::transaction::setting::Paths;
 use crate::store::WriteReflog;
 use gix_ref_edits::transaction::RefEdit;
 use gix_ref_files::files::Files;
 use gix_ref_log::actor::SignatureRef;
+use gix_ref_transaction::commit::failure::{failure, take_place};
+use gix_ref_transaction::commit::renames::Unpublished;
+use gix_ref_transaction::prepare::carry::carry_edits;
+use gix_ref_transaction::prepare::hold::{Taken, Untaken};
+use gix_ref_transaction::release::{release_locks, remove_locks};
+use gix_ref_transaction::setting::Paths;
 use std::alloc::Global;
 use std::fmt;
 use thiserror::Error;
@@ -230,7 +229,7 @@ impl<F: Files> Transaction<'_, F> {
 
 impl<F: Files> Prepared<'_, F> {
     ghost use Rattle.gix_ref_store.specs.CommitResult.{left_of, mode_of, EveryStopFrom, EveryLossFrom, SettlesFrom, CommitsFrom, FailsFor};
-    ghost use Rattle.gix_ref_store.specs.PrepareSteps.{lock_paths};
+    ghost use Rattle.gix_ref_transaction.specs.PrepareSteps.{lock_paths};
     ghost use Rattle.gix_ref_store.specs.PreparedFields.{prepared_edits, prepared_mode, prepared_paths};
     ghost use Rattle.gix_ref_store.specs.Store.{files_of, IsSameStore};
 

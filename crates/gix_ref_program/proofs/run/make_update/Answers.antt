@@ -5,8 +5,8 @@ use Rattle.gix_ref_files.proofs.Moments.{weaken}
 use Rattle.gix_ref_store.specs.Prepared.{tree_of}
 use Rattle.gix_ref_store.specs.Store.{files_of, loose_meaning_of}
 use Rattle.gix_ref_edits.specs.declared.transaction.RefEdit.{RefEdit}
-use Rattle.gix_ref_store.specs.CommitResult.{AreCommitted}
-use Rattle.gix_ref_store.specs.OwnLocks.{paths_of}
+use Rattle.gix_ref_transaction.specs.CommittedEdits.{AreCommitted}
+use Rattle.gix_ref_transaction.specs.OwnLocks.{paths_of}
 use Rattle.gix_ref_program.specs.Runs.{EditOutcome}
 use Rattle.gix_ref_program.specs.Updates.{IsStopOf, IsUpdateError, AreNamed}
 use Rattle.gix_ref_program.proofs.run.make_update.Goals as goal

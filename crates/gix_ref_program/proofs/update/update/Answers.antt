@@ -1,7 +1,8 @@
 use Rattle.std.proofs.Common.{rules, ◌≡◌, None, IfSome}
 use Rattle.gix_ref_files.specs.Files.{Leaves, Loses}
-use Rattle.gix_ref_store.specs.OwnLocks.{paths_of}
-use Rattle.gix_ref_store.specs.CommitResult.{AreCommitted, left_of}
+use Rattle.gix_ref_transaction.specs.OwnLocks.{paths_of}
+use Rattle.gix_ref_transaction.specs.CommittedEdits.{AreCommitted}
+use Rattle.gix_ref_store.specs.CommitResult.{left_of}
 use Rattle.gix_ref_store.specs.Prepared.{PreparesFrom, RefusesFrom, LosesNothing, IsAtRest, tree_of}
 use Rattle.gix_ref_store.specs.Store.{files_of, loose_meaning_of}
 use Rattle.gix_ref_program.specs.Updates.{IsStopOf, IsLossOf, IsUpdateError, AreNamed}

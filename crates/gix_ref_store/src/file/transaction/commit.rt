@@ -1,6 +1,4 @@
-//! Committing a prepared transaction: its renames in their order, and why it ended early.
-mod error;
-pub(crate) mod failure;
+//! Committing a prepared transaction, from a store.
 pub(crate) mod publish;
 
-pub use error::Error;
+pub use gix_ref_transaction::commit::Error;

@@ -1,11 +1,4 @@
-//! Preparing a transaction: its causes of refusal in their order, its locks and their texts.
+//! Preparing a transaction: its checks and locks, from a store.
 pub(crate) mod begin;
-pub(crate) mod carry;
-pub(crate) mod check;
-mod error;
-mod expect;
-pub(crate) mod hold;
-mod lock;
-mod take;
 
-pub use error::Error;
+pub use gix_ref_transaction::prepare::Error;

@@ -1,4 +1,4 @@
-use Rattle.gix_ref_store.specs.Prepared.{AreDirectUpdates}
+use Rattle.gix_ref_transaction.specs.DirectUpdates.{AreDirectUpdates}
 use Rattle.gix_ref_store_tests.proofs.lists.updates.Given as goal
 
 -- the edits so far are updates

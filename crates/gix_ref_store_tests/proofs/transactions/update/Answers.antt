@@ -2,7 +2,7 @@ use Rattle.std.proofs.Common.{◌≡◌, [], ◌∷◌, ◌++◌, List, refl, sy
 use Rattle.std.proofs.lemmas.List.Elements.{All-nil, All-cons}
 use Rattle.std.specs.Result.{is_ok}
 use Rattle.gix_ref_edits.specs.RefEdits.{new_of}
-use Rattle.gix_ref_store.specs.Prepared.{AreDirectUpdates}
+use Rattle.gix_ref_transaction.specs.DirectUpdates.{AreDirectUpdates}
 use Rattle.gix_ref_edits.specs.declared.transaction.Change.TheVariants.{Update}
 use Rattle.gix_ref_edits.specs.declared.transaction.RefEdit.{RefEdit}
 use Rattle.gix_ref_store_tests.proofs.transactions.update.Goals as goal

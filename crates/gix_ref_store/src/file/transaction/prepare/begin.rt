@@ -1,19 +1,20 @@
 //! The checks and locks of a transaction, from a store.
 ghost use Rattle.std.specs.Prelude.{◌≡◌, ◌≤◌, [], OnOk, IfOk, IfErr, vec_len, length, map};
 ghost use Rattle.std.specs.Vec.{vec_capacity};
-ghost use Rattle.gix_ref_store.specs.OwnLocks.{paths_of};
-ghost use Rattle.gix_ref_store.specs.Prepared.{AreDirectUpdates, RefusesFrom, HoldsFrom, LosesNothing, tree_of, disk_in};
+ghost use Rattle.gix_ref_transaction.specs.OwnLocks.{paths_of};
+ghost use Rattle.gix_ref_transaction.specs.DirectUpdates.{AreDirectUpdates};
+ghost use Rattle.gix_ref_store.specs.Prepared.{RefusesFrom, HoldsFrom, LosesNothing, tree_of, disk_in};
 ghost use Rattle.gix_ref_store.specs.Store.{loose_meaning_of};
-ghost use Rattle.gix_ref_store.specs.PrepareSteps.{value_of, HoldWhole, lock_paths, place_paths, places_of};
-ghost use Rattle.gix_ref_store.specs.Causes.{locks_of};
+ghost use Rattle.gix_ref_transaction.specs.PrepareSteps.{value_of, HoldWhole, lock_paths, place_paths, places_of};
+ghost use Rattle.gix_ref_transaction.specs.Causes.{locks_of};
 
 use crate::file::store::Store;
-use crate::file::transaction::prepare::Error;
-use crate::file::transaction::prepare::check::{check_edits, check_names};
-use crate::file::transaction::prepare::hold::{Taken, Untaken, hold, reserve};
-use crate::file::transaction::setting::Setting;
 use gix_ref_edits::transaction::RefEdit;
 use gix_ref_files::files::Files;
+use gix_ref_transaction::prepare::Error;
+use gix_ref_transaction::prepare::check::{check_edits, check_names};
+use gix_ref_transaction::prepare::hold::{Taken, Untaken, hold, reserve};
+use gix_ref_transaction::setting::Setting;
 use std::alloc::Global;
 
 /// A refusal before any lock was tried.

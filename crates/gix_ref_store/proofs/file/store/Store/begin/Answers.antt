@@ -1,6 +1,6 @@
 use Rattle.std.proofs.Common.{sym}
 use Rattle.gix_ref_lookup.specs.StoreLayout.{folders_of, loose_alone}
-use Rattle.gix_ref_store.proofs.Apart.{apart, updates_are}
+use Rattle.gix_ref_transaction.proofs.Apart.{apart, updates_are}
 use Rattle.gix_ref_store.proofs.PreparedLosses.{kept_loses, untouched_loses}
 use Rattle.gix_ref_lookup.proofs.Laying.{folders_laid}
 use Rattle.gix_ref_store.proofs.file.store.Store.begin.Goals as goal

@@ -8,11 +8,11 @@ use Rattle.gix_ref_files.specs.DiskSteps.{IsReachedBy}
 use Rattle.gix_ref_files.proofs.Between.{none_begun}
 use Rattle.gix_ref_files.proofs.Moments.{starts, passes_starts}
 use Rattle.gix_ref_files.proofs.Runs.{none_reached}
-use Rattle.gix_ref_store.specs.CommitRenames.{renames_of, rename_at, synced_renames_of, why_is, SayTheirEdits, IsRaised}
-use Rattle.gix_ref_store.specs.declared.file.transaction.commit.publish.Why.TheVariants.{Memory, Fault}
+use Rattle.gix_ref_transaction.specs.CommitRenames.{renames_of, rename_at, synced_renames_of, why_is, SayTheirEdits, IsRaised}
+use Rattle.gix_ref_transaction.specs.declared.commit.renames.Why.TheVariants.{Memory, Fault}
 use Rattle.gix_ref_files.specs.declared.files.FileError.{FileError}
 use Rattle.gix_ref_files.specs.declared.files.FileError.TheVariants.{Memory as no_room}
-use Rattle.gix_ref_store.proofs.Renames.{cut_at, folder_there, raised_by}
+use Rattle.gix_ref_transaction.proofs.Renames.{cut_at, folder_there, raised_by}
 use Rattle.gix_ref_store.proofs.file.store.Store.publish.Goals as goal
 
 pub returns-in_default-clause-leaves : goal.returns-in_default-clause-leaves

@@ -1,0 +1,116 @@
+-- A transaction as `prepare` gives it, edit by edit.
+use Rattle.std.proofs.Common.{◌≡◌, ◌≢◌, ◌⊎◌, inl, inr, ⊎_elim, ℕ, suc, ◌<◌, List, [], ◌∷◌, ◌++◌, Bool, true, false, not, ◌&&◌, Option, Some, None, IsSome, All, refl, sym, ◌∙◌, ap, subst, if◌then◌else◌, length, map, arith}
+use Rattle.std.specs.Prelude.{bytes_eq}
+use Rattle.std.proofs.lemmas.List.{map-append}
+use Rattle.gix_ref_base.specs.Targets.{TargetValue}
+use Rattle.gix_ref_hash.specs.declared.hash.Kind.{Kind}
+use Rattle.gix_ref_files.specs.Tree.{Tree, Path}
+use Rattle.gix_ref_files.specs.Tree.Content.{File}
+use Rattle.gix_ref_files.specs.Lock.{lock_of}
+use Rattle.gix_ref_theory.specs.Between.{AreEdits, IsEdit}
+use Rattle.gix_ref_theory.specs.Edits.{Edit}
+use Rattle.gix_ref_theory.specs.OnRealTrees.{view_of}
+use Rattle.gix_ref_theory.specs.Readings.{Store}
+use Rattle.gix_ref_transaction.specs.OwnLocks.{is_in, AddsLocks}
+use Rattle.gix_ref_transaction.specs.Causes.{found, AllValid, IsAccepted, IsValidEdit, NoCause, locks_of}
+use Rattle.gix_ref_transaction.specs.CarriedEdits.{AreCarried, IsCarried, edit_of}
+use Rattle.gix_ref_transaction.specs.CommittedEdits.{planned}
+use Rattle.gix_ref_transaction.specs.PrepareSteps.{HoldTexts, lock_text, lock_paths, old_targets, place_paths, places_of}
+use Rattle.gix_ref_edits.specs.RefEdits.{name_of, new_of, expected_of, AreUpdates, Expects}
+use Rattle.gix_ref_edits.specs.declared.transaction.RefEdit.{RefEdit}
+use Rattle.gix_ref_transaction.specs.declared.setting.Paths.{Paths}
+use Rattle.gix_ref_transaction.proofs.Adds.{clash, any_left, any_right, in_here, is_same_path}
+
+-- A transaction as `prepare` gives it, from the tree `before` it to the tree T.
+pub record IsReady (s : Store) (kind : Kind) (before T : Tree) (given carried : List RefEdit) (paths : List Paths) : Type 0 where
+  pub accepted : IsAccepted s kind before given
+  pub texts : HoldTexts s before T given
+  pub adds : AddsLocks (locks_of s given) (locks_of s given) before T
+  pub carry : AreCarried given (old_targets s before given) carried
+  pub places : place_paths paths ≡ places_of s given
+  pub locks : lock_paths paths ≡ locks_of s given
+
+module _ (s : Store) (kind : Kind) (before T : Tree) where
+  -- One of its edits, as given and as carried, and its paths.
+  pub record IsHeld (e a : RefEdit) (p : Paths) : Type 0 where
+    pub update : IsSome (new_of e.change)
+    pub valid : IsValidEdit kind e
+    pub free : before (lock_of (s.place (name_of e))) ≡ None
+    pub expects : Expects (expected_of e.change) (new_of e.change) (found s (view_of before) (name_of e))
+    pub text : T (lock_of (s.place (name_of e))) ≡ Some (File (lock_text e.change (found s (view_of before) (name_of e))))
+    pub carried : IsCarried e (found s (view_of before) (name_of e)) a
+    pub place : p.place.items ≡ s.place (name_of e)
+    pub lock : p.lock.items ≡ lock_of (s.place (name_of e))
+
+  abbrev pub AreHeld : List RefEdit → List RefEdit → List Paths → Type 0
+  AreHeld [] [] [] = Unit {0}
+  AreHeld (e ∷ given) (a ∷ carried) (p ∷ paths) = IsHeld e a p × AreHeld given carried paths
+  AreHeld given carried paths = ⊥
+
+  heads : {x y : Path} {xs ys : List Path} → x ∷ xs ≡ y ∷ ys → (x ≡ y) × (xs ≡ ys)
+  heads h = (cc, cc)
+
+  held_by : (seen sound given carried : List RefEdit) (paths : List Paths) → AllValid kind sound given → NoCause s kind before seen given → AreUpdates given → HoldTexts s before T given →
+      AreCarried given (old_targets s before given) carried → place_paths paths ≡ places_of s given → lock_paths paths ≡ locks_of s given → AreHeld given carried paths
+  held_by seen sound [] [] [] valid causes updates texts carry places locks = tt
+  held_by seen sound [] [] (p ∷ paths) valid causes updates texts carry places locks = absurd (omega (arith, ap length places))
+  held_by seen sound [] (a ∷ carried) paths valid causes updates texts carry places locks = absurd (omega (arith, carry.len))
+  held_by seen sound (e ∷ given) [] paths valid causes updates texts carry places locks = absurd (omega (arith, carry.len))
+  held_by seen sound (e ∷ given) (a ∷ carried) [] valid causes updates texts carry places locks = absurd (omega (arith, ap length places))
+  held_by seen sound (e ∷ given) (a ∷ carried) (p ∷ paths) valid causes updates texts carry places locks = (
+    record {
+      update = updates 0 e (omega arith);
+      valid = valid.0;
+      free = causes.0.0.free;
+      expects = causes.0.1;
+      text = texts.0;
+      carried = carry.each 0 e (omega arith);
+      place = (heads places).0;
+      lock = (heads locks).0;
+    },
+    held_by (seen ++ e ∷ []) (sound ++ e ∷ []) given carried paths valid.1 causes.1 (λ k d lt. updates (suc k) d (omega (arith, lt))) texts.1
+        (record { len = let len = carry.len in omega (arith, len); each = λ k d lt. carry.each (suc k) d (omega (arith, lt)) }) (heads places).1 (heads locks).1,
+  )
+
+  pub held : (given carried : List RefEdit) (paths : List Paths) → AreUpdates given → IsReady s kind before T given carried paths → AreHeld given carried paths
+  held given carried paths updates ready = held_by [] [] given carried paths ready.accepted.sound ready.accepted.no_cause updates ready.texts ready.carry ready.places ready.locks
+
+  -- each edit of its plan is one of these
+  pub held_at : (given carried : List RefEdit) (paths : List Paths) → AreHeld given carried paths → (x : Edit) → IsEdit x (planned given) →
+      (e : RefEdit) × (a : RefEdit) × (p : Paths) × IsHeld e a p × (edit_of e ≡ x) × (is_in (locks_of s given) (lock_of (s.place (name_of e))) ≡ true) × (is_in (places_of s given) (s.place (name_of e)) ≡ true)
+  held_at [] carried paths hold x within = absurd within
+  held_at (e ∷ given) [] paths hold x within = absurd hold
+  held_at (e ∷ given) (a ∷ carried) [] hold x within = absurd hold
+  held_at (e ∷ given) (a ∷ carried) (p ∷ paths) hold x (inl here) =
+      (e, a, p, hold.0, here, in_here (lock_of (s.place (name_of e))) (lock_of (s.place (name_of e))) (locks_of s given) refl, in_here (s.place (name_of e)) (s.place (name_of e)) (places_of s given) refl)
+  held_at (e ∷ given) (a ∷ carried) (p ∷ paths) hold x (inr later) =
+      let at = held_at given carried paths hold.1 x later in (
+        at.0,
+        at.1,
+        at.2,
+        at.3,
+        at.4,
+        any_right (λ l. bytes_eq l (lock_of (s.place (name_of at.0)))) (locks_of s (e ∷ [])) (locks_of s given) at.5,
+        any_right (λ l. bytes_eq l (s.place (name_of at.0))) (places_of s (e ∷ [])) (places_of s given) at.6,
+      )
+
+  -- No two of its edits have one place, since each took its lock.
+  later_apart : (seen given : List RefEdit) → NoCause s kind before seen given → (e : RefEdit) → is_in (locks_of s seen) (lock_of (s.place (name_of e))) ≡ true →
+      (x : Edit) → IsEdit x (planned given) → s.place (name_of e) ≢ s.place x.name
+  later_apart seen [] causes e within x none same = absurd none
+  later_apart seen (g ∷ given) causes e within x (inl here) same =
+      clash (subst (λ (p : Path). is_in (locks_of s seen) (lock_of p) ≡ true) (same ∙ ap (λ (y : Edit). s.place y.name) (sym here)) within) causes.0.0.ours
+  later_apart seen (g ∷ given) causes e within x (inr later) same =
+      later_apart (seen ++ g ∷ []) given causes.1 e
+      (subst (λ locks. is_in locks (lock_of (s.place (name_of e))) ≡ true) (sym (map-append (λ (r : RefEdit). lock_of (s.place (name_of r))) seen (g ∷ [])))
+      (any_left (λ l. bytes_eq l (lock_of (s.place (name_of e)))) (locks_of s seen) (locks_of s (g ∷ [])) within)) x later same
+
+  pub edits_apart : (seen given : List RefEdit) → NoCause s kind before seen given → All (λ (e : RefEdit). s.is_reference (name_of e) ≡ true) given → AreEdits s (planned given)
+  edits_apart seen [] causes references = tt
+  edits_apart seen (e ∷ given) causes references = (
+    references 0 e (omega arith),
+    later_apart (seen ++ e ∷ []) given causes.1 e
+        (subst (λ locks. is_in locks (lock_of (s.place (name_of e))) ≡ true) (sym (map-append (λ (r : RefEdit). lock_of (s.place (name_of r))) seen (e ∷ [])))
+        (any_right (λ l. bytes_eq l (lock_of (s.place (name_of e)))) (locks_of s seen) (locks_of s (e ∷ [])) (in_here (lock_of (s.place (name_of e))) (lock_of (s.place (name_of e))) [] refl))),
+    edits_apart (seen ++ e ∷ []) given causes.1 (λ k d lt. references (suc k) d (omega (arith, lt))),
+  )

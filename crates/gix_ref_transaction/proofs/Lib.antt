@@ -1,0 +1,14 @@
+pub mod Adds
+pub mod Apart
+pub mod CommitLosses
+pub mod Committing
+pub mod Firsts
+pub mod Held
+pub mod LockRounds
+pub mod Locking
+pub mod LookupLemmas
+pub mod Removing
+pub mod Renames
+pub mod Rounds
+pub mod Taking
+pub mod Updates

@@ -1,0 +1,107 @@
+-- One round of the loop that takes the locks, on the disk.
+use Rattle.std.proofs.Common.{◌≡◌, ◌≢◌, inl, inr, ⊎_elim, ℕ, ◌+◌, ◌<◌, List, [], ◌∷◌, ◌++◌, length, get_or, take, true, Option, None, Some, refl, sym, ap, subst}
+use Rattle.std.specs.Prelude.{bytes_eq}
+use Rattle.gix_ref_hash.specs.declared.hash.Kind.{Kind}
+use Rattle.gix_ref_base.specs.Targets.{TargetValue}
+use Rattle.gix_ref_files.specs.Tree.{Tree, Path, is_file}
+use Rattle.gix_ref_files.specs.Tree.Content.{File}
+use Rattle.gix_ref_files.specs.Disk.{Disk}
+use Rattle.gix_ref_files.specs.DiskCalls.{WritingOn}
+use Rattle.gix_ref_files.specs.Files.{Meaning, disk_of, Leaves, Passes}
+use Rattle.gix_ref_files.specs.Lock.{lock_of, LockingOn}
+use Rattle.gix_ref_files.specs.Settled.{IsWhole}
+use Rattle.gix_ref_files.proofs.Moments.{passes_weaken, passes_joins}
+use Rattle.gix_ref_theory.specs.OnDisks.{IsAsBefore}
+use Rattle.gix_ref_theory.specs.OnRealTrees.{view_of}
+use Rattle.gix_ref_theory.specs.Readings.{Store}
+use Rattle.gix_ref_theory.specs.Views.{IsOwnLock}
+use Rattle.gix_ref_theory.proofs.LockDisks.{locking_as_before, writing_as_before, whole_locking, whole_writing}
+use Rattle.gix_ref_transaction.specs.OwnLocks.{is_in, AddsLocks}
+use Rattle.gix_ref_transaction.specs.Causes.{found, LocksAreApart, locks_of}
+use Rattle.gix_ref_transaction.specs.PrepareSteps.{places_of, lock_text, IsNewLock, FillingOn, HoldWhole}
+use Rattle.gix_ref_edits.specs.RefEdits.{name_of}
+use Rattle.gix_ref_edits.specs.declared.transaction.RefEdit.{RefEdit}
+use Rattle.gix_ref_transaction.proofs.Adds.{clash, any_cases, in_one}
+use Rattle.gix_ref_transaction.proofs.Rounds.{more, within, same_as_first}
+use Rattle.gix_ref_transaction.proofs.Taking.{Held}
+
+-- a lock of the edits is the transaction's
+pub own_lock : (s : Store) (edits : List RefEdit) (q : Path) → is_in (locks_of s edits) q ≡ true → IsOwnLock (places_of s edits) q
+own_lock s [] q within = clash within refl
+own_lock s (edit ∷ edits) q within =
+    ⊎_elim
+    (λ here. inl (sym (in_one (lock_of (s.place (name_of edit))) q here)))
+    (λ later. inr (own_lock s edits q later))
+    (any_cases (λ p. bytes_eq p q) (locks_of s (edit ∷ [])) (locks_of s edits) within)
+
+module _ (locked staying : List Path) (first : Disk) where
+  filling_as_before : (D E : Disk) (lock : Path) → IsOwnLock locked lock → is_file (D.tree lock) ≡ true → IsAsBefore locked staying first D → FillingOn D lock E → IsAsBefore locked staying first E
+  filling_as_before D E lock own file same (inl e) = subst (IsAsBefore locked staying first) (sym e) same
+  filling_as_before D E lock own file same (inr (text, writing)) = writing_as_before locked staying first D E lock text own file same writing
+
+  -- after a lock was taken, or not
+  pub locking_passes : (old mid new : Meaning) (place : Path) → IsOwnLock locked (lock_of place) → Passes old mid (IsAsBefore locked staying first) → Passes mid new (LockingOn (disk_of mid) place) →
+      Passes old new (IsAsBefore locked staying first)
+  locking_passes old mid new place own run next =
+      passes_joins run (passes_weaken next (λ E found. locking_as_before locked staying first (disk_of mid) E place own run.disk found))
+
+  -- and after it got its text, or not
+  pub filling_passes : (old mid new : Meaning) (lock : Path) → IsOwnLock locked lock → is_file (mid.tree lock) ≡ true → Passes old mid (IsAsBefore locked staying first) → Passes mid new (FillingOn (disk_of mid) lock) →
+      Passes old new (IsAsBefore locked staying first)
+  filling_passes old mid new lock own file run next =
+      passes_joins run (passes_weaken next (λ E found. filling_as_before (disk_of mid) E lock own file run.disk found))
+
+-- locks that stay whole
+whole_on : (s : Store) (before : Tree) (D E : Disk) (edits : List RefEdit) → ((q : Path) (bytes : List ℕ) → IsWhole D q bytes → IsWhole E q bytes) → HoldWhole s before D edits → HoldWhole s before E edits
+whole_on s before D E [] keeps whole = tt
+whole_on s before D E (edit ∷ edits) keeps whole = (keeps _ _ whole.0, whole_on s before D E edits keeps whole.1)
+
+whole_more : (s : Store) (before : Tree) (D : Disk) (edits : List RefEdit) (edit : RefEdit) → HoldWhole s before D edits →
+    IsWhole D (lock_of (s.place (name_of edit))) (lock_text edit.change (found s (view_of before) (name_of edit))) → HoldWhole s before D (edits ++ edit ∷ [])
+whole_more s before D [] edit whole here = (here, tt)
+whole_more s before D (e ∷ edits) edit whole here = (whole.0, whole_more s before D edits edit whole.1 here)
+
+filling_whole : (D E : Disk) (lock q : Path) (bytes : List ℕ) → lock ≢ q → IsWhole D q bytes → FillingOn D lock E → IsWhole E q bytes
+filling_whole D E lock q bytes apart whole (inl e) = subst (λ (X : Disk). IsWhole X q bytes) (sym e) whole
+filling_whole D E lock q bytes apart whole (inr (text, writing)) = whole_writing D E lock q text bytes apart whole writing
+
+-- one more lock is whole: it was free, so those that are held are elsewhere
+pub whole_then : (s : Store) (before : Tree) (D U E : Disk) (seen : List RefEdit) (edit : RefEdit) → HoldWhole s before D seen → D.tree (lock_of (s.place (name_of edit))) ≡ None →
+    LockingOn D (s.place (name_of edit)) U → FillingOn U (lock_of (s.place (name_of edit))) E →
+    IsWhole E (lock_of (s.place (name_of edit))) (lock_text edit.change (found s (view_of before) (name_of edit))) → HoldWhole s before E (seen ++ edit ∷ [])
+whole_then s before D U E seen edit whole free locking filling here =
+    whole_more s before E seen edit (whole_on s before D E seen keeps whole) here
+  where
+    lock : Path
+    lock = lock_of (s.place (name_of edit))
+
+    apart : (q : Path) (bytes : List ℕ) → IsWhole D q bytes → lock ≢ q
+    apart q bytes whole same = clash (ap is_file whole.0) (ap is_file (subst (λ (p : Path). D.tree p ≡ None) same free))
+
+    keeps : (q : Path) (bytes : List ℕ) → IsWhole D q bytes → IsWhole E q bytes
+    keeps q bytes whole = filling_whole U E lock q bytes (apart q bytes whole) (whole_locking D U (s.place (name_of edit)) q bytes (apart q bytes whole) whole locking) filling
+
+module _ (s : Store) (kind : Kind) (edits : List RefEdit) (apart : LocksAreApart s edits) (first mid : Meaning) (i : ℕ) (edit : RefEdit) (lt : i < length edits) (is : edit ≡ get_or edits i edit) (lock : Path) (at : lock ≡ lock_of (s.place (name_of edit))) (held : Held s kind edits apart first.tree (take i edits) mid.tree) (run : Leaves first mid (AddsLocks (locks_of s edits) (locks_of s edits) first.tree)) (place : Path) (placed : place ≡ s.place (name_of edit)) where
+  own : IsOwnLock (places_of s edits) (lock_of (s.place (name_of edit)))
+  own = own_lock s edits (lock_of (s.place (name_of edit))) (within s kind edits apart first mid i edit lt is lock at held run)
+
+  pub locking_round : (staying : List Path) (one : Meaning) → Passes first mid (IsAsBefore (places_of s edits) staying (disk_of first)) → Passes mid one (LockingOn (disk_of mid) place) →
+      Passes first one (IsAsBefore (places_of s edits) staying (disk_of first))
+  locking_round staying one before next = locking_passes (places_of s edits) staying (disk_of first) first mid one place (subst (λ (p : Path). IsOwnLock (places_of s edits) (lock_of p)) (sym placed) own) before next
+
+  pub filling_round : (staying : List Path) (one two : Meaning) → Passes first mid (IsAsBefore (places_of s edits) staying (disk_of first)) → Passes mid one (LockingOn (disk_of mid) place) → is_file (one.tree lock) ≡ true →
+      Passes one two (FillingOn (disk_of one) lock) → Passes first two (IsAsBefore (places_of s edits) staying (disk_of first))
+  filling_round staying one two before next file last =
+      filling_passes (places_of s edits) staying (disk_of first) first one two lock (subst (IsOwnLock (places_of s edits)) (sym at) own) file (locking_round staying one before next) last
+
+  pub whole_round : (one two : Meaning) (took : Leaves mid one (AddsLocks (lock ∷ []) (lock ∷ []) mid.tree)) (new : IsNewLock mid.tree lock one.tree) → HoldWhole s first.tree (disk_of mid) (take i edits) →
+      Passes mid one (LockingOn (disk_of mid) place) → Passes one two (FillingOn (disk_of one) lock) →
+      IsWhole (disk_of two) lock (lock_text edit.change (found s (view_of one.tree) (name_of edit))) → HoldWhole s first.tree (disk_of two) (take (i + 1) edits)
+  whole_round one two took new whole next last here =
+      subst (HoldWhole s first.tree (disk_of two)) (sym (more s kind edits apart first mid i edit lt is lock at held run))
+      (whole_then s first.tree (disk_of mid) (disk_of one) (disk_of two) (take i edits) edit whole
+      (subst (λ (l : Path). mid.tree l ≡ None) at new.free)
+      (subst (λ (p : Path). LockingOn (disk_of mid) p (disk_of one)) placed next.disk)
+      (subst (λ (l : Path). FillingOn (disk_of one) l (disk_of two)) at last.disk)
+      (subst (λ (was : Option TargetValue). IsWhole (disk_of two) (lock_of (s.place (name_of edit))) (lock_text edit.change was)) (same_as_first s kind edits apart first mid i edit lt is lock at held run one took new)
+      (subst (λ (l : Path). IsWhole (disk_of two) l (lock_text edit.change (found s (view_of one.tree) (name_of edit)))) at here)))

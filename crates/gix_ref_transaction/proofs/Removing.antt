@@ -1,0 +1,93 @@
+-- One lock less.
+use Rattle.std.proofs.Common.{◌≡◌, ◌⊎◌, inl, inr, ⊎_elim, ℕ, List, [], ◌∷◌, ◌++◌, true, false, None, sym, ◌∙◌, ap, subst, Vec, take}
+use Rattle.std.specs.Prelude.{bytes_eq}
+use Rattle.std.specs.declared.alloc.Global.{Global}
+use Rattle.std.proofs.lemmas.List.{map-append, take-map}
+use Rattle.gix_ref_files.specs.Tree.{Tree, Path, is_file}
+use Rattle.gix_ref_files.specs.Files.{Meaning, disk_of, Leaves, Passes}
+use Rattle.gix_ref_files.specs.DiskCalls.{RemovingFileOn}
+use Rattle.gix_ref_files.proofs.Moments.{weaken, joins, passes_weaken, passes_joins}
+use Rattle.gix_ref_transaction.specs.OwnLocks.{paths_of, is_in, RemovesLocks, OnlyRemoves, AddsLocks}
+use Rattle.gix_ref_transaction.specs.PrepareSteps.{lock_paths}
+use Rattle.gix_ref_transaction.specs.Causes.{locks_of}
+use Rattle.gix_ref_theory.proofs.LockDisks.{removing_among}
+use Rattle.gix_ref_theory.specs.Readings.{Store}
+use Rattle.gix_ref_edits.specs.RefEdits.{name_of}
+use Rattle.gix_ref_files.specs.Lock.{lock_of}
+use Rattle.gix_ref_edits.specs.declared.transaction.RefEdit.{RefEdit}
+use Rattle.gix_ref_transaction.specs.declared.setting.Paths.{Paths}
+use Rattle.gix_ref_transaction.proofs.Adds.{clash, is_false, either_way, any_left, any_right, any_cases, in_one, in_here, same_path, is_same_path, adds_less, adds_left, adds_wider}
+
+-- some paths and one more
+pub path_left : (paths : List (Vec ℕ Global)) (path : Vec ℕ Global) (q : Path) → is_in (paths_of paths) q ≡ true → is_in (paths_of (paths ++ path ∷ [])) q ≡ true
+path_left paths path q h = rw map-append (any_left (λ p. bytes_eq p q) (paths_of paths) (paths_of (path ∷ [])) h)
+
+pub path_here : (paths : List (Vec ℕ Global)) (path : Vec ℕ Global) (q : Path) → path.items ≡ q → is_in (paths_of (paths ++ path ∷ [])) q ≡ true
+path_here paths path q h = rw map-append (any_right (λ p. bytes_eq p q) (paths_of paths) (paths_of (path ∷ [])) (in_here path.items q [] h))
+
+pub path_cases : (paths : List (Vec ℕ Global)) (path : Vec ℕ Global) (q : Path) → is_in (paths_of (paths ++ path ∷ [])) q ≡ true → (is_in (paths_of paths) q ≡ true) ⊎ (path.items ≡ q)
+path_cases paths path q h =
+    let parts = any_cases (λ p. bytes_eq p q) (paths_of paths) (paths_of (path ∷ [])) (rw map-append at h) in
+    ⊎_elim (λ left. inl left) (λ right. inr (in_one path.items q right)) parts
+
+-- and so the locks of some paths and one more
+pub lock_left : (paths : List Paths) (path : Paths) (q : Path) → is_in (lock_paths paths) q ≡ true → is_in (lock_paths (paths ++ path ∷ [])) q ≡ true
+lock_left paths path q h = rw map-append (any_left (λ p. bytes_eq p q) (lock_paths paths) (lock_paths (path ∷ [])) h)
+
+pub lock_here : (paths : List Paths) (path : Paths) (q : Path) → path.lock.items ≡ q → is_in (lock_paths (paths ++ path ∷ [])) q ≡ true
+lock_here paths path q h = rw map-append (any_right (λ p. bytes_eq p q) (lock_paths paths) (lock_paths (path ∷ [])) (in_here path.lock.items q [] h))
+
+pub lock_cases : (paths : List Paths) (path : Paths) (q : Path) → is_in (lock_paths (paths ++ path ∷ [])) q ≡ true → (is_in (lock_paths paths) q ≡ true) ⊎ (path.lock.items ≡ q)
+lock_cases paths path q h =
+    let parts = any_cases (λ p. bytes_eq p q) (lock_paths paths) (lock_paths (path ∷ [])) (rw map-append at h) in
+    ⊎_elim (λ left. inl left) (λ right. inr (in_one path.lock.items q right)) parts
+
+pub removes_then : (locks : List Path) (lock : Path) (S T U : Tree) → is_in locks lock ≡ true → RemovesLocks locks S T → RemovesLocks (lock ∷ []) T U → RemovesLocks locks S U
+removes_then locks lock S T U within first second q =
+    ⊎_elim
+    (λ same. ⊎_elim (λ old. inl (same ∙ old)) (λ gone. inr (gone.0, same ∙ gone.1, gone.2)) (first q))
+    (λ gone. inr (subst (λ (p : Path). is_in locks p ≡ true) (in_one lock q gone.0) within, gone.1, stood gone.2 (first q)))
+    (second q)
+  where
+    stood : is_file (T q) ≡ true → (T q ≡ S q) ⊎ ((is_in locks q ≡ true) × (T q ≡ None) × (is_file (S q) ≡ true)) → is_file (S q) ≡ true
+    stood file (inl same) = ap is_file (sym same) ∙ file
+    stood file (inr gone) = gone.2
+
+pub no_file_then : (lock : Path) (T U : Tree) (q : Path) → RemovesLocks (lock ∷ []) T U → is_file (T q) ≡ false → is_file (U q) ≡ false
+no_file_then lock T U q removes no_file = ⊎_elim (λ same. ap is_file same ∙ no_file) (λ gone. ap is_file gone.1) (removes q)
+
+-- one lock of those that are left to do is done: it is gone, or it is named
+module _ (all : List Path) (rest : List Paths) (path : Paths) (T U : Tree) (removes : RemovesLocks (path.lock.items ∷ []) T U) where
+  pub gone_then : (left left' : List (Vec ℕ Global)) → ((q : Path) → is_in (paths_of left) q ≡ true → is_in (paths_of left') q ≡ true) → (is_in (paths_of left') path.lock.items ≡ false → is_file (U path.lock.items) ≡ false) → ((q : Path) → is_in all q ≡ true → is_in (lock_paths (rest ++ path ∷ [])) q ≡ false → is_in (paths_of left) q ≡ false → is_file (T q) ≡ false) → (q : Path) → is_in all q ≡ true → is_in (lock_paths rest) q ≡ false → is_in (paths_of left') q ≡ false → is_file (U q) ≡ false
+  gone_then left left' wider done before q within not_rest not_left =
+      either_way (bytes_eq path.lock.items q)
+      (λ here. let e : path.lock.items ≡ q = same_path path.lock.items q here in
+      subst (λ (p : Path). is_file (U p) ≡ false) e (done (subst (λ (p : Path). is_in (paths_of left') p ≡ false) (sym e) not_left)))
+      (λ elsewhere. no_file_then path.lock.items T U q removes
+      (before q within
+      (is_false (is_in (lock_paths (rest ++ path ∷ [])) q) (λ h. ⊎_elim (λ old. clash old not_rest) (λ e. clash (is_same_path path.lock.items q e) elsewhere) (lock_cases rest path q h)))
+      (is_false (is_in (paths_of left) q) (λ h. clash (wider q h) not_left))))
+
+pub leaves_then : (locks : List Path) (lock : Path) (first mid now : Meaning) → is_in locks lock ≡ true → Leaves first mid (RemovesLocks locks first.tree) → Leaves mid now (RemovesLocks (lock ∷ []) mid.tree) → Leaves first now (RemovesLocks locks first.tree)
+leaves_then locks lock first mid now within run next = joins run (weaken next (λ T removes. removes_then locks lock first.tree mid.tree T within run.tree removes))
+
+-- one removal more
+pub removes_more : (locks : List Path) (lock : Path) (first mid now : Meaning) → is_in locks lock ≡ true → OnlyRemoves locks first mid → Passes mid now (RemovingFileOn (disk_of mid) lock) → OnlyRemoves locks first now
+removes_more locks lock first mid now within run next locked staying writes D own here =
+    let before = run locked staying writes D own here in
+    passes_joins before (passes_weaken next (λ E found. removing_among locked staying writes D (disk_of mid) E lock (own lock within) before.disk found))
+
+-- the locks that were taken are removed again
+module _ (all locks : List Path) (first mid now : Meaning) (free : (q : Path) → is_in locks q ≡ true → first.tree q ≡ None) (adds : AddsLocks locks all first.tree mid.tree) (known : (q : Path) → is_in locks q ≡ true → is_in all q ≡ true) (next : Leaves mid now (RemovesLocks locks mid.tree)) where
+  pub cleaned : (left : List Path) → ((q : Path) → is_in locks q ≡ true → is_in left q ≡ false → is_file (now.tree q) ≡ false) → AddsLocks left all first.tree now.tree
+  cleaned left gone = adds_left locks left all first.tree mid.tree now.tree free adds next.tree gone
+
+  pub cleaning : Leaves first mid (AddsLocks all all first.tree) → Leaves first now (AddsLocks all all first.tree)
+  cleaning run = joins run (weaken next (λ T removes. adds_wider locks all all all first.tree T known (λ q h. h) (adds_less locks all first.tree mid.tree T free adds removes)))
+
+-- the first of the paths are the locks of the first edits
+pub locks_front : (s : Store) (edits : List RefEdit) (paths : List Paths) (n : ℕ) → lock_paths paths ≡ locks_of s edits → lock_paths (take n paths) ≡ locks_of s (take n edits)
+locks_front s edits paths n same =
+    sym (take-map (λ (p : Paths). p.lock.items) n paths)
+    ∙ (ap (take n) same
+    ∙ take-map (λ (e : RefEdit). lock_of (s.place (name_of e))) n edits)

@@ -1,0 +1,125 @@
+-- One round of the loop that takes the locks, over plain meanings.
+use Rattle.std.proofs.Common.{◌≡◌, ◌⊎◌, inl, inr, ⊎_elim, ℕ, ◌+◌, ◌<◌, List, [], ◌∷◌, ◌++◌, length, get_or, map, true, false, Option, Some, None, refl, sym, ◌∙◌, ap, subst, take, drop}
+use Rattle.std.proofs.lemmas.List.{get_or-map, map-append}
+use Rattle.gix_ref_hash.specs.declared.hash.Kind.{Kind}
+use Rattle.gix_ref_base.specs.declared.target.Target.{Target}
+use Rattle.gix_ref_files.specs.Tree.{Tree, Path, put}
+use Rattle.gix_ref_files.specs.Tree.Content.{File}
+use Rattle.gix_ref_files.specs.Files.{Meaning, Leaves}
+use Rattle.gix_ref_files.proofs.Moments.{weaken, joins}
+use Rattle.gix_ref_transaction.specs.OwnLocks.{is_in, AddsLocks}
+use Rattle.gix_ref_theory.specs.OnRealTrees.{view_of}
+use Rattle.gix_ref_transaction.specs.Causes.{found, Passes, IsFault, IsIoOrMemory, IsMismatch, NoCause, IsFirstCause, LocksAreApart, IsLockable, locks_of}
+use Rattle.gix_ref_theory.specs.Readings.{Store}
+use Rattle.gix_ref_transaction.specs.PrepareSteps.{lock_text, value_of, lock_paths, place_paths, places_of, IsRefusedLock, IsNewLock, FillsLock, old_targets}
+use Rattle.gix_ref_edits.specs.RefEdits.{name_of, expected_of, new_of, Expects}
+use Rattle.gix_ref_files.specs.Lock.{lock_of}
+use Rattle.gix_ref_edits.specs.declared.transaction.RefEdit.{RefEdit}
+use Rattle.gix_ref_transaction.specs.declared.setting.Paths.{Paths}
+use Rattle.gix_ref_transaction.specs.declared.prepare.error.Error.{Error}
+use Rattle.gix_ref_transaction.proofs.Firsts.{fault_here, fault_later, pass_more, seen_of}
+use Rattle.gix_ref_transaction.proofs.Taking.{Held, front_in, more_here, refused, still, stop_taking, lockable, free_more, same_found, filling, stop_filling, held_more}
+
+-- the lock of an edit is at its index
+pub lock_at : (s : Store) (edits : List RefEdit) (paths : List Paths) → lock_paths paths ≡ locks_of s edits → (i : ℕ) (edit : RefEdit) (path : Paths) → i < length edits → i < length paths → edit ≡ get_or edits i edit → path ≡ get_or paths i path → path.lock.items ≡ lock_of (s.place (name_of edit))
+lock_at s edits paths same i edit path lt lt' is path_is =
+    let at_path : get_or (lock_paths paths) i [] ≡ (get_or paths i path).lock.items = get_or-map (λ (p : Paths). p.lock.items) paths i path [] lt' in
+    let at_edit : get_or (locks_of s edits) i [] ≡ lock_of (s.place (name_of (get_or edits i edit))) = get_or-map (λ (e : RefEdit). lock_of (s.place (name_of e))) edits i edit [] lt in
+    ap (λ (p : Paths). p.lock.items) path_is ∙ sym at_path ∙ ap (λ l. get_or l i []) same ∙ at_edit ∙ ap (λ (e : RefEdit). lock_of (s.place (name_of e))) (sym is)
+
+-- and so does its place
+pub place_at : (s : Store) (edits : List RefEdit) (paths : List Paths) → place_paths paths ≡ places_of s edits → (i : ℕ) (edit : RefEdit) (path : Paths) → i < length edits → i < length paths → edit ≡ get_or edits i edit → path ≡ get_or paths i path → path.place.items ≡ s.place (name_of edit)
+place_at s edits paths same i edit path lt lt' is path_is =
+    let at_path : get_or (place_paths paths) i [] ≡ (get_or paths i path).place.items = get_or-map (λ (p : Paths). p.place.items) paths i path [] lt' in
+    let at_edit : get_or (places_of s edits) i [] ≡ s.place (name_of (get_or edits i edit)) = get_or-map (λ (e : RefEdit). s.place (name_of e)) edits i edit [] lt in
+    ap (λ (p : Paths). p.place.items) path_is ∙ sym at_path ∙ ap (λ l. get_or l i []) same ∙ at_edit ∙ ap (λ (e : RefEdit). s.place (name_of e)) (sym is)
+
+module _ (s : Store) (kind : Kind) (edits : List RefEdit) (apart : LocksAreApart s edits) (first mid : Meaning) (i : ℕ) (edit : RefEdit) (lt : i < length edits) (is : edit ≡ get_or edits i edit) (lock : Path) (at : lock ≡ lock_of (s.place (name_of edit))) (held : Held s kind edits apart first.tree (take i edits) mid.tree) (run : Leaves first mid (AddsLocks (locks_of s edits) (locks_of s edits) first.tree)) where
+  abbrev all : List Path
+  all = locks_of s edits
+
+  abbrev seen : List RefEdit
+  seen = take i edits
+
+  abbrev T0 : Tree
+  T0 = first.tree
+
+  pub more : take (i + 1) edits ≡ seen ++ edit ∷ []
+  more = seen_of edits i edit lt is
+
+  known : (q : Path) → is_in (locks_of s seen) q ≡ true → is_in all q ≡ true
+  known q h = front_in s kind edits i q h
+
+  pub within : is_in all (lock_of (s.place (name_of edit))) ≡ true
+  within = front_in s kind edits (i + 1) _ (subst (λ l. is_in (locks_of s l) (lock_of (s.place (name_of edit))) ≡ true) (sym more) (more_here s kind seen edit _ refl))
+
+  place_apart : is_in all (s.place (name_of edit)) ≡ false
+  place_apart = subst (λ (x : RefEdit). is_in all (s.place (name_of x)) ≡ false) (sym is) (apart.places i edit lt)
+
+  -- the lock is refused
+  pub lock_refused : (cause : Error) → IsRefusedLock mid.tree (name_of edit) lock cause → IsFirstCause s kind T0 seen (drop i edits) cause
+  lock_refused cause why =
+      fault_here (Passes s kind T0) (IsFault s kind T0) edits i edit cause lt is
+      (refused s kind edits apart T0 seen known edit within mid.tree held cause (subst (λ l. IsRefusedLock mid.tree (name_of edit) l cause) at why))
+
+  pub lock_still : (new : Tree) → AddsLocks [] (lock ∷ []) mid.tree new → AddsLocks (locks_of s seen) all T0 new
+  lock_still new adds = still s kind edits apart T0 seen known edit within mid.tree held new (subst (λ l. AddsLocks [] (l ∷ []) mid.tree new) at adds)
+
+  pub lock_leaves : (new : Meaning) → Leaves mid new (AddsLocks (lock ∷ []) (lock ∷ []) mid.tree) → Leaves first new (AddsLocks all all T0)
+  lock_leaves new next =
+      joins run (weaken next (λ T adds. stop_taking s kind edits apart T0 seen known edit within mid.tree held T (subst (λ l. AddsLocks (l ∷ []) (l ∷ []) mid.tree T) at adds)))
+
+  module _ (one : Meaning) (took : Leaves mid one (AddsLocks (lock ∷ []) (lock ∷ []) mid.tree)) (new : IsNewLock mid.tree lock one.tree) where
+    adds' : AddsLocks (lock_of (s.place (name_of edit)) ∷ []) (lock_of (s.place (name_of edit)) ∷ []) mid.tree one.tree
+    adds' = subst (λ l. AddsLocks (l ∷ []) (l ∷ []) mid.tree one.tree) at took.tree
+
+    new' : IsNewLock mid.tree (lock_of (s.place (name_of edit))) one.tree
+    new' = subst (λ l. IsNewLock mid.tree l one.tree) at new
+
+    fills' : (T : Tree) → FillsLock one.tree lock T → FillsLock one.tree (lock_of (s.place (name_of edit))) T
+    fills' T fills = subst (λ l. FillsLock one.tree l T) at fills
+
+    pub same_as_first : found s (view_of one.tree) (name_of edit) ≡ found s (view_of T0) (name_of edit)
+    same_as_first = same_found s kind edits apart T0 seen known edit within mid.tree held one.tree adds' new' place_apart
+
+    lockable' : IsLockable s kind T0 seen edit
+    lockable' = lockable s kind edits apart T0 seen known edit within mid.tree held one.tree adds' new'
+
+    -- what is found is refused
+    pub found_refused : (cause : Error) → IsIoOrMemory cause ⊎ IsMismatch kind edit (found s (view_of one.tree) (name_of edit)) cause → IsFirstCause s kind T0 seen (drop i edits) cause
+    found_refused cause why =
+        fault_here (Passes s kind T0) (IsFault s kind T0) edits i edit cause lt is
+        (⊎_elim (λ outside. inl outside) (λ mismatch. inr (inr (lockable', subst (λ was. IsMismatch kind edit was cause) same_as_first mismatch))) why)
+
+    pub free_then : (q : Path) → is_in (locks_of s (take (i + 1) edits)) q ≡ true → T0 q ≡ None
+    free_then q h = free_more s kind edits apart T0 seen known edit within mid.tree held one.tree adds' new' q (subst (λ l. is_in (locks_of s l) q ≡ true) more h)
+
+    pub adds_then_text : (T : Tree) → FillsLock one.tree lock T → AddsLocks (locks_of s (take (i + 1) edits)) all T0 T
+    adds_then_text T fills = subst (λ l. AddsLocks (locks_of s l) all T0 T) (sym more) (filling s kind edits apart T0 seen known edit within mid.tree held one.tree adds' new' T (fills' T fills))
+
+    pub text_leaves : (two : Meaning) → Leaves one two (FillsLock one.tree lock) → Leaves first two (AddsLocks all all T0)
+    text_leaves two next =
+        joins (lock_leaves one took) (weaken next (λ T fills. stop_filling s kind edits apart T0 seen known edit within mid.tree held one.tree adds' new' T (fills' T fills)))
+
+    -- the edit passes
+    passes : Expects (expected_of edit.change) (new_of edit.change) (found s (view_of one.tree) (name_of edit)) → Passes s kind T0 seen edit
+    passes expects = (lockable', subst (λ was. Expects (expected_of edit.change) (new_of edit.change) was) same_as_first expects)
+
+    pub later_fault : Expects (expected_of edit.change) (new_of edit.change) (found s (view_of one.tree) (name_of edit)) → (cause : Error) → IsFirstCause s kind T0 (take (i + 1) edits) (drop (i + 1) edits) cause → IsFirstCause s kind T0 seen (drop i edits) cause
+    later_fault expects cause later = fault_later (Passes s kind T0) (IsFault s kind T0) edits i edit cause lt is (passes expects) later
+
+    pub all_pass : Expects (expected_of edit.change) (new_of edit.change) (found s (view_of one.tree) (name_of edit)) → NoCause s kind T0 (take (i + 1) edits) (drop (i + 1) edits) → NoCause s kind T0 seen (drop i edits)
+    all_pass expects later = pass_more (Passes s kind T0) (IsFault s kind T0) edits i edit lt is (passes expects) later
+
+    pub held_then : (T : Tree) → T ≡ put one.tree lock (Some (File (lock_text edit.change (found s (view_of one.tree) (name_of edit))))) → Held s kind edits apart T0 (take (i + 1) edits) T
+    held_then T filled = subst (λ l. Held s kind edits apart T0 l T) (sym more)
+        (held_more s kind edits apart T0 seen known edit within mid.tree held one.tree adds' new' T
+        (subst (λ was. T ≡ put one.tree (lock_of (s.place (name_of edit))) (Some (File (lock_text edit.change was)))) same_as_first (subst (λ l. T ≡ put one.tree l (Some (File (lock_text edit.change (found s (view_of one.tree) (name_of edit)))))) at filled)))
+
+    pub found_then : (was : List (Option Target)) (value : Option Target) → map value_of was ≡ old_targets s T0 seen → value_of value ≡ found s (view_of one.tree) (name_of edit) → map value_of (was ++ value ∷ []) ≡ old_targets s T0 (take (i + 1) edits)
+    found_then was value before here =
+        map-append value_of was (value ∷ [])
+        ∙ ap (λ l. l ++ value_of value ∷ []) before
+        ∙ ap (λ t. old_targets s T0 seen ++ t ∷ []) (here ∙ same_as_first)
+        ∙ sym (map-append (λ (e : RefEdit). found s (view_of T0) (name_of e)) seen (edit ∷ []))
+        ∙ ap (old_targets s T0) (sym more)

@@ -1,0 +1,7 @@
+use Rattle.std.proofs.Common.{ap}
+use Rattle.std.proofs.Math.Seq.{map-set_same}
+use Rattle.gix_ref_transaction.specs.declared.setting.Paths.{Paths}
+use Rattle.gix_ref_transaction.proofs.commit.failure.take_place.Goals as goal
+
+pub returns-then-at-len-clause-locks : goal.returns-then-at-len-clause-locks
+returns-then-at-len-clause-locks c = map-set_same (λ (p : Paths). p.lock.items) c.args.paths.now.items c.args.at _ c.index_mut.result.now (ap (λ (p : Paths). p.lock.items) c.index_mut.ensures.value)

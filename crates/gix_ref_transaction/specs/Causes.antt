@@ -1,0 +1,196 @@
+-- Why `prepare` refuses edits: each cause as a statement on the tree before the call, and the order in which they are reported.
+use Rattle.std.specs.Prelude.{◌≡◌, ◌≢◌, ◌⊎◌, ℕ, List, [], true, false, Option, Some, None, IsSome, map, All}
+use Rattle.std.specs.Option.{option_map}
+use Rattle.gix_ref_hash.specs.Ids.{id_kind, null_id, IsWhole}
+use Rattle.gix_ref_base.specs.NameGrammar.{IsFullName}
+use Rattle.gix_ref_base.specs.Names.{full_bytes}
+use Rattle.gix_ref_base.specs.Targets.{TargetValue, target_value}
+use Rattle.gix_ref_base.specs.Targets.TargetValue.{object_id, symbolic_name}
+use Rattle.gix_ref_hash.specs.declared.hash.Kind.{Kind}
+use Rattle.gix_ref_files.specs.Tree.{Tree, Path, is_blocked, fronts}
+use Rattle.gix_ref_files.specs.Files.{HasRisen}
+use Rattle.gix_ref_files.specs.declared.files.FileError.{FileError}
+use Rattle.gix_ref_files.specs.declared.files.FileError.TheVariants.{Device, NotUtf8, Memory as out_of_memory}
+use Rattle.gix_ref_theory.specs.Views.{View}
+use Rattle.gix_ref_files.specs.Lock.{lock_of}
+use Rattle.gix_ref_theory.specs.OnRealTrees.{view_of}
+use Rattle.gix_ref_base.specs.PackedRecords.{Record, record_named, id_read}
+use Rattle.gix_ref_theory.specs.Readings.{Store, as_read, records_in}
+use Rattle.gix_ref_base.specs.Locations.{is_safe}
+use Rattle.gix_ref_transaction.specs.OwnLocks.{is_in}
+use Rattle.gix_ref_transaction.specs.First.{AllPass, FirstFault}
+use Rattle.gix_ref_edits.specs.DoubledNames.{NoneDoubled, IsLeastDoubled}
+use Rattle.gix_ref_edits.specs.declared.transaction.ext.error.EditError.TheVariants.{DoubledName}
+use Rattle.gix_ref_edits.specs.RefEdits.{name_of, new_of, expected_of, previous_of, Expects}
+use Rattle.gix_ref_edits.specs.declared.transaction.PreviousValue.{PreviousValue}
+use Rattle.gix_ref_edits.specs.declared.transaction.PreviousValue.TheVariants.{MustExist, MustNotExist as must_not_exist, MustExistAndMatch}
+use Rattle.gix_ref_edits.specs.declared.transaction.RefEdit.{RefEdit}
+use Rattle.gix_ref_transaction.specs.declared.prepare.error.Error.{Error}
+use Rattle.gix_ref_transaction.specs.declared.prepare.error.Error.TheVariants.{UnsafeName, TargetNotFull, OtherHashKind, PreprocessingFailed, PathCollision, LockAcquire, MustExist as must_exist, MustNotExist, ReferenceOutOfDate, Io, Memory}
+
+-- how a fault of files is reported
+abbrev pub cause_of : FileError → Error
+cause_of (Device kind) = Io (Device kind)
+cause_of NotUtf8 = Io NotUtf8
+cause_of out_of_memory = Memory
+
+-- `Io` is returned only where the count of faults rose, and never for want of memory.
+abbrev pub IsCounted : ℕ → ℕ → Error → Type 0
+IsCounted before now (Io error) = HasRisen before now × (error ≡ out_of_memory → ⊥)
+IsCounted before now other = Unit {0}
+
+-- a fault of files or of memory, which can come anywhere
+abbrev pub IsIoOrMemory : Error → Type 0
+IsIoOrMemory (Io error) = Unit {0}
+IsIoOrMemory Memory = Unit {0}
+IsIoOrMemory other = ⊥
+
+-- not a fault of files
+abbrev pub IsNotIo : Error → Type 0
+IsNotIo (Io error) = ⊥
+IsNotIo other = Unit {0}
+
+-- Each edit by itself: its name is safe, the name of a symbolic target is a full name, and its ids are of the store's kind.
+
+-- a target whose name, if it has one, is a full name
+abbrev pub IsFullTarget : Option TargetValue → Type 0
+IsFullTarget (Some (symbolic_name name)) = IsFullName name
+IsFullTarget other = Unit {0}
+
+-- a target whose id, if it has one, is of the kind
+abbrev pub IsOfKind : Kind → Option TargetValue → Type 0
+IsOfKind kind (Some (object_id id)) = id_kind id ≡ kind
+IsOfKind kind other = Unit {0}
+
+-- a target whose id, if it has one, has as many bytes as its kind says: every target
+abbrev pub IsWholeTarget : Option TargetValue → Type 0
+IsWholeTarget (Some (object_id id)) = IsWhole id
+IsWholeTarget other = Unit {0}
+
+-- both ids of an edit, the new and the expected one
+abbrev pub HasKind : Kind → RefEdit → Type 0
+HasKind kind edit = IsOfKind kind (new_of edit.change) × IsOfKind kind (previous_of (expected_of edit.change))
+
+pub record IsValidEdit (kind : Kind) (edit : RefEdit) : Type 0 where
+  pub safe : is_safe (name_of edit) ≡ true
+  pub target : IsFullTarget (new_of edit.change)
+  pub kinds : HasKind kind edit
+  pub whole : IsWholeTarget (new_of edit.change)
+
+-- the first of these that does not hold
+abbrev pub IsInvalidEdit : Kind → RefEdit → Error → Type 0
+IsInvalidEdit kind edit UnsafeName = is_safe (name_of edit) ≡ false
+IsInvalidEdit kind edit TargetNotFull = (is_safe (name_of edit) ≡ true) × (IsFullTarget (new_of edit.change) → ⊥)
+IsInvalidEdit kind edit OtherHashKind = (is_safe (name_of edit) ≡ true) × IsFullTarget (new_of edit.change) × (HasKind kind edit → ⊥)
+IsInvalidEdit kind edit other = ⊥
+
+abbrev pub AllValid : Kind → List RefEdit → List RefEdit → Type 0
+AllValid kind seen edits = AllPass {E = Error} (λ _ edit. IsValidEdit kind edit) (λ _ edit error. IsInvalidEdit kind edit error) seen edits
+
+abbrev pub IsFirstInvalid : Kind → List RefEdit → List RefEdit → Error → Type 0
+IsFirstInvalid kind seen edits error = FirstFault (λ _ edit. IsValidEdit kind edit) (λ _ edit error. IsInvalidEdit kind edit error) seen edits error
+
+-- No two edits have one name.
+
+-- the names of edits
+abbrev pub names_of : List RefEdit → List (List ℕ)
+names_of edits = map name_of edits
+
+-- the least name that occurs twice
+abbrev pub IsDoubling : List RefEdit → Error → Type 0
+IsDoubling edits (PreprocessingFailed (DoubledName name)) = IsLeastDoubled (names_of edits) (full_bytes name)
+IsDoubling edits other = ⊥
+
+-- What is found of a reference: its reading, with a file that holds no target counted as none.
+
+-- the target of a file, if it holds one
+abbrev pub decoded : Store → Option (List ℕ) → Option TargetValue
+decoded s None = None
+decoded s (Some bytes) = s.target_of bytes
+
+abbrev pub target_of_record : Option Record → Option TargetValue
+target_of_record None = None
+target_of_record (Some r) = option_map object_id (id_read r.target)
+
+abbrev pub found_by : Store → Option (List ℕ) → Option TargetValue → List Record → Option TargetValue
+found_by s key (Some target) records = Some (as_read s target)
+found_by s None None records = None
+found_by s (Some key) None records = target_of_record (record_named key records)
+
+abbrev pub found : Store → View → List ℕ → Option TargetValue
+found s view name = found_by s (s.key name) (decoded s (view (s.place name))) (records_in s (view s.packed_path))
+
+-- What an edit expects against what is found.
+
+-- the target that has to be there; the null id means any
+abbrev pub required : Kind → PreviousValue → Option TargetValue
+required kind MustExist = Some (object_id (null_id kind))
+required kind (MustExistAndMatch target) = Some (target_value target)
+required kind other = None
+
+-- nothing was found where something has to be; another target than the new one, where none was to be; another than the expected one
+abbrev pub IsMismatch : Kind → RefEdit → Option TargetValue → Error → Type 0
+IsMismatch kind edit found (must_exist name expected) =
+    (full_bytes name ≡ name_of edit) × (required kind (expected_of edit.change) ≡ Some (target_value expected)) × (found ≡ None)
+IsMismatch kind edit found (MustNotExist name actual new) =
+    (full_bytes name ≡ name_of edit) × (expected_of edit.change ≡ must_not_exist) × (new_of edit.change ≡ Some (target_value new))
+    × (found ≡ Some (target_value actual)) × (target_value actual ≢ target_value new)
+IsMismatch kind edit found (ReferenceOutOfDate name expected actual) =
+    (full_bytes name ≡ name_of edit) × (previous_of (expected_of edit.change) ≡ Some (target_value expected))
+    × (found ≡ Some (target_value actual)) × (target_value actual ≢ target_value expected)
+IsMismatch kind edit found Memory = Unit {0}
+IsMismatch kind edit found other = ⊥
+
+-- the lock of each of these edits
+abbrev pub locks_of : Store → List RefEdit → List Path
+locks_of s edits = map (λ (edit : RefEdit). lock_of (s.place (name_of edit))) edits
+
+module _ (s : Store) (kind : Kind) (T : Tree) where
+  -- a file in the path of the lock; or something at the lock, in the tree or by an earlier edit of the same place
+  abbrev pub IsUnlockable : List RefEdit → RefEdit → Error → Type 0
+  IsUnlockable earlier edit (PathCollision name) = (full_bytes name ≡ name_of edit) × (is_blocked T (lock_of (s.place (name_of edit))) ≡ true)
+  IsUnlockable earlier edit (LockAcquire name) =
+      (full_bytes name ≡ name_of edit)
+      × (IsSome (T (lock_of (s.place (name_of edit)))) ⊎ (is_in (locks_of s earlier) (lock_of (s.place (name_of edit))) ≡ true))
+  IsUnlockable earlier edit other = ⊥
+
+  pub record IsLockable (earlier : List RefEdit) (edit : RefEdit) : Type 0 where
+    pub way : is_blocked T (lock_of (s.place (name_of edit))) ≡ false
+    pub free : T (lock_of (s.place (name_of edit))) ≡ None
+    pub ours : is_in (locks_of s earlier) (lock_of (s.place (name_of edit))) ≡ false
+
+  -- an edit passes: its lock can be taken, and it expects what is found
+  abbrev pub Passes : List RefEdit → RefEdit → Type 0
+  Passes earlier edit = IsLockable earlier edit × Expects (expected_of edit.change) (new_of edit.change) (found s (view_of T) (name_of edit))
+
+  -- an edit is at fault: at its lock, and then at its expectation; files and memory can fail anywhere
+  abbrev pub IsFault : List RefEdit → RefEdit → Error → Type 0
+  IsFault earlier edit error =
+      IsIoOrMemory error ⊎ (IsUnlockable earlier edit error ⊎ (IsLockable earlier edit × IsMismatch kind edit (found s (view_of T) (name_of edit)) error))
+
+-- No lock lies at a place, at `packed-refs` or on the way to a lock.
+pub record LocksAreApart (s : Store) (edits : List RefEdit) : Type 0 where
+  pub ways : (lock q : Path) → is_in (locks_of s edits) lock ≡ true → is_in (locks_of s edits) q ≡ true → is_in (fronts lock) q ≡ false
+  pub places : All (λ (edit : RefEdit). is_in (locks_of s edits) (s.place (name_of edit)) ≡ false) edits
+  pub packed : is_in (locks_of s edits) s.packed_path ≡ false
+
+-- No edit has a cause to be refused, each after those before it.
+abbrev pub NoCause : Store → Kind → Tree → List RefEdit → List RefEdit → Type 0
+NoCause s kind T seen edits = AllPass (Passes s kind T) (IsFault s kind T) seen edits
+
+-- The cause of the first edit that has one.
+abbrev pub IsFirstCause : Store → Kind → Tree → List RefEdit → List RefEdit → Error → Type 0
+IsFirstCause s kind T seen edits error = FirstFault (Passes s kind T) (IsFault s kind T) seen edits error
+
+-- The first cause: each edit by itself; then a name of two edits; then, edit by edit, its lock and what it expects.
+abbrev pub Refuses : Store → Kind → Tree → List RefEdit → Error → Type 0
+Refuses s kind T edits error =
+    IsIoOrMemory error
+    ⊎ (IsFirstInvalid kind [] edits error
+    ⊎ (AllValid kind [] edits × (IsDoubling edits error ⊎ (NoneDoubled (names_of edits) × IsFirstCause s kind T [] edits error))))
+
+-- no cause applies
+pub record IsAccepted (s : Store) (kind : Kind) (T : Tree) (edits : List RefEdit) : Type 0 where
+  pub sound : AllValid kind [] edits
+  pub single : NoneDoubled (names_of edits)
+  pub no_cause : NoCause s kind T [] edits

@@ -1,0 +1,98 @@
+-- The renames of a commit.
+use Rattle.std.specs.Prelude.{◌≡◌, ◌<◌, ℕ, zero, suc, List, [], ◌∷◌, ◌++◌, length, Bool, true, false, not, ◌&&◌, nat_lt, get_or, map, if◌then◌else◌}
+use Rattle.gix_ref_files.specs.Tree.{Tree, Path, is_folder}
+use Rattle.gix_ref_files.specs.Files.{HasRisen}
+use Rattle.gix_ref_files.specs.Settled.{climb}
+use Rattle.gix_ref_files.specs.Steps.{Step, IsAfter, IsLeftBy}
+use Rattle.gix_ref_files.specs.Steps.Step.{Rename}
+use Rattle.gix_ref_files.specs.DiskSteps.{Synced}
+use Rattle.gix_ref_files.specs.DiskSteps.Synced.{With}
+use Rattle.gix_ref_files.specs.declared.steps.Cause.{Cause}
+use Rattle.gix_ref_files.specs.declared.steps.Cause.TheVariants.{File, Unexpected, Asked}
+use Rattle.gix_ref_files.specs.declared.steps.Planned.{Planned}
+use Rattle.gix_ref_lookup.specs.StoreLayout.{root_in}
+use Rattle.gix_ref_lookup.specs.declared.folders.Dirs.{Dirs}
+use Rattle.gix_ref_transaction.specs.PrepareSteps.{is_written, lock_paths, place_paths}
+use Rattle.gix_ref_transaction.specs.declared.commit.renames.Why.{Why}
+use Rattle.gix_ref_transaction.specs.declared.commit.renames.Why.TheVariants.{Fault, Folder}
+use Rattle.gix_ref_edits.specs.RefEdits.{expected_of, matched}
+use Rattle.gix_ref_edits.specs.declared.transaction.Change.{Change}
+use Rattle.gix_ref_edits.specs.declared.transaction.RefEdit.{RefEdit}
+use Rattle.gix_ref_transaction.specs.declared.setting.Paths.{Paths}
+
+-- a prepared change writes its reference: it carries what was found
+abbrev pub writes : Change → Bool
+writes change = is_written change (matched (expected_of change))
+
+-- the edit at this place of the list is written
+abbrev pub is_written_at : List RefEdit → ℕ → Bool
+is_written_at edits k = get_or (map (λ (edit : RefEdit). writes edit.change) edits) k false
+
+-- the lock at this place of the list was not renamed, where the edits before `done` are done
+abbrev pub stays_at : List RefEdit → (done k : ℕ) → Bool
+stays_at edits done k = not (nat_lt k done && is_written_at edits k)
+
+-- the lock and the place at this place of the list
+abbrev pub lock_at : List Paths → ℕ → Path
+lock_at paths k = get_or (lock_paths paths) k []
+
+abbrev pub place_at : List Paths → ℕ → Path
+place_at paths k = get_or (place_paths paths) k []
+
+-- The renames, each with the syncs of its folders.
+
+-- the rename of the lock at this place of the list, where its reference is written
+abbrev pub rename_at : List RefEdit → List Paths → ℕ → List Step
+rename_at edits paths k = if is_written_at edits k then Rename (lock_at paths k) (place_at paths k) ∷ [] else []
+
+-- those of the first n edits, in their order
+abbrev pub first_renames : List RefEdit → List Paths → ℕ → List Step
+first_renames edits paths zero = []
+first_renames edits paths (suc n) = first_renames edits paths n ++ rename_at edits paths n
+
+-- those of all edits
+abbrev pub renames_of : List RefEdit → List Paths → List Step
+renames_of edits paths = first_renames edits paths (length edits)
+
+-- with the syncs of the folders above the place, up to its root
+abbrev pub synced_rename_at : Dirs → List RefEdit → List Paths → ℕ → List Synced
+synced_rename_at dirs edits paths k =
+    if is_written_at edits k then With (Rename (lock_at paths k) (place_at paths k)) (climb (place_at paths k) (root_in dirs (place_at paths k))) ∷ [] else []
+
+abbrev pub first_synced_renames : Dirs → List RefEdit → List Paths → ℕ → List Synced
+first_synced_renames dirs edits paths zero = []
+first_synced_renames dirs edits paths (suc n) = first_synced_renames dirs edits paths n ++ synced_rename_at dirs edits paths n
+
+abbrev pub synced_renames_of : Dirs → List RefEdit → List Paths → List Synced
+synced_renames_of dirs edits paths = first_synced_renames dirs edits paths (length edits)
+
+-- the step at place k of these is the rename of the edit at this place of the list
+pub record IsStepOf (edits : List RefEdit) (paths : List Paths) (k edit : ℕ) : Type 0 where
+  pub within : edit < length edits
+  pub written : is_written_at edits edit ≡ true
+  pub number : length (first_renames edits paths edit) ≡ k
+
+-- each planned step says the place of its edit
+abbrev pub SayTheirEdits : List RefEdit → List Paths → List (Planned ℕ) → Type 0
+SayTheirEdits edits paths plan = (k : ℕ) (d : Planned ℕ) → k < length plan → IsStepOf edits paths k (get_or plan k d).about
+
+-- Renames that ended at an edit, which left the tree T: the renames of those before it are done, its own is perhaps done, and no later
+-- one is begun.
+abbrev pub IsCutAt : List RefEdit → List Paths → (at : ℕ) → (before T : Tree) → Type 0
+IsCutAt edits paths at before T =
+    (mid : Tree) × IsAfter (first_renames edits paths at) before mid × IsLeftBy (rename_at edits paths at) mid T
+
+-- a folder is where a file goes, before and after
+abbrev pub IsFolderInPlace : (before T : Tree) → Path → Type 0
+IsFolderInPlace before T place = (is_folder (before place) ≡ true) × (is_folder (T place) ≡ true)
+
+-- why renames ended where a run of theirs ended for this cause
+abbrev pub why_is : Cause → Why
+why_is (File error) = Fault error
+why_is Unexpected = Folder
+why_is Asked = Folder
+
+-- a fault of the renames came with a rise of their count; a folder or a want of memory is none
+abbrev pub IsRaised : (before now : ℕ) → Why → Type 0
+IsRaised before now (Fault error) = HasRisen before now
+IsRaised before now other = Unit {0}

@@ -1,0 +1,10 @@
+//! Preparing: the causes of a refusal in their order, the locks and their texts.
+pub mod carry;
+pub mod check;
+mod error;
+mod expect;
+pub mod hold;
+pub mod lock;
+pub mod take;
+
+pub use error::Error;

@@ -1,0 +1,89 @@
+//! Why a transaction is not prepared.
+use gix_ref_base::name::FullName;
+use gix_ref_base::target::Target;
+use gix_ref_edits::transaction::EditError;
+use gix_ref_files::files::FileError;
+use std::alloc::AllocError;
+use thiserror::Error;
+
+/// The causes of a refusal, in the order in which `prepare` reports them: the first three of each edit by itself, then a name
+/// that two edits have, before it takes any lock; the others edit by edit. `Io` and `Memory` can come anywhere.
+#[derive(Debug, Drop, Error)]
+pub enum Error {
+    /// The name of an edit neither begins with `refs/` nor has a category, so it may lie where Git keeps something else.
+    #[error("the name of an edit may not be that of a reference")]
+    UnsafeName,
+    /// The new target of an edit is the name of a reference, and no full name.
+    #[error("the name of a new symbolic target is no full name")]
+    TargetNotFull,
+    /// An id of an edit, new or expected, is not of the store's kind.
+    #[error("an id of an edit is of another kind than those of the store")]
+    OtherHashKind,
+    /// More than one edit has a name: `source` is `DoubledName` with the least such name.
+    #[error("{source}")]
+    PreprocessingFailed {
+        source: EditError,
+    },
+    /// A file is in the path of the edit's lock.
+    #[error("a file stands in the path of the lock of {full_name}")]
+    PathCollision {
+        full_name: FullName,
+    },
+    /// Something is at the path of the edit's lock already.
+    #[error("the lock of {full_name} stands already")]
+    LockAcquire {
+        full_name: FullName,
+    },
+    /// The reference is not there, and an update expects it. Where it expects no certain target, that is the null id.
+    #[error("the reference {full_name} does not exist")]
+    MustExist {
+        full_name: FullName,
+        expected: Target,
+    },
+    /// The reference is there with another target than the new one, and an update expects that it is not.
+    #[error("the reference {full_name} exists with the target {actual}")]
+    MustNotExist {
+        full_name: FullName,
+        actual: Target,
+        new: Target,
+    },
+    /// The reference has another target than the edit expects.
+    #[error("the reference {full_name} has the target {actual} in place of {expected}")]
+    ReferenceOutOfDate {
+        full_name: FullName,
+        expected: Target,
+        actual: Target,
+    },
+    /// A call of files failed.
+    #[error("{0}")]
+    Io(FileError),
+    /// A growth of memory was refused.
+    #[error("out of memory")]
+    Memory,
+}
+
+impl From<FileError> for Error {
+    ghost use Rattle.std.specs.Prelude.{◌≡◌};
+    ghost use Rattle.gix_ref_transaction.specs.Causes.{cause_of};
+
+    ghost from_gives = { λ error cause. cause ≡ cause_of error };
+
+    fn from(error: FileError) -> Error {
+        match error {
+            FileError::Memory => Error::Memory,
+            FileError::Device(kind) => Error::Io(FileError::Device(kind)),
+            FileError::NotUtf8 => Error::Io(FileError::NotUtf8),
+        }
+    }
+}
+
+impl From<AllocError> for Error {
+    ghost use Rattle.std.specs.Prelude.{◌≡◌};
+    ghost use Rattle.gix_ref_transaction.specs.declared.prepare.error.Error.TheVariants.{Memory};
+
+    ghost from_gives = { λ _ cause. cause ≡ Memory };
+
+    fn from(_error: AllocError) -> Error {
+        Error::Memory
+    }
+}
