@@ -6,3 +6,4 @@ pub mod HexRuns
 pub mod IdDigits
 pub mod IdEquality
 pub mod IdLemmas
+pub mod WrittenDigits

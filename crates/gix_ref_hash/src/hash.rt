@@ -1,5 +1,5 @@
 //! Ids of objects and their hex digits.
-ghost use Rattle.std.specs.Prelude.{◌≡◌, ◌↔◌, ◌++◌, List, MatchOption, ◌*◌, ℕ, length, take, take_while, IsTrue, IfSome, IfNone};
+ghost use Rattle.std.specs.Prelude.{◌≡◌, ◌↔◌, ◌++◌, List, MatchOption, ◌*◌, ℕ, length, take, take_while, IsTrue, IfSome, IfNone, OnOk, OnErr};
 ghost use Rattle.std.specs.List.{list_all};
 ghost use Rattle.hex.specs.Hex.{encode_lower, is_hex_digit, IsBytes};
 ghost use Rattle.gix_ref_hash.specs.Bytes.{IsNewline};
@@ -7,11 +7,12 @@ ghost use Rattle.gix_ref_hash.specs.declared.hash.ObjectId.{ObjectId};
 ghost use Rattle.gix_ref_hash.specs.Ids.{id_bytes, id_kind, kind_len, null_id, IsWhole, ReadsId, IsHexOf, IsHex, IsIdText, HexRun};
 
 use hex::FromHex;
+use std::alloc::AllocError;
 use std::fmt;
 
 mod digits;
 
-use digits::sha1_of_digits;
+use digits::{digits_of_sha1, sha1_of_digits};
 
 /// The hash functions whose ids are known (`git init --object-format`).
 #[derive(Clone, Copy, Debug, PartialEq, Eq, PartialOrd, Ord, Hash)]
@@ -117,6 +118,23 @@ impl ObjectId {
         match self {
             ObjectId::Sha1(bytes) => as_read(&bytes[..]),
             ObjectId::Sha256(bytes) => as_read(&bytes[..]),
+        }
+    }
+
+    /// Adds the 40 or 64 hex digits of the id to the text, in lower case. The error reports that the text could not grow, and
+    /// leaves it as it was.
+    pub fn push_hex(&self, text: &mut Vec<u8>) -> Result<(), AllocError>
+        ensures added { OnOk result (text.new.items ≡ text.old.items ++ encode_lower
+            (id_bytes self.now)) }
+        ensures left { OnErr result (text.new.items ≡ text.old.items) }
+    {
+        match self {
+            ObjectId::Sha1(bytes) => text.extend_from_slice(&digits_of_sha1(bytes)),
+            ObjectId::Sha256(_) => {
+                let mut digits = [0u8; 64];
+                hex::encode_to_slice(self.as_bytes(), &mut digits).unwrap();
+                text.extend_from_slice(&digits)
+            }
         }
     }
 

@@ -7,7 +7,6 @@ ghost use Rattle.gix_ref_program.specs.LogPrinting.{fault_word, item_text, log_t
 ghost use Rattle.gix_ref_program.specs.Printed.{items_status};
 
 use crate::block::{push_fault, write_block};
-use crate::outcome::push_id;
 use gix_ref_files::files::ReadAt;
 use gix_ref_log::log::Line;
 use gix_ref_log::log::iter::{Reverse, ReverseError};
@@ -31,9 +30,9 @@ fn fault_variant(error: &ReverseError) -> &'static str
 fn push_line(text: &mut Vec<u8>, line: &Line) -> Result<(), AllocError>
     ensures { OnOk result (text.new.items ≡ text.old.items ++ item_text (Ok line.now)) }
 {
-    push_id(text, &line.previous_oid)?;
+    line.previous_oid.push_hex(text)?;
     text.extend_from_slice(b" ")?;
-    push_id(text, &line.new_oid)?;
+    line.new_oid.push_hex(text)?;
     text.extend_from_slice(b" ")?;
     text.extend_from_slice(&line.message)?;
     text.extend_from_slice(b"\n")?;

@@ -1,14 +1,11 @@
 //! The outcome of a line, and how it is printed.
 ghost use Rattle.std.specs.Prelude.{◌≡◌, ◌++◌, IfOk, OnOk};
 ghost use Rattle.std.specs.Io.KnownBytes.{Appends};
-ghost use Rattle.hex.specs.Hex.{encode_lower};
-ghost use Rattle.gix_ref_hash.specs.Ids.{id_bytes};
 ghost use Rattle.gix_ref_base.specs.Targets.{target_value};
 ghost use Rattle.gix_ref_program.specs.Outcomes.{lock_lines, shown_target, reference_line, printed, status_of};
 
 use crate::refusal::Refusal;
 use gix_ref_base::target::Target;
-use gix_ref_hash::hash::ObjectId;
 use gix_ref_store::raw::Reference;
 use std::alloc::{AllocError, Global};
 use std::io;
@@ -44,24 +41,13 @@ fn push_locks(text: &mut Vec<u8>, locks: &[Vec<u8>]) -> Result<(), AllocError>
     Ok(())
 }
 
-/// Adds the digits of an id.
-pub(crate) fn push_id(text: &mut Vec<u8>, id: &ObjectId) -> Result<(), AllocError>
-    ensures { OnOk result (text.new.items ≡ text.old.items ++ encode_lower (id_bytes id.now)) }
-{
-    let mut room = [0u8; 64];
-    let digits = &mut room[..id.kind().len_in_hex()];
-    hex::encode_to_slice(id.as_bytes(), digits).unwrap();
-    text.extend_from_slice(digits)?;
-    Ok(())
-}
-
 /// Adds a target: the digits of its id, or `ref: ` and its name.
 fn push_target(text: &mut Vec<u8>, target: &Target) -> Result<(), AllocError>
     ensures { OnOk result (text.new.items ≡ text.old.items ++ shown_target
         (target_value target.now)) }
 {
     match target {
-        Target::Object(id) => push_id(text, id)?,
+        Target::Object(id) => id.push_hex(text)?,
         Target::Symbolic(name) => {
             text.extend_from_slice(b"ref: ")?;
             text.extend_from_slice(name.to_path())?;

@@ -1,7 +1,7 @@
-//! The hex digits of a SHA-1: whether they are such, and the bytes that they are.
+//! The hex digits of a SHA-1: whether they are such, the bytes that they are, and those of some bytes.
 ghost use Rattle.std.specs.Prelude.{◌≡◌, ◌+◌, ◌*◌, ◌<◌, ℕ, true, Ok, Some, length, slice_index, get_or};
 ghost use Rattle.std.specs.List.{list_all};
-ghost use Rattle.hex.specs.Hex.{decode_of, is_hex_digit, hex_digit_value};
+ghost use Rattle.hex.specs.Hex.{decode_of, encode_lower, is_hex_digit, hex_digit_value, lower_digits};
 ghost use Rattle.gix_ref_hash.specs.Digits.{IsPair};
 
 use std::simd::prelude::*;
@@ -79,4 +79,34 @@ pub fn sha1_of_digits(digits: &[u8; 40]) -> [u8; 20]
         bytes[i] = if i < 16 { front[i] } else { back[i - 4] };
     }
     bytes
+}
+
+/// The lower-case hex digit of a value below 16. A letter is 39 above the digit that would follow the nine.
+#[inline(always)]
+fn digit_of(value: u8) -> u8
+    requires { value < 16 }
+    ensures { result ≡ slice_index lower_digits value }
+{
+    let letter = (value + 6) >> 4;
+    value + b'0' + letter * 39
+}
+
+/// The hex digits of the bytes of a SHA-1, in lower case. The digits of the high and of the low halves are made apart and then
+/// put together, so that both is done in vectors.
+#[inline(always)]
+pub fn digits_of_sha1(bytes: &[u8; 20]) -> [u8; 40]
+    ensures { result ≡ encode_lower bytes.now }
+{
+    let mut high = [0u8; 20];
+    let mut low = [0u8; 20];
+    for i in 0..20 {
+        high[i] = digit_of(bytes[i] >> 4);
+        low[i] = digit_of(bytes[i] & 15);
+    }
+    let mut digits = [0u8; 40];
+    for i in 0..20 {
+        digits[2 * i] = high[i];
+        digits[2 * i + 1] = low[i];
+    }
+    digits
 }
