@@ -38,10 +38,10 @@ git_options kind prohibits = record {
   is_device = λ component. prohibits && is_device component;
 }
 
--- what a store of ids of this kind reads: loose files alone, since it does not read `packed-refs` yet
-abbrev pub loose_alone : Kind → Options
-loose_alone kind = record {
+-- what a transaction reads in such a store: loose files alone, since it does not read `packed-refs` yet
+abbrev pub loose_alone : Kind → (prohibits : Bool) → Options
+loose_alone kind prohibits = record {
   target_of = target_in kind;
   records_of = λ text. [];
-  is_device = λ name. false;
+  is_device = λ component. prohibits && is_device component;
 }

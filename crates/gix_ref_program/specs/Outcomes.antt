@@ -48,6 +48,7 @@ name_word name.Memory = codes "Memory"
 
 abbrev pub prepare_word : prepares.Error → List ℕ
 prepare_word prepare.UnsafeName = codes "UnsafeName"
+prepare_word prepare.DeviceName = codes "DeviceName"
 prepare_word prepare.TargetNotFull = codes "TargetNotFull"
 prepare_word prepare.OtherHashKind = codes "OtherHashKind"
 prepare_word (prepare.PreprocessingFailed source) = codes "PreprocessingFailed"

@@ -57,6 +57,7 @@ fn prepare_variant(error: &prepare::Error) -> &'static str
 {
     match error {
         prepare::Error::UnsafeName => "UnsafeName",
+        prepare::Error::DeviceName => "DeviceName",
         prepare::Error::TargetNotFull => "TargetNotFull",
         prepare::Error::OtherHashKind => "OtherHashKind",
         prepare::Error::PreprocessingFailed { .. } => "PreprocessingFailed",

@@ -23,7 +23,7 @@ use Rattle.gix_ref_transaction.specs.PrepareSteps.{lock_paths, place_paths}
 use Rattle.gix_ref_transaction.specs.CarriedEdits.{AreCarried}
 use Rattle.gix_ref_edits.specs.declared.transaction.RefEdit.{RefEdit}
 use Rattle.gix_ref_store.specs.declared.file.store.Store.{Store}
-use Rattle.gix_ref_transaction.specs.declared.setting.Paths.{Paths}
+use Rattle.gix_ref_transaction.specs.declared.paths.Paths.{Paths}
 use Rattle.gix_ref_transaction.specs.declared.commit.error.Error.{Error}
 use Rattle.gix_ref_transaction.specs.declared.commit.error.Error.TheVariants.{LockCommit, FolderInPlace, Memory}
 use Rattle.gix_ref_transaction.proofs.Adds.{clash, in_at}
@@ -69,14 +69,14 @@ module _ {F : Type 0} (honest : Type 0) (means : F → Meaning) (faults : F → 
 
     pub well : EveryStopIsOldOrNew honest means faults old start new given left
     well = record {
-      began = λ h. begins (folders old) (kind_of old) (folders_laid old.dirs old.namespace) before first given carried paths (updates_are given direct) (ready h);
-      leaves = λ h. ends (folders old) (kind_of old) (folders_laid old.dirs old.namespace) before first given carried paths (updates_are given direct) (ready h) mid now (renames h) (releases h);
-      gone = λ h. gone (folders old) (kind_of old) (folders_laid old.dirs old.namespace) before first given carried paths (updates_are given direct) (ready h) mid.tree now.tree left done within (how h) (releases h).tree (locks_gone h);
+      began = λ h. begins (folders old) (kind_of old) old.prohibit_windows_device_names (folders_laid old.dirs old.namespace) before first given carried paths (updates_are given direct) (ready h);
+      leaves = λ h. ends (folders old) (kind_of old) old.prohibit_windows_device_names (folders_laid old.dirs old.namespace) before first given carried paths (updates_are given direct) (ready h) mid now (renames h) (releases h);
+      gone = λ h. gone (folders old) (kind_of old) old.prohibit_windows_device_names (folders_laid old.dirs old.namespace) before first given carried paths (updates_are given direct) (ready h) mid.tree now.tree left done within (how h) (releases h).tree (locks_gone h);
       ours = λ q h. subst (λ locks. is_in locks q ≡ true) (same ∙ from.locks) (ours q h);
     }
 
     pub committed : (h : honest) → IsAfter (renames_of carried paths) first.tree mid.tree → AreCommitted (loose_meaning_of old) given before left now.tree
-    committed h after = commits (folders old) (kind_of old) (folders_laid old.dirs old.namespace) before first given carried paths (updates_are given direct) (ready h) mid.tree now.tree left after (releases h).tree (well.gone h)
+    committed h after = commits (folders old) (kind_of old) old.prohibit_windows_device_names (folders_laid old.dirs old.namespace) before first given carried paths (updates_are given direct) (ready h) mid.tree now.tree left after (releases h).tree (well.gone h)
 
   -- what losses of power leave on the way, and what a commit that succeeds leaves settled
   module _ (mid : Meaning) (rest : List Paths) (same : lock_paths rest ≡ lock_paths paths) (h : honest) (at_rest : IsAtRest means old) (release : OnlyRemoves (lock_paths rest) mid now) where
@@ -88,14 +88,14 @@ module _ {F : Type 0} (honest : Type 0) (means : F → Meaning) (faults : F → 
 
     pub lost : Passes first mid (IsReachedBy (synced_renames_of start.dirs carried paths) (disk_of first)) → EveryLossIsOldOrNew honest means faults old start new given
     lost passes = record {
-      began = losses.begins old.dirs old.namespace (kind_of old) before first given carried paths (updates_are given direct) (ready h) (from.whole h) started.0 started.1;
-      loses = losses.ends old.dirs old.namespace (kind_of old) before first given carried paths (updates_are given direct) (ready h) (from.whole h) started.0 started.1 mid now
+      began = losses.begins old.dirs old.namespace (kind_of old) old.prohibit_windows_device_names before first given carried paths (updates_are given direct) (ready h) (from.whole h) started.0 started.1;
+      loses = losses.ends old.dirs old.namespace (kind_of old) old.prohibit_windows_device_names before first given carried paths (updates_are given direct) (ready h) (from.whole h) started.0 started.1 mid now
           (subst (λ (dirs : Dirs). Passes first mid (IsReachedBy (synced_renames_of dirs carried paths) (disk_of first))) from.held.same.dirs passes) releases_alone;
     }
 
     pub settled : IsSyncedAfter (synced_renames_of start.dirs carried paths) (disk_of first) (disk_of mid) → new.dirs ≡ start.dirs → new.namespace ≡ start.namespace → IsAtRest means new
     settled done dirs_same namespace_same =
-        let end = losses.settles old.dirs old.namespace (kind_of old) before first given carried paths (updates_are given direct) (ready h) (from.whole h) started.0 started.1 mid now
+        let end = losses.settles old.dirs old.namespace (kind_of old) old.prohibit_windows_device_names before first given carried paths (updates_are given direct) (ready h) (from.whole h) started.0 started.1 mid now
         (subst (λ (dirs : Dirs). IsSyncedAfter (synced_renames_of dirs carried paths) (disk_of first) (disk_of mid)) from.held.same.dirs done) releases_alone in
         (end.0, subst (λ (f : Layout). AllStay (disk_of now) (roots f)) (sym (ap (λ (dirs : Dirs). folders_of dirs new.namespace) (dirs_same ∙ from.held.same.dirs) ∙ ap (folders_of old.dirs) (namespace_same ∙ from.held.same.namespace))) end.1)
 

@@ -15,7 +15,7 @@ use Rattle.gix_ref_transaction.specs.PrepareSteps.{HoldTexts, HoldWhole, old_tar
 use Rattle.gix_ref_transaction.specs.CarriedEdits.{AreCarried}
 use Rattle.gix_ref_edits.specs.declared.transaction.RefEdit.{RefEdit}
 use Rattle.gix_ref_store.specs.declared.file.store.Store.{Store}
-use Rattle.gix_ref_transaction.specs.declared.setting.Paths.{Paths}
+use Rattle.gix_ref_transaction.specs.declared.paths.Paths.{Paths}
 use Rattle.gix_ref_transaction.specs.declared.prepare.error.Error.{Error}
 
 module _ {F : Type 0} (means : F → Meaning) where

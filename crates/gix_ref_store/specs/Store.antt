@@ -33,9 +33,9 @@ kind_of store = store.object_hash
 abbrev pub meaning_of : {F : Type 0} → Store F → readings.Store
 meaning_of store = store_of (folders store) (git_options (kind_of store) store.prohibit_windows_device_names)
 
--- where it keeps names, and what its loose files alone say: all that a transaction looks at for now
+-- where it keeps names, and what its loose files alone say: all that a transaction reads for now
 abbrev pub loose_meaning_of : {F : Type 0} → Store F → readings.Store
-loose_meaning_of store = store_of (folders store) (loose_alone (kind_of store))
+loose_meaning_of store = store_of (folders store) (loose_alone (kind_of store) store.prohibit_windows_device_names)
 
 -- the threshold that it keeps for its `packed-refs`
 abbrev pub threshold_of : {F : Type 0} → Store F → ℕ

@@ -37,6 +37,7 @@ pub enum Expect {
 pub enum Answer {
     Prepared,
     UnsafeName,
+    DeviceName,
     TargetNotFull,
     OtherHashKind,
     PreprocessingFailed,
@@ -53,6 +54,7 @@ pub enum Answer {
 pub fn answer_of(error: &Error) -> Answer {
     match error {
         Error::UnsafeName => Answer::UnsafeName,
+        Error::DeviceName => Answer::DeviceName,
         Error::TargetNotFull => Answer::TargetNotFull,
         Error::OtherHashKind => Answer::OtherHashKind,
         Error::PreprocessingFailed { .. } => Answer::PreprocessingFailed,
@@ -289,6 +291,33 @@ fn causes(rt: HostRuntime) {
             path == LOCK,
             "no other lock"
         );
+    }
+}
+
+/// Names, what an update of each is answered where device names are prohibited, and where they are not.
+const DEVICES: [(&str, Answer, Answer); 9] = [
+    ("refs/heads/CON", Answer::DeviceName, Answer::Prepared),
+    ("refs/heads/aux.txt", Answer::DeviceName, Answer::Prepared),
+    ("refs/heads/nul/x", Answer::DeviceName, Answer::Prepared),
+    ("refs/heads/conin$", Answer::DeviceName, Answer::Prepared),
+    ("refs/heads/lpt9", Answer::DeviceName, Answer::Prepared),
+    ("refs/heads/COM10", Answer::Prepared, Answer::Prepared),
+    ("refs/heads/CONX", Answer::Prepared, Answer::Prepared),
+    ("refs/bisect/PRN", Answer::DeviceName, Answer::Prepared),
+    ("logs/CON", Answer::UnsafeName, Answer::UnsafeName),
+];
+
+#[test]
+fn device_names(rt: HostRuntime) {
+    let alloc = rt.alloc();
+    for (name, prohibited, allowed) in DEVICES {
+        for prohibits in [true, false] {
+            let mut store = store(&rt, alloc, Memory::new(alloc), "", "");
+            store.prohibit_windows_device_names = prohibits;
+            let edits = update(&rt, alloc, name, PreviousValue::Any, object(&rt, Id::One));
+            let want = if prohibits { prohibited } else { allowed };
+            assert_eq!(&rt; prepared(alloc, store, edits).0, want, "{name}");
+        }
     }
 }
 

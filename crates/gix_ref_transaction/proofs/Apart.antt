@@ -43,20 +43,20 @@ module _ (f : Layout) (o : Options) (laid : IsLayout f) (kind : Kind) where
   is_reference : (edit : RefEdit) → is_safe (name_of edit) ≡ true → s.is_reference (name_of edit) ≡ true
   is_reference edit safe = ap (λ e. is_none e && is_safe (name_of edit)) edit.name.valid ∙ safe
 
-  pub references : (seen edits : List RefEdit) → AllValid kind seen edits → All (λ (edit : RefEdit). s.is_reference (name_of edit) ≡ true) edits
+  pub references : (seen edits : List RefEdit) → AllValid s kind seen edits → All (λ (edit : RefEdit). s.is_reference (name_of edit) ≡ true) edits
   references seen [] valid = All-nil (λ (edit : RefEdit). s.is_reference (name_of edit) ≡ true)
   references seen (edit ∷ edits) valid =
       All-cons (λ (e : RefEdit). s.is_reference (name_of e) ≡ true) edit edits (is_reference edit valid.0.safe) (references (seen ++ edit ∷ []) edits valid.1)
 
   -- each lock is that of a name
-  named : (seen edits : List RefEdit) → AllValid kind seen edits → (q : Path) → is_in (locks_of s edits) q ≡ true → (n : List ℕ) × (s.is_reference n ≡ true) × (lock_of (s.place n) ≡ q)
+  named : (seen edits : List RefEdit) → AllValid s kind seen edits → (q : Path) → is_in (locks_of s edits) q ≡ true → (n : List ℕ) × (s.is_reference n ≡ true) × (lock_of (s.place n) ≡ q)
   named seen [] valid q within = false_is_true within
   named seen (edit ∷ edits) valid q within = ⊎_elim
       (λ here. (name_of edit, is_reference edit valid.0.safe, in_one (lock_of (s.place (name_of edit))) q here))
       (λ later. named (seen ++ edit ∷ []) edits valid.1 q later)
       (any_cases (λ p. bytes_eq p q) (locks_of s (edit ∷ [])) (locks_of s edits) within)
 
-  pub apart : (edits : List RefEdit) → AllValid kind [] edits → LocksAreApart s edits
+  pub apart : (edits : List RefEdit) → AllValid s kind [] edits → LocksAreApart s edits
   apart edits valid = record {
     ways = λ lock q at there. is_false (is_in (fronts lock) q) (λ within.
         let m = named [] edits valid lock at in

@@ -45,7 +45,7 @@ use Rattle.gix_ref_transaction.specs.CommittedEdits.{planned}
 use Rattle.gix_ref_transaction.specs.PrepareSteps.{HoldWhole, lock_text, lock_paths, places_of}
 use Rattle.gix_ref_edits.specs.RefEdits.{name_of, AreUpdates}
 use Rattle.gix_ref_edits.specs.declared.transaction.RefEdit.{RefEdit}
-use Rattle.gix_ref_transaction.specs.declared.setting.Paths.{Paths}
+use Rattle.gix_ref_transaction.specs.declared.paths.Paths.{Paths}
 use Rattle.gix_ref_transaction.proofs.Adds.{clash, false_is_true, or_cases}
 use Rattle.gix_ref_transaction.proofs.Held.{IsReady}
 use Rattle.gix_ref_transaction.proofs.LockRounds.{own_lock}
@@ -99,12 +99,12 @@ same_text s before D (e ∷ edits) whole q within = by (same_text s before D edi
     by later true here = sym (ap file_of (subst (λ (r : Path). D.tree r ≡ Some (File text)) ((bytes_eq-Decides lock q).0 here) whole.0.0))
     by later false other = later (⊎_elim (λ here. clash here other) (λ there. there) (or_cases (bytes_eq lock q) (is_in (locks_of s edits) q) within))
 
-module _ (dirs : Dirs) (namespace : Option Namespace) (kind : Kind) (before : Tree) (first : Meaning) (given carried : List RefEdit) (paths : List Paths) (updates : AreUpdates given)
-    (ready : IsReady (store_of (folders_of dirs namespace) (loose_alone kind)) kind before first.tree given carried paths)
-    (whole : HoldWhole (store_of (folders_of dirs namespace) (loose_alone kind)) before (disk_of first) given)
+module _ (dirs : Dirs) (namespace : Option Namespace) (kind : Kind) (prohibits : Bool) (before : Tree) (first : Meaning) (given carried : List RefEdit) (paths : List Paths) (updates : AreUpdates given)
+    (ready : IsReady (store_of (folders_of dirs namespace) (loose_alone kind prohibits)) kind before first.tree given carried paths)
+    (whole : HoldWhole (store_of (folders_of dirs namespace) (loose_alone kind prohibits)) before (disk_of first) given)
     (settled : IsAllSettled (disk_of first)) (stays : AllStay (disk_of first) (roots (folders_of dirs namespace))) where
   abbrev s : Store
-  s = store_of (folders_of dirs namespace) (loose_alone kind)
+  s = store_of (folders_of dirs namespace) (loose_alone kind prohibits)
 
   abbrev laid : IsLayout (folders_of dirs namespace)
   laid = folders_laid dirs namespace
@@ -122,7 +122,7 @@ module _ (dirs : Dirs) (namespace : Option Namespace) (kind : Kind) (before : Tr
   edits = planned given
 
   run : IsCommitRun s DeletionsOnly locked edits before first.tree (renames_of carried paths)
-  run = commit.run (folders_of dirs namespace) kind laid before first given carried paths updates ready
+  run = commit.run (folders_of dirs namespace) kind prohibits laid before first given carried paths updates ready
 
   abbrev steps : List Synced
   steps = synced_renames_of dirs carried paths
@@ -137,23 +137,23 @@ module _ (dirs : Dirs) (namespace : Option Namespace) (kind : Kind) (before : Tr
   syncs q = climb q (root_in dirs q)
 
   own_lock_of : (x : Edit) → IsEdit x edits → IsOwnLock locked (lock_of (s.place x.name))
-  own_lock_of = commit.own_lock_of (folders_of dirs namespace) kind laid before first given carried paths updates ready
+  own_lock_of = commit.own_lock_of (folders_of dirs namespace) kind prohibits laid before first given carried paths updates ready
 
   have_texts : HaveTexts s (view_of first.tree) edits texts
   have_texts x text within is =
-      same_text s before D given whole (lock_of (s.place x.name)) (commit.owned (folders_of dirs namespace) kind laid before first given carried paths updates ready given (lock_of (s.place x.name)) (own_lock_of x within))
-      ∙ commit.have_texts (folders_of dirs namespace) kind laid before first given carried paths updates ready x text within is
+      same_text s before D given whole (lock_of (s.place x.name)) (commit.owned (folders_of dirs namespace) kind prohibits laid before first given carried paths updates ready given (lock_of (s.place x.name)) (own_lock_of x within))
+      ∙ commit.have_texts (folders_of dirs namespace) kind prohibits laid before first given carried paths updates ready x text within is
 
   carry : disk.CarryOut (IsSpokenOf locked D) staying texts steps all_writes
   carry = subst (λ ws. disk.CarryOut (IsSpokenOf locked D) staying texts steps ws)
-      (sym (plan_is s (view_of first.tree) edits run.merged (commit.are_lone (folders_of dirs namespace) kind laid before first given carried paths updates ready)))
+      (sym (plan_is s (view_of first.tree) edits run.merged (commit.are_lone (folders_of dirs namespace) kind prohibits laid before first given carried paths updates ready)))
       (subst (λ ss. disk.CarryOut (IsSpokenOf locked D) staying texts ss (puts_for s (view_of first.tree) edits))
-      (sym (commit.synced_are (folders_of dirs namespace) kind laid before first given carried paths updates ready dirs given carried paths
-      (commit.hold (folders_of dirs namespace) kind laid before first given carried paths updates ready)))
-      (lone.carries_on s (view_of first.tree) (laws_hold (folders_of dirs namespace) (loose_alone kind) laid) (IsSpokenOf locked D) staying syncs edits texts
-      (commit.edits_are (folders_of dirs namespace) kind laid before first given carried paths updates ready)
+      (sym (commit.synced_are (folders_of dirs namespace) kind prohibits laid before first given carried paths updates ready dirs given carried paths
+      (commit.hold (folders_of dirs namespace) kind prohibits laid before first given carried paths updates ready)))
+      (lone.carries_on s (view_of first.tree) (laws_hold (folders_of dirs namespace) (loose_alone kind prohibits) laid) (IsSpokenOf locked D) staying syncs edits texts
+      (commit.edits_are (folders_of dirs namespace) kind prohibits laid before first given carried paths updates ready)
       (λ x within spoken. spoken.0 (own_lock_of x within))
-      (λ x within. places_settle (folders_of dirs namespace) (loose_alone kind) x.name (folders_have_bytes dirs).0 (folders_have_bytes dirs).1)
+      (λ x within. places_settle (folders_of dirs namespace) (loose_alone kind prohibits) x.name (folders_have_bytes dirs).0 (folders_have_bytes dirs).1)
       have_texts))
 
   own : (q : Path) → is_in (lock_paths paths) q ≡ true → IsOwnLock locked q
@@ -164,7 +164,7 @@ module _ (dirs : Dirs) (namespace : Option Namespace) (kind : Kind) (before : Tr
 
   lost_well : (E : Disk) (T : Tree) → IsWithin (IsSpokenOf locked D) all_writes (view_of first.tree) E → Lost E T → IsLostWell s DeletionsOnly locked edits D before T
   lost_well E T within lost =
-      every_loss_among s (laws_hold (folders_of dirs namespace) (loose_alone kind) laid) DeletionsOnly locked edits run.merged before T D E settled run.prepared run.locks within lost
+      every_loss_among s (laws_hold (folders_of dirs namespace) (loose_alone kind prohibits) laid) DeletionsOnly locked edits run.merged before T D E settled run.prepared run.locks within lost
 
   pub begins : (T : Tree) → Lost D T → IsLostWell s DeletionsOnly locked edits D before T
   begins T lost = lost_well D T (run_passes locked staying texts steps all_writes first first stays texts_whole carry (passes_starts first (IsReachedBy steps D) (none_reached steps D))).disk lost

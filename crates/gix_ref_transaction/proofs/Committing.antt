@@ -36,7 +36,7 @@ use Rattle.gix_ref_edits.specs.declared.transaction.Change.TheVariants as given
 use Rattle.gix_ref_edits.specs.declared.transaction.PreviousValue.{PreviousValue}
 use Rattle.gix_ref_edits.specs.declared.transaction.PreviousValue.TheVariants.{Any, MustExist, MustNotExist, MustExistAndMatch, ExistingMustMatch}
 use Rattle.gix_ref_transaction.proofs.Adds.{clash, false_is_true}
-use Rattle.gix_ref_transaction.proofs.LookupLemmas.{alone, file_reading, no_device}
+use Rattle.gix_ref_transaction.proofs.LookupLemmas.{alone, file_reading}
 use Rattle.gix_ref_lookup.proofs.LooseLemmas.{id_reads_back, name_reads_back}
 use Rattle.gix_ref_theory.proofs.Writes.{same_true}
 
@@ -69,9 +69,9 @@ pub matched_is : (was : Option TargetValue) (x y : PreviousValue) (new : Option 
 matched_is None x y new carried expects = ap matched carried ∙ none_matched x new expects
 matched_is (Some target) x y new carried expects = carried
 
-module _ (f : Layout) (kind : Kind) where
+module _ (f : Layout) (kind : Kind) (prohibits : Bool) where
   abbrev s : Store
-  s = store_of f (loose_alone kind)
+  s = store_of f (loose_alone kind prohibits)
 
   no_records : (file : Option (List ℕ)) → records_in s file ≡ []
   no_records None = refl
@@ -100,9 +100,9 @@ module _ (f : Layout) (kind : Kind) where
   already_file key None t = (not_already t).0 ∙ sym (none_found key t)
   already_file key (Some bytes) t = already_decoded key (s.target_of bytes) t
 
-  pub already_is : (before start : View) (name : List ℕ) (t : TargetValue) → start (s.place name) ≡ before (s.place name) → has_already (reading s start name) t ≡ is_found (found s before name) t
-  already_is before start name t same =
-      ap (λ r. has_already r t) (alone f kind start name ∙ ap (file_reading s) same)
+  pub already_is : (before start : View) (name : List ℕ) (t : TargetValue) → s.is_prohibited (s.place name) ≡ false → start (s.place name) ≡ before (s.place name) → has_already (reading s start name) t ≡ is_found (found s before name) t
+  already_is before start name t allowed same =
+      ap (λ r. has_already r t) (alone f kind prohibits start name allowed ∙ ap (file_reading s) same)
       ∙ (already_file (s.key name) (before (s.place name)) t
       ∙ ap (λ records. is_found (found_by s (s.key name) (decoded s (before (s.place name))) records) t) (sym (no_records (before s.packed_path))))
 

@@ -18,7 +18,7 @@ use Rattle.gix_ref_transaction.specs.CommittedEdits.{planned}
 use Rattle.gix_ref_transaction.specs.PrepareSteps.{HoldTexts, lock_text, lock_paths, old_targets, place_paths, places_of}
 use Rattle.gix_ref_edits.specs.RefEdits.{name_of, new_of, expected_of, AreUpdates, Expects}
 use Rattle.gix_ref_edits.specs.declared.transaction.RefEdit.{RefEdit}
-use Rattle.gix_ref_transaction.specs.declared.setting.Paths.{Paths}
+use Rattle.gix_ref_transaction.specs.declared.paths.Paths.{Paths}
 use Rattle.gix_ref_transaction.proofs.Adds.{clash, any_left, any_right, in_here, is_same_path}
 
 -- A transaction as `prepare` gives it, from the tree `before` it to the tree T.
@@ -34,7 +34,7 @@ module _ (s : Store) (kind : Kind) (before T : Tree) where
   -- One of its edits, as given and as carried, and its paths.
   pub record IsHeld (e a : RefEdit) (p : Paths) : Type 0 where
     pub update : IsSome (new_of e.change)
-    pub valid : IsValidEdit kind e
+    pub valid : IsValidEdit s kind e
     pub free : before (lock_of (s.place (name_of e))) ≡ None
     pub expects : Expects (expected_of e.change) (new_of e.change) (found s (view_of before) (name_of e))
     pub text : T (lock_of (s.place (name_of e))) ≡ Some (File (lock_text e.change (found s (view_of before) (name_of e))))
@@ -50,7 +50,7 @@ module _ (s : Store) (kind : Kind) (before T : Tree) where
   heads : {x y : Path} {xs ys : List Path} → x ∷ xs ≡ y ∷ ys → (x ≡ y) × (xs ≡ ys)
   heads h = (cc, cc)
 
-  held_by : (seen sound given carried : List RefEdit) (paths : List Paths) → AllValid kind sound given → NoCause s kind before seen given → AreUpdates given → HoldTexts s before T given →
+  held_by : (seen sound given carried : List RefEdit) (paths : List Paths) → AllValid s kind sound given → NoCause s kind before seen given → AreUpdates given → HoldTexts s before T given →
       AreCarried given (old_targets s before given) carried → place_paths paths ≡ places_of s given → lock_paths paths ≡ locks_of s given → AreHeld given carried paths
   held_by seen sound [] [] [] valid causes updates texts carry places locks = tt
   held_by seen sound [] [] (p ∷ paths) valid causes updates texts carry places locks = absurd (omega (arith, ap length places))

@@ -1,8 +1,8 @@
 -- What a lookup returns by a loose file is the reading of the reference.
-use Rattle.std.proofs.Common.{◌≡◌, ℕ, List, [], ◌∷◌, Option, Some, None, Bool, true, false, refl, sym, ap, subst, ◌∙◌, is_none, if◌then◌else◌, IfOk, IfErr, Result, Ok, Err}
+use Rattle.std.proofs.Common.{◌≡◌, ℕ, List, [], ◌∷◌, Option, Some, None, Bool, true, false, refl, sym, ap, subst, ◌∙◌, ◌&&◌, ◌||◌, if◌then◌else◌, IfOk, IfErr, Result, Ok, Err}
 use Rattle.std.specs.List.{list_any}
 use Rattle.gix_ref_hash.specs.Bytes.{without_front, components}
-use Rattle.gix_ref_base.specs.NameGrammar.{partial_error}
+use Rattle.gix_ref_base.specs.DeviceNames.{is_device}
 use Rattle.gix_ref_base.specs.Namespaces.{stripped}
 use Rattle.gix_ref_base.specs.Targets.{TargetValue, target_value, stripped_target}
 use Rattle.gix_ref_base.specs.Targets.TargetValue.{object_id, symbolic_name}
@@ -29,18 +29,19 @@ abbrev pub file_reading : Store → Option (List ℕ) → Reading
 file_reading s None = Absent
 file_reading s (Some bytes) = reading_of_loose s (s.target_of bytes)
 
-pub no_device : (parts : List (List ℕ)) → list_any (λ (name : List ℕ). false) parts ≡ false
-no_device [] = refl
-no_device (part ∷ parts) = no_device parts
+-- a store that prohibits no device names prohibits no place
+pub none_prohibited : (prohibits : Bool) (parts : List (List ℕ)) → prohibits ≡ false → list_any (λ component. prohibits && is_device component) parts ≡ false
+none_prohibited prohibits [] off = refl
+none_prohibited prohibits (part ∷ parts) off = ap (λ b. (b && is_device part) || list_any (λ component. prohibits && is_device component) parts) off ∙ none_prohibited prohibits parts off
 
-pub alone : (f : Layout) (kind : Kind) (view : View) (name : List ℕ) →
-    let s = store_of f (loose_alone kind) in reading s view name ≡ file_reading s (view (s.place name))
-alone f kind view name =
-    ap (λ b. if b then Fault else reading_by s (s.key name) (view (s.place name)) (records_in s (view s.packed_path))) (no_device (components (below_folders f (s.place name))))
+pub alone : (f : Layout) (kind : Kind) (prohibits : Bool) (view : View) (name : List ℕ) →
+    let s = store_of f (loose_alone kind prohibits) in s.is_prohibited (s.place name) ≡ false → reading s view name ≡ file_reading s (view (s.place name))
+alone f kind prohibits view name allowed =
+    ap (λ b. if b then Fault else reading_by s (s.key name) (view (s.place name)) (records_in s (view s.packed_path))) allowed
     ∙ (ap (reading_by s (s.key name) (view (s.place name))) (no_records (view s.packed_path)) ∙ by_file (s.key name) (view (s.place name)))
   where
     s : Store
-    s = store_of f (loose_alone kind)
+    s = store_of f (loose_alone kind prohibits)
 
     no_records : (file : Option (List ℕ)) → records_in s file ≡ []
     no_records None = refl
@@ -61,13 +62,13 @@ if_err (Ok x) wider holds = holds
 if_err (Err e) wider holds = wider e holds
 
 -- what a loose file holds is what is found
-pub found_loose : (f : Layout) (kind : Kind) (view : View) (name : List ℕ) (loose : Loose) →
-    let s = store_of f (loose_alone kind) in
+pub found_loose : (f : Layout) (kind : Kind) (prohibits : Bool) (view : View) (name : List ℕ) (loose : Loose) →
+    let s = store_of f (loose_alone kind prohibits) in
     IsDecoded kind (view (s.place name)) loose → held_by f.namespace loose ≡ found s view name
-found_loose f kind view name loose told = by_file loose (view (s.place name)) told ∙ ap (found_by s (s.key name) (decoded s (view (s.place name)))) (sym (no_records (view s.packed_path)))
+found_loose f kind prohibits view name loose told = by_file loose (view (s.place name)) told ∙ ap (found_by s (s.key name) (decoded s (view (s.place name)))) (sym (no_records (view s.packed_path)))
   where
     s : Store
-    s = store_of f (loose_alone kind)
+    s = store_of f (loose_alone kind prohibits)
 
     no_records : (file : Option (List ℕ)) → records_in s file ≡ []
     no_records None = refl

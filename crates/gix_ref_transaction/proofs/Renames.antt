@@ -24,7 +24,7 @@ use Rattle.gix_ref_transaction.specs.OwnLocks.{is_in, RemovesLocks}
 use Rattle.gix_ref_transaction.specs.CommitRenames.{first_renames, rename_at, renames_of, IsStepOf, SayTheirEdits, IsCutAt, IsFolderInPlace, first_synced_renames, lock_at, place_at, stays_at, is_written_at, why_is, IsRaised}
 use Rattle.gix_ref_transaction.specs.PrepareSteps.{lock_paths}
 use Rattle.gix_ref_edits.specs.declared.transaction.RefEdit.{RefEdit}
-use Rattle.gix_ref_transaction.specs.declared.setting.Paths.{Paths}
+use Rattle.gix_ref_transaction.specs.declared.paths.Paths.{Paths}
 use Rattle.gix_ref_lookup.proofs.Opening.{risen}
 use Rattle.gix_ref_transaction.proofs.Adds.{clash, either_way, same_path, is_same_path, false_is_true, is_false, any_right, any_cases, in_here, in_one}
 use Rattle.gix_ref_transaction.proofs.Removing.{no_file_then}

@@ -15,7 +15,7 @@ use Rattle.gix_ref_transaction.specs.PrepareSteps.{lock_text, value_of, lock_pat
 use Rattle.gix_ref_edits.specs.RefEdits.{name_of, expected_of, new_of, Expects}
 use Rattle.gix_ref_files.specs.Lock.{lock_of}
 use Rattle.gix_ref_edits.specs.declared.transaction.RefEdit.{RefEdit}
-use Rattle.gix_ref_transaction.specs.declared.setting.Paths.{Paths}
+use Rattle.gix_ref_transaction.specs.declared.paths.Paths.{Paths}
 use Rattle.gix_ref_transaction.specs.declared.prepare.error.Error.{Error}
 use Rattle.gix_ref_transaction.proofs.Firsts.{fault_here, fault_later, pass_more, seen_of}
 use Rattle.gix_ref_transaction.proofs.Taking.{Held, front_in, more_here, refused, still, stop_taking, lockable, free_more, same_found, filling, stop_filling, held_more}

@@ -15,7 +15,7 @@ use Rattle.gix_ref_edits.specs.RefEdits.{name_of}
 use Rattle.gix_ref_files.specs.Lock.{lock_of}
 use Rattle.gix_ref_edits.specs.declared.transaction.RefEdit.{RefEdit}
 use Rattle.gix_ref_transaction.specs.declared.prepare.error.Error.{Error}
-use Rattle.gix_ref_transaction.specs.declared.prepare.error.Error.TheVariants.{UnsafeName, TargetNotFull, OtherHashKind, PreprocessingFailed, PathCollision, LockAcquire, MustExist, MustNotExist, ReferenceOutOfDate, Io, Memory}
+use Rattle.gix_ref_transaction.specs.declared.prepare.error.Error.TheVariants.{UnsafeName, DeviceName, TargetNotFull, OtherHashKind, PreprocessingFailed, PathCollision, LockAcquire, MustExist, MustNotExist, ReferenceOutOfDate, Io, Memory}
 use Rattle.gix_ref_transaction.proofs.Adds.{clash, is_false, either_way, any_left, any_right, any_cases, in_one, in_here, any_same, leads_in, leads_one, no_way, adds_wider, adds_then, same_view, same_lock, same_path, is_same_path}
 
 -- the locks of some edits and one more
@@ -85,6 +85,7 @@ module _ (s : Store) (kind : Kind) (edits : List RefEdit) (apart : LocksAreApart
     refused (Io error) why = inl tt
     refused Memory why = inl tt
     refused UnsafeName why = absurd why
+    refused DeviceName why = absurd why
     refused TargetNotFull why = absurd why
     refused OtherHashKind why = absurd why
     refused (PreprocessingFailed source) why = absurd why

@@ -51,13 +51,12 @@ use Rattle.gix_ref_transaction.specs.CommittedEdits.{planned, AreCommitted, IsOl
 use Rattle.gix_ref_transaction.specs.PrepareSteps.{is_found, is_new, text_of_new, lock_paths, place_paths, places_of}
 use Rattle.gix_ref_edits.specs.RefEdits.{name_of, new_of, expected_of, matched, mode_of, is_of_reference, AreUpdates}
 use Rattle.gix_ref_edits.specs.declared.transaction.RefEdit.{RefEdit}
-use Rattle.gix_ref_transaction.specs.declared.setting.Paths.{Paths}
+use Rattle.gix_ref_transaction.specs.declared.paths.Paths.{Paths}
 use Rattle.gix_ref_transaction.proofs.Adds.{clash, false_is_true, either_way, any_cases, any_right, in_one, in_here, in_at, is_false, same_path, is_same_path, same_view}
 use Rattle.gix_ref_transaction.proofs.Apart.{references}
 use Rattle.gix_ref_transaction.proofs.Committing.{edit_with, update_is, new_is, matched_is, already_is, effect_is, reads_back, id_reads_as_written}
 use Rattle.gix_ref_transaction.proofs.Held.{IsReady, IsHeld, AreHeld, held, held_at, edits_apart}
 use Rattle.gix_ref_transaction.proofs.LockRounds.{own_lock}
-use Rattle.gix_ref_transaction.proofs.LookupLemmas.{no_device}
 use Rattle.gix_ref_transaction.proofs.Renames.{lock_found}
 
 -- The steps of a list of edits are those of the first, and then those of the others.
@@ -109,10 +108,10 @@ module _ (s : Store) (kind : Kind) (before start : Tree) where
   same_length (e ∷ given) (a ∷ carried) [] hold = absurd hold
   same_length (e ∷ given) (a ∷ carried) (p ∷ paths) hold = ap suc (same_length given carried paths hold.1)
 
-module _ (f : Layout) (kind : Kind) (laid : IsLayout f) (before : Tree) (first : Meaning) (given carried : List RefEdit) (paths : List Paths) (updates : AreUpdates given)
-    (ready : IsReady (store_of f (loose_alone kind)) kind before first.tree given carried paths) where
+module _ (f : Layout) (kind : Kind) (prohibits : Bool) (laid : IsLayout f) (before : Tree) (first : Meaning) (given carried : List RefEdit) (paths : List Paths) (updates : AreUpdates given)
+    (ready : IsReady (store_of f (loose_alone kind prohibits)) kind before first.tree given carried paths) where
   abbrev s : Store
-  s = store_of f (loose_alone kind)
+  s = store_of f (loose_alone kind prohibits)
 
   abbrev start : Tree
   start = first.tree
@@ -133,7 +132,7 @@ module _ (f : Layout) (kind : Kind) (laid : IsLayout f) (before : Tree) (first :
   steps = renames_of carried paths
 
   laws : HasLaws s
-  laws = laws_hold f (loose_alone kind) laid
+  laws = laws_hold f (loose_alone kind prohibits) laid
 
   abbrev IsOne : RefEdit → RefEdit → Paths → Type 0
   IsOne e a p = IsHeld s kind before start e a p
@@ -142,7 +141,7 @@ module _ (f : Layout) (kind : Kind) (laid : IsLayout f) (before : Tree) (first :
   hold = held s kind before start given carried paths updates ready
 
   pub edits_are : AreEdits s edits
-  edits_are = edits_apart s kind before start [] given ready.accepted.no_cause (references f (loose_alone kind) laid kind [] given ready.accepted.sound)
+  edits_are = edits_apart s kind before start [] given ready.accepted.no_cause (references f (loose_alone kind prohibits) laid kind [] given ready.accepted.sound)
 
   -- its locks, and the places that they are of
   pub owned : (some : List RefEdit) (q : Path) → IsOwnLock (places_of s some) q → is_in (locks_of s some) q ≡ true
@@ -154,7 +153,7 @@ module _ (f : Layout) (kind : Kind) (laid : IsLayout f) (before : Tree) (first :
       in_more l r ls h = any_right (λ p. bytes_eq p r) (l ∷ []) ls h
 
   is_reference : (e a : RefEdit) (p : Paths) → IsOne e a p → s.is_reference (name_of e) ≡ true
-  is_reference e a p h = (references f (loose_alone kind) laid kind [] (e ∷ []) (h.valid, tt)) 0 e (omega arith)
+  is_reference e a p h = (references f (loose_alone kind prohibits) laid kind [] (e ∷ []) (h.valid, tt)) 0 e (omega arith)
 
   placed : (some : List RefEdit) (cs : List RefEdit) (ps : List Paths) → AreHeld s kind before start some cs ps → (q : Path) → is_in (places_of s some) q ≡ true → (n : List ℕ) × (s.is_reference n ≡ true) × (s.place n ≡ q)
   placed [] cs ps hold' q within = false_is_true within
@@ -204,7 +203,7 @@ module _ (f : Layout) (kind : Kind) (laid : IsLayout f) (before : Tree) (first :
     does_is : does s view (edit_of e) ≡ (if written then Writes (loose_text target) else Keeps)
     does_is =
         ap (λ c. does s view (edit_with (name_of e) refers c)) change_is
-        ∙ effect_is f kind view (name_of e) refers target (is_found was target) (already_is f kind (view_of before) view (name_of e) target (same_file place no_own_lock))
+        ∙ effect_is f kind prohibits view (name_of e) refers target (is_found was target) (already_is f kind prohibits (view_of before) view (name_of e) target h.valid.allowed (same_file place no_own_lock))
 
     -- the carried edit is written where the given one is
     writes_is : writes a.change ≡ written
@@ -307,19 +306,23 @@ module _ (f : Layout) (kind : Kind) (laid : IsLayout f) (before : Tree) (first :
       let same : t ≡ target m.0 m.1 m.2 h = same_target m.0 m.1 m.2 h t (ap (λ (y : Edit). y.change) m.4 ∙ is) in
       let new = new_is_target m.0 m.1 m.2 h in
       subst (λ (u : TargetValue). s.target_of (s.text_of u) ≡ Some u) (sym same)
-      (reads_back f kind (target m.0 m.1 m.2 h) (subst IsFullTarget new h.valid.target) (subst (IsOfKind kind) new h.valid.kinds.0) (subst IsWholeTarget new h.valid.whole))
+      (reads_back f kind prohibits (target m.0 m.1 m.2 h) (subst IsFullTarget new h.valid.target) (subst (IsOfKind kind) new h.valid.kinds.0) (subst IsWholeTarget new h.valid.whole))
 
   reads_id : (x : Edit) (id : ObjectId) → IsEdit x edits → x.change ≡ Update (object_id id) → id_read (written_id id) ≡ Some id
   reads_id x id within is =
       let m = at x within in
       let h = m.3 in
-      id_reads_as_written f kind (target m.0 m.1 m.2 h) (subst IsWholeTarget (new_is_target m.0 m.1 m.2 h) h.valid.whole) id
+      id_reads_as_written f kind prohibits (target m.0 m.1 m.2 h) (subst IsWholeTarget (new_is_target m.0 m.1 m.2 h) h.valid.whole) id
       (sym (same_target m.0 m.1 m.2 h (object_id id) (ap (λ (y : Edit). y.change) m.4 ∙ is)))
+
+  -- none of them is prohibited
+  allowed : (x : Edit) → IsEdit x edits → s.is_prohibited (s.place x.name) ≡ false
+  allowed x within = let m = at x within in subst (λ (y : Edit). s.is_prohibited (s.place y.name) ≡ false) m.4 m.3.valid.allowed
 
   pub run : IsCommitRun s DeletionsOnly locked edits before start steps
   run = record {
     merged = [];
-    prepared = lone.prepared s view edits are_lone edits_are (λ x h. no_device (components (below_folders f (s.place x.name)))) reads reads_id;
+    prepared = lone.prepared s view edits are_lone edits_are allowed reads reads_id;
     locks = alike;
     steps_are_planned = subst (λ ws. CarryOut locked view steps ws) (sym (plan_is s view edits [] are_lone))
         (subst (λ ss. CarryOut locked view ss (puts_for s view edits)) (sym (renames_are given carried paths hold))

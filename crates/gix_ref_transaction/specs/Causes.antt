@@ -26,7 +26,7 @@ use Rattle.gix_ref_edits.specs.declared.transaction.PreviousValue.{PreviousValue
 use Rattle.gix_ref_edits.specs.declared.transaction.PreviousValue.TheVariants.{MustExist, MustNotExist as must_not_exist, MustExistAndMatch}
 use Rattle.gix_ref_edits.specs.declared.transaction.RefEdit.{RefEdit}
 use Rattle.gix_ref_transaction.specs.declared.prepare.error.Error.{Error}
-use Rattle.gix_ref_transaction.specs.declared.prepare.error.Error.TheVariants.{UnsafeName, TargetNotFull, OtherHashKind, PreprocessingFailed, PathCollision, LockAcquire, MustExist as must_exist, MustNotExist, ReferenceOutOfDate, Io, Memory}
+use Rattle.gix_ref_transaction.specs.declared.prepare.error.Error.TheVariants.{UnsafeName, DeviceName, TargetNotFull, OtherHashKind, PreprocessingFailed, PathCollision, LockAcquire, MustExist as must_exist, MustNotExist, ReferenceOutOfDate, Io, Memory}
 
 -- how a fault of files is reported
 abbrev pub cause_of : FileError → Error
@@ -50,7 +50,8 @@ abbrev pub IsNotIo : Error → Type 0
 IsNotIo (Io error) = ⊥
 IsNotIo other = Unit {0}
 
--- Each edit by itself: its name is safe, the name of a symbolic target is a full name, and its ids are of the store's kind.
+-- Each edit by itself: its name is safe, its place is not prohibited, the name of a symbolic target is a full name, and its ids are of
+-- the store's kind.
 
 -- a target whose name, if it has one, is a full name
 abbrev pub IsFullTarget : Option TargetValue → Type 0
@@ -71,24 +72,28 @@ IsWholeTarget other = Unit {0}
 abbrev pub HasKind : Kind → RefEdit → Type 0
 HasKind kind edit = IsOfKind kind (new_of edit.change) × IsOfKind kind (previous_of (expected_of edit.change))
 
-pub record IsValidEdit (kind : Kind) (edit : RefEdit) : Type 0 where
+pub record IsValidEdit (s : Store) (kind : Kind) (edit : RefEdit) : Type 0 where
   pub safe : is_safe (name_of edit) ≡ true
+  pub allowed : s.is_prohibited (s.place (name_of edit)) ≡ false
   pub target : IsFullTarget (new_of edit.change)
   pub kinds : HasKind kind edit
   pub whole : IsWholeTarget (new_of edit.change)
 
 -- the first of these that does not hold
-abbrev pub IsInvalidEdit : Kind → RefEdit → Error → Type 0
-IsInvalidEdit kind edit UnsafeName = is_safe (name_of edit) ≡ false
-IsInvalidEdit kind edit TargetNotFull = (is_safe (name_of edit) ≡ true) × (IsFullTarget (new_of edit.change) → ⊥)
-IsInvalidEdit kind edit OtherHashKind = (is_safe (name_of edit) ≡ true) × IsFullTarget (new_of edit.change) × (HasKind kind edit → ⊥)
-IsInvalidEdit kind edit other = ⊥
+abbrev pub IsInvalidEdit : Store → Kind → RefEdit → Error → Type 0
+IsInvalidEdit s kind edit UnsafeName = is_safe (name_of edit) ≡ false
+IsInvalidEdit s kind edit DeviceName = (is_safe (name_of edit) ≡ true) × (s.is_prohibited (s.place (name_of edit)) ≡ true)
+IsInvalidEdit s kind edit TargetNotFull =
+    (is_safe (name_of edit) ≡ true) × (s.is_prohibited (s.place (name_of edit)) ≡ false) × (IsFullTarget (new_of edit.change) → ⊥)
+IsInvalidEdit s kind edit OtherHashKind =
+    (is_safe (name_of edit) ≡ true) × (s.is_prohibited (s.place (name_of edit)) ≡ false) × IsFullTarget (new_of edit.change) × (HasKind kind edit → ⊥)
+IsInvalidEdit s kind edit other = ⊥
 
-abbrev pub AllValid : Kind → List RefEdit → List RefEdit → Type 0
-AllValid kind seen edits = AllPass {E = Error} (λ _ edit. IsValidEdit kind edit) (λ _ edit error. IsInvalidEdit kind edit error) seen edits
+abbrev pub AllValid : Store → Kind → List RefEdit → List RefEdit → Type 0
+AllValid s kind seen edits = AllPass {E = Error} (λ _ edit. IsValidEdit s kind edit) (λ _ edit error. IsInvalidEdit s kind edit error) seen edits
 
-abbrev pub IsFirstInvalid : Kind → List RefEdit → List RefEdit → Error → Type 0
-IsFirstInvalid kind seen edits error = FirstFault (λ _ edit. IsValidEdit kind edit) (λ _ edit error. IsInvalidEdit kind edit error) seen edits error
+abbrev pub IsFirstInvalid : Store → Kind → List RefEdit → List RefEdit → Error → Type 0
+IsFirstInvalid s kind seen edits error = FirstFault (λ _ edit. IsValidEdit s kind edit) (λ _ edit error. IsInvalidEdit s kind edit error) seen edits error
 
 -- No two edits have one name.
 
@@ -186,11 +191,11 @@ IsFirstCause s kind T seen edits error = FirstFault (Passes s kind T) (IsFault s
 abbrev pub Refuses : Store → Kind → Tree → List RefEdit → Error → Type 0
 Refuses s kind T edits error =
     IsIoOrMemory error
-    ⊎ (IsFirstInvalid kind [] edits error
-    ⊎ (AllValid kind [] edits × (IsDoubling edits error ⊎ (NoneDoubled (names_of edits) × IsFirstCause s kind T [] edits error))))
+    ⊎ (IsFirstInvalid s kind [] edits error
+    ⊎ (AllValid s kind [] edits × (IsDoubling edits error ⊎ (NoneDoubled (names_of edits) × IsFirstCause s kind T [] edits error))))
 
 -- no cause applies
 pub record IsAccepted (s : Store) (kind : Kind) (T : Tree) (edits : List RefEdit) : Type 0 where
-  pub sound : AllValid kind [] edits
+  pub sound : AllValid s kind [] edits
   pub single : NoneDoubled (names_of edits)
   pub no_cause : NoCause s kind T [] edits

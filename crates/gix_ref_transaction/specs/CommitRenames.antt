@@ -18,7 +18,7 @@ use Rattle.gix_ref_transaction.specs.declared.commit.renames.Why.TheVariants.{Fa
 use Rattle.gix_ref_edits.specs.RefEdits.{expected_of, matched}
 use Rattle.gix_ref_edits.specs.declared.transaction.Change.{Change}
 use Rattle.gix_ref_edits.specs.declared.transaction.RefEdit.{RefEdit}
-use Rattle.gix_ref_transaction.specs.declared.setting.Paths.{Paths}
+use Rattle.gix_ref_transaction.specs.declared.paths.Paths.{Paths}
 
 -- a prepared change writes its reference: it carries what was found
 abbrev pub writes : Change → Bool

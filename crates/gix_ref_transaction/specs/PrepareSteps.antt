@@ -20,16 +20,16 @@ use Rattle.gix_ref_edits.specs.RefEdits.{name_of, new_of, mode_of, is_of_referen
 use Rattle.gix_ref_base.specs.Targets.TargetValue.{object_id}
 use Rattle.gix_ref_edits.specs.declared.transaction.Change.{Change}
 use Rattle.gix_ref_edits.specs.declared.transaction.RefEdit.{RefEdit}
+use Rattle.gix_ref_lookup.specs.declared.settings.Settings.{Settings}
 use Rattle.gix_ref_lookup.specs.declared.find.loose.Loose.{Loose}
 use Rattle.gix_ref_lookup.specs.declared.find.loose.Loose.TheVariants as loose_files
-use Rattle.gix_ref_transaction.specs.declared.setting.Setting.{Setting}
-use Rattle.gix_ref_transaction.specs.declared.setting.Paths.{Paths}
+use Rattle.gix_ref_transaction.specs.declared.paths.Paths.{Paths}
 use Rattle.gix_ref_transaction.specs.declared.prepare.error.Error.{Error}
 use Rattle.gix_ref_transaction.specs.declared.prepare.error.Error.TheVariants.{PathCollision, LockAcquire, Io, Memory}
 
 -- the store of a transaction
-abbrev pub setting_of : Setting → Store
-setting_of setting = store_of (folders_of setting.dirs.now setting.namespace.now) (loose_alone setting.kind)
+abbrev pub setting_of : Settings → Store
+setting_of settings = store_of (folders_of settings.dirs.now settings.namespace.now) (loose_alone settings.kind settings.prohibit_windows_device_names)
 
 -- the targets that were found
 abbrev pub value_of : Option Target → Option TargetValue

@@ -10,7 +10,7 @@ ghost use Rattle.gix_ref_transaction.specs.CommitRenames.{lock_at, stays_at};
 ghost use Rattle.gix_ref_transaction.specs.PrepareSteps.{lock_paths};
 
 use crate::commit::renames::writes;
-use crate::setting::Paths;
+use crate::paths::Paths;
 use gix_ref_edits::transaction::RefEdit;
 use gix_ref_files::files::Files;
 

@@ -6,7 +6,7 @@ ghost use Rattle.gix_ref_transaction.specs.PrepareSteps.{lock_paths};
 
 use crate::commit::Error;
 use crate::commit::renames::Why;
-use crate::setting::Paths;
+use crate::paths::Paths;
 use gix_ref_edits::transaction::RefEdit;
 use std::alloc::Global;
 use std::mem;

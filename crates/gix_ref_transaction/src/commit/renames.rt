@@ -11,7 +11,7 @@ ghost use Rattle.gix_ref_transaction.specs.CommitRenames.{writes as writes_it, r
 ghost use Rattle.gix_ref_transaction.specs.PrepareSteps.{is_found};
 ghost use Rattle.gix_ref_edits.specs.RefEdits.{matched};
 
-use crate::setting::Paths;
+use crate::paths::Paths;
 use gix_ref_base::target::Target;
 use gix_ref_edits::transaction::{Change, PreviousValue, RefEdit, RefLog};
 use gix_ref_files::files::FileError;

@@ -1,9 +1,11 @@
 //! What each edit has to meet by itself.
-ghost use Rattle.std.specs.Prelude.{◌≡◌, ◌↔◌, ◌⊎◌, [], IsTrue, MatchResult, OnOk, IfErr, Option, Some, None};
+ghost use Rattle.std.specs.Prelude.{◌≡◌, ◌↔◌, ◌⊎◌, [], IsTrue, OnOk, IfOk, IfErr, Option, Some, None};
 ghost use Rattle.std.specs.Option.{option_map};
 ghost use Rattle.gix_ref_hash.specs.Ids.{id_kind, IsWhole};
+ghost use Rattle.gix_ref_base.specs.Names.{full_ref_bytes};
 ghost use Rattle.gix_ref_base.specs.Targets.{target_ref_value};
 ghost use Rattle.gix_ref_transaction.specs.Causes.{IsValidEdit, IsInvalidEdit, AllValid, IsFirstInvalid, IsFullTarget, IsOfKind, IsWholeTarget, HasKind, IsNotIo, IsDoubling, names_of};
+ghost use Rattle.gix_ref_transaction.specs.PrepareSteps.{setting_of};
 ghost use Rattle.gix_ref_edits.specs.DoubledNames.{NoneDoubled};
 ghost use Rattle.gix_ref_base.specs.Locations.{is_safe};
 ghost use Rattle.gix_ref_edits.specs.RefEdits.{name_of, new_of};
@@ -14,7 +16,8 @@ use gix_ref_base::name::FullNameRef;
 use gix_ref_base::target::TargetRef;
 use gix_ref_edits::transaction::{EditError, RefEdit, RefEditsExt};
 use gix_ref_hash::hash::{Kind, ObjectId};
-use std::alloc::Global;
+use gix_ref_lookup::settings::Settings;
+use std::alloc::{AllocError, Global};
 
 /// Whether the name of a new symbolic target is a full name.
 fn is_full_target(new: Option<TargetRef<'_>>) -> bool
@@ -53,31 +56,59 @@ fn has_kind(edit: &RefEdit, kind: Kind) -> bool
     is_of_kind(edit.change.new_value(), kind) && is_of_kind(edit.change.previous_value(), kind)
 }
 
-fn check_edit(edit: &RefEdit, kind: Kind) -> Result<(), Error>
-    ensures sound { MatchResult result (λ _. IsValidEdit kind edit.now)
-        (IsInvalidEdit kind edit.now) }
+/// Whether a name may be that of a reference.
+fn is_safe_name(name: FullNameRef<'_>) -> bool
+    ensures { result ≡ is_safe (full_ref_bytes name.entry) }
+{
+    location_of(name).is_some()
+}
+
+/// Whether the store prohibits the place of a name. The error reports that there was no memory for it.
+fn is_prohibited(
+    alloc: Global,
+    settings: &Settings<'_>,
+    name: FullNameRef<'_>,
+) -> Result<bool, AllocError>
+    ensures { IfOk result (λ prohibited. prohibited ≡ (setting_of settings.now).is_prohibited
+        ((setting_of settings.now).place (full_ref_bytes name.entry))) }
+{
+    if !settings.prohibit_windows_device_names {
+        return Ok(false);
+    }
+    let place = settings.place(alloc, name)?;
+    Ok(settings.is_prohibited(&place))
+}
+
+fn check_edit(alloc: Global, settings: &Settings<'_>, edit: &RefEdit) -> Result<(), Error>
+    ensures sound { OnOk result (IsValidEdit (setting_of settings.now) settings.now.kind edit.now) }
+    ensures refused { IfErr result (λ error. (error ≡ Error.Memory)
+        ⊎ IsInvalidEdit (setting_of settings.now) settings.now.kind edit.now error) }
     ensures inside { IfErr result IsNotIo }
 {
-    if location_of(edit.name.as_ref()).is_none() {
+    if !is_safe_name(edit.name.as_ref()) {
         return Err(Error::UnsafeName);
+    }
+    if is_prohibited(alloc, settings, edit.name.as_ref())? {
+        return Err(Error::DeviceName);
     }
     if !is_full_target(edit.change.new_value()) {
         return Err(Error::TargetNotFull);
     }
-    if !has_kind(edit, kind) {
+    if !has_kind(edit, settings.kind) {
         return Err(Error::OtherHashKind);
     }
     Ok(())
 }
 
-/// Each edit by itself, in order, up to the first that is not sound.
-pub fn check_edits(edits: &[RefEdit], kind: Kind) -> Result<(), Error>
-    ensures sound { MatchResult result (λ _. AllValid kind [] edits.now)
-        (IsFirstInvalid kind [] edits.now) }
+/// Each edit by itself, in order, up to the first that is not sound. Takes memory only where the store prohibits names.
+pub fn check_edits(alloc: Global, settings: &Settings<'_>, edits: &[RefEdit]) -> Result<(), Error>
+    ensures sound { OnOk result (AllValid (setting_of settings.now) settings.now.kind [] edits.now) }
+    ensures refused { IfErr result (λ error. (error ≡ Error.Memory)
+        ⊎ IsFirstInvalid (setting_of settings.now) settings.now.kind [] edits.now error) }
     ensures inside { IfErr result IsNotIo }
 {
     for edit in edits {
-        check_edit(edit, kind)?;
+        check_edit(alloc, settings, edit)?;
     }
     Ok(())
 }

@@ -6,13 +6,16 @@ use gix_ref_files::files::FileError;
 use std::alloc::AllocError;
 use thiserror::Error;
 
-/// The causes of a refusal, in the order in which `prepare` reports them: the first three of each edit by itself, then a name
+/// The causes of a refusal, in the order in which `prepare` reports them: the first four of each edit by itself, then a name
 /// that two edits have, before it takes any lock; the others edit by edit. `Io` and `Memory` can come anywhere.
 #[derive(Debug, Drop, Error)]
 pub enum Error {
     /// The name of an edit neither begins with `refs/` nor has a category, so it may lie where Git keeps something else.
     #[error("the name of an edit may not be that of a reference")]
     UnsafeName,
+    /// A component of the place of an edit's reference is the name of a Windows device, as `CON`, and the store prohibits these.
+    #[error("a component of the name of an edit is the name of a Windows device")]
+    DeviceName,
     /// The new target of an edit is the name of a reference, and no full name.
     #[error("the name of a new symbolic target is no full name")]
     TargetNotFull,

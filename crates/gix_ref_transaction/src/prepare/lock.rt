@@ -15,9 +15,9 @@ ghost use Rattle.gix_ref_transaction.specs.Causes.{found, IsCounted, IsNotIo, Is
 ghost use Rattle.gix_ref_edits.specs.RefEdits.{name_of, expected_of, new_of, Expects};
 ghost use Rattle.gix_ref_transaction.specs.PrepareSteps.{setting_of, value_of, places_of, place_paths, lock_paths, lock_text, is_new, held_by, IsText, IsRefusedLock, IsNewLock, FillsLock, FillingOn};
 
+use crate::paths::Paths;
 use crate::prepare::Error;
 use crate::prepare::expect::check_expected;
-use crate::setting::{Paths, Setting};
 use gix_ref_base::namespace::Namespace;
 use gix_ref_base::target::Target;
 use gix_ref_edits::transaction::{Change, RefEdit, RefLog};
@@ -27,16 +27,21 @@ use gix_ref_lookup::find::loose::{Loose, loose_at};
 use gix_ref_lookup::find::strip;
 use gix_ref_lookup::layout::layout_in;
 use gix_ref_lookup::loose::text_of;
+use gix_ref_lookup::settings::Settings;
 use std::alloc::{AllocError, Global};
 
 /// The place of an edit's reference, and its lock.
-fn paths_of_edit(alloc: Global, setting: &Setting<'_>, edit: &RefEdit) -> Result<Paths, AllocError>
-    ensures place { IfOk result (λ paths. paths.place.items ≡ (setting_of setting.now).place
+fn paths_of_edit(
+    alloc: Global,
+    settings: &Settings<'_>,
+    edit: &RefEdit,
+) -> Result<Paths, AllocError>
+    ensures place { IfOk result (λ paths. paths.place.items ≡ (setting_of settings.now).place
         (name_of edit.now)) }
     ensures lock { IfOk result (λ paths. paths.lock.items ≡ lock_of
-        ((setting_of setting.now).place (name_of edit.now))) }
+        ((setting_of settings.now).place (name_of edit.now))) }
 {
-    let layout = layout_in(setting.dirs, setting.namespace);
+    let layout = layout_in(settings.dirs, settings.namespace);
     let place = layout.loose(alloc, edit.name.as_ref())?;
     let mut lock = place.clone()?;
     lock.extend_from_slice(b".lock")?;
@@ -46,18 +51,18 @@ fn paths_of_edit(alloc: Global, setting: &Setting<'_>, edit: &RefEdit) -> Result
 /// The paths of each edit.
 pub fn paths_of_edits(
     alloc: Global,
-    setting: &Setting<'_>,
+    settings: &Settings<'_>,
     edits: &[RefEdit],
 ) -> Result<Vec<Paths>, AllocError>
     ensures len { IfOk result (λ paths. vec_len paths ≡ length edits.now) }
     ensures places { IfOk result (λ paths. place_paths paths.items ≡ places_of
-        (setting_of setting.now) edits.now) }
-    ensures locks { IfOk result (λ paths. lock_paths paths.items ≡ locks_of (setting_of setting.now)
+        (setting_of settings.now) edits.now) }
+    ensures locks { IfOk result (λ paths. lock_paths paths.items ≡ locks_of (setting_of settings.now)
         edits.now) }
 {
     let mut paths = Vec::with_capacity(alloc, edits.len())?;
     for edit in edits {
-        paths.push(paths_of_edit(alloc, setting, edit)?)?;
+        paths.push(paths_of_edit(alloc, settings, edit)?)?;
     }
     Ok(paths)
 }
@@ -134,12 +139,12 @@ fn target_of(loose: Loose, namespace: &Option<Namespace>) -> Option<Target>
 fn found_at<F: Files>(
     alloc: Global,
     files: &mut F,
-    setting: &Setting<'_>,
+    settings: &Settings<'_>,
     place: &[u8],
 ) -> Result<Option<Target>, Error>
     ensures found { F.honest → IfOk result (λ was. (name : List ℕ) →
-        place.now ≡ (setting_of setting.now).place name →
-        value_of was ≡ found (setting_of setting.now) (view_of (F.means files.old).tree) name) }
+        place.now ≡ (setting_of settings.now).place name →
+        value_of was ≡ found (setting_of settings.now) (view_of (F.means files.old).tree) name) }
     ensures outside { IfErr result IsIoOrMemory }
     ensures leaves { F.honest → Leaves (F.means files.old) (F.means files.new)
         (Unchanged (F.means files.old).tree) }
@@ -148,8 +153,8 @@ fn found_at<F: Files>(
     ensures no_fewer { F.faults files.old ≤ F.faults files.new }
     ensures counted { IfErr result (IsCounted (F.faults files.old) (F.faults files.new)) }
 {
-    let loose = loose_at(alloc, files, place, setting.kind)?;
-    Ok(target_of(loose, setting.namespace))
+    let loose = loose_at(alloc, files, place, settings.kind)?;
+    Ok(target_of(loose, settings.namespace))
 }
 
 /// Whether the update changes what is found: the reference has not this object already.
@@ -203,27 +208,27 @@ fn fill<F: Files>(files: &mut F, lock: &[u8], text: &[u8]) -> Result<(), Error>
 pub fn settle<F: Files>(
     alloc: Global,
     files: &mut F,
-    setting: &Setting<'_>,
+    settings: &Settings<'_>,
     edit: &RefEdit,
     paths: &Paths,
 ) -> Result<Option<Target>, Error>
     requires update { IsSome (new_of edit.now.change) }
-    requires place { paths.now.place.items ≡ (setting_of setting.now).place (name_of edit.now) }
+    requires place { paths.now.place.items ≡ (setting_of settings.now).place (name_of edit.now) }
     ensures found { F.honest →
-        IfOk result (λ was. value_of was ≡ found (setting_of setting.now)
+        IfOk result (λ was. value_of was ≡ found (setting_of settings.now)
         (view_of (F.means files.old).tree) (name_of edit.now)) }
     ensures expected { F.honest →
         OnOk result (Expects (expected_of edit.now.change) (new_of edit.now.change)
-        (found (setting_of setting.now) (view_of (F.means files.old).tree) (name_of edit.now))) }
+        (found (setting_of settings.now) (view_of (F.means files.old).tree) (name_of edit.now))) }
     ensures filled { F.honest → (F.means files.old).tree paths.now.lock.items ≡ Some (File []) →
         OnOk result ((F.means files.new).tree ≡ put (F.means files.old).tree paths.now.lock.items
         (Some
         (File
         (lock_text edit.now.change
-        (found (setting_of setting.now) (view_of (F.means files.old).tree) (name_of edit.now)))))) }
+        (found (setting_of settings.now) (view_of (F.means files.old).tree) (name_of edit.now)))))) }
     ensures refused { F.honest →
-        IfErr result (λ error. IsIoOrMemory error ⊎ IsMismatch setting.now.kind edit.now
-        (found (setting_of setting.now) (view_of (F.means files.old).tree) (name_of edit.now))
+        IfErr result (λ error. IsIoOrMemory error ⊎ IsMismatch settings.now.kind edit.now
+        (found (setting_of settings.now) (view_of (F.means files.old).tree) (name_of edit.now))
         error) }
     ensures leaves { F.honest → (F.means files.old).tree paths.now.lock.items ≡ Some (File []) →
         Leaves (F.means files.old) (F.means files.new) (FillsLock (F.means files.old).tree
@@ -231,14 +236,14 @@ pub fn settle<F: Files>(
     ensures whole { F.honest → IsWhole (disk_of (F.means files.old)) paths.now.lock.items [] →
         OnOk result (IsWhole (disk_of (F.means files.new)) paths.now.lock.items
         (lock_text edit.now.change
-        (found (setting_of setting.now) (view_of (F.means files.old).tree) (name_of edit.now)))) }
+        (found (setting_of settings.now) (view_of (F.means files.old).tree) (name_of edit.now)))) }
     ensures passes { F.honest → Passes (F.means files.old) (F.means files.new)
         (FillingOn (disk_of (F.means files.old)) paths.now.lock.items) }
     ensures no_fewer { F.faults files.old ≤ F.faults files.new }
     ensures counted { IfErr result (IsCounted (F.faults files.old) (F.faults files.new)) }
 {
-    let was = found_at(alloc, files, setting, &paths.place)?;
-    check_expected(edit, &was, setting.kind)?;
+    let was = found_at(alloc, files, settings, &paths.place)?;
+    check_expected(edit, &was, settings.kind)?;
     let text = text_for(alloc, &edit.change, &was)?;
     if let Some(text) = text {
         fill(files, &paths.lock, &text)?;

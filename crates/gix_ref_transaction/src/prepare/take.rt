@@ -9,58 +9,59 @@ ghost use Rattle.gix_ref_transaction.specs.Causes.{LocksAreApart, IsCounted, NoC
 ghost use Rattle.gix_ref_transaction.specs.PrepareSteps.{setting_of, value_of, lock_paths, place_paths, places_of, HoldTexts, HoldWhole, old_targets};
 ghost use Rattle.gix_ref_edits.specs.RefEdits.{AreUpdates};
 
+use crate::paths::Paths;
 use crate::prepare::Error;
 use crate::prepare::lock::{acquire, settle};
-use crate::setting::{Paths, Setting};
 use gix_ref_base::target::Target;
 use gix_ref_edits::transaction::RefEdit;
 use gix_ref_files::files::Files;
+use gix_ref_lookup::settings::Settings;
 use std::alloc::{AllocError, Global};
 
 /// Takes the lock of each edit, up to the first that is at fault; `taken` counts them.
 pub fn take_locks<F: Files>(
     alloc: Global,
     files: &mut F,
-    setting: &Setting<'_>,
+    settings: &Settings<'_>,
     edits: &[RefEdit],
     paths: &[Paths],
     taken: &mut usize,
 ) -> Result<Vec<Option<Target>>, Error>
-    requires locks { lock_paths paths.now ≡ locks_of (setting_of setting.now) edits.now }
-    requires places { place_paths paths.now ≡ places_of (setting_of setting.now) edits.now }
-    requires apart { LocksAreApart (setting_of setting.now) edits.now }
+    requires locks { lock_paths paths.now ≡ locks_of (setting_of settings.now) edits.now }
+    requires places { place_paths paths.now ≡ places_of (setting_of settings.now) edits.now }
+    requires apart { LocksAreApart (setting_of settings.now) edits.now }
     requires updates { AreUpdates edits.now }
     requires none { taken.old ≡ 0 }
     ensures within { taken.new ≤ length edits.now }
     ensures len { IfOk result (λ was. vec_len was ≡ length edits.now) }
     ensures found { F.honest →
-        IfOk result (λ was. map value_of was.items ≡ old_targets (setting_of setting.now)
+        IfOk result (λ was. map value_of was.items ≡ old_targets (setting_of settings.now)
         (F.means files.old).tree edits.now) }
     ensures passed { F.honest →
-        OnOk result (NoCause (setting_of setting.now) setting.now.kind (F.means files.old).tree []
+        OnOk result (NoCause (setting_of settings.now) settings.now.kind (F.means files.old).tree []
         edits.now) }
     ensures texts { F.honest →
-        OnOk result (HoldTexts (setting_of setting.now) (F.means files.old).tree
+        OnOk result (HoldTexts (setting_of settings.now) (F.means files.old).tree
         (F.means files.new).tree edits.now) }
     ensures every { OnOk result (taken.new ≡ length edits.now) }
     ensures refused { F.honest →
-        IfErr result (IsFirstCause (setting_of setting.now) setting.now.kind
+        IfErr result (IsFirstCause (setting_of settings.now) settings.now.kind
         (F.means files.old).tree [] edits.now) }
     ensures adds { F.honest →
-        AddsLocks (locks_of (setting_of setting.now) (take taken.new edits.now))
-        (locks_of (setting_of setting.now) edits.now) (F.means files.old).tree
+        AddsLocks (locks_of (setting_of settings.now) (take taken.new edits.now))
+        (locks_of (setting_of settings.now) edits.now) (F.means files.old).tree
         (F.means files.new).tree }
     ensures free { F.honest → (q : Path) →
-        is_in (locks_of (setting_of setting.now) (take taken.new edits.now)) q ≡ true →
+        is_in (locks_of (setting_of settings.now) (take taken.new edits.now)) q ≡ true →
         (F.means files.old).tree q ≡ None }
     ensures leaves { F.honest → Leaves (F.means files.old) (F.means files.new)
-        (AddsLocks (locks_of (setting_of setting.now) edits.now)
-        (locks_of (setting_of setting.now) edits.now) (F.means files.old).tree) }
+        (AddsLocks (locks_of (setting_of settings.now) edits.now)
+        (locks_of (setting_of settings.now) edits.now) (F.means files.old).tree) }
     ensures whole { F.honest →
-        OnOk result (HoldWhole (setting_of setting.now) (F.means files.old).tree
+        OnOk result (HoldWhole (setting_of settings.now) (F.means files.old).tree
         (disk_of (F.means files.new)) edits.now) }
     ensures passes { F.honest → (staying : List Path) → AllStay (disk_of (F.means files.old)) staying →
-        Passes (F.means files.old) (F.means files.new) (IsAsBefore (places_of (setting_of setting.now)
+        Passes (F.means files.old) (F.means files.new) (IsAsBefore (places_of (setting_of settings.now)
         edits.now) staying (disk_of (F.means files.old))) }
     ensures no_fewer { F.faults files.old ≤ F.faults files.new }
     ensures counted { IfErr result (IsCounted (F.faults files.old) (F.faults files.new)) }
@@ -70,7 +71,7 @@ pub fn take_locks<F: Files>(
         let path = &paths[i];
         acquire(files, edit, &path.place, &path.lock)?;
         *taken = i + 1;
-        let was = settle(alloc, files, setting, edit, path)?;
+        let was = settle(alloc, files, settings, edit, path)?;
         found.push(was).map_err(AllocError::from)?;
     }
     Ok(found)

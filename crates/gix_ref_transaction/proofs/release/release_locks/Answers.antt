@@ -8,7 +8,7 @@ use Rattle.gix_ref_transaction.specs.OwnLocks.{paths_of, RemovesLocks, is_in}
 use Rattle.gix_ref_transaction.proofs.Adds.{clash}
 use Rattle.gix_ref_transaction.specs.CommitRenames.{lock_at}
 use Rattle.gix_ref_transaction.specs.PrepareSteps.{lock_paths}
-use Rattle.gix_ref_transaction.specs.declared.setting.Paths.{Paths}
+use Rattle.gix_ref_transaction.specs.declared.paths.Paths.{Paths}
 use Rattle.gix_ref_transaction.proofs.Removing.{path_left, path_here, path_cases, leaves_then, removes_more}
 use Rattle.gix_ref_transaction.proofs.Renames.{lock_there, lock_within, released}
 use Rattle.gix_ref_transaction.proofs.release.release_locks.Goals as goal

@@ -5,7 +5,7 @@ use Rattle.gix_ref_files.specs.Tree.{Path, is_file}
 use Rattle.gix_ref_transaction.specs.CommitRenames.{lock_at, stays_at}
 use Rattle.gix_ref_transaction.specs.PrepareSteps.{lock_paths}
 use Rattle.gix_ref_transaction.specs.OwnLocks.{paths_of, RemovesLocks, OnlyRemoves, is_in}
-use Rattle.gix_ref_transaction.specs.declared.setting.Paths.{Paths}
+use Rattle.gix_ref_transaction.specs.declared.paths.Paths.{Paths}
 use Rattle.gix_ref_transaction.proofs.release.release_locks.Given as goal
 
 -- a lock that is not among the rest is gone, renamed or left

@@ -11,7 +11,7 @@ use gix_ref_edits::transaction::RefEdit;
 use gix_ref_files::files::{FileError, Files};
 use gix_ref_files::steps::run_steps;
 use gix_ref_transaction::commit::renames::{Unpublished, Why, plan_renames, where_ended};
-use gix_ref_transaction::setting::Paths;
+use gix_ref_transaction::paths::Paths;
 use std::alloc::Global;
 
 impl<F: Files> Store<F> {

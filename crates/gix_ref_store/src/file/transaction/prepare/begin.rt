@@ -11,10 +11,10 @@ ghost use Rattle.gix_ref_transaction.specs.Causes.{locks_of};
 use crate::file::store::Store;
 use gix_ref_edits::transaction::RefEdit;
 use gix_ref_files::files::Files;
+use gix_ref_lookup::settings::Settings;
 use gix_ref_transaction::prepare::Error;
 use gix_ref_transaction::prepare::check::{check_edits, check_names};
 use gix_ref_transaction::prepare::hold::{Taken, Untaken, hold, reserve};
-use gix_ref_transaction::setting::Setting;
 use std::alloc::Global;
 
 /// A refusal before any lock was tried.
@@ -49,19 +49,21 @@ impl<F: Files> Store<F> {
         ensures room { IfOk result (λ t. vec_len t.paths ≤ vec_capacity t.left) }
         ensures none { IfOk result (λ t. t.left.items ≡ []) }
     {
-        let setting = Setting {
+        let settings = Settings {
             dirs: &self.dirs,
             namespace: &self.namespace,
             kind: self.object_hash,
+            prohibit_windows_device_names: self.prohibit_windows_device_names,
+            precompose_unicode: self.precompose_unicode,
         };
-        if let Err(error) = check_edits(edits, setting.kind) {
+        if let Err(error) = check_edits(alloc, &settings, edits) {
             return Err(untouched(alloc, error));
         }
         if let Err(error) = check_names(alloc, edits) {
             return Err(untouched(alloc, error));
         }
-        match reserve(alloc, &setting, edits) {
-            Ok((paths, left)) => hold(alloc, &mut self.files, &setting, edits, paths, left),
+        match reserve(alloc, &settings, edits) {
+            Ok((paths, left)) => hold(alloc, &mut self.files, &settings, edits, paths, left),
             Err(_) => Err(untouched(alloc, Error::Memory)),
         }
     }

@@ -1,6 +1,6 @@
 use Rattle.std.proofs.Common.{ap}
 use Rattle.std.proofs.Math.Seq.{map-set_same}
-use Rattle.gix_ref_transaction.specs.declared.setting.Paths.{Paths}
+use Rattle.gix_ref_transaction.specs.declared.paths.Paths.{Paths}
 use Rattle.gix_ref_transaction.proofs.commit.failure.take_place.Goals as goal
 
 pub returns-then-at-len-clause-locks : goal.returns-then-at-len-clause-locks

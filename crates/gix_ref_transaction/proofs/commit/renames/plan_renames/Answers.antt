@@ -10,7 +10,7 @@ use Rattle.gix_ref_files.specs.DiskSteps.Synced.{With}
 use Rattle.gix_ref_files.specs.declared.steps.Planned.{Planned}
 use Rattle.gix_ref_lookup.specs.StoreLayout.{root_in}
 use Rattle.gix_ref_transaction.specs.CommitRenames.{writes, lock_at, place_at, is_written_at, IsStepOf, SayTheirEdits}
-use Rattle.gix_ref_transaction.specs.declared.setting.Paths.{Paths}
+use Rattle.gix_ref_transaction.specs.declared.paths.Paths.{Paths}
 use Rattle.gix_ref_edits.specs.declared.transaction.RefEdit.{RefEdit}
 use Rattle.gix_ref_transaction.proofs.Renames.{says_more, steps_more, steps_same, synced_more, synced_same}
 use Rattle.gix_ref_transaction.proofs.commit.renames.plan_renames.Goals as goal

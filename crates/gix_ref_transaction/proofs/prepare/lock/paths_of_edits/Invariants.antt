@@ -7,6 +7,6 @@ use Rattle.gix_ref_transaction.proofs.prepare.lock.paths_of_edits.Given as goal
 abbrev pub invariant-loop-edit : goal.invariant-loop-edit
 invariant-loop-edit l = record {
   len : vec_len l.paths ≡ l.edit-index;
-  places : place_paths l.paths.items ≡ places_of (setting_of l.setting) (take l.edit-index l.edits);
-  locks : lock_paths l.paths.items ≡ locks_of (setting_of l.setting) (take l.edit-index l.edits);
+  places : place_paths l.paths.items ≡ places_of (setting_of l.settings) (take l.edit-index l.edits);
+  locks : lock_paths l.paths.items ≡ locks_of (setting_of l.settings) (take l.edit-index l.edits);
 }

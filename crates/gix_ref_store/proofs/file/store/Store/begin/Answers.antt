@@ -9,7 +9,7 @@ pub hold-requires-clause-apart : goal.hold-requires-clause-apart
 hold-requires-clause-apart g c =
     let self = c.args.self.now in
     rw (sym c.deref-in-Ok.ensures.value) at
-    (apart (folders_of self.dirs self.namespace) (loose_alone self.object_hash) (folders_laid self.dirs self.namespace) self.object_hash c.args.edits.now.items
+    (apart (folders_of self.dirs self.namespace) (loose_alone self.object_hash self.prohibit_windows_device_names) (folders_laid self.dirs self.namespace) self.object_hash c.args.edits.now.items
     (rw c.deref.ensures.value at c.in_default.ensures.sound))
 
 pub hold-requires-clause-updates : goal.hold-requires-clause-updates
