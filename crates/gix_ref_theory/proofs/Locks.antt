@@ -58,7 +58,7 @@ module _ (s : Store) (laws : HasLaws s) (mode : Mode) (locked : List (List ℕ))
   pub committed : IsCommitted s mode locked edits view bare → IsCommitted s mode locked edits view left
   committed b = record {
     readings = λ name is. reading_alike name is ∙ b.readings name is;
-    places = λ e he a. subst (λ x. IsCommittedFile s mode e e.change (view (s.place e.name)) x) (sym (place_alike e.name (is_ref e he))) (b.places e he a);
+    places = λ e he. subst (λ x. IsCommittedFile (effect s mode view e) (view (s.place e.name)) x) (sym (place_alike e.name (is_ref e he))) (b.places e he);
     logs = λ e he. log_alike e.name (is_ref e he) ∙ b.logs e he;
     packed = subst (λ x. IsPackedFile s mode edits (view s.packed_path) x) (sym packed_alike) b.packed;
     others = λ path other. alike path other.no_lock ∙ b.others path other;
@@ -109,6 +109,13 @@ own_or_not (l ∷ ls) path = elim (cases_Bool (bytes_eq path (lock_of l))) [
   ]
 ]
 
+-- the locks change no effect
+effect_alike : (s : Store) → HasLaws s → (mode : Mode) (locked : List (List ℕ)) (edits : List Edit) → AreEdits s edits → (left view : View) → IsSameButLocks locked left view →
+    (e : Edit) → IsEdit e edits → effect s mode left e ≡ effect s mode view e
+effect_alike s laws mode locked edits apart left view alike e he =
+    ap (λ r. if e.and_reference then effect_of_change s mode (s.key e.name) r e.change else Keeps)
+    (reading_alike s laws mode locked view edits apart view left alike e.name (is_reference_at s edits apart e he))
+
 -- the successor, of the view before the locks were taken; `named` are the locks that stay
 pub committed_before : (s : Store) → HasLaws s → (mode : Mode) (locked named : List (List ℕ)) (edits : List Edit) → AreEdits s edits → (view before left : View) →
     IsSameButLocks locked before view → ((path : List ℕ) → IsOwnLock locked path → (IsOwnLock named path → ⊥) → left path ≡ before path) →
@@ -116,9 +123,11 @@ pub committed_before : (s : Store) → HasLaws s → (mode : Mode) (locked named
 committed_before s laws mode locked named edits apart view before left alike gone b = record {
   readings = λ name is.
       b.readings name is ∙ ap (edited_reading s edits name) (sym (reading_alike s laws mode locked view edits apart view before alike name is));
-  places = λ e he a.
-      subst (λ x. IsCommittedFile s mode e e.change x (left (s.place e.name)))
-      (sym (place_alike s laws mode locked view edits apart view before alike e.name (is_reference_at s edits apart e he))) (b.places e he a);
+  places = λ e he.
+      subst (λ f. IsCommittedFile f (before (s.place e.name)) (left (s.place e.name)))
+      (sym (effect_alike s laws mode locked edits apart before view alike e he))
+      (subst (λ x. IsCommittedFile (effect s mode view e) x (left (s.place e.name)))
+      (sym (place_alike s laws mode locked view edits apart view before alike e.name (is_reference_at s edits apart e he))) (b.places e he));
   logs = λ e he.
       b.logs e he ∙ ap (committed_log s edits (s.log e.name)) (sym (log_alike s laws mode locked view edits apart view before alike e.name (is_reference_at s edits apart e he)));
   packed =
@@ -154,9 +163,7 @@ plan_alike s laws mode locked edits merged apart left view alike =
     ∙ ap (λ x. updates s mode view edits ++ (log_removals s edits ++ (packed_writes s mode view edits merged ++ x))) (removals_alike s mode left view edits effects))
   where
     effects : (e : Edit) → IsEdit e edits → effect s mode left e ≡ effect s mode view e
-    effects e he =
-        ap (λ r. if e.and_reference then effect_of_change s mode (s.key e.name) r e.change else Keeps)
-        (reading_alike s laws mode locked view edits apart view left alike e.name (is_reference_at s edits apart e he))
+    effects e he = effect_alike s laws mode locked edits apart left view alike e he
 
     packed : packed_writes s mode left edits merged ≡ packed_writes s mode view edits merged
     packed =

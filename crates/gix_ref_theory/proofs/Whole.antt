@@ -1,5 +1,5 @@
 -- The view after a whole plan.
-use Rattle.std.proofs.Common.{◌≡◌, ℕ, List, [], ◌++◌, Option, Some, None, Bool, true, false, ◌&&◌, if◌then◌else◌, cond, refl, sym, ap, ◌∙◌, subst, inl, inr, ◌⊎◌, append-nil}
+use Rattle.std.proofs.Common.{◌≡◌, ℕ, List, [], ◌++◌, Some, None, true, false, ◌&&◌, if◌then◌else◌, cond, refl, sym, ap, ◌∙◌, subst, inl, inr, ◌⊎◌, append-nil}
 use Rattle.std.proofs.lemmas.Bool.{cond-true, cases_Bool}
 use Rattle.std.specs.Bool.{MatchBool}
 use Rattle.gix_ref_theory.proofs.Writes.{IsCut, is_touched, content}
@@ -8,12 +8,11 @@ use Rattle.gix_ref_theory.proofs.Plans.{Leads, touched_left, touched_right, upda
 use Rattle.gix_ref_theory.proofs.Logs.{behind_makes, behind_touched, updated, after-append}
 use Rattle.gix_ref_theory.proofs.Stops as stop
 use Rattle.gix_ref_theory.specs.Between.{IsCommitted, IsCommittedFile, IsEdit, IsMerged, IsPackedFile, IsPrepared, ReadsAsEdited, committed_log}
-use Rattle.gix_ref_theory.specs.Edits.{Change, Edit, Effect, Mode, alters_packed, effect, effect_of_change, file_of_records, has_already, new_reading, packs, removes_log, removes_packed}
-use Rattle.gix_ref_theory.specs.Edits.Change.{Delete, Update}
+use Rattle.gix_ref_theory.specs.Edits.{Edit, Effect, Mode, alters_packed, effect, file_of_records, new_reading, removes_log}
 use Rattle.gix_ref_theory.specs.Edits.Effect.{Keeps, Removes, Writes}
 use Rattle.gix_ref_theory.specs.Plan.{log_removals, loose_removals, packed_writes, plan, updates}
 use Rattle.gix_ref_base.specs.PackedRecords.{Record}
-use Rattle.gix_ref_theory.specs.Readings.{HasLaws, Reading, Store, reading, records_in}
+use Rattle.gix_ref_theory.specs.Readings.{HasLaws, Store, reading, records_in}
 use Rattle.gix_ref_theory.specs.Views.{IsSameView, View, after}
 use Rattle.gix_ref_theory.specs.Views.Ending.{Stop}
 
@@ -21,27 +20,6 @@ abbrev all : (s : Store) (mode : Mode) (view : View) (edits : List Edit) (merged
     IsCut Stop (plan s mode view edits merged) view left
 all s mode view edits merged left whole =
     record { done = plan s mode view edits merged; rest = []; whole = append-nil (plan s mode view edits merged); stopped = whole }
-
--- what an effect leaves at an edited place
-committed_file : (s : Store) (mode : Mode) (e : Edit) (was : Reading) (c : Change) (f : Effect) (old new : Option (List ℕ)) →
-    effect_of_change s mode (s.key e.name) was c ≡ f → Leads f new → (f ≡ Keeps → new ≡ old) → IsCommittedFile s mode e c old new
-committed_file s mode e was Delete (Writes text) old new w leads left = cc
-committed_file s mode e was Delete Removes old new w leads left = sym leads
-committed_file s mode e was Delete Keeps old new w leads left = cc
-committed_file s mode e was (Update t) f old new w leads left =
-    cases (removes_packed mode && packs mode (s.key e.name) t) (has_already was t) (s.text_of t) f w leads left
-  where
-    cases : (b a : Bool) (text : List ℕ) (f : Effect) → (if b then Removes else (if a then Keeps else Writes text)) ≡ f → Leads f new → (f ≡ Keeps → new ≡ old) →
-        MatchBool b (new ≡ None) ((new ≡ old) ⊎ (new ≡ Some text))
-    cases true a text (Writes x) w leads left = cc
-    cases true a text Removes w leads left = sym leads
-    cases true a text Keeps w leads left = cc
-    cases false true text (Writes x) w leads left = cc
-    cases false true text Removes w leads left = cc
-    cases false true text Keeps w leads left = inl (left refl)
-    cases false false text (Writes x) w leads left = let e : x ≡ text = cc in inr (sym leads ∙ ap Some e)
-    cases false false text Removes w leads left = cc
-    cases false false text Keeps w leads left = cc
 
 module _ (s : Store) (laws : HasLaws s) (mode : Mode) (view : View) (edits : List Edit) (merged : List Record) (p : IsPrepared s mode view edits merged)
     (left : View) (whole : IsSameView left (after (plan s mode view edits merged) view)) where
@@ -73,23 +51,17 @@ module _ (s : Store) (laws : HasLaws s) (mode : Mode) (view : View) (edits : Lis
         reading-alike s left name x.0.name (sym x.3) (sym key) ∙ (reads_new x.0 x.1 x.2 (effect s mode view x.0) refl ∙ sym x.4)
   ]
 
-  places : (e : Edit) → IsEdit e edits → e.and_reference ≡ true → IsCommittedFile s mode e e.change (view (s.place e.name)) (left (s.place e.name))
-  places e he a = by_effect (effect s mode view e) refl
+  places : (e : Edit) → IsEdit e edits → IsCommittedFile (effect s mode view e) (view (s.place e.name)) (left (s.place e.name))
+  places e he = by_effect (effect s mode view e) refl
     where
-      by_effect : (f : Effect) → effect s mode view e ≡ f → IsCommittedFile s mode e e.change (view (s.place e.name)) (left (s.place e.name))
+      by_effect : (f : Effect) → effect s mode view e ≡ f → IsCommittedFile f (view (s.place e.name)) (left (s.place e.name))
       by_effect (Writes text) w =
-          committed_file s mode e (reading s view e.name) e.change (Writes text) (view (s.place e.name)) (left (s.place e.name)) (sym (stop.effect_is s laws mode view edits merged p Stop left (all s mode view edits merged left whole) e a) ∙ w)
-          (sym (stop.at_place s laws mode view edits merged p Stop left (all s mode view edits merged left whole) e he (Some text) (subst (λ x. Leads x (Some text)) (sym w) refl)
-          ∙ cond-true (is_touched (s.place e.name) (plan s mode view edits merged)) (Some text) (view (s.place e.name)) (written e he text w)))
-          (λ h. cc)
+          stop.at_place s laws mode view edits merged p Stop left (all s mode view edits merged left whole) e he (Some text) (subst (λ x. Leads x (Some text)) (sym w) refl)
+          ∙ cond-true (is_touched (s.place e.name) (plan s mode view edits merged)) (Some text) (view (s.place e.name)) (written e he text w)
       by_effect Removes w =
-          committed_file s mode e (reading s view e.name) e.change Removes (view (s.place e.name)) (left (s.place e.name)) (sym (stop.effect_is s laws mode view edits merged p Stop left (all s mode view edits merged left whole) e a) ∙ w)
-          (sym (stop.at_place s laws mode view edits merged p Stop left (all s mode view edits merged left whole) e he None (subst (λ x. Leads x None) (sym w) refl)
-          ∙ cond-true (is_touched (s.place e.name) (plan s mode view edits merged)) None (view (s.place e.name)) (removed e he w)))
-          (λ h. cc)
-      by_effect Keeps w =
-          committed_file s mode e (reading s view e.name) e.change Keeps (view (s.place e.name)) (left (s.place e.name)) (sym (stop.effect_is s laws mode view edits merged p Stop left (all s mode view edits merged left whole) e a) ∙ w) tt
-          (λ h. stop.kept_if_left s laws mode view edits merged p Stop left (all s mode view edits merged left whole) e he w)
+          stop.at_place s laws mode view edits merged p Stop left (all s mode view edits merged left whole) e he None (subst (λ x. Leads x None) (sym w) refl)
+          ∙ cond-true (is_touched (s.place e.name) (plan s mode view edits merged)) None (view (s.place e.name)) (removed e he w)
+      by_effect Keeps w = stop.kept_if_left s laws mode view edits merged p Stop left (all s mode view edits merged left whole) e he w
 
   logs : (e : Edit) → IsEdit e edits → left (s.log e.name) ≡ committed_log s edits (s.log e.name) (view (s.log e.name))
   logs e he =

@@ -11,8 +11,9 @@ use Rattle.gix_ref_base.specs.Targets.TargetValue.{object_id}
 use Rattle.gix_ref_base.specs.PackedRecords.{Record, record_named, id_read}
 use Rattle.gix_ref_theory.specs.ConcreteStore.{written_id}
 use Rattle.gix_ref_theory.specs.Readings.{Store, reading, records_in}
-use Rattle.gix_ref_theory.specs.Edits.{Edit, Change, Mode, removes_packed, packs, merged_record, alters_packed, file_of_records, is_deletion, due, is_due, removes_log, edited_reading}
+use Rattle.gix_ref_theory.specs.Edits.{Edit, Change, Effect, Mode, effect, removes_packed, packs, merged_record, alters_packed, file_of_records, is_deletion, due, is_due, removes_log, edited_reading}
 use Rattle.gix_ref_theory.specs.Edits.Change.{Update, Delete}
+use Rattle.gix_ref_theory.specs.Edits.Effect.{Writes, Removes, Keeps}
 
 -- the edit is one of these
 abbrev pub IsEdit : Edit → List Edit → Type 0
@@ -110,12 +111,11 @@ InOrder s edits view left =
     is_deletion u.change ≡ false → u.and_reference ≡ true → (ReadsAsBefore s view left u.name → ⊥) →
     (e : Edit) → IsEdit e before → is_deletion e.change ≡ false → ReadsAsEdited s edits view left e.name
 
--- the file at an edited place: none where the edit deletes it or packs it in the removing mode; else the text of the
--- target, unless the reference had its object already
-abbrev pub IsCommittedFile : Store → Mode → Edit → Change → Option (List ℕ) → Option (List ℕ) → Type 0
-IsCommittedFile s mode e Delete old new = new ≡ None
-IsCommittedFile s mode e (Update target) old new =
-    MatchBool (removes_packed mode && packs mode (s.key e.name) target) (new ≡ None) ((new ≡ old) ⊎ (new ≡ Some (s.text_of target)))
+-- the file at the place of an edit: what becomes of it, by what the reference read before
+abbrev pub IsCommittedFile : Effect → (old new : Option (List ℕ)) → Type 0
+IsCommittedFile (Writes text) old new = new ≡ Some text
+IsCommittedFile Removes old new = new ≡ None
+IsCommittedFile Keeps old new = new ≡ old
 
 -- the log: gone where a deletion has it, else its old text and all lines that are due
 abbrev pub committed_log : Store → List Edit → Path → Option (List ℕ) → Option (List ℕ)
@@ -125,8 +125,7 @@ committed_log s edits log old =
 -- Committed: each reference reads as edited, and all other files are as before but for locks that stay.
 pub record IsCommitted (s : Store) (mode : Mode) (staying : List Path) (edits : List Edit) (view left : View) : Type 0 where
   pub readings : (name : List ℕ) → s.is_reference name ≡ true → ReadsAsEdited s edits view left name
-  pub places : (e : Edit) → IsEdit e edits → e.and_reference ≡ true →
-      IsCommittedFile s mode e e.change (view (s.place e.name)) (left (s.place e.name))
+  pub places : (e : Edit) → IsEdit e edits → IsCommittedFile (effect s mode view e) (view (s.place e.name)) (left (s.place e.name))
   pub logs : (e : Edit) → IsEdit e edits → left (s.log e.name) ≡ committed_log s edits (s.log e.name) (view (s.log e.name))
   pub packed : IsPackedFile s mode edits (view s.packed_path) (left s.packed_path)
   pub others : (path : Path) → IsOther s staying edits path → left path ≡ view path

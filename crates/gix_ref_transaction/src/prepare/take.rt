@@ -60,9 +60,11 @@ pub fn take_locks<F: Files>(
     ensures whole { F.honest →
         OnOk result (HoldWhole (setting_of settings.now) (F.means files.old).tree
         (disk_of (F.means files.new)) edits.now) }
-    ensures passes { F.honest → (staying : List Path) → AllStay (disk_of (F.means files.old)) staying →
-        Passes (F.means files.old) (F.means files.new) (IsAsBefore (places_of (setting_of settings.now)
-        edits.now) staying (disk_of (F.means files.old))) }
+    ensures passes { F.honest → (staying : List Path) →
+        AllStay (disk_of (F.means files.old)) staying →
+        Passes (F.means files.old) (F.means files.new)
+        (IsAsBefore (places_of (setting_of settings.now) edits.now) staying
+        (disk_of (F.means files.old))) }
     ensures no_fewer { F.faults files.old ≤ F.faults files.new }
     ensures counted { IfErr result (IsCounted (F.faults files.old) (F.faults files.new)) }
 {

@@ -35,12 +35,14 @@ impl<F: Files> Store<F> {
         ensures passes { F.honest → Passes (F.means self.old.files) (F.means self.new.files)
             (IsReachedBy (synced_renames_of self.old.dirs edits.now paths.now)
             (disk_of (F.means self.old.files))) }
-        ensures memory { IfErr result (λ end. end.why ≡ Why.Memory → self.new.files ≡ self.old.files) }
+        ensures memory { IfErr result (λ end. end.why ≡ Why.Memory →
+            self.new.files ≡ self.old.files) }
         ensures ended { F.honest →
             IfErr result (λ end. IsCutAt edits.now paths.now end.at
             (F.means self.old.files).tree (F.means self.new.files).tree) }
         ensures within { IfErr result (λ end. end.at ≤ length edits.now) }
-        ensures place { IfErr result (λ end. (end.why ≡ Why.Memory → ⊥) → end.at < length edits.now) }
+        ensures place { IfErr result (λ end. (end.why ≡ Why.Memory → ⊥) →
+            end.at < length edits.now) }
         ensures written { IfErr result (λ end. (end.why ≡ Why.Memory → ⊥) →
             is_written_at edits.now end.at ≡ true) }
         ensures source { IfErr result (λ end. end.why ≡ Why.Fault FileError.Memory → ⊥) }
