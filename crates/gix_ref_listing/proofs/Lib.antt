@@ -8,5 +8,7 @@ pub mod OwnLemmas
 pub mod OwnListings
 pub mod PlainListings
 pub mod PrefixedRecords
+pub mod PristineLemmas
+pub mod PseudoLemmas
 pub mod StoreWalks
 pub mod WalkLemmas

@@ -5,6 +5,8 @@ pub mod LooseListings
 pub mod OwnRecords
 pub mod PlainSettings
 pub mod PrefixedRecords
+pub mod PristineStores
+pub mod PseudoListings
 pub mod Steps
 pub mod Walks
 pub mod WholeListings

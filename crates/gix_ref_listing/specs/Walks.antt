@@ -74,9 +74,13 @@ IsFileOf root view folder entry = entry.is_folder ≡ false → IsSome (view (ro
 abbrev pub StaysFound : (old new : List FoundEntry) → Type 0
 StaysFound old new = (name : List ℕ) → Among (Holds name) old → Among (Holds name) new
 
--- the path of a folder below another one: nothing, or it ends in a slash
+-- the path of an inner folder: it ends in a slash
+abbrev pub IsInnerPath : List ℕ → Type 0
+IsInnerPath folder = (front : List ℕ) × (folder ≡ front ++ 47 ∷ [])
+
+-- the path of a folder below another one: nothing, or that of an inner folder
 abbrev pub IsFolderPath : List ℕ → Type 0
-IsFolderPath folder = (folder ≡ []) ⊎ ((front : List ℕ) × (folder ≡ front ++ 47 ∷ []))
+IsFolderPath folder = (folder ≡ []) ⊎ IsInnerPath folder
 
 -- the name is below one of these folders
 abbrev pub IsBelow : List (Vec ℕ Global) → List ℕ → Type 0

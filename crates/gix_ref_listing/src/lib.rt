@@ -11,5 +11,7 @@ pub mod merge;
 pub mod own_records;
 pub mod prefix;
 pub mod prefixed_records;
+pub mod pristine;
+pub mod pseudo;
 pub mod store_walk;
 pub mod walk;

@@ -30,7 +30,7 @@ pub(crate) fn text_of(namespace: &Option<Namespace>) -> &[u8]
 }
 
 /// What stands before the names in a folder of the store in their paths: the folder, a slash and the namespace.
-fn front_of(
+pub(crate) fn front_of(
     alloc: Global,
     folder: &[u8],
     namespace: &Option<Namespace>,

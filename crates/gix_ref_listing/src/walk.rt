@@ -11,7 +11,7 @@ ghost use Rattle.gix_ref_files.specs.declared.files.FileError.TheVariants.{Memor
 ghost use Rattle.gix_ref_theory.specs.OnRealTrees.{view_of};
 ghost use Rattle.gix_ref_theory.specs.Views.{View};
 ghost use Rattle.gix_ref_lookup.specs.Lookups.{name_asked};
-ghost use Rattle.gix_ref_listing.specs.Walks.{FoundEntry, IsListedName, IsThereOr, IsOwnName, IsLooseName, Among, Holds, IsThere, IsFile, IsFileOf, IsTaken, StaysFound, IsFolderPath, IsBelow, IsRootPath, Reaches};
+ghost use Rattle.gix_ref_listing.specs.Walks.{FoundEntry, IsListedName, IsThereOr, IsOwnName, IsLooseName, Among, Holds, IsThere, IsFile, IsFileOf, IsTaken, StaysFound, IsFolderPath, IsInnerPath, IsBelow, IsRootPath, Reaches};
 
 use crate::found::{Found, FoundByKey};
 use gix_ref_base::name::{FullName, FullNameRef, PartialNameRef};
@@ -208,8 +208,8 @@ impl Root<'_> {
             List ℕ) → IsListedName self.entry name →
             BeginsWith name (folder.now ++ (component.now ++ codes "/")) →
             IsBelow next.new.items name) }
-        ensures paths { All (λ f. IsFolderPath f.items) next.old.items → All (λ f. IsFolderPath
-            f.items) next.new.items }
+        ensures paths { All (λ f. IsInnerPath f.items) next.old.items →
+            All (λ f. IsInnerPath f.items) next.new.items }
     {
         if !may_lead(alloc, component)? {
             return Ok(());
@@ -236,8 +236,8 @@ impl Root<'_> {
             IsBelow next.new.items name }
         ensures taken { OnOk result (IsTaken self.entry folder.now found.new.entries next.new.items
             entry.now) }
-        ensures paths { All (λ f. IsFolderPath f.items) next.old.items →
-            All (λ f. IsFolderPath f.items) next.new.items }
+        ensures paths { All (λ f. IsInnerPath f.items) next.old.items →
+            All (λ f. IsInnerPath f.items) next.new.items }
         ensures files { All IsFile found.old.entries → All IsFile found.new.entries }
         ensures there { (others : List FoundEntry) (view : View) →
             All (IsThereOr others self.entry view) found.old.entries →
@@ -265,8 +265,8 @@ impl Root<'_> {
             IsBelow next.new.items name) }
         ensures taken { OnOk result (All (IsTaken self.entry folder.now found.new.entries
             next.new.items) entries.now) }
-        ensures paths { OnOk result (All (λ f. IsFolderPath f.items) next.old.items →
-            All (λ f. IsFolderPath f.items) next.new.items) }
+        ensures paths { OnOk result (All (λ f. IsInnerPath f.items) next.old.items →
+            All (λ f. IsInnerPath f.items) next.new.items) }
         ensures files { OnOk result (All IsFile found.old.entries → All IsFile found.new.entries) }
         ensures there { OnOk result ((others : List FoundEntry) (view : View) →
             All (IsThereOr others self.entry view) found.old.entries →
@@ -281,7 +281,7 @@ impl Root<'_> {
 
     /// Walks a folder: its files are found, and its folders are to be walked next. One call of files. The error says that
     /// there was no memory.
-    fn walk_folder<F: Files>(
+    pub(crate) fn walk_folder<F: Files>(
         self,
         alloc: Global,
         files: &mut F,
@@ -296,8 +296,8 @@ impl Root<'_> {
         ensures reaches { F.honest → IfOk result (λ _. IsFolderPath folder.now → Reaches self.entry
             (view_of (F.means files.old).tree)
             (λ name. BeginsWith name folder.now) found.new.entries next.new.items) }
-        ensures paths { OnOk result (All (λ f. IsFolderPath f.items) next.old.items →
-            All (λ f. IsFolderPath f.items) next.new.items) }
+        ensures paths { OnOk result (All (λ f. IsInnerPath f.items) next.old.items →
+            All (λ f. IsInnerPath f.items) next.new.items) }
         ensures files { OnOk result (All IsFile found.old.entries → All IsFile found.new.entries
             ⊎ HasRisen (F.faults files.old) (F.faults files.new)) }
         ensures there { F.honest → IfOk result (λ _. IsFolderPath folder.now → (others : List FoundEntry) →
@@ -338,7 +338,7 @@ impl Root<'_> {
         ensures stays { OnOk result (StaysFound found.old.entries found.new.entries) }
         ensures reaches { F.honest → IfOk result (λ next. Reaches self.entry
             (view_of (F.means files.old).tree) (IsBelow folders.now) found.new.entries next.items) }
-        ensures paths { IfOk result (λ next. All (λ f. IsFolderPath f.items) next.items) }
+        ensures paths { IfOk result (λ next. All (λ f. IsInnerPath f.items) next.items) }
         ensures files { OnOk result (All IsFile found.old.entries → All IsFile found.new.entries
             ⊎ HasRisen (F.faults files.old) (F.faults files.new)) }
         ensures there { F.honest → OnOk result ((others : List FoundEntry) →

@@ -1,7 +1,11 @@
-use Rattle.std.proofs.Common.{◌≡◌, sym, ◌∙◌, ap, subst, [], ◌∷◌, ◌++◌, append_assoc}
+use Rattle.std.proofs.Common.{◌≡◌, sym, ◌∙◌, ap, subst, [], ◌∷◌, ◌++◌, append_assoc, ℕ}
+use Rattle.std.specs.Prelude.{Vec}
+use Rattle.std.specs.List.{All}
+use Rattle.std.specs.declared.alloc.Global.{Global}
+use Rattle.std.proofs.lemmas.List.Elements.{All-append, All-cons, All-nil}
 use Rattle.gix_ref_hash.specs.Bytes.{BeginsWith}
 use Rattle.gix_ref_base.specs.NameGrammar.{IsPartialName}
-use Rattle.gix_ref_listing.specs.Walks.{IsBelow}
+use Rattle.gix_ref_listing.specs.Walks.{IsBelow, IsInnerPath}
 use Rattle.gix_ref_listing.proofs.WalkLemmas.{leads, fronts_nest, among_before, among_pushed, not_both}
 use Rattle.gix_ref_listing.proofs.walk.Root.take_folder.Goals as goal
 
@@ -30,3 +34,8 @@ returns-else-is_front-clause-leads c none path name own begins =
     let pushed : c.push.new.self.items ≡ folder ++ (part ++ 47 ∷ []) = c.in_ok-push.ensures.items ∙ (ap (λ t. t ++ 47 ∷ []) c.in_ok-path.ensures ∙ append_assoc folder part (47 ∷ [])) in
     let front : c.deref.result.now ++ begins.0 ≡ c.args.self.prefix.now ++ own.0.begins.0 = ap (λ t. t ++ begins.0) (c.deref.ensures.value ∙ pushed) ∙ (sym begins.1 ∙ own.0.begins.1) in
     absurd (not_both _ (c.is_front.ensures.1 (fronts_nest c.deref.result.now c.args.self.prefix.now begins.0 own.0.begins.0 front)) c.if-is_front.false)
+
+pub returns-in_ok-push-2-clause-paths : goal.returns-in_ok-push-2-clause-paths
+returns-in_ok-push-2-clause-paths c all =
+    let P = λ (f : Vec ℕ Global). IsInnerPath f.items in
+    subst (All P) (sym c.in_ok-push-2.ensures.items) (All-append P c.args.next.now.items (c.push.new.self ∷ []) all (All-cons P c.push.new.self [] (c.in_ok-path.path.items, c.in_ok-push.ensures.items) (All-nil P)))

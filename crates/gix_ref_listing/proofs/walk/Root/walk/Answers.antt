@@ -1,4 +1,4 @@
-use Rattle.std.proofs.Common.{inl, ⊎_elim, ℕ, List, sym, subst, Vec, Global, le_trans}
+use Rattle.std.proofs.Common.{inl, inr, ⊎_elim, ℕ, List, sym, subst, Vec, Global, le_trans}
 use Rattle.std.specs.List.{All}
 use Rattle.gix_ref_files.specs.Tree.{Tree}
 use Rattle.gix_ref_theory.specs.OnRealTrees.{view_of}
@@ -23,7 +23,7 @@ loop-preserved g c =
           ⊎_elim (λ is. inl (done.stays name is))
           (λ below. done.reaches h name in_mid (subst (λ (fs : List (Vec ℕ Global)). IsBelow fs name) (sym c.deref.ensures.value) below))
           (before.reaches h name loose);
-      paths = done.paths;
+      paths = λ k d below. inr (done.paths k d below);
       files = files_still (F.faults c.args.files.now) (F.faults c.loop.files) (F.faults c.walk_level.new.files) before.rises step.rises before.files done.files;
       there = λ h others all. subst (λ (T : Tree). All (IsThereOr others root (view_of T)) found) (before.leaves h).tree (done.there h others (subst (λ (T : Tree). All (IsThereOr others root (view_of T)) c.loop.found.entries) (sym (before.leaves h).tree) (before.there h others all)));
       rises = le_trans before.rises step.rises;

@@ -3,7 +3,7 @@ use Rattle.std.specs.List.{All}
 use Rattle.gix_ref_files.specs.Calls.{Unchanged}
 use Rattle.gix_ref_files.specs.Files.{Leaves, HasRisen}
 use Rattle.gix_ref_theory.specs.OnRealTrees.{view_of}
-use Rattle.gix_ref_listing.specs.Walks.{IsThereOr, FoundEntry, IsFile, StaysFound, IsFolderPath, IsBelow, Among, Holds, IsLooseName}
+use Rattle.gix_ref_listing.specs.Walks.{IsThereOr, FoundEntry, IsFile, StaysFound, IsInnerPath, IsBelow, Among, Holds, IsLooseName}
 use Rattle.gix_ref_listing.proofs.walk.Root.walk_level.Given as goal
 
 -- the names below the folders that were seen are found, or are below a folder of the next level
@@ -14,7 +14,7 @@ invariant-loop-folder g l =
     record {
       stays : StaysFound l.fn.found.entries l.found.entries;
       reaches : F.honest → (name : List ℕ) → IsLooseName l.self view name → IsBelow l.folders name → Among (Holds name) l.found.entries ⊎ (IsBelow l.next.items name ⊎ IsBelow (drop l.folder-index l.folders) name);
-      paths : All (λ f. IsFolderPath f.items) l.next.items;
+      paths : All (λ f. IsInnerPath f.items) l.next.items;
       files : All IsFile l.fn.found.entries → All IsFile l.found.entries ⊎ HasRisen (F.faults l.fn.files) (F.faults l.files);
       there : F.honest → (others : List FoundEntry) → All (IsThereOr others l.self view) l.fn.found.entries → All (IsThereOr others l.self view) l.found.entries;
       rises : F.faults l.fn.files ≤ F.faults l.files;

@@ -1,0 +1,57 @@
+use Rattle.std.proofs.Common.{◌≡◌, false, true, inl, inr, ⊎_elim, sym, subst, le_trans}
+use Rattle.std.specs.List.{All}
+use Rattle.std.proofs.lemmas.List.Elements.{All-cons, All-head, All-tail}
+use Rattle.gix_ref_files.specs.Files.{HasRisen}
+use Rattle.gix_ref_files.specs.Tree.{Tree}
+use Rattle.gix_ref_theory.specs.OnRealTrees.{view_of}
+use Rattle.gix_ref_listing.specs.PlainSettings.{plain}
+use Rattle.gix_ref_listing.specs.PristineStores.{IsReadable, IsUnreadable}
+use Rattle.gix_ref_listing.specs.Walks.{Among, FoundEntry, IsFile}
+use Rattle.gix_ref_listing.proofs.FolderWalks.{risen_from, unchanged_on}
+use Rattle.gix_ref_listing.proofs.PristineLemmas.{says, none_left, found_file}
+use Rattle.gix_ref_listing.proofs.StoreWalks.{all_none}
+use Rattle.gix_ref_listing.proofs.pristine.any_readable.Goals as goal
+
+pub loop-one-preserved : goal.loop-one-preserved
+loop-one-preserved g c =
+    let F = g.F.Files in
+    let s = plain c.args.settings in
+    let view = view_of (F.means c.args.files.now).tree in
+    let before = c.loop-one.invariant in
+    let one = c.in-Some.one in
+    let first : FoundEntry = (c.in-Some.field-0-0, one) in
+    let rest = c.pop_first.new.self.entries in
+    let removal = c.in-Some.ensures.removal in
+    let said = rw c.in-Some-2.is at c.in_ok-is.ensures.says in
+    let R = λ (e : FoundEntry). IsReadable s view e.1 in
+    let U = λ (e : FoundEntry). IsUnreadable s view e.1 in
+    record {
+      some = λ is h. ⊎_elim (λ any. before.some any h)
+          (λ reads. before.has h (subst (Among R) (sym removal) (inl (subst (λ (T : Tree). IsReadable s (view_of T) one) (before.leaves h).tree (reads h)))))
+          (rw is at said);
+      none = λ is h all.
+          let no = rw is at said in
+          before.none no.0 h (subst (All U) (sym removal) (All-cons U first rest (subst (λ (T : Tree). IsUnreadable s (view_of T) one) (before.leaves h).tree (no.1 h)) all));
+      has = λ h has. before.has h (subst (Among R) (sym removal) (inr has));
+      files = λ all. All-tail IsFile first rest (subst (All IsFile) removal (before.files all));
+      rises = le_trans before.rises c.is_readable.ensures.rises;
+      leaves = λ h. unchanged_on (F.means c.args.files.now) (F.means c.loop-one.files) (F.means c.is_readable.new.files) (before.leaves h) (c.is_readable.ensures.leaves h);
+    }
+
+pub returns-in-None-clause-says : goal.returns-in-None-clause-says
+returns-in-None-clause-says g c all =
+    let F = g.F.Files in
+    let before = c.loop-one.invariant in
+    let first : FoundEntry = (c.in-Some.field-0-0, c.in-Some.one) in
+    let here = All-head IsFile first c.pop_first.new.self.entries (subst (All IsFile) c.in-Some.ensures.removal (before.files all)) in
+    let said = rw c.in-None.is at c.in_ok-is.ensures.says in
+    risen_from (F.faults c.args.files.now) (F.faults c.loop-one.files) (F.faults c.is_readable.new.files) before.rises (said (found_file first here))
+
+pub returns-clause-says : goal.returns-clause-says
+returns-clause-says g c =
+    let view = view_of (g.F.Files.means c.args.files.now).tree in
+    let left = c.loop-one.found.entries in
+    let none = none_left _ (λ below. let bad : false ≡ true = c.in_default.ensures.variant.1 below in absurd (cc)) in
+    let F = g.F.Files in
+    says _ _ (All IsFile c.args.found.entries → HasRisen (F.faults c.args.files.now) (F.faults c.loop-one.files)) c.loop-one.any (λ is h. c.loop-one.invariant.some is h)
+    (λ is h. c.loop-one.invariant.none is h (all_none (λ (e : FoundEntry). IsUnreadable (plain c.args.settings) view e.1) left none))

@@ -1,0 +1,257 @@
+//! Whether a store is as `git init` makes it.
+ghost use Rattle.std.specs.Prelude.{◌≡◌, ◌≢◌, ◌⊎◌, ◌≤◌, ◌↔◌, true, false, IsTrue, IfOk};
+ghost use Rattle.std.specs.List.{All};
+ghost use Rattle.gix_ref_base.specs.Names.{full_ref_bytes};
+ghost use Rattle.gix_ref_base.specs.Targets.{target_value};
+ghost use Rattle.gix_ref_base.specs.Targets.TargetValue.{symbolic_name};
+ghost use Rattle.gix_ref_files.specs.Files.{Leaves, HasRisen};
+ghost use Rattle.gix_ref_files.specs.Calls.{Unchanged};
+ghost use Rattle.gix_ref_theory.specs.OnRealTrees.{view_of};
+ghost use Rattle.gix_ref_listing.specs.PlainSettings.{plain};
+ghost use Rattle.gix_ref_listing.specs.PristineStores.{Says, IsReading, IsReadable, IsUnreadable, ReadsAt, ReadsNone, HasOtherHead, HasLoose, HasNoLoose, HasReferences, HasNoReferences, IsFoundFile, IsPristine, IsInUse, has_packed_refs, head_path};
+ghost use Rattle.gix_ref_listing.specs.Walks.{Among, IsFile, FoundEntry};
+ghost use Rattle.gix_ref_listing.specs.declared.pristine.Reading.TheVariants.{Fault};
+
+use crate::found::{Found, FoundByKey};
+use crate::store_walk::walk_store;
+use gix_ref_base::name::FullNameRef;
+use gix_ref_base::target::Target;
+use gix_ref_files::files::{Files, Node};
+use gix_ref_lookup::find;
+use gix_ref_lookup::find::ReadError;
+use gix_ref_lookup::find::candidate::read_at;
+use gix_ref_lookup::settings::Settings;
+use std::alloc::{AllocError, Global};
+
+/// What the file at a path is read as.
+#[derive(Debug, Drop)]
+enum Reading {
+    /// This target, less the namespace.
+    Is(Target),
+    /// Nothing: there is no file, it holds no target, or it has the name of a device and the store prohibits these.
+    Nothing,
+    /// The file could not be read.
+    Fault,
+}
+
+/// Reads the file at a path, for a name.
+fn reading_at<F: Files>(
+    alloc: Global,
+    files: &mut F,
+    settings: Settings<'_>,
+    name: FullNameRef<'_>,
+    path: Vec<u8>,
+) -> Result<Reading, AllocError>
+    ensures reads { F.honest → IfOk result
+        (IsReading (plain settings.entry) (view_of (F.means files.old).tree) path.items) }
+    ensures fault { IfOk result (λ reading. reading ≡ Fault →
+        HasRisen (F.faults files.old) (F.faults files.new)) }
+    ensures rises { F.faults files.old ≤ F.faults files.new }
+    ensures leaves { F.honest → Leaves (F.means files.old) (F.means files.new)
+        (Unchanged (F.means files.old).tree) }
+{
+    match read_at(alloc, files, settings, name, path) {
+        Ok(Some(target)) => Ok(Reading::Is(target)),
+        Ok(None) => Ok(Reading::Nothing),
+        Err(find::Error::ReferenceCreation { .. }) => Ok(Reading::Nothing),
+        Err(find::Error::ReadFileContents { source, .. }) => match source {
+            ReadError::DeviceName => Ok(Reading::Nothing),
+            ReadError::File(_) => Ok(Reading::Fault),
+        },
+        Err(_) => Err(AllocError),
+    }
+}
+
+/// Whether a target is symbolic to a name.
+fn points_to(target: &Target, name: FullNameRef<'_>) -> bool
+    ensures { IsTrue result ↔ (target_value target.now ≡ symbolic_name (full_ref_bytes name.entry)) }
+{
+    match target {
+        Target::Object(_) => false,
+        Target::Symbolic(other) => other.eq_bytes(name.to_path()),
+    }
+}
+
+/// Whether `HEAD` is symbolic to a name; `None` where it is read as nothing, or could not be read.
+fn head_points_to<F: Files>(
+    alloc: Global,
+    files: &mut F,
+    settings: Settings<'_>,
+    name: FullNameRef<'_>,
+) -> Result<Option<bool>, AllocError>
+    ensures says { IfOk result (Says
+        (F.honest → ReadsAt (plain settings.entry) (view_of (F.means files.old).tree)
+        (head_path (plain settings.entry)) (symbolic_name (full_ref_bytes name.entry)))
+        (F.honest → HasOtherHead (plain settings.entry) (view_of (F.means files.old).tree)
+        (full_ref_bytes name.entry))
+        ((F.honest → ReadsNone (plain settings.entry) (view_of (F.means files.old).tree)
+        (head_path (plain settings.entry))) ⊎ HasRisen (F.faults files.old) (F.faults files.new))) }
+    ensures rises { F.faults files.old ≤ F.faults files.new }
+    ensures leaves { F.honest → Leaves (F.means files.old) (F.means files.new)
+        (Unchanged (F.means files.old).tree) }
+{
+    let Some(head) = FullNameRef::from_path(b"HEAD") else {
+        return Ok(None);
+    };
+    let path = settings.place(alloc, head)?;
+    match reading_at(alloc, files, settings, head, path)? {
+        Reading::Is(target) => Ok(Some(points_to(&target, name))),
+        Reading::Nothing => Ok(None),
+        Reading::Fault => Ok(None),
+    }
+}
+
+/// Whether `packed-refs` exists; `None` where that could not be found out.
+fn has_packed_refs<F: Files>(
+    alloc: Global,
+    files: &mut F,
+    settings: Settings<'_>,
+) -> Result<Option<bool>, AllocError>
+    ensures says { IfOk result (Says
+        (F.honest → has_packed_refs (plain settings.entry) (F.means files.old).tree ≡ true)
+        (F.honest → has_packed_refs (plain settings.entry) (F.means files.old).tree ≡ false)
+        (HasRisen (F.faults files.old) (F.faults files.new))) }
+    ensures rises { F.faults files.old ≤ F.faults files.new }
+    ensures leaves { F.honest → Leaves (F.means files.old) (F.means files.new)
+        (Unchanged (F.means files.old).tree) }
+{
+    let path = settings.packed_refs_path(alloc)?;
+    match files.kind(&path) {
+        Ok(Node::File) => Ok(Some(true)),
+        Ok(Node::Folder | Node::Nothing | Node::Blocked) => Ok(Some(false)),
+        Err(_) => Ok(None),
+    }
+}
+
+/// Whether what was found is a file that can be read, or another one was; `None` where it is a folder, or could not be read.
+fn is_readable<F: Files>(
+    alloc: Global,
+    files: &mut F,
+    settings: Settings<'_>,
+    found: Found,
+    other: bool,
+) -> Result<Option<bool>, AllocError>
+    ensures says { IfOk result (Says
+        ((other ≡ true) ⊎ (F.honest → IsReadable (plain settings.entry)
+        (view_of (F.means files.old).tree) found))
+        ((other ≡ false) × (F.honest → IsUnreadable (plain settings.entry)
+        (view_of (F.means files.old).tree) found))
+        (IsFoundFile found → HasRisen (F.faults files.old) (F.faults files.new))) }
+    ensures rises { F.faults files.old ≤ F.faults files.new }
+    ensures leaves { F.honest → Leaves (F.means files.old) (F.means files.new)
+        (Unchanged (F.means files.old).tree) }
+{
+    match found {
+        Found::Unlisted { .. } => Ok(None),
+        Found::File { .. } if other => Ok(Some(true)),
+        Found::File { name, path } => {
+            match reading_at(alloc, files, settings, name.as_ref(), path)? {
+                Reading::Is(_) => Ok(Some(true)),
+                Reading::Nothing => Ok(Some(false)),
+                Reading::Fault => Ok(None),
+            }
+        }
+    }
+}
+
+/// Whether a file that was found can be read; `None` where a folder is among what was found, or a file could not be read. Of the
+/// files those up to the first that can be read are read.
+fn any_readable<F: Files>(
+    alloc: Global,
+    files: &mut F,
+    settings: Settings<'_>,
+    mut found: FoundByKey,
+) -> Result<Option<bool>, AllocError>
+    ensures says { IfOk result (Says
+        (F.honest → Among (λ e. IsReadable (plain settings.entry)
+        (view_of (F.means files.old).tree) e.1) found.entries)
+        (F.honest → All (λ e. IsUnreadable (plain settings.entry)
+        (view_of (F.means files.old).tree) e.1) found.entries)
+        (All IsFile found.entries → HasRisen (F.faults files.old) (F.faults files.new))) }
+    ensures rises { F.faults files.old ≤ F.faults files.new }
+    ensures leaves { F.honest → Leaves (F.means files.old) (F.means files.new)
+        (Unchanged (F.means files.old).tree) }
+{
+    let mut any = false;
+    while let Some((_, one)) = found.pop_first() {
+        match is_readable(alloc, files, settings, one, any)? {
+            Some(is) => any = is,
+            None => return Ok(None),
+        }
+    }
+    Ok(Some(any))
+}
+
+/// Whether a loose reference with the prefix can be read; `None` where a folder could not be listed or a file not be read.
+fn has_loose<F: Files>(
+    alloc: Global,
+    files: &mut F,
+    settings: Settings<'_>,
+    prefix: &[u8],
+) -> Result<Option<bool>, AllocError>
+    ensures says { IfOk result (Says
+        (F.honest → HasLoose (plain settings.entry) (view_of (F.means files.old).tree) prefix.now)
+        (F.honest → HasNoLoose (plain settings.entry) (view_of (F.means files.old).tree) prefix.now)
+        (HasRisen (F.faults files.old) (F.faults files.new))) }
+    ensures rises { F.faults files.old ≤ F.faults files.new }
+    ensures leaves { F.honest → Leaves (F.means files.old) (F.means files.new)
+        (Unchanged (F.means files.old).tree) }
+{
+    let Ok(found) = walk_store(alloc, files, settings, prefix) else {
+        return Err(AllocError);
+    };
+    any_readable(alloc, files, settings, found)
+}
+
+/// Whether there is a `packed-refs` or a loose reference with the prefix that can be read; `None` where a fault came.
+fn has_references<F: Files>(
+    alloc: Global,
+    files: &mut F,
+    settings: Settings<'_>,
+    prefix: &[u8],
+) -> Result<Option<bool>, AllocError>
+    ensures says { IfOk result (Says
+        (F.honest → HasReferences (plain settings.entry) (F.means files.old).tree prefix.now)
+        (F.honest → HasNoReferences (plain settings.entry) (F.means files.old).tree prefix.now)
+        (HasRisen (F.faults files.old) (F.faults files.new))) }
+    ensures rises { F.faults files.old ≤ F.faults files.new }
+    ensures leaves { F.honest → Leaves (F.means files.old) (F.means files.new)
+        (Unchanged (F.means files.old).tree) }
+{
+    match has_packed_refs(alloc, files, settings)? {
+        Some(true) => Ok(Some(true)),
+        Some(false) => has_loose(alloc, files, settings, prefix),
+        None => Ok(None),
+    }
+}
+
+/// Whether `HEAD` is symbolic to the name and no reference is there: no loose one with the prefix can be read, and there is no
+/// `packed-refs`. `None` where `HEAD` is read as nothing, and where a fault came. The error says that there was no memory.
+pub fn is_pristine<F: Files>(
+    alloc: Global,
+    files: &mut F,
+    settings: Settings<'_>,
+    prefix: &[u8],
+    name: FullNameRef<'_>,
+) -> Result<Option<bool>, AllocError>
+    ensures says { IfOk result (Says
+        (F.honest → IsPristine (plain settings.entry) (F.means files.old).tree prefix.now
+        (full_ref_bytes name.entry))
+        (F.honest → IsInUse (plain settings.entry) (F.means files.old).tree prefix.now
+        (full_ref_bytes name.entry))
+        ((F.honest → ReadsNone (plain settings.entry) (view_of (F.means files.old).tree)
+        (head_path (plain settings.entry))) ⊎ HasRisen (F.faults files.old) (F.faults files.new))) }
+    ensures rises { F.faults files.old ≤ F.faults files.new }
+    ensures leaves { F.honest → Leaves (F.means files.old) (F.means files.new)
+        (Unchanged (F.means files.old).tree) }
+{
+    match head_points_to(alloc, files, settings, name)? {
+        Some(true) => match has_references(alloc, files, settings, prefix)? {
+            Some(true) => Ok(Some(false)),
+            Some(false) => Ok(Some(true)),
+            None => Ok(None),
+        },
+        Some(false) => Ok(Some(false)),
+        None => Ok(None),
+    }
+}
