@@ -4,5 +4,6 @@ pub mod Lookup
 pub mod Options
 pub mod Prepared
 pub mod PreparedFields
+pub mod Pristine
 pub mod Reflogs
 pub mod Store

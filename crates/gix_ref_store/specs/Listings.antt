@@ -11,21 +11,34 @@ use Rattle.gix_ref_packed.specs.declared.raw.Reference.{Reference}
 use Rattle.gix_ref_listing.specs.Items.{IsItem}
 use Rattle.gix_ref_listing.specs.Listings.{Listed, merge_left}
 use Rattle.gix_ref_listing.specs.PrefixedRecords.{IsHeldFor}
+use Rattle.gix_ref_listing.specs.PseudoListings.{IsPseudoListing}
 use Rattle.gix_ref_listing.specs.Steps.{GivesNext}
 use Rattle.gix_ref_listing.specs.WholeListings.{AreHeld, IsListing, IsName, key_in}
 use Rattle.gix_ref_listing.specs.declared.error.Error.{Error}
 use Rattle.gix_ref_lookup.specs.declared.settings.Settings.{Settings}
 use Rattle.gix_ref_theory.specs.Views.{View}
 use Rattle.gix_ref_store.specs.Store as stores
-use Rattle.gix_ref_store.specs.Lookup.{settings_of, view_in}
+use Rattle.gix_ref_store.specs.Lookup.{RefusesBuffer, settings_of, view_in}
 use Rattle.gix_ref_store.specs.declared.file.store.Store.{Store}
 use Rattle.gix_ref_store.specs.declared.file.iter.LooseThenPacked.{LooseThenPacked}
+use Rattle.gix_ref_store.specs.declared.file.iter.Platform.{Platform}
 use Rattle.gix_ref_store.specs.declared.file.iter.Remaining.{Remaining}
+use Rattle.gix_ref_listing.specs.declared.prefix.Error.{Error as ListError}
+use Rattle.gix_ref_listing.specs.declared.prefix.Error.TheVariants.{PackedOpen, Memory}
+use Rattle.gix_ref_packed.specs.declared.packed.buffer.open.Error.{Error as OpenError}
+use Rattle.gix_ref_packed.specs.declared.packed.buffer.open.Error.TheVariants as opening
 
 -- what the names of a whole listing begin with
 abbrev pub prefix_of_all : Option Namespace → List ℕ
 prefix_of_all None = codes "refs/"
 prefix_of_all (Some namespace) = []
+
+-- the error of a listing where opening `packed-refs` has this one
+abbrev pub of_open : OpenError → ListError
+of_open opening.Memory = Memory
+of_open (opening.Io error) = PackedOpen (opening.Io error)
+of_open opening.HeaderParsing = PackedOpen opening.HeaderParsing
+of_open (opening.Iter line) = PackedOpen (opening.Iter line)
 
 module _ {F : Type 0} where
   -- how many items are yet to come at most
@@ -43,6 +56,18 @@ module _ {F : Type 0} where
   -- the buffer has the records of the prefix of these; or there is none, and there are none
   abbrev pub AreHeldFor : Store F → (prefix : List ℕ) → Option (Bor Buffer) → List Record → Type 0
   AreHeldFor store prefix packed records = AreHeld (key_in (settings_of store) prefix) packed records
+
+  -- the store of a platform
+  abbrev pub platform_store : Platform F (Option Buffer) → Store F
+  platform_store p = p.store.now
+
+  -- for each prefix, its buffer has the records of the prefix of these
+  abbrev pub HasRecords : Platform F (Option Buffer) → List Record → Type 0
+  HasRecords p records = (prefix : List ℕ) → IsReadFor (platform_store p) prefix p.packed records
+
+  -- why `packed-refs` is not opened: a fault, or a text that is refused, or no memory
+  abbrev pub IsNotOpened : (means : F → Meaning) → Store F → ListError → Type 0
+  IsNotOpened means store error = (why : OpenError) × RefusesBuffer means store why × (error ≡ of_open why)
 
   module _ (honest : Type 0) (means : F → Meaning) (faults : F → ℕ) where
     -- the count of faults
@@ -75,6 +100,14 @@ module _ {F : Type 0} where
     pub record Lists (store : Store F) (records : List Record) (prefix : List ℕ) (it : LooseThenPacked F Remaining) : Type 0 where
       pub listed : List Listed
       pub is : IsListing (settings_of store) (view_in means store) records prefix listed
+      pub counts : faults (stores.files_of store) ≤ count_in it
+      pub names : AllByRecursion IsName listed ⊎ HasRisen (faults (stores.files_of store)) (count_in it)
+      pub runs : (items : List (Result Reference Error)) (t : LooseThenPacked F Remaining) → Yields (NextItem) it items t → GivesFirst store listed it t items
+
+    -- and so over the listing of its pseudo references
+    pub record ListsPseudo (store : Store F) (it : LooseThenPacked F Remaining) : Type 0 where
+      pub listed : List Listed
+      pub is : IsPseudoListing (settings_of store) (view_in means store) listed
       pub counts : faults (stores.files_of store) ≤ count_in it
       pub names : AllByRecursion IsName listed ⊎ HasRisen (faults (stores.files_of store)) (count_in it)
       pub runs : (items : List (Result Reference Error)) (t : LooseThenPacked F Remaining) → Yields (NextItem) it items t → GivesFirst store listed it t items

@@ -3,6 +3,7 @@ pub mod find;
 pub mod iter;
 pub mod log;
 pub mod packed;
+pub mod pristine;
 pub mod store;
 pub mod transaction;
 

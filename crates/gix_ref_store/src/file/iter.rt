@@ -1,7 +1,7 @@
 //! Listing references (`git for-each-ref`).
 ghost use Rattle.std.specs.Prelude.{◌≡◌};
 ghost use Rattle.std.specs.Borrow.{sem, RestsIfErr};
-ghost use Rattle.gix_ref_store.specs.Listings.{prefix_of_all};
+ghost use Rattle.gix_ref_store.specs.Listings.{of_open, prefix_of_all};
 
 use crate::file::store::Store;
 use gix_ref_base::namespace::Namespace;
@@ -11,8 +11,10 @@ use gix_ref_listing::list::list;
 use gix_ref_listing::merge::Merge;
 pub use gix_ref_listing::prefix::Error;
 use gix_ref_listing::prefix::check_prefix;
+use gix_ref_listing::pseudo::list_pseudo;
 use gix_ref_lookup::settings::Settings;
 use gix_ref_packed::packed::Buffer;
+use gix_ref_packed::packed::buffer::open;
 use gix_ref_packed::raw::Reference;
 use std::alloc::Global;
 
@@ -76,17 +78,102 @@ impl<'p, F> LooseThenPacked<'p, F> {
     }
 }
 
+/// The references of a store among its loose files and the records that its `packed-refs` had when `iter` opened it, for any
+/// number of listings. It borrows the store until it is dropped.
+#[derive(Drop)]
+pub struct Platform<'s, F, P = Option<Buffer>> {
+    store: &'s mut Store<F>,
+    packed: P,
+}
+
+impl<'s, F: Files> Platform<'s, F> {
+    ghost use Rattle.std.specs.Prelude.{◌≡◌, ◌⊎◌, List, IfOk, IfErr, OnOk};
+    ghost use Rattle.gix_ref_base.specs.PackedRecords.{Record};
+    ghost use Rattle.gix_ref_listing.specs.declared.prefix.Error.TheVariants.{Memory};
+    ghost use Rattle.gix_ref_listing.specs.CleanPrefixes.{IsTaken, IsRefused};
+    ghost use Rattle.gix_ref_store.specs.Lookup.{LooksUp};
+    ghost use Rattle.gix_ref_store.specs.Listings.{Lists, ListsPseudo, HasRecords, prefix_of_all, platform_store};
+
+    /// The references below `refs/`, or in a namespace all of its references, as `iter_packed` gives them.
+    ///
+    /// `Memory` where there was no memory for the names of the loose references.
+    ///
+    /// ```text
+    /// let mut platform = store.iter(alloc)?;
+    /// for reference in platform.all(alloc)? {
+    ///     println!(rt; "{}", reference?.name)?;
+    /// }
+    /// ```
+    pub fn all(&mut self, alloc: Global) -> Result<LooseThenPacked<'_, F>, Error>
+        ensures looks_up { IfOk result
+            (λ it. LooksUp F.honest F.means (platform_store self.entry.now) it.store.now) }
+        ensures lists { F.honest → (records : List Record) → HasRecords self.entry.now records →
+            IfOk result (Lists F.honest F.means F.faults (platform_store self.entry.now) records
+            (prefix_of_all (platform_store self.entry.now).namespace)) }
+        ensures memory { IfErr result (λ error. error ≡ Memory) }
+    {
+        let Platform { store, packed } = self;
+        store.iter_packed(alloc, packed.as_ref())
+    }
+
+    /// The references whose names begin with the prefix, as `iter_prefixed_packed` gives them. The records of the prefix are
+    /// found by halving where `packed-refs` is sorted.
+    ///
+    /// `EmptyPrefix` where the prefix is empty and the store is in no namespace; `PrefixNotClean` where it begins with a slash,
+    /// has two slashes in a row or a NUL, or a component of it is `.` or `..`; `Memory`.
+    pub fn prefixed(
+        &mut self,
+        alloc: Global,
+        prefix: &[u8],
+    ) -> Result<LooseThenPacked<'_, F>, Error>
+        ensures looks_up { IfOk result
+            (λ it. LooksUp F.honest F.means (platform_store self.entry.now) it.store.now) }
+        ensures lists { F.honest → (records : List Record) → HasRecords self.entry.now records →
+            IfOk result (Lists F.honest F.means F.faults (platform_store self.entry.now) records
+            prefix.now) }
+        ensures taken { OnOk result
+            (IsTaken (platform_store self.entry.now).namespace prefix.now) }
+        ensures refused { IfErr result (λ error. (error ≡ Memory)
+            ⊎ IsRefused (platform_store self.entry.now).namespace prefix.now error) }
+    {
+        let Platform { store, packed } = self;
+        store.iter_prefixed_packed(alloc, prefix, packed.as_ref())
+    }
+
+    /// The pseudo references, as `Store::iter_pseudo` gives them. `Memory` where there was no memory for their names.
+    pub fn pseudo(&mut self, alloc: Global) -> Result<LooseThenPacked<'_, F>, Error>
+        ensures looks_up { IfOk result
+            (λ it. LooksUp F.honest F.means (platform_store self.entry.now) it.store.now) }
+        ensures lists { F.honest → IfOk result
+            (ListsPseudo F.honest F.means F.faults (platform_store self.entry.now)) }
+        ensures memory { IfErr result (λ error. error ≡ Memory) }
+    {
+        let Platform { store, packed: _ } = self;
+        store.iter_pseudo(alloc)
+    }
+}
+
+/// The error of opening `packed-refs`, as one of listings.
+fn of_open(error: open::Error) -> Error
+    ensures { result ≡ of_open error }
+{
+    match error {
+        open::Error::Memory => Error::Memory,
+        other => Error::PackedOpen(other),
+    }
+}
+
 impl<F: Files> Store<F> {
     ghost use Rattle.std.specs.Prelude.{◌≡◌, ◌⊎◌, ◌≤◌, ◌+◌, [], List, IfOk, IfErr, OnOk, OnErr};
     ghost use Rattle.gix_ref_base.specs.PackedRecords.{Record};
     ghost use Rattle.gix_ref_listing.specs.declared.prefix.Error.TheVariants.{Memory};
-    ghost use Rattle.gix_ref_store.specs.Lookup.{LooksUp, settings_of};
+    ghost use Rattle.gix_ref_store.specs.Lookup.{AreRecordsIn, LooksUp, settings_of};
     ghost use Rattle.std.specs.Option.{option_len};
     ghost use Rattle.gix_ref_listing.specs.Listings.{merge_left};
     ghost use Rattle.gix_ref_listing.specs.CleanPrefixes.{IsTaken, IsRefused};
     ghost use Rattle.gix_ref_listing.specs.Steps.{GivesNext};
     ghost use Rattle.gix_ref_store.specs.Store.{files_of, IsSameStore};
-    ghost use Rattle.gix_ref_store.specs.Listings.{AreHeldFor, Lists, prefix_of_all};
+    ghost use Rattle.gix_ref_store.specs.Listings.{AreHeldFor, Lists, ListsPseudo, HasRecords, IsNotOpened, prefix_of_all};
     ghost use Rattle.gix_ref_store.specs.contracts.file.store.Store.{the_row};
 
     /// The next item of a listing.
@@ -251,5 +338,76 @@ impl<F: Files> Store<F> {
             ⊎ IsRefused self.entry.now.namespace prefix.now error) }
     {
         self.iter_prefixed_packed(alloc, prefix, None)
+    }
+
+    /// Opens `packed-refs`, for listings of the store (`git for-each-ref`): the file is read once, as a whole.
+    ///
+    /// `PackedOpen` where it cannot be opened or read, begins with `#` and has no header, or has a line that is no record where
+    /// the records are to be sorted; `Memory`.
+    ///
+    /// ```text
+    /// let mut platform = store.iter(alloc)?;
+    /// for tag in platform.prefixed(alloc, b"refs/tags/")? {
+    ///     println!(rt; "{}", tag?.name)?;
+    /// }
+    /// ```
+    pub fn iter(&mut self, alloc: Global) -> Result<Platform<'_, F>, Error>
+        ensures* rests { sem 𝓛 (RestsIfErr (the_row F.row) self.entry
+            (λ p. p.store.ghost_name) result
+            (λ n. OnErr result (LooksUp F.honest F.means self.entry.now n))) }
+        ensures same_reference { IfOk result (λ p. p.store.ghost_name ≡ self.entry.ghost_name) }
+        ensures looks_up { IfOk result (λ p. LooksUp F.honest F.means self.entry.now p.store.now) }
+        ensures opened { F.honest → (records : List Record) →
+            AreRecordsIn F.means self.entry.now records → IfOk result (λ p. HasRecords p records) }
+        ensures refused { F.honest → IfErr result (IsNotOpened F.means self.entry.now) }
+    {
+        match self.open_packed_buffer(alloc) {
+            Ok(packed) => Ok(Platform {
+                store: self,
+                packed,
+            }),
+            Err(error) => Err(of_open(error)),
+        }
+    }
+
+    /// The pseudo references (`git for-each-ref --include-root-refs`): the loose files directly in the git folder, in a namespace
+    /// in its folder there, that have their place there and whose names end with `HEAD`, as `FETCH_HEAD` and `ORIG_HEAD`. Names
+    /// are without the namespace.
+    ///
+    /// The folder is listed now, by one call of files; a file is read when its reference is given. A folder that cannot be
+    /// listed is an item.
+    ///
+    /// `Memory` where there was no memory for the names.
+    ///
+    /// ```text
+    /// for reference in store.iter_pseudo(alloc)? {
+    ///     println!(rt; "{}", reference?.name)?; // FETCH_HEAD, then HEAD
+    /// }
+    /// ```
+    pub fn iter_pseudo(&mut self, alloc: Global) -> Result<LooseThenPacked<'_, F>, Error>
+        ensures* rests { sem 𝓛 (RestsIfErr (the_row F.row) self.entry
+            (λ it. it.store.ghost_name) result
+            (λ n. OnErr result (LooksUp F.honest F.means self.entry.now n))) }
+        ensures same_reference { IfOk result
+            (λ it. it.store.ghost_name ≡ self.entry.ghost_name) }
+        ensures looks_up { IfOk result (λ it. LooksUp F.honest F.means self.entry.now it.store.now) }
+        ensures lists { F.honest → IfOk result
+            (ListsPseudo F.honest F.means F.faults self.entry.now) }
+        ensures memory { IfErr result (λ error. error ≡ Memory) }
+    {
+        let settings = Settings {
+            dirs: &self.dirs,
+            namespace: &self.namespace,
+            kind: self.object_hash,
+            prohibit_windows_device_names: self.prohibit_windows_device_names,
+            precompose_unicode: self.precompose_unicode,
+        };
+        match list_pseudo(alloc, &mut self.files, settings) {
+            Ok(merge) => Ok(LooseThenPacked {
+                store: self,
+                rest: Remaining { alloc, merge },
+            }),
+            Err(error) => Err(error),
+        }
     }
 }

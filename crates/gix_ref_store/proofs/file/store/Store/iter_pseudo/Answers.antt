@@ -1,0 +1,27 @@
+use Rattle.std.proofs.Common.{refl, ap}
+use Rattle.gix_ref_theory.specs.OnRealTrees.{view_of}
+use Rattle.gix_ref_store.proofs.ListingRuns.{each_run}
+use Rattle.gix_ref_store.proofs.file.store.Store.iter_pseudo.Goals as goal
+
+pub returns-in-Ok : goal.returns-in-Ok
+returns-in-Ok g c = (
+  (refl, (λ w. refl), _),
+  record {
+    rests = _;
+    same_reference = refl;
+    looks_up = record {
+      leaves = c.in-Ok.ensures.leaves;
+      same = record { dirs = refl; namespace = refl; of_kind = refl; reflogs = refl; composes = refl; prohibits = refl };
+    };
+    lists = λ h.
+        let found = c.in-Ok.ensures.lists h in
+        record {
+          listed = found.listed;
+          is = found.is;
+          counts = c.in-Ok.ensures.rises;
+          names = found.names;
+          runs = each_run g.F.Files.honest g.F.Files.means g.F.Files.faults c.args.self.now _ found.listed h refl (ap view_of (c.in-Ok.ensures.leaves h).tree) found.yet;
+        };
+    memory = _;
+  },
+)
