@@ -5,7 +5,6 @@ use Rattle.std.specs.Iterator.Runs.{WholeRun}
 use Rattle.std.specs.Io.KnownBytes.{Appends}
 use Rattle.gix_ref_base.specs.NameGrammar.{full_error}
 use Rattle.gix_ref_hash.specs.declared.hash.Kind.{Kind}
-use Rattle.gix_ref_hash.specs.declared.hash.ObjectId.{ObjectId}
 use Rattle.gix_ref_files.specs.Files.{Meaning}
 use Rattle.gix_ref_files.specs.Tree.{Content, is_file, bytes_of}
 use Rattle.gix_ref_files.specs.declared.files.ReadAt.{Ghosts}
@@ -19,6 +18,7 @@ use Rattle.gix_ref_store.specs.declared.file.store.Store.{Store}
 use Rattle.gix_ref_program.specs.LogPrinting.{log_text}
 use Rattle.gix_ref_program.specs.Printed.{items_status}
 use Rattle.gix_ref_program.specs.Outcomes.{printed, status_of}
+use Rattle.gix_ref_program.specs.Words.{Asked}
 use Rattle.gix_ref_program.specs.Runs.{Ran, Prints, LogRan, UpdateOutcome, NoEdit}
 use Rattle.gix_ref_program.specs.Runs.Ran.{Said, Logged}
 use Rattle.gix_ref_program.specs.declared.outcome.Outcome.{Outcome}
@@ -57,17 +57,17 @@ logged G honest means old new name lines out now (Ok s) full reads ends ran =
 logged G honest means old new name lines out now (Err e) full reads ends ran =
     record { ran = Logged false []; does = (full, λ h. inr ((reads h).0, λ never. absurd (cc)), _); prints = _ }
 
--- an update whose name gives no edit
-pub no_edit : {F : Type 0} (honest : Type 0) (means : F → Meaning) (faults : F → ℕ) (store : Store F) (kind : Kind) (name : List ℕ) (id : ObjectId) (before : Option ObjectId) (refusal : Refusal) (locks : Vec (Vec ℕ Global) Global) →
-    NoEdit name refusal → locks.items ≡ [] → UpdateOutcome honest means faults store store kind name id before (outcomes.Refused refusal locks)
-no_edit honest means faults store kind name id before (refusals.Name error) locks none empty = (none, refl, empty)
-no_edit honest means faults store kind name id before refusals.Memory locks none empty = (refl, empty)
-no_edit honest means faults store kind name id before refusals.PathNotClean locks none empty = absurd none
-no_edit honest means faults store kind name id before (refusals.Find error) locks none empty = absurd none
-no_edit honest means faults store kind name id before (refusals.List error) locks none empty = absurd none
-no_edit honest means faults store kind name id before (refusals.Log error) locks none empty = absurd none
-no_edit honest means faults store kind name id before (refusals.Update error) locks none empty = absurd none
-no_edit honest means faults store kind name id before refusals.NotFound locks none empty = absurd none
+-- an update that has no edit
+pub no_edit : {F : Type 0} (honest : Type 0) (means : F → Meaning) (faults : F → ℕ) (store : Store F) (kind : Kind) (asked : Asked) (refusal : Refusal) (locks : Vec (Vec ℕ Global) Global) →
+    NoEdit asked refusal → locks.items ≡ [] → UpdateOutcome honest means faults store store kind asked (outcomes.Refused refusal locks)
+no_edit honest means faults store kind asked (refusals.Name error) locks none empty = (none, refl, empty)
+no_edit honest means faults store kind asked refusals.Memory locks none empty = (refl, empty)
+no_edit honest means faults store kind asked refusals.PathNotClean locks none empty = absurd none
+no_edit honest means faults store kind asked (refusals.Find error) locks none empty = absurd none
+no_edit honest means faults store kind asked (refusals.List error) locks none empty = absurd none
+no_edit honest means faults store kind asked (refusals.Log error) locks none empty = absurd none
+no_edit honest means faults store kind asked (refusals.Update error) locks none empty = absurd none
+no_edit honest means faults store kind asked refusals.NotFound locks none empty = absurd none
 
 -- nothing is printed where there is no log
 pub no_log : {F E : Type 0} (honest : Type 0) (means : F → Meaning) (old new : Store F) (name : List ℕ) (out : Option (List ℕ)) → full_error name ≡ None → (honest → is_file (reflog_at means old name) ≡ false) →

@@ -1,8 +1,11 @@
 -- The outcomes of the parts of a run, put together.
-use Rattle.std.proofs.Common.{◌≡◌, ◌⊎◌, inl, inr, ⊎_elim, ℕ, List, [], ◌∷◌, false, Option, IsSome, sym, subst}
+use Rattle.std.proofs.Common.{rules, ◌≡◌, ◌⊎◌, inl, inr, ⊎_elim, ℕ, List, [], ◌∷◌, false, Option, IsSome, Result, Ok, Err, MatchResult, IfOk, sym, subst}
 use Rattle.std.proofs.lemmas.List.Elements.{All-nil, All-cons}
 use Rattle.gix_ref_hash.specs.declared.hash.Kind.{Kind}
 use Rattle.gix_ref_hash.specs.declared.hash.ObjectId.{ObjectId}
+use Rattle.gix_ref_base.specs.Targets.{TargetValue}
+use Rattle.gix_ref_base.specs.Targets.TargetValue.{object_id}
+use Rattle.gix_ref_edits.specs.declared.transaction.PreviousValue.{PreviousValue}
 use Rattle.gix_ref_files.specs.Files.{Meaning, Leaves}
 use Rattle.gix_ref_files.proofs.Moments.{weaken}
 use Rattle.gix_ref_transaction.specs.DirectUpdates.{AreDirectUpdates}
@@ -12,11 +15,12 @@ use Rattle.gix_ref_edits.specs.RefEdits.{new_of}
 use Rattle.gix_ref_store.specs.declared.file.store.Store.{Store}
 use Rattle.gix_ref_edits.specs.declared.transaction.RefEdit.{RefEdit}
 use Rattle.gix_ref_program.specs.Updates.{IsStopOf}
-use Rattle.gix_ref_program.specs.Words.{Update, Line}
+use Rattle.gix_ref_program.specs.Words.{Asked, Update, Line}
 use Rattle.gix_ref_files.specs.declared.files.ReadAt.{Ghosts}
-use Rattle.gix_ref_program.specs.Runs.{IsAskedFor, IsOpened, EditOutcome, UpdateOutcome, Ran, CommandRan, LineRan, IsStop, IsStopIn}
+use Rattle.gix_ref_program.specs.Runs.{IsExpected, IsEditOf, IsAskedFor, IsNoName, NoEdit, IsOpened, EditOutcome, UpdateOutcome, IsUpdateStop, Ran, CommandRan, LineRan, IsStop, IsStopIn}
 use Rattle.gix_ref_program.specs.declared.outcome.Outcome.{Outcome}
 use Rattle.gix_ref_program.specs.declared.outcome.Outcome.TheVariants as outcomes
+use Rattle.gix_ref_program.specs.declared.refusal.Refusal.{Refusal}
 use Rattle.gix_ref_program.specs.declared.refusal.Refusal.TheVariants as refusals
 
 pub one : (edits : List RefEdit) (edit : RefEdit) → edits ≡ edit ∷ [] → IsSome (new_of edit.change) → edit.deref ≡ false → AreDirectUpdates edits
@@ -24,24 +28,24 @@ one edits edit are update no_deref =
     subst AreDirectUpdates (sym are) (All-cons (λ e. IsSome (new_of e.change) × (e.deref ≡ false)) edit [] (update, no_deref) (All-nil (λ (e : RefEdit). IsSome (new_of e.change) × (e.deref ≡ false))))
 
 module _ {F : Type 0} (honest : Type 0) (means : F → Meaning) (faults : F → ℕ) where
-  pub update_comes : (old new : Store F) (kind : Kind) (name : List ℕ) (id : ObjectId) (before : Option ObjectId) (edit : RefEdit) (outcome : Outcome) → IsAskedFor kind name id before edit →
-      EditOutcome honest means faults old new edit outcome → UpdateOutcome honest means faults old new kind name id before outcome
-  update_comes old new kind name id before edit (outcomes.Updated locks) asked comes = (edit, asked, comes)
-  update_comes old new kind name id before edit (outcomes.Refused (refusals.Update error) locks) asked comes = (edit, asked, comes)
-  update_comes old new kind name id before edit (outcomes.Refused refusals.Memory locks) asked comes = comes
-  update_comes old new kind name id before edit (outcomes.Refused refusals.PathNotClean locks) asked comes = absurd comes
-  update_comes old new kind name id before edit (outcomes.Refused (refusals.Name error) locks) asked comes = absurd comes
-  update_comes old new kind name id before edit (outcomes.Refused (refusals.Find error) locks) asked comes = absurd comes
-  update_comes old new kind name id before edit (outcomes.Refused (refusals.List error) locks) asked comes = absurd comes
-  update_comes old new kind name id before edit (outcomes.Refused (refusals.Log error) locks) asked comes = absurd comes
-  update_comes old new kind name id before edit (outcomes.Refused refusals.NotFound locks) asked comes = absurd comes
-  update_comes old new kind name id before edit outcomes.WrongWords asked comes = absurd comes
-  update_comes old new kind name id before edit (outcomes.Shown reference) asked comes = absurd comes
+  pub update_comes : (old new : Store F) (kind : Kind) (asked : Asked) (edit : RefEdit) (outcome : Outcome) → IsAskedFor kind asked edit →
+      EditOutcome honest means faults old new edit outcome → UpdateOutcome honest means faults old new kind asked outcome
+  update_comes old new kind asked edit (outcomes.Updated locks) is comes = (edit, is, comes)
+  update_comes old new kind asked edit (outcomes.Refused (refusals.Update error) locks) is comes = (edit, is, comes)
+  update_comes old new kind asked edit (outcomes.Refused refusals.Memory locks) is comes = comes
+  update_comes old new kind asked edit (outcomes.Refused refusals.PathNotClean locks) is comes = absurd comes
+  update_comes old new kind asked edit (outcomes.Refused (refusals.Name error) locks) is comes = absurd comes
+  update_comes old new kind asked edit (outcomes.Refused (refusals.Find error) locks) is comes = absurd comes
+  update_comes old new kind asked edit (outcomes.Refused (refusals.List error) locks) is comes = absurd comes
+  update_comes old new kind asked edit (outcomes.Refused (refusals.Log error) locks) is comes = absurd comes
+  update_comes old new kind asked edit (outcomes.Refused refusals.NotFound locks) is comes = absurd comes
+  update_comes old new kind asked edit outcomes.WrongWords is comes = absurd comes
+  update_comes old new kind asked edit (outcomes.Shown reference) is comes = absurd comes
 
-  pub update_stops : (old new : Store F) (kind : Kind) (name : List ℕ) (id : ObjectId) (before : Option ObjectId) (edit : RefEdit) → IsAskedFor kind name id before edit →
+  pub update_stops : (old new : Store F) (kind : Kind) (asked : Asked) (edit : RefEdit) → IsAskedFor kind asked edit →
       Leaves (means (files_of old)) (means (files_of new)) (λ T. (T ≡ tree_of means old) ⊎ IsStopOf (loose_meaning_of old) (edit ∷ []) (tree_of means old) T) →
-      Leaves (means (files_of old)) (means (files_of new)) (IsStop honest means faults old kind (Update name id before))
-  update_stops old new kind name id before edit asked leaves = weaken leaves (λ T stop. ⊎_elim (λ same. inl same) (λ s. inr (edit, asked, s)) stop)
+      Leaves (means (files_of old)) (means (files_of new)) (IsUpdateStop honest means faults old kind asked)
+  update_stops old new kind asked edit is leaves = weaken leaves (λ T stop. ⊎_elim (λ same. inl same) (λ s. inr (edit, is, s)) stop)
 
   pub line_comes : {R : Type 0} (G : Ghosts R) (files after : F) (line : Line) (old new : Store F) (ran : Ran) → IsOpened files line old → files_of new ≡ after →
       CommandRan honest means faults G old new line.kind line.asked ran → LineRan honest means faults G files after line ran
@@ -52,3 +56,26 @@ module _ {F : Type 0} (honest : Type 0) (means : F → Meaning) (faults : F → 
   line_stops files after line old new opened same leaves =
       subst (λ f. Leaves (means f) (means after) (IsStopIn honest means faults files line)) opened.files_are
       (subst (λ a. Leaves (means (files_of old)) (means a) (IsStopIn honest means faults files line)) same (weaken leaves (λ T stop. inr (old, opened, stop))))
+
+-- a word that gives no full name gives no edit
+no_name : (name : List ℕ) (id : ObjectId) (old : Option ObjectId) (refusal : Refusal) → IsNoName name refusal → NoEdit (Update name id old) refusal
+no_name name id old (refusals.Name error) none = none
+no_name name id old refusals.Memory none = tt
+no_name name id old refusals.PathNotClean none = absurd none
+no_name name id old (refusals.Find error) none = absurd none
+no_name name id old (refusals.List error) none = absurd none
+no_name name id old (refusals.Log error) none = absurd none
+no_name name id old (refusals.Update error) none = absurd none
+no_name name id old refusals.NotFound none = absurd none
+
+-- the words of an update ask for its edit
+pub asked_update : (kind : Kind) (name : List ℕ) (id : ObjectId) (old : Option ObjectId) (expected : PreviousValue) (r : Result RefEdit Refusal) → IsExpected kind old expected →
+    MatchResult r (IsEditOf name (object_id id) expected) (IsNoName name) → MatchResult r (IsAskedFor kind (Update name id old)) (NoEdit (Update name id old))
+asked_update kind name id old expected (Ok edit) is holds = record { expected = expected; is_expected = is; is_edit = holds }
+asked_update kind name id old expected (Err refusal) is holds = no_name name id old refusal holds
+
+-- an edit that is asked for follows no symbolic reference
+pub is_direct : (name : List ℕ) (target : TargetValue) (expected : PreviousValue) (Bad : Refusal → Type 0) (r : Result RefEdit Refusal) →
+    MatchResult r (IsEditOf name target expected) Bad → IfOk r (λ e. IsSome (new_of e.change) × (e.deref ≡ false))
+is_direct name target expected Bad (Ok edit) holds = (subst (λ (n : Option TargetValue). IsSome n) (sym holds.new) (search rules), holds.no_deref)
+is_direct name target expected Bad (Err refusal) holds = tt

@@ -7,7 +7,7 @@ use Rattle.gix_ref_hash.specs.declared.hash.ObjectId.{ObjectId}
 use Rattle.gix_ref_hash.specs.declared.hash.Kind.{Kind}
 use Rattle.gix_ref_hash.specs.declared.hash.Kind.TheVariants as kinds
 use Rattle.gix_ref_hash.proofs.IdLemmas.{reads_whole}
-use Rattle.gix_ref_program.specs.Words.{Asked, Update, Show, Listing, Log, Line, first_is, IsOld, IsUpdate, IsCommand, HasOptions, IsLine, kind_words, asked_of}
+use Rattle.gix_ref_program.specs.Words.{Asked, Update, Symbolic, Show, Listing, Log, Line, first_is, IsOld, IsUpdate, IsCommand, HasOptions, IsLine, kind_words, asked_of}
 use Rattle.gix_ref_program.specs.declared.words.Command.{Command}
 
 no_way : {X : Type 0} → true ≡ false → X
@@ -44,6 +44,7 @@ updates words rest None are none = by
   where
     by : (asked : Asked) → IsCommand words asked → ⊥
     by (Update name id old) (after, same, u) = none name id old (subst (λ ws. IsUpdate ws name id old) (tails (sym same ∙ are)) u)
+    by (Symbolic name target) same = no_way (ap (bytes_eq (codes "update")) (heads (sym are ∙ same)))
     by (Show name) same = no_way (ap (bytes_eq (codes "update")) (heads (sym are ∙ same)))
     by (Listing prefix) same = no_way (ap (bytes_eq (codes "update")) (heads (sym are ∙ same)))
     by (Log name) same = no_way (ap (bytes_eq (codes "update")) (heads (sym are ∙ same)))
@@ -59,6 +60,7 @@ no_kind rest None asked h = by asked h.command h.is_command h.words_are
   where
     by : (asked : Asked) (command : List (List ℕ)) → IsCommand command asked → codes "--sha256" ∷ rest ≡ command → ⊥
     by (Update name id old) command (after, same, u) is = no_way (ap (bytes_eq (codes "update")) (heads (sym same ∙ sym is)))
+    by (Symbolic name target) command same is = no_way (ap (bytes_eq (codes "symbolic")) (heads (sym same ∙ sym is)))
     by (Show name) command same is = no_way (ap (bytes_eq (codes "show")) (heads (sym same ∙ sym is)))
     by (Listing prefix) command same is = no_way (ap (bytes_eq (codes "list")) (heads (sym same ∙ sym is)))
     by (Log name) command same is = no_way (ap (bytes_eq (codes "log")) (heads (sym same ∙ sym is)))

@@ -5,7 +5,9 @@ use Rattle.std.specs.List.{AllByRecursion}
 use Rattle.gix_ref_hash.specs.Ids.{null_id}
 use Rattle.gix_ref_base.specs.NameGrammar.{full_error, partial_error}
 use Rattle.gix_ref_base.specs.Namespaces.{expanded}
-use Rattle.gix_ref_base.specs.Targets.TargetValue.{object_id}
+use Rattle.gix_ref_base.specs.Targets.{TargetValue}
+use Rattle.gix_ref_base.specs.Targets.TargetValue.{object_id, symbolic_name}
+use Rattle.gix_ref_base.specs.declared.name.error.Error.{Error as NameError}
 use Rattle.gix_ref_hash.specs.declared.hash.Kind.{Kind}
 use Rattle.gix_ref_hash.specs.declared.hash.ObjectId.{ObjectId}
 use Rattle.gix_ref_files.specs.Tree.{Tree}
@@ -47,7 +49,7 @@ use Rattle.gix_ref_program.specs.Updates.{IsUpdateError, AreNamed, IsStopOf}
 use Rattle.gix_ref_program.specs.ListPrinting.{list_text}
 use Rattle.gix_ref_program.specs.LogPrinting.{log_text, AreItemsOf}
 use Rattle.gix_ref_program.specs.Printed.{items_status}
-use Rattle.gix_ref_program.specs.Words.{Asked, Update, Show, Listing as AskedListing, Log, Line, IsLine}
+use Rattle.gix_ref_program.specs.Words.{Asked, Update, Symbolic, Show, Listing as AskedListing, Log, Line, IsLine}
 use Rattle.gix_ref_program.specs.declared.outcome.Outcome.{Outcome}
 use Rattle.gix_ref_program.specs.declared.outcome.Outcome.TheVariants as outcomes
 use Rattle.gix_ref_program.specs.declared.refusal.Refusal.{Refusal}
@@ -59,22 +61,34 @@ IsExpected kind None expected = expected ≡ Any
 IsExpected kind (Some old) expected =
     ((old ≡ null_id kind) × (expected ≡ MustNotExist)) ⊎ ((old ≡ null_id kind → ⊥) × (matched expected ≡ Some (object_id old)))
 
--- the edit of an update
-pub record IsEditOf (name : List ℕ) (id : ObjectId) (expected : PreviousValue) (edit : RefEdit) : Type 0 where
+-- the edit that gives a reference this target
+pub record IsEditOf (name : List ℕ) (target : TargetValue) (expected : PreviousValue) (edit : RefEdit) : Type 0 where
   pub full : full_error name ≡ None
   pub name_is : name_of edit ≡ name
-  pub new : new_of edit.change ≡ Some (object_id id)
+  pub new : new_of edit.change ≡ Some target
   pub mode : mode_of edit.change ≡ AndReference
   pub not_forced : is_forced edit.change ≡ false
   pub no_message : message_of edit.change ≡ []
   pub no_deref : edit.deref ≡ false
   pub expects : expected_of edit.change ≡ expected
 
--- and of one with this OLD
-pub record IsAskedFor (kind : Kind) (name : List ℕ) (id : ObjectId) (old : Option ObjectId) (edit : RefEdit) : Type 0 where
+-- and the one of an update with this OLD
+pub record IsUpdateOf (kind : Kind) (name : List ℕ) (id : ObjectId) (old : Option ObjectId) (edit : RefEdit) : Type 0 where
   pub expected : PreviousValue
   pub is_expected : IsExpected kind old expected
-  pub is_edit : IsEditOf name id expected edit
+  pub is_edit : IsEditOf name (object_id id) expected edit
+
+-- the edit that a command asks for
+abbrev pub IsAskedFor : Kind → Asked → RefEdit → Type 0
+IsAskedFor kind (Update name id old) edit = IsUpdateOf kind name id old edit
+IsAskedFor kind (Symbolic name target) edit = IsEditOf name (symbolic_name target) Any edit
+IsAskedFor kind asked edit = ⊥
+
+-- the rule that its first wrong name breaks
+abbrev pub BreaksRule : Asked → NameError → Type 0
+BreaksRule (Update name id old) error = full_error name ≡ Some error
+BreaksRule (Symbolic name target) error = (full_error name ≡ Some error) ⊎ ((full_error name ≡ None) × (full_error target ≡ Some error))
+BreaksRule asked error = ⊥
 
 -- the namespace that a NAME expands to
 abbrev pub namespace_of : Option (List ℕ) → List ℕ
@@ -117,11 +131,17 @@ pub record Prints {E : Type 0} (Does : Ran → Type 0) (out now : Option (List �
   pub does : Does ran
   pub prints : IfOk status (λ s. IsWhole ran × (s ≡ status_after ran) × Appends out now (text_of ran))
 
+-- why a word gives no full name
+abbrev pub IsNoName : List ℕ → Refusal → Type 0
+IsNoName name (refusals.Name error) = full_error name ≡ Some error
+IsNoName name refusals.Memory = Unit {0}
+IsNoName name refusal = ⊥
+
 -- why there is no edit
-abbrev pub NoEdit : List ℕ → Refusal → Type 0
-NoEdit name (refusals.Name error) = full_error name ≡ Some error
-NoEdit name refusals.Memory = Unit {0}
-NoEdit name refusal = ⊥
+abbrev pub NoEdit : Asked → Refusal → Type 0
+NoEdit asked (refusals.Name error) = BreaksRule asked error
+NoEdit asked refusals.Memory = Unit {0}
+NoEdit asked refusal = ⊥
 
 -- why there is no store in a folder
 abbrev pub IsNoFolder : List ℕ → Refusal → Type 0
@@ -190,12 +210,22 @@ module _ {F : Type 0} where
     EditOutcome old new edit (outcomes.Refused refusals.Memory locks) = (new ≡ old) × (locks.items ≡ [])
     EditOutcome old new edit outcome = ⊥
 
-    -- An update: the outcome of its edit; or its name is no full name; or there was no memory.
-    abbrev pub UpdateOutcome : (old new : Store F) → Kind → (name : List ℕ) → ObjectId → Option ObjectId → Outcome → Type 0
-    UpdateOutcome old new kind name id before (outcomes.Refused (refusals.Name error) locks) =
-        (full_error name ≡ Some error) × (new ≡ old) × (locks.items ≡ [])
-    UpdateOutcome old new kind name id before (outcomes.Refused refusals.Memory locks) = (new ≡ old) × (locks.items ≡ [])
-    UpdateOutcome old new kind name id before outcome = (edit : RefEdit) × IsAskedFor kind name id before edit × EditOutcome old new edit outcome
+    -- An update of either kind: the outcome of its edit; or a name is no full name; or there was no memory.
+    abbrev pub UpdateOutcome : (old new : Store F) → Kind → Asked → Outcome → Type 0
+    UpdateOutcome old new kind asked (outcomes.Refused (refusals.Name error) locks) = BreaksRule asked error × (new ≡ old) × (locks.items ≡ [])
+    UpdateOutcome old new kind asked (outcomes.Refused refusals.Memory locks) = (new ≡ old) × (locks.items ≡ [])
+    UpdateOutcome old new kind asked outcome = (edit : RefEdit) × IsAskedFor kind asked edit × EditOutcome old new edit outcome
+
+    -- and what is printed of it
+    abbrev pub UpdateRan : (old new : Store F) → Kind → Asked → Ran → Type 0
+    UpdateRan old new kind asked (Said outcome) = UpdateOutcome old new kind asked outcome
+    UpdateRan old new kind asked ran = ⊥
+
+    -- a stop in it leaves this tree: as before, or what a stop in its edit leaves
+    abbrev pub IsUpdateStop : Store F → Kind → Asked → Tree → Type 0
+    IsUpdateStop old kind asked T =
+        (T ≡ tree_of means old)
+        ⊎ ((edit : RefEdit) × IsAskedFor kind asked edit × IsStopOf (loose_meaning_of old) (edit ∷ []) (tree_of means old) T)
 
     -- A lookup: what it finds is shown; or there is nothing; or it fails; or its name breaks a rule.
     abbrev pub ShowOutcome : {R : Type 0} (G : Ghosts R) → (old new : Store F) → (name : List ℕ) → Outcome → Type 0
@@ -245,7 +275,8 @@ module _ {F : Type 0} where
     ListRan G old new prefix ran = ⊥
 
     abbrev pub CommandRan : {R : Type 0} (G : Ghosts R) → (old new : Store F) → Kind → Asked → Ran → Type 0
-    CommandRan G old new kind (Update name id before) (Said outcome) = UpdateOutcome old new kind name id before outcome
+    CommandRan G old new kind (Update name id before) ran = UpdateRan old new kind (Update name id before) ran
+    CommandRan G old new kind (Symbolic name target) ran = UpdateRan old new kind (Symbolic name target) ran
     CommandRan G old new kind (Show name) (Said outcome) = ShowOutcome G old new name outcome
     CommandRan G old new kind (AskedListing prefix) ran = ListRan G old new (prefix_asked old prefix) ran
     CommandRan G old new kind (Log name) ran = LogRan honest means old new name ran
@@ -253,9 +284,8 @@ module _ {F : Type 0} where
 
     -- a stop in a command leaves this tree: as before; or of an update what a stop in it leaves
     abbrev pub IsStop : Store F → Kind → Asked → Tree → Type 0
-    IsStop old kind (Update name id before) T =
-        (T ≡ tree_of means old)
-        ⊎ ((edit : RefEdit) × IsAskedFor kind name id before edit × IsStopOf (loose_meaning_of old) (edit ∷ []) (tree_of means old) T)
+    IsStop old kind (Update name id before) T = IsUpdateStop old kind (Update name id before) T
+    IsStop old kind (Symbolic name target) T = IsUpdateStop old kind (Symbolic name target) T
     IsStop old kind (Show name) T = T ≡ tree_of means old
     IsStop old kind (AskedListing prefix) T = T ≡ tree_of means old
     IsStop old kind (Log name) T = T ≡ tree_of means old

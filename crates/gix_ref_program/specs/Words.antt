@@ -14,6 +14,7 @@ use Rattle.gix_ref_program.specs.declared.words.Line.{Line as Parsed}
 -- What a command asks for.
 pub data Asked : Type 0 where
   Update : (name : List ℕ) (id : ObjectId) (old : Option ObjectId) → Asked
+  Symbolic : (name target : List ℕ) → Asked
   Show : (name : List ℕ) → Asked
   Listing : (prefix : Option (List ℕ)) → Asked
   Log : (name : List ℕ) → Asked
@@ -53,9 +54,10 @@ abbrev pub prefix_words : Option (List ℕ) → List (List ℕ)
 prefix_words None = []
 prefix_words (Some prefix) = prefix ∷ []
 
--- `update NAME ID [OLD]`, `show NAME`, `list [PREFIX]`, or `log NAME`
+-- `update NAME ID [OLD]`, `symbolic NAME TARGET`, `show NAME`, `list [PREFIX]`, or `log NAME`
 abbrev pub IsCommand : List (List ℕ) → Asked → Type 0
 IsCommand words (Update name id old) = (rest : List (List ℕ)) × (words ≡ codes "update" ∷ rest) × IsUpdate rest name id old
+IsCommand words (Symbolic name target) = words ≡ codes "symbolic" ∷ (name ∷ (target ∷ []))
 IsCommand words (Show name) = words ≡ codes "show" ∷ (name ∷ [])
 IsCommand words (Listing prefix) = words ≡ codes "list" ∷ prefix_words prefix
 IsCommand words (Log name) = words ≡ codes "log" ∷ (name ∷ [])
@@ -86,6 +88,7 @@ pub record IsLine (words : List (List ℕ)) (line : Line) : Type 0 where
 
 abbrev pub asked_of : Command → Asked
 asked_of (commands.Update name id old) = Update name.now id old
+asked_of (commands.Symbolic name target) = Symbolic name.now target.now
 asked_of (commands.Show name) = Show name.now
 asked_of (commands.List prefix) = Listing (option_map (λ text. text.now) prefix)
 asked_of (commands.Log name) = Log name.now

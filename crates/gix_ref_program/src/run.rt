@@ -1,6 +1,11 @@
 //! One run of the program, over any files.
-ghost use Rattle.std.specs.Prelude.{◌≡◌, ◌⊎◌, [], ◌∷◌, false, IsSome, IfOk, MatchResult};
+ghost use Rattle.std.specs.Prelude.{◌≡◌, ◌⊎◌, [], ◌∷◌, false, None, IsSome, IfOk, MatchResult};
 ghost use Rattle.std.specs.Option.{option_map};
+ghost use Rattle.gix_ref_hash.specs.declared.hash.Kind.{Kind};
+ghost use Rattle.gix_ref_base.specs.NameGrammar.{full_error};
+ghost use Rattle.gix_ref_base.specs.Names.{full_bytes};
+ghost use Rattle.gix_ref_base.specs.Targets.{target_value};
+ghost use Rattle.gix_ref_base.specs.Targets.TargetValue.{object_id, symbolic_name};
 ghost use Rattle.gix_ref_lookup.specs.StoreLayout.{namespace_text};
 ghost use Rattle.gix_ref_store.specs.Store.{files_of, loose_meaning_of};
 ghost use Rattle.gix_ref_store.specs.Listings.{AreHeldFor};
@@ -9,9 +14,9 @@ ghost use Rattle.gix_ref_store.specs.Prepared.{tree_of};
 ghost use Rattle.gix_ref_edits.specs.RefEdits.{new_of};
 ghost use Rattle.gix_ref_files.specs.Calls.{Unchanged};
 ghost use Rattle.gix_ref_files.specs.Files.{Leaves};
-ghost use Rattle.gix_ref_program.specs.Runs.{IsExpected, IsEditOf, NoNamespace, NoEdit, IsNoFolder, IsAt, namespace_of, IsOpened, EditOutcome, ShowOutcome, Prints, CommandRan, LogRan, ListRan, ListRanAmong, prefix_asked, IsStop, IsUnopened, LineRan, IsStopIn, RunsWrong, RunsLine};
+ghost use Rattle.gix_ref_program.specs.Runs.{IsExpected, IsEditOf, IsAskedFor, NoNamespace, IsNoName, NoEdit, UpdateRan, IsUpdateStop, IsNoFolder, IsAt, namespace_of, IsOpened, EditOutcome, ShowOutcome, Prints, CommandRan, LogRan, ListRan, ListRanAmong, prefix_asked, IsStop, IsUnopened, LineRan, IsStopIn, RunsWrong, RunsLine};
 ghost use Rattle.gix_ref_program.specs.Updates.{IsStopOf};
-ghost use Rattle.gix_ref_program.specs.Words.{texts, line_of, asked_of};
+ghost use Rattle.gix_ref_program.specs.Words.{Asked, Symbolic, texts, line_of, asked_of};
 
 use crate::list;
 use crate::log::print_items;
@@ -19,7 +24,7 @@ use crate::outcome::{Outcome, print};
 use crate::refusal::Refusal;
 use crate::update::{UpdateReport, update};
 use crate::words::{Command, Line, parse};
-use gix_ref_base::name::{FullNameRef, PartialNameRef};
+use gix_ref_base::name::{FullName, FullNameRef, PartialNameRef};
 use gix_ref_base::namespace::{Namespace, expand};
 use gix_ref_base::target::Target;
 use gix_ref_edits::transaction::{Change, LogChange, PreviousValue, RefEdit};
@@ -110,31 +115,68 @@ fn expected(old: Option<ObjectId>, kind: Kind) -> PreviousValue
     }
 }
 
+/// The full name that a word is.
+fn full_name(alloc: Global, word: &[u8]) -> Result<FullName, Refusal>
+    ensures { MatchResult result (λ name. (full_error word.now ≡ None)
+        × (full_bytes name ≡ word.now)) (IsNoName word.now) }
+{
+    match FullNameRef::try_from(word) {
+        Ok(name) => match name.to_owned(alloc) {
+            Ok(name) => Ok(name),
+            Err(_) => Err(Refusal::Memory),
+        },
+        Err(error) => Err(Refusal::Name(error)),
+    }
+}
+
+/// The edit that gives a reference a new target.
+fn edit_to(alloc: Global, name: FullName, new: Target, expected: PreviousValue) -> RefEdit
+    requires { full_error (full_bytes name) ≡ None }
+    ensures { IsEditOf (full_bytes name) (target_value new) expected result }
+{
+    RefEdit {
+        change: Change::Update {
+            log: LogChange::new_in(alloc),
+            expected,
+            new,
+        },
+        name,
+        deref: false,
+    }
+}
+
 /// The edit of an update.
-fn edit_of(
+fn update_edit(
     alloc: Global,
     name: &[u8],
     id: ObjectId,
     expected: PreviousValue,
 ) -> Result<RefEdit, Refusal>
-    ensures { MatchResult result (IsEditOf name.now id expected) (NoEdit name.now) }
+    ensures { MatchResult result (IsEditOf name.now (object_id id) expected) (IsNoName name.now) }
 {
-    let name = match FullNameRef::try_from(name) {
+    match full_name(alloc, name) {
+        Ok(name) => Ok(edit_to(alloc, name, Target::Object(id), expected)),
+        Err(refusal) => Err(refusal),
+    }
+}
+
+/// The edit of a symbolic update.
+fn symbolic_edit(alloc: Global, name: &[u8], target: &[u8]) -> Result<RefEdit, Refusal>
+    ensures { MatchResult result
+        (IsEditOf name.now (symbolic_name target.now) PreviousValue.Any)
+        (NoEdit (Symbolic name.now target.now)) }
+{
+    let name = match full_name(alloc, name) {
         Ok(name) => name,
-        Err(error) => return Err(Refusal::Name(error)),
+        Err(refusal) => return Err(refusal),
     };
-    let Ok(name) = name.to_owned(alloc) else {
-        return Err(Refusal::Memory);
-    };
-    Ok(RefEdit {
-        change: Change::Update {
-            log: LogChange::new_in(alloc),
-            expected,
-            new: Target::Object(id),
-        },
-        name,
-        deref: false,
-    })
+    match full_name(alloc, target) {
+        Ok(target) => {
+            let new = Target::Symbolic(target);
+            Ok(edit_to(alloc, name, new, PreviousValue::Any))
+        }
+        Err(refusal) => Err(refusal),
+    }
 }
 
 /// A refusal that leaves no lock.
@@ -280,6 +322,35 @@ fn print_listing<F: Files, W: Write>(
     }
 }
 
+/// Makes an update of either kind, and prints its outcome; a refusal where there is no edit.
+fn print_update<F: Files, W: Write>(
+    alloc: Global,
+    store: &mut Store<F>,
+    packed_refs: PackedRefs,
+    edit: Result<RefEdit, Refusal>,
+    out: &mut W,
+) -> (PackedRefs, io::Result<u8>)
+    requires quiet { store.old.write_reflog ≡ WriteReflog.Disable }
+    requires direct { IfOk edit (λ e. IsSome (new_of e.change) × (e.deref ≡ false)) }
+    ensures packed_refs { result.0 ≡ packed_refs }
+    ensures prints { (kind : Kind) (asked : Asked) →
+        MatchResult edit (IsAskedFor kind asked) (NoEdit asked) →
+        Prints (UpdateRan F.honest F.means F.faults store.old store.new kind asked)
+        (W.contents out.old) (W.contents out.new) result.1 }
+    ensures leaves { F.honest → (kind : Kind) (asked : Asked) →
+        MatchResult edit (IsAskedFor kind asked) (NoEdit asked) →
+        Leaves (F.means (files_of store.old)) (F.means (files_of store.new))
+        (IsUpdateStop F.honest F.means F.faults store.old kind asked) }
+{
+    match edit {
+        Ok(edit) => {
+            let (packed_refs, outcome) = make_update(alloc, store, packed_refs, edit);
+            (packed_refs, print(alloc, outcome, out))
+        }
+        Err(refusal) => (packed_refs, print(alloc, refused(alloc, refusal), out)),
+    }
+}
+
 /// Does what a command asks for, and prints it.
 fn execute<F: Files, W: Write>(
     alloc: Global,
@@ -301,13 +372,14 @@ fn execute<F: Files, W: Write>(
         Command::Show { name } => (packed_refs, print(alloc, show(alloc, store, name), out)),
         Command::List { prefix } => (packed_refs, print_listing(alloc, store, *prefix, out)),
         Command::Log { name } => (packed_refs, print_log(alloc, store, name, out)),
-        Command::Update { name, id, old } => match edit_of(alloc, name, *id, expected(*old, kind)) {
-            Ok(edit) => {
-                let (packed_refs, outcome) = make_update(alloc, store, packed_refs, edit);
-                (packed_refs, print(alloc, outcome, out))
-            }
-            Err(refusal) => (packed_refs, print(alloc, refused(alloc, refusal), out)),
-        },
+        Command::Update { name, id, old } => {
+            let edit = update_edit(alloc, name, *id, expected(*old, kind));
+            print_update(alloc, store, packed_refs, edit, out)
+        }
+        Command::Symbolic { name, target } => {
+            let edit = symbolic_edit(alloc, name, target);
+            print_update(alloc, store, packed_refs, edit, out)
+        }
     }
 }
 
@@ -342,11 +414,11 @@ fn run_line<F: Files, W: Write>(
     }
 }
 
-/// Does what the words ask for, and prints it: nothing for an update that was made; a target and a name for a reference
+/// Does what the words ask for, and prints it: nothing for an update that was made, of an object or a symbolic one; a target and a name for a reference
 /// that is shown; for a reflog, newest first, the ids and the message of each line, or `fault: ` and the variant of the
 /// error; else `refused: ` and the variant of the error, or `wrong words`; and a line for each lock that could not be
 /// removed. The status is 0, 1 for a refusal or a fault, 2 for wrong words; it is an error where the writer failed, or where
-/// there was no memory for the text. (`git update-ref`, `git show-ref`, `git for-each-ref`, `git reflog show`)
+/// there was no memory for the text. (`git update-ref`, `git symbolic-ref`, `git show-ref`, `git for-each-ref`, `git reflog show`)
 ///
 /// The words are those behind the name of the program. Costs five calls of files for an update, one for a reference that
 /// is shown. A listing of a prefix reads the folders and files that its names may be in, and of a sorted `packed-refs` the

@@ -1,5 +1,5 @@
 //! The words of the program: `DIR [--sha256] [--namespace NAME] COMMAND`, where a command is `update NAME ID [OLD]`,
-//! `show NAME`, `list [PREFIX]` or `log NAME`.
+//! `symbolic NAME TARGET`, `show NAME`, `list [PREFIX]` or `log NAME`.
 ghost use Rattle.std.specs.Prelude.{◌≡◌, ◌++◌, ℕ, List, MatchOption, Option, codes, ◌∷◌, [], false};
 ghost use Rattle.std.specs.Option.{option_map};
 ghost use Rattle.gix_ref_hash.specs.declared.hash.ObjectId.{ObjectId};
@@ -15,6 +15,11 @@ pub enum Command<'w> {
         name: &'w [u8],
         id: ObjectId,
         old: Option<ObjectId>,
+    },
+    /// `symbolic NAME TARGET`
+    Symbolic {
+        name: &'w [u8],
+        target: &'w [u8],
     },
     /// `show NAME`
     Show {
@@ -100,6 +105,17 @@ fn name_of(words: &[String]) -> Option<&[u8]>
     Some(name.as_bytes())
 }
 
+/// `NAME TARGET`.
+fn names_of(words: &[String]) -> Option<(&[u8], &[u8])>
+    ensures { MatchOption result
+        ((name target : List ℕ) → texts words.now ≡ name ∷ (target ∷ []) → ⊥)
+        (λ names. texts words.now ≡ names.0.now ∷ (names.1.now ∷ [])) }
+{
+    let (name, rest) = words.split_first()?;
+    let target = name_of(rest)?;
+    Some((name.as_bytes(), target))
+}
+
 /// `[PREFIX]`: the first `None` is for other words.
 fn prefix_of(words: &[String]) -> Option<Option<&[u8]>>
     ensures { MatchOption result
@@ -122,6 +138,10 @@ fn command_of(words: &[String]) -> Option<Command<'_>>
 {
     if let Some(rest) = strip_word(words, b"update") {
         return update_of(rest);
+    }
+    if let Some(rest) = strip_word(words, b"symbolic") {
+        let (name, target) = names_of(rest)?;
+        return Some(Command::Symbolic { name, target });
     }
     if let Some(rest) = strip_word(words, b"log") {
         return Some(Command::Log {

@@ -195,6 +195,71 @@ fn updates(rt: HostRuntime) {
 }
 
 #[test]
+fn symbolic_updates(rt: HostRuntime) {
+    let rows: [Row<'_>; 8] = [
+        Row {
+            meaning: "a new HEAD",
+            before: ("", ""),
+            words: &["/r", "symbolic", "HEAD", "refs/heads/main"],
+            printed: Printed::Nothing,
+            after: ("/r/HEAD", "ref: refs/heads/main\n"),
+        },
+        Row {
+            meaning: "a branch that was not symbolic",
+            before: (A, ONE),
+            words: &["/r", "symbolic", "refs/heads/a", "refs/heads/b"],
+            printed: Printed::Nothing,
+            after: (A, "ref: refs/heads/b\n"),
+        },
+        Row {
+            meaning: "another target",
+            before: (A, "ref: refs/heads/c\n"),
+            words: &["/r", "symbolic", "refs/heads/a", "refs/heads/b"],
+            printed: Printed::Nothing,
+            after: (A, "ref: refs/heads/b\n"),
+        },
+        Row {
+            meaning: "the name is no name",
+            before: (A, ONE),
+            words: &["/r", "symbolic", "refs/heads/a/", "refs//b"],
+            printed: Printed::Refused("EndsWithSlash"),
+            after: (A, ONE),
+        },
+        Row {
+            meaning: "the target is no name",
+            before: (A, ONE),
+            words: &["/r", "symbolic", "refs/heads/a", "refs//b"],
+            printed: Printed::Refused("RepeatedSlash"),
+            after: (A, ONE),
+        },
+        Row {
+            meaning: "the target is no full name",
+            before: (A, ONE),
+            words: &["/r", "symbolic", "refs/heads/a", "main"],
+            printed: Printed::Refused("SomeLowercase"),
+            after: (A, ONE),
+        },
+        Row {
+            meaning: "an unsafe name",
+            before: ("", ""),
+            words: &["/r", "symbolic", "logs/HEAD", "refs/heads/a"],
+            printed: Printed::Refused("UnsafeName"),
+            after: ("/r/logs/HEAD", "-"),
+        },
+        Row {
+            meaning: "a lock of another",
+            before: (LOCK, ""),
+            words: &["/r", "symbolic", "refs/heads/a", "refs/heads/b"],
+            printed: Printed::Refused("LockAcquire"),
+            after: (A, "-"),
+        },
+    ];
+    for row in rows {
+        check(&rt, rt.alloc(), row);
+    }
+}
+
+#[test]
 fn shows(rt: HostRuntime) {
     let rows: [Row<'_>; 14] = [
         Row {
@@ -327,10 +392,12 @@ fn refuses(rt: &impl Abort, alloc: Global, words: &[&str], printed: Printed<'_>)
 
 #[test]
 fn wrong_words(rt: HostRuntime) {
-    let lines: [&[&str]; 20] = [
+    let lines: [&[&str]; 22] = [
         &[],
         &["/r"],
         &["/r", "show"],
+        &["/r", "symbolic", "refs/heads/a"],
+        &["/r", "symbolic", "refs/heads/a", "refs/heads/b", I1],
         &["/r", "show", "a", "b"],
         &["/r", "update", "refs/heads/a"],
         &["/r", "update", "refs/heads/a", I1, I2, I1],
