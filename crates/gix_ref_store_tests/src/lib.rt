@@ -22,8 +22,16 @@ mod loose;
 #[cfg(test)]
 mod made;
 #[cfg(test)]
+mod platforms;
+#[cfg(test)]
 mod power;
 #[cfg(test)]
+mod pristine;
+#[cfg(test)]
+mod pseudo;
+#[cfg(test)]
 mod slow;
+#[cfg(test)]
+mod slow_listings;
 #[cfg(test)]
 mod transactions;

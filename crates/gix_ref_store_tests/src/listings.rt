@@ -9,16 +9,16 @@ use std::alloc::Global;
 use std::process::Abort;
 
 /// Forty digits `1`, and LF.
-const ONE: &[u8] = b"1111111111111111111111111111111111111111\n";
+pub const ONE: &[u8] = b"1111111111111111111111111111111111111111\n";
 
 /// Forty digits `2`, and LF.
-const TWO: &[u8] = b"2222222222222222222222222222222222222222\n";
+pub const TWO: &[u8] = b"2222222222222222222222222222222222222222\n";
 
 /// A file and its text.
-type File = (&'static str, &'static [u8]);
+pub type File = (&'static str, &'static [u8]);
 
 /// Files in memory.
-fn files_of(rt: &impl Abort, alloc: Global, files: &[File]) -> Memory {
+pub fn files_of(rt: &impl Abort, alloc: Global, files: &[File]) -> Memory {
     let mut memory = Memory::new(alloc);
     for (path, text) in files {
         let done = memory.put(path.as_bytes(), text).expect(rt, "memory");
@@ -59,7 +59,7 @@ fn one(rt: &impl Abort) -> gix_ref_hash::hash::ObjectId {
 }
 
 /// The lines of a listing.
-fn lines(rt: &impl Abort, alloc: Global, listing: LooseThenPacked<'_, Memory>) -> Vec<u8> {
+pub fn lines(rt: &impl Abort, alloc: Global, listing: LooseThenPacked<'_, Memory>) -> Vec<u8> {
     let mut text = Vec::new(alloc);
     for item in listing {
         match item {

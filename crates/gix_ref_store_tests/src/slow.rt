@@ -78,17 +78,17 @@ fn shared(name: &str) -> &str {
 }
 
 /// The next number of a linear congruence.
-fn next(number: u32) -> u32 {
+pub fn next(number: u32) -> u32 {
     number.wrapping_mul(1_664_525).wrapping_add(1_013_904_223)
 }
 
 /// Forty digits: of this number, and then of the last.
-fn digits(rt: &impl Abort, alloc: Global, number: usize, last: char) -> String {
+pub fn digits(rt: &impl Abort, alloc: Global, number: usize, last: char) -> String {
     format!(in alloc; "{number:039}{last}").expect(rt, "memory")
 }
 
 /// Whether this bit of a number is set.
-fn has_bit(number: u32, bit: usize) -> bool {
+pub fn has_bit(number: u32, bit: usize) -> bool {
     let Ok(bit) = u32::try_from(bit) else {
         return false;
     };
@@ -156,7 +156,7 @@ fn files(rt: &impl Abort, alloc: Global, kept: Kept) -> Memory {
 }
 
 /// The digits of the record of a name in a text.
-fn record_of<'a>(text: &'a str, name: &str) -> Option<&'a str> {
+pub fn record_of<'a>(text: &'a str, name: &str) -> Option<&'a str> {
     for line in text.lines() {
         if let Some((digits, of)) = line.split_once(' ')
             && of == name
