@@ -79,6 +79,10 @@ fn types_of_files_and_the_store() {
     named::<store::WriteReflog>();
     named::<file::Store<files::Memory>>();
     named::<file::store::Error<files::Memory>>();
+    named::<file::iter::Platform<'_, files::Memory>>();
+    named::<file::iter::LooseThenPacked<'_, files::Memory>>();
+    named::<file::iter::Error>();
+    named::<file::iter::loose_then_packed::Error>();
     named::<file::loose::Reference>();
     named::<file::loose::Error>();
     named::<file::find::Error>();
