@@ -2,7 +2,7 @@
 #![tactic(auto)]
 
 ghost use Rattle.std.specs.Prelude.{IfOk};
-ghost use Rattle.gix_ref_store.specs.Prepared.{AreDirectUpdates};
+ghost use Rattle.gix_ref_transaction.specs.DirectUpdates.{AreDirectUpdates};
 
 use anyhow::{Context, Result, bail};
 use gix_ref::file::Store;
