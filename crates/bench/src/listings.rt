@@ -1,8 +1,8 @@
 //! The modes that measure listings and reflogs in a repository: `list`, `list-prefix` (of the prefix in its file
 //! `peers-prefix.txt`), `log10` and `logall` (of `refs/heads/main`, newest first).
-use gix_ref_base::name::FullNameRef;
 use gix_ref_files::files::Files;
 use gix_ref_hash::hash::Kind;
+use gix_ref_name::name::FullNameRef;
 use gix_ref_store::file::Store;
 use std::alloc::Global;
 

@@ -1,7 +1,7 @@
 //! The modes that measure lookups in a repository: names come from its file `peers-names.txt`, one a line.
-use gix_ref_base::name::PartialName;
 use gix_ref_files::files::Files;
 use gix_ref_hash::hash::Kind;
+use gix_ref_name::name::PartialName;
 use gix_ref_store::file::Store;
 use std::alloc::Global;
 

@@ -1,7 +1,7 @@
 //! The modes that measure packed references. A record is a line of 70 bytes.
-use gix_ref_base::name::{self, FullName, FullNameRef};
 use gix_ref_files::files::{Files, ReadAt};
 use gix_ref_hash::hash::Kind;
+use gix_ref_name::name::{self, FullName, FullNameRef};
 use gix_ref_packed::packed::Buffer;
 use gix_ref_packed::packed::sorted_file::SortedFile;
 use gix_ref_packed::packed::written::{push_header, push_record};

@@ -14,12 +14,13 @@ pub mod files;
 pub mod log;
 pub mod theorems;
 
-pub use gix_ref_base::{layout, name, namespace, target};
+pub use gix_ref_base::{layout, target};
 pub use gix_ref_edits::transaction;
 pub use gix_ref_files::{lock, steps};
 pub use gix_ref_follow::peel;
 pub use gix_ref_hash::hash;
 pub use gix_ref_log::actor;
+pub use gix_ref_name::{name, namespace};
 pub use gix_ref_object::object;
 pub use gix_ref_packed::{packed, raw};
 pub use gix_ref_store::store;

@@ -1,17 +1,2 @@
-pub mod Appending
-pub mod CandidateNames
-pub mod CandidateRows
-pub mod CategoryLemmas
-pub mod Composing
-pub mod DeviceLemmas
-pub mod DeviceRows
-pub mod Expanding
-pub mod FrontLemmas
 pub mod LocationLemmas
-pub mod OneCategory
 pub mod PackedRecordLemmas
-pub mod PartialNames
-pub mod PlainNames
-pub mod RoundTrip
-pub mod Rows
-pub mod Scans

@@ -7,10 +7,10 @@ use Rattle.std.proofs.lemmas.Bool.Decides.{Decides-eqb}
 use Rattle.std.proofs.lemmas.List.Elements.{All-head, All-tail}
 use Rattle.std.proofs.lemmas.Slice.Eq.{starts_is}
 use Rattle.gix_ref_hash.specs.Bytes.{BeginsWith, NoByte, is_slash}
-use Rattle.gix_ref_base.specs.NameGrammar.{is_pseudo_byte}
-use Rattle.gix_ref_base.specs.Categories.{HasCategory, NoCategory}
-use Rattle.gix_ref_base.specs.declared.name.category.Category.{Category}
-use Rattle.gix_ref_base.specs.declared.name.category.Category.TheVariants.{Tag, LocalBranch, RemoteBranch, Note, PseudoRef, MainPseudoRef, MainRef, LinkedPseudoRef, LinkedRef, Bisect, Rewritten, WorktreePrivate}
+use Rattle.gix_ref_grammar.specs.NameGrammar.{is_pseudo_byte}
+use Rattle.gix_ref_name.specs.Categories.{HasCategory, NoCategory}
+use Rattle.gix_ref_name.specs.declared.name.category.Category.{Category}
+use Rattle.gix_ref_name.specs.declared.name.category.Category.TheVariants.{Tag, LocalBranch, RemoteBranch, Note, PseudoRef, MainPseudoRef, MainRef, LinkedPseudoRef, LinkedRef, Bisect, Rewritten, WorktreePrivate}
 use Rattle.gix_ref_hash.proofs.ByteLemmas.{IsApart as IsOtherByte, apart, no_byte}
 use Rattle.gix_ref_base.specs.Layout.{Layout, HasPaths, IsSafe, RefPaths, common_log, git_log, in_common, in_git, is_private_ref, linked_log, packed_key, ref_paths, paths_in, paths_of_others}
 use Rattle.gix_ref_base.specs.Locations.{Location, cut_at_slash, is_safe, rest_after, paths_at, paths_of, location, location_by, location_in_linked, location_of_linked, location_of_main, location_unless}

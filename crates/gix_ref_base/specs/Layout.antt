@@ -3,9 +3,9 @@
 use Rattle.std.specs.Prelude.{◌≡◌, ◌≢◌, ℕ, List, [], ◌∷◌, ◌++◌, Option, Some, None, Bool, ◌||◌, if◌then◌else◌, codes, nat_eq, ◌⊎◌}
 use Rattle.std.specs.List.{starts_with}
 use Rattle.gix_ref_hash.specs.Bytes.{BeginsWith, NoByte}
-use Rattle.gix_ref_base.specs.Categories.{HasCategory, NoCategory}
-use Rattle.gix_ref_base.specs.declared.name.category.Category.{Category}
-use Rattle.gix_ref_base.specs.declared.name.category.Category.TheVariants.{Tag, LocalBranch, RemoteBranch, Note, PseudoRef, MainPseudoRef, MainRef, LinkedPseudoRef, LinkedRef, Bisect, Rewritten, WorktreePrivate}
+use Rattle.gix_ref_name.specs.Categories.{HasCategory, NoCategory}
+use Rattle.gix_ref_name.specs.declared.name.category.Category.{Category}
+use Rattle.gix_ref_name.specs.declared.name.category.Category.TheVariants.{Tag, LocalBranch, RemoteBranch, Note, PseudoRef, MainPseudoRef, MainRef, LinkedPseudoRef, LinkedRef, Bisect, Rewritten, WorktreePrivate}
 
 -- The folders of a store, and its namespace.
 pub record Layout : Type 0 where

@@ -1,12 +1,5 @@
-pub mod Candidates
-pub mod Categories
-pub mod ComposedNames
-pub mod DeviceNames
 pub mod Layout
 pub mod Locations
-pub mod NameGrammar
-pub mod Names
-pub mod Namespaces
 pub mod Orders
 pub mod PackedRecords
 pub mod RefLayout

@@ -1,7 +1,7 @@
 -- The paths and the key of a name, computed. `Layout` has the rule as a table, and `PathsAreTheTable` says that the two agree.
 use Rattle.std.specs.Prelude.{◌≡◌, ◌≢◌, ℕ, List, [], ◌∷◌, ◌++◌, Option, Some, None, Bool, false, if◌then◌else◌, ◌==◌, is_some, unwrap_or, codes}
 use Rattle.std.specs.Option.{option_map}
-use Rattle.gix_ref_base.specs.NameGrammar.{is_pseudo_byte}
+use Rattle.gix_ref_grammar.specs.NameGrammar.{is_pseudo_byte}
 use Rattle.gix_ref_base.specs.Layout.{Layout, RefPaths, ref_paths, in_common, common_log, in_git, git_log, linked_log, packed_key, is_private_ref}
 use Rattle.std.specs.List.{list_all}
 

@@ -5,10 +5,10 @@ use Rattle.std.specs.Cmp.Lexicographic.{slice_cmp}
 use Rattle.std.specs.declared.cmp.Ordering.{Ordering}
 use Rattle.std.specs.declared.cmp.Ordering.TheVariants.{Less, Greater}
 use Rattle.gix_ref_hash.specs.Orders.{id_cmp}
-use Rattle.gix_ref_base.specs.declared.name.category.Category.{Category}
+use Rattle.gix_ref_name.specs.declared.name.category.Category.{Category}
 use Rattle.gix_ref_base.specs.declared.target.Kind.{Kind}
 use Rattle.gix_ref_base.specs.declared.target.Kind.TheVariants.{Object, Symbolic}
-use Rattle.gix_ref_base.specs.Categories.{code_of, worktree_of}
+use Rattle.gix_ref_name.specs.Categories.{code_of, worktree_of}
 use Rattle.gix_ref_base.specs.Targets.{TargetValue}
 use Rattle.gix_ref_base.specs.Targets.TargetValue.{object_id, symbolic_name}
 

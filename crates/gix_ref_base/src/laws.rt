@@ -3,15 +3,15 @@
 ghost use Rattle.std.specs.Prelude.{◌≡◌, ◌↔◌, IsTrue};
 ghost use Rattle.std.specs.Ordering.{nat_cmp};
 ghost use Rattle.std.specs.Cmp.Lexicographic.{slice_cmp};
-ghost use Rattle.gix_ref_base.specs.Names.{full_ref_bytes, full_bytes, partial_ref_bytes, partial_bytes};
-ghost use Rattle.gix_ref_base.specs.Namespaces.{namespace_bytes};
-ghost use Rattle.gix_ref_base.specs.Categories.{SameCategory};
+ghost use Rattle.gix_ref_name.specs.Names.{full_ref_bytes, full_bytes, partial_ref_bytes, partial_bytes};
+ghost use Rattle.gix_ref_name.specs.Namespaces.{namespace_bytes};
+ghost use Rattle.gix_ref_name.specs.Categories.{SameCategory};
 ghost use Rattle.gix_ref_base.specs.Targets.{target_value, target_ref_value};
 ghost use Rattle.gix_ref_base.specs.Orders.{category_cmp, kind_rank, target_cmp};
 
-use crate::name::{Category, FullName, FullNameRef, PartialName, PartialNameRef};
-use crate::namespace::Namespace;
 use crate::target::{Kind, Target, TargetRef};
+use gix_ref_name::name::{Category, FullName, FullNameRef, PartialName, PartialNameRef};
+use gix_ref_name::namespace::Namespace;
 use std::cmp::Ordering;
 
 /// Full names are equal where their bytes are.

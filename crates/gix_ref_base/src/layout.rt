@@ -2,15 +2,15 @@
 ghost use Rattle.std.specs.Prelude.{◌≡◌, ◌++◌, ◌∷◌, ℕ, List, IfOk, MatchOption, Some, None, true, false, codes};
 ghost use Rattle.std.specs.Bool.{OnTrue};
 ghost use Rattle.std.specs.Option.{option_map};
-ghost use Rattle.gix_ref_base.specs.Names.{full_ref_bytes};
-ghost use Rattle.gix_ref_base.specs.Categories.{HasCategory};
+ghost use Rattle.gix_ref_name.specs.Names.{full_ref_bytes};
+ghost use Rattle.gix_ref_name.specs.Categories.{HasCategory};
 ghost use Rattle.gix_ref_base.specs.Layout.{Layout, below, paths_in, is_private_ref};
 ghost use Rattle.gix_ref_base.specs.Locations.{is_safe, paths_at, paths_of, key_outside, NoFrontOfCategory};
 ghost use Rattle.gix_ref_base.specs.Locations.Location.{Common as CommonName};
 ghost use Rattle.gix_ref_base.specs.RefLayout.{location_value};
 
-use crate::name::{Category, FullNameRef};
 use gix_ref_hash::bytes::strip_front;
+use gix_ref_name::name::{Category, FullNameRef};
 use std::alloc::{AllocError, Global};
 
 /// Which worktrees a name belongs to, and the name that is kept there (`git worktree`, "REFS").
@@ -109,7 +109,8 @@ fn is_elsewhere(name: &[u8]) -> bool
 /// Whether some bytes of a name show that all worktrees share its reference under the same name: so they do for most
 /// names, and then no category need be looked for.
 fn is_shared(name: &[u8]) -> bool
-    ensures { OnTrue result ((f : Layout) → paths_at f name.now ≡ paths_of f (CommonName name.now)) }
+    ensures { OnTrue result ((f : Layout) →
+        paths_at f name.now ≡ paths_of f (CommonName name.now)) }
 {
     match strip_front(name, b"refs/") {
         Some(rest) => is_shared_below_refs(rest),
@@ -215,7 +216,7 @@ impl<'a> RefLayout<'a> {
     ghost use Rattle.std.specs.Prelude.{◌≡◌, IfOk, Some, vec_items};
     ghost use Rattle.std.specs.Bool.{OnTrue};
     ghost use Rattle.std.specs.Option.{option_map};
-    ghost use Rattle.gix_ref_base.specs.Names.{full_ref_bytes};
+    ghost use Rattle.gix_ref_name.specs.Names.{full_ref_bytes};
     ghost use Rattle.gix_ref_base.specs.Locations.{paths_at, paths_of};
     ghost use Rattle.gix_ref_base.specs.RefLayout.{layout_of, location_value};
 

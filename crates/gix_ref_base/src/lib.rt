@@ -1,8 +1,6 @@
-//! The values that a Git reference store is about: names of references, where they are kept, namespaces and targets.
+//! What a Git reference store keeps of names: where they are kept, and the targets of references.
 #![tactic(auto)]
 
 pub mod laws;
 pub mod layout;
-pub mod name;
-pub mod namespace;
 pub mod target;

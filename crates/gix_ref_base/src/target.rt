@@ -1,13 +1,13 @@
 //! What a reference points to: an object, or another reference.
 ghost use Rattle.std.specs.Prelude.{◌≡◌, ◌↔◌, IsTrue, IfOk, IfSome, IfNone, IfErr, Some, None, MatchResult, MatchOption, IsSome};
-ghost use Rattle.gix_ref_base.specs.Names.{full_ref_bytes, full_bytes};
-ghost use Rattle.gix_ref_base.specs.Namespaces.{namespace_bytes};
+ghost use Rattle.gix_ref_name.specs.Names.{full_ref_bytes, full_bytes};
+ghost use Rattle.gix_ref_name.specs.Namespaces.{namespace_bytes};
 ghost use Rattle.gix_ref_base.specs.Targets.{TargetValue, target_value, target_ref_value, target_kind, target_id, target_name, stripped_target, IsNullTarget, target_text};
 ghost use Rattle.gix_ref_base.specs.Targets.TargetValue.{object_id, symbolic_name};
 
-use crate::name::{FullName, FullNameRef};
-use crate::namespace::Namespace;
 use gix_ref_hash::hash::ObjectId;
+use gix_ref_name::name::{FullName, FullNameRef};
+use gix_ref_name::namespace::Namespace;
 use std::alloc::{AllocError, Global};
 use std::fmt;
 

@@ -1,6 +1,6 @@
 //! Categories and short names (`gitglossary`, `git worktree`).
 use crate::made::full;
-use gix_ref_base::name::{Category, Error};
+use gix_ref_name::name::{Category, Error};
 
 const LINKED: Category<'static> = Category::LinkedRef { name: b"a" };
 

@@ -1,9 +1,9 @@
 //! What a partial name may be short for, devices of Windows, and the forms of Unicode.
 use crate::made::{full_name, partial};
 use crate::uses::candidates_of;
-use gix_ref_base::name::candidates::remote_head;
-use gix_ref_base::name::compose::{compose, decompose};
-use gix_ref_base::name::device::{has_device_name, is_device_name};
+use gix_ref_name::name::candidates::remote_head;
+use gix_ref_name::name::compose::{compose, decompose};
+use gix_ref_name::name::device::{has_device_name, is_device_name};
 use std::test::Fail;
 
 #[test]

@@ -1,7 +1,7 @@
 //! Values for tests. A text that is not what the test means it to be ends the test.
-use gix_ref_base::name::{FullName, FullNameRef, PartialName, PartialNameRef};
-use gix_ref_base::namespace::{Namespace, expand};
 use gix_ref_hash::hash::ObjectId;
+use gix_ref_name::name::{FullName, FullNameRef, PartialName, PartialNameRef};
+use gix_ref_name::namespace::{Namespace, expand};
 use std::alloc::{AllocError, Global};
 use std::fmt::Display;
 use std::process::Abort;

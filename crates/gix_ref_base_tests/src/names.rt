@@ -1,6 +1,6 @@
 //! Names: the grammar, with the results of `git check-ref-format`, and what names are made of.
 use crate::made::{bytes, copy, full, full_name, partial, partial_name, shown};
-use gix_ref_base::name::{Error, FullName, FullNameRef, PartialName, PartialNameRef};
+use gix_ref_name::name::{Error, FullName, FullNameRef, PartialName, PartialNameRef};
 use std::alloc::{AllocError, Global};
 use std::collections::HashSet;
 use std::test::Fail;

@@ -1,13 +1,13 @@
 //! Short callers, each with what it can state of its result from the public contracts alone.
 ghost use Rattle.std.specs.Prelude.{◌≡◌, ◌++◌, ◌⊎◌, IfSome, IfOk, IfErr, codes, map, Some};
-ghost use Rattle.gix_ref_base.specs.Names.{full_ref_bytes, full_bytes, partial_ref_bytes};
-ghost use Rattle.gix_ref_base.specs.NameGrammar.{IsFullName, full_error, IsPartialName};
-ghost use Rattle.gix_ref_base.specs.Namespaces.{namespace_bytes};
-ghost use Rattle.gix_ref_base.specs.Candidates.{candidates};
+ghost use Rattle.gix_ref_name.specs.Names.{full_ref_bytes, full_bytes, partial_ref_bytes};
+ghost use Rattle.gix_ref_grammar.specs.NameGrammar.{IsFullName, full_error, IsPartialName};
+ghost use Rattle.gix_ref_name.specs.Namespaces.{namespace_bytes};
+ghost use Rattle.gix_ref_name.specs.Candidates.{candidates};
 
-use gix_ref_base::name::candidates::{fronts_of, name_behind};
-use gix_ref_base::name::{Category, Error, FullName, FullNameRef, PartialNameRef};
-use gix_ref_base::namespace::Namespace;
+use gix_ref_name::name::candidates::{fronts_of, name_behind};
+use gix_ref_name::name::{Category, Error, FullName, FullNameRef, PartialNameRef};
+use gix_ref_name::namespace::Namespace;
 use std::alloc::{AllocError, Global};
 
 /// A name from a text, by the view: it is the text, and the text is a full name.

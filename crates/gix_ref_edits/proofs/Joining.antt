@@ -4,7 +4,7 @@ use Rattle.std.proofs.lemmas.List.{map-append, length-map}
 use Rattle.std.proofs.lemmas.List.Concat.{flat_map-append}
 use Rattle.std.proofs.lemmas.List.Elements.{All-nil, All-cons, All-head, All-tail, filter-append}
 use Rattle.std.specs.List.{FoldsTo, AllZip}
-use Rattle.gix_ref_base.specs.declared.name.PartialNameRef.{PartialNameRef}
+use Rattle.gix_ref_name.specs.declared.name.PartialNameRef.{PartialNameRef}
 use Rattle.gix_ref_base.specs.declared.target.Target.{Target}
 use Rattle.gix_ref_edits.specs.declared.transaction.RefEdit.{RefEdit}
 use Rattle.gix_ref_edits.specs.declared.transaction.ext.error.SplitError.{SplitError}
@@ -14,7 +14,7 @@ use Rattle.gix_ref_edits.specs.LookUps.{LookUp, Answers, LooksUp, HasLookedUp, H
 use Rattle.gix_ref_edits.specs.SplitLists.{looked_up, child_list, referent, after_round, children}
 use Rattle.gix_ref_edits.specs.MadeEntries.{MadeEntry, place_list, parent_places}
 use Rattle.gix_ref_edits.specs.SplitErrors.{IsSplitFault}
-use Rattle.gix_ref_edits.specs.Rounds.{IsRound, HasRound, IsFault, HasSplitLevel}
+use Rattle.gix_ref_edits.specs.internal.Rounds.{IsRound, HasRound, IsFault, HasSplitLevel}
 
 pub all_front : {X : Type 0} (P : X → Type 0) (xs ys : List X) → All P (xs ++ ys) → All P xs
 all_front P [] ys all = All-nil P

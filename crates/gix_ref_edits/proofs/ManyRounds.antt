@@ -3,14 +3,14 @@ use Rattle.std.proofs.Common.{◌≡◌, ℕ, suc, ◌+◌, refl, sym, ap, subst
 use Rattle.std.proofs.Math.Seq.{take-append_seam, drop-append_seam}
 use Rattle.std.proofs.lemmas.List.{map-append, length-map, length-append, take-append-drop, nil_from_length}
 use Rattle.std.specs.List.{AllZip}
-use Rattle.gix_ref_base.specs.declared.name.PartialNameRef.{PartialNameRef}
+use Rattle.gix_ref_name.specs.declared.name.PartialNameRef.{PartialNameRef}
 use Rattle.gix_ref_base.specs.declared.target.Target.{Target}
 use Rattle.gix_ref_edits.specs.declared.transaction.RefEdit.{RefEdit}
 use Rattle.gix_ref_edits.specs.EditValues.{EditValue, edit_value}
 use Rattle.gix_ref_edits.specs.LookUps.{LookUp, Answers, lookups_of}
 use Rattle.gix_ref_edits.specs.SplitLists.{looked_up, referent, after_round, children, level, first_levels}
 use Rattle.gix_ref_edits.specs.MadeEntries.{MadeEntry, IsSameButEdit, edits_of, parent_places}
-use Rattle.gix_ref_edits.specs.Rounds.{AreLevels, HasSplitLevel, HasRounds}
+use Rattle.gix_ref_edits.specs.internal.Rounds.{AreLevels, HasSplitLevel, HasRounds}
 use Rattle.gix_ref_edits.specs.SplitResults.{HasSplits, HasTooManySplits}
 use Rattle.gix_ref_edits.proofs.Joining.{all_front, all_back, folds_join, zips_join, after_round-append, lookups_of-append, parent_places-append}
 

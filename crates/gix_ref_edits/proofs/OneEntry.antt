@@ -1,14 +1,14 @@
 -- Rounds over no entry, over one, and over one more.
 use Rattle.std.proofs.Common.{◌≡◌, ℕ, zero, suc, ◌+◌, ◌<◌, refl, sym, ap, subst, ◌∙◌, List, [], ◌∷◌, ◌++◌, length, get_or, set, take, drop, map, arith, Option, Some, None, Result}
 use Rattle.std.proofs.lemmas.List.{take_more, take_more_set, get_or-drop, length-take-le}
-use Rattle.gix_ref_base.specs.declared.name.PartialNameRef.{PartialNameRef}
+use Rattle.gix_ref_name.specs.declared.name.PartialNameRef.{PartialNameRef}
 use Rattle.gix_ref_base.specs.declared.target.Target.{Target}
 use Rattle.gix_ref_edits.specs.declared.transaction.RefEdit.{RefEdit}
 use Rattle.gix_ref_edits.specs.EditValues.{EditValue, edit_value}
 use Rattle.gix_ref_edits.specs.LookUps.{lookups_of}
 use Rattle.gix_ref_edits.specs.SplitLists.{child_list, referent, after_round, children}
 use Rattle.gix_ref_edits.specs.MadeEntries.{IsSameButEdit, place_list, parent_places}
-use Rattle.gix_ref_edits.specs.Rounds.{HasRound, HasSplitLevel}
+use Rattle.gix_ref_edits.specs.internal.Rounds.{HasRound, HasSplitLevel}
 use Rattle.gix_ref_edits.proofs.Joining.{levels_join}
 
 -- an edit has a place among the parents for each of its children

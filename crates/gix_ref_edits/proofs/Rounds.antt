@@ -1,12 +1,12 @@
 -- Rounds over one edit.
 use Rattle.std.proofs.Common.{◌≡◌, refl, sym, ap, subst, ◌∙◌, append-nil, arith, List, [], ◌∷◌, Option, Result, Ok, Err, Bool, true, false, ℕ}
-use Rattle.gix_ref_base.specs.declared.name.PartialNameRef.{PartialNameRef}
+use Rattle.gix_ref_name.specs.declared.name.PartialNameRef.{PartialNameRef}
 use Rattle.gix_ref_base.specs.declared.target.Target.{Target}
-use Rattle.gix_ref_base.specs.Names.{partial_ref_bytes}
+use Rattle.gix_ref_name.specs.Names.{partial_ref_bytes}
 use Rattle.gix_ref_edits.specs.EditValues.{ChangeValue, EditValue}
 use Rattle.gix_ref_edits.specs.LookUps.{LookUp, Answers, HasLookedUp, HasFailed, referent_of, lookups_of}
 use Rattle.gix_ref_edits.specs.SplitLists.{looked_up, child_list, after_round, children}
-use Rattle.gix_ref_edits.specs.Rounds.{IsRound, HasRound}
+use Rattle.gix_ref_edits.specs.internal.Rounds.{IsRound, HasRound}
 
 module _ {F E : Type 0} (step : F → PartialNameRef → Result (Option Target) E → F → Type 0) (before later : F) where
   -- a call that answered

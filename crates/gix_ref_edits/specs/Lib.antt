@@ -4,8 +4,8 @@ pub mod EditValues
 pub mod LookUps
 pub mod MadeEntries
 pub mod RefEdits
-pub mod Rounds
 pub mod SplitErrors
 pub mod SplitChains
 pub mod SplitLists
 pub mod SplitResults
+pub mod internal

@@ -1,10 +1,10 @@
 -- What a finder of targets was asked, and what it answered.
 use Rattle.std.specs.Prelude.{◌≡◌, ℕ, List, Option, Some, None, Result, Ok, Err, All, map, filter}
 use Rattle.std.specs.List.{FoldsTo}
-use Rattle.gix_ref_base.specs.declared.name.PartialNameRef.{PartialNameRef}
+use Rattle.gix_ref_name.specs.declared.name.PartialNameRef.{PartialNameRef}
 use Rattle.gix_ref_base.specs.declared.target.Target.{Target}
 use Rattle.gix_ref_base.specs.declared.target.Target.TheVariants as targets
-use Rattle.gix_ref_base.specs.Names.{partial_ref_bytes, full_bytes}
+use Rattle.gix_ref_name.specs.Names.{partial_ref_bytes, full_bytes}
 use Rattle.gix_ref_edits.specs.EditValues.{EditValue}
 
 -- a name that was looked up, and the name that its reference leads to, where it is symbolic

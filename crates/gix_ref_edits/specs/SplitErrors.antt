@@ -1,9 +1,9 @@
 -- The errors of splits, and those of doubled names among them.
 use Rattle.std.specs.Prelude.{◌≡◌, ℕ, List, Option, Result}
-use Rattle.gix_ref_base.specs.declared.name.PartialNameRef.{PartialNameRef}
+use Rattle.gix_ref_name.specs.declared.name.PartialNameRef.{PartialNameRef}
 use Rattle.gix_ref_base.specs.declared.target.Target.{Target}
 use Rattle.gix_ref_edits.specs.LookUps.{HasLookedUp, HasFailed}
-use Rattle.gix_ref_base.specs.Names.{full_bytes}
+use Rattle.gix_ref_name.specs.Names.{full_bytes}
 use Rattle.gix_ref_edits.specs.declared.transaction.ext.error.EditError.{EditError}
 use Rattle.gix_ref_edits.specs.declared.transaction.ext.error.EditError.TheVariants as doubled
 use Rattle.gix_ref_edits.specs.declared.transaction.ext.error.SplitError.{SplitError}

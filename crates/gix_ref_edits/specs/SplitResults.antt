@@ -1,7 +1,7 @@
 -- What the calls on lists of edits do, over a finder of targets and a maker of entries.
 use Rattle.std.specs.Prelude.{◌≡◌, ℕ, List, [], ◌++◌, Option, Result, map}
 use Rattle.std.specs.List.{AllZip}
-use Rattle.gix_ref_base.specs.declared.name.PartialNameRef.{PartialNameRef}
+use Rattle.gix_ref_name.specs.declared.name.PartialNameRef.{PartialNameRef}
 use Rattle.gix_ref_base.specs.declared.target.Target.{Target}
 use Rattle.gix_ref_edits.specs.declared.transaction.RefEdit.{RefEdit}
 use Rattle.gix_ref_edits.specs.DoubledNames.{IsLeastDoubled, names_of}

@@ -3,8 +3,8 @@ ghost use Rattle.std.specs.Prelude.{◌≡◌, IfSome, IfOk, MatchOption, Some, 
 ghost use Rattle.gix_ref_base.specs.Targets.{target_value, target_ref_value};
 ghost use Rattle.gix_ref_edits.specs.RefEdits.{new_of, expected_of, previous_of};
 
-use gix_ref_base::name::FullName;
 use gix_ref_base::target::{Target, TargetRef};
+use gix_ref_name::name::FullName;
 use std::alloc::{AllocError, Global};
 
 pub mod ext;
@@ -188,10 +188,11 @@ impl Clone for Change {
 
 /// A copy; the error says that there was no memory for it.
 impl Clone for RefEdit {
-    ghost use Rattle.gix_ref_base.specs.Names.{full_bytes};
+    ghost use Rattle.gix_ref_name.specs.Names.{full_bytes};
     ghost use Rattle.gix_ref_edits.specs.RefEdits.{SameChange};
 
-    ghost is_clone = { λ edit copy. (full_bytes copy.name ≡ full_bytes edit.name) × SameChange edit.change copy.change × (copy.deref ≡ edit.deref) };
+    ghost is_clone = { λ edit copy. (full_bytes copy.name ≡ full_bytes edit.name)
+        × SameChange edit.change copy.change × (copy.deref ≡ edit.deref) };
 
     fn clone(&self) -> Result<RefEdit, AllocError> {
         Ok(RefEdit {

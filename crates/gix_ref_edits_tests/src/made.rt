@@ -1,8 +1,8 @@
 //! Values for tests. A text that is not what a test means it to be ends the test.
-use gix_ref_base::name::{FullName, FullNameRef, PartialNameRef};
 use gix_ref_base::target::Target;
 use gix_ref_edits::transaction::{Change, EditEntry, LogChange, PreviousValue, RefEdit, RefLog};
 use gix_ref_hash::hash::ObjectId;
+use gix_ref_name::name::{FullName, FullNameRef, PartialNameRef};
 use std::alloc::{AllocError, Global};
 use std::process::Abort;
 

@@ -1,14 +1,14 @@
 //! A caller whose finder holds a reference: what it learns of the list, and of what is behind the reference.
 ghost use Rattle.std.specs.Prelude.{◌≡◌, ℕ, List, Option, OnOk, IfOk};
-ghost use Rattle.gix_ref_base.specs.Names.{partial_ref_bytes};
+ghost use Rattle.gix_ref_name.specs.Names.{partial_ref_bytes};
 ghost use Rattle.gix_ref_edits.specs.LookUps.{referent_of};
 ghost use Rattle.gix_ref_edits.specs.MadeEntries.{edits_of};
 ghost use Rattle.gix_ref_edits.specs.SplitLists.{IsSplitList};
 
 use crate::made::{Fault, deletion};
-use gix_ref_base::name::PartialNameRef;
 use gix_ref_base::target::Target;
 use gix_ref_edits::transaction::{RefEdit, RefEditsExt, SplitError};
+use gix_ref_name::name::PartialNameRef;
 use std::alloc::Global;
 
 /// References that are read through a `&mut`, as those of a store are.

@@ -1,7 +1,7 @@
 //! Splits of edits that follow symbolic references.
 use crate::made::{Entry, Fault, Table, deletion, find, object, update};
-use gix_ref_base::name::PartialNameRef;
 use gix_ref_edits::transaction::{Change, PreviousValue, RefEdit, RefEditsExt, RefLog, SplitError};
+use gix_ref_name::name::PartialNameRef;
 use std::alloc::Global;
 use std::process::Abort;
 

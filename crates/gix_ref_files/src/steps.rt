@@ -219,13 +219,15 @@ fn root_of(root: usize) -> usize
 fn sync_up<F: Files>(files: &mut F, path: &[u8], top: usize) -> Result<(), Cause>
     requires { 1 ≤ top }
     ensures done { F.honest → OnOk result (disk_of (F.means files.new)
-        ≡ synced_by (folders_up path.now top (length path.now - top)) (disk_of (F.means files.old))) }
+        ≡ synced_by (folders_up path.now top (length path.now - top))
+        (disk_of (F.means files.old))) }
     ensures missing { F.honest → IsErrOf result Cause.Unexpected →
         has_folders (F.means files.old).tree path.now ≡ false }
     ensures leaves { F.honest → Leaves (F.means files.old) (F.means files.new)
         (Unchanged (F.means files.old).tree) }
     ensures passes { F.honest → Passes (F.means files.old) (F.means files.new)
-        (IsSomeSynced (folders_up path.now top (length path.now - top)) (disk_of (F.means files.old))) }
+        (IsSomeSynced (folders_up path.now top (length path.now - top))
+        (disk_of (F.means files.old))) }
     ensures count { MatchResult result (λ _. F.faults files.new ≡ F.faults files.old)
         (λ cause. F.faults files.new ≡ count_ended cause (F.faults files.old)) }
     ensures asked { IsErrOf result Cause.Asked → ⊥ }

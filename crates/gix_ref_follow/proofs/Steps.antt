@@ -2,11 +2,11 @@
 use Rattle.std.proofs.Common.{◌≡◌, ◌≤◌, ◌+◌, ℕ, suc, List, [], ◌∷◌, ◌++◌, Option, Some, None, Result, Ok, Err, Bool, true, false, if◌then◌else◌, ◌||◌, bytes_eq, MatchResult, IfErr, IfOk, OnOk, arith, refl, sym, ◌∙◌, ap, subst}
 use Rattle.std.specs.List.{list_any}
 use Rattle.gix_ref_hash.specs.declared.hash.ObjectId.{ObjectId}
-use Rattle.gix_ref_base.specs.Names.{full_bytes, partial_bytes}
+use Rattle.gix_ref_name.specs.Names.{full_bytes, partial_bytes}
 use Rattle.gix_ref_base.specs.Targets.{TargetValue, target_value, target_id}
 use Rattle.gix_ref_base.specs.Targets.TargetValue.{object_id, symbolic_name}
-use Rattle.gix_ref_base.specs.declared.name.FullName.{FullName}
-use Rattle.gix_ref_packed.specs.declared.raw.Reference.{Reference}
+use Rattle.gix_ref_name.specs.declared.name.FullName.{FullName}
+use Rattle.gix_ref_records.specs.declared.raw.Reference.{Reference}
 use Rattle.gix_ref_theory.specs.Lookups.{Hit}
 use Rattle.gix_ref_lookup.specs.Lookups.{Answers, IsSound}
 use Rattle.gix_ref_lookup.specs.declared.find.existing.Error.{Error as Missing}

@@ -1,7 +1,7 @@
 -- Peeling a reference: following it to an object, and that object's tags (`gitrevisions`, `<rev>^{}`).
 use Rattle.std.specs.Prelude.{◌≡◌, ◌⊎◌, ℕ, List, Option, Some, None, Result, Ok, Err, Bool}
 use Rattle.gix_ref_hash.specs.declared.hash.ObjectId.{ObjectId}
-use Rattle.gix_ref_base.specs.Names.{full_bytes}
+use Rattle.gix_ref_name.specs.Names.{full_bytes}
 use Rattle.gix_ref_base.specs.Targets.{target_value}
 use Rattle.gix_ref_base.specs.Targets.TargetValue.{object_id}
 use Rattle.gix_ref_files.specs.Files.{Meaning}
@@ -11,7 +11,7 @@ use Rattle.gix_ref_object.specs.Peeling as tags
 use Rattle.gix_ref_object.specs.Peeling.Peeled.{End, Missing, BadTag, TooLong, Failed}
 use Rattle.gix_ref_object.specs.declared.peel.PeelError.{PeelError}
 use Rattle.gix_ref_object.specs.declared.peel.PeelError.TheVariants as peeling_errors
-use Rattle.gix_ref_packed.specs.declared.raw.Reference.{Reference}
+use Rattle.gix_ref_records.specs.declared.raw.Reference.{Reference}
 use Rattle.gix_ref_lookup.specs.declared.find.records.Records.{Records}
 use Rattle.gix_ref_store.specs.declared.file.store.Store.{Store}
 use Rattle.gix_ref_follow.specs.Following.{At, Ending, Finds, Passes, following}

@@ -1,7 +1,7 @@
 //! Following a reference, step by step (`git symbolic-ref`).
 ghost use Rattle.std.specs.Prelude.{◌≡◌, ◌++◌, ◌∷◌, [], List, Option, Some, None, IfOk, IfErr, OnOk, OnErr, false, bytes_eq};
 ghost use Rattle.std.specs.List.{list_any};
-ghost use Rattle.gix_ref_base.specs.Names.{full_bytes, full_ref_bytes};
+ghost use Rattle.gix_ref_name.specs.Names.{full_bytes, full_ref_bytes};
 ghost use Rattle.gix_ref_base.specs.PackedRecords.{Record};
 ghost use Rattle.gix_ref_base.specs.Targets.{target_value, target_kind};
 ghost use Rattle.gix_ref_base.specs.Targets.TargetValue.{object_id};
@@ -13,11 +13,11 @@ ghost use Rattle.gix_ref_follow.specs.Following.{at_of, is_in, IsStep, Passes};
 ghost use Rattle.gix_ref_follow.specs.Followed.{names_of, OnStep, StepFinds, StepHits, StepFails, IsCycle, IsReturn, RefusesStep, Follows, finds_in, HitsNext, IsNotFollowed};
 
 use crate::peel::to_object::Error;
-use gix_ref_base::name::{FullName, FullNameRef};
 use gix_ref_base::target::Target;
 use gix_ref_files::files::Files;
 use gix_ref_hash::hash::ObjectId;
 use gix_ref_lookup::find::records::Records;
+use gix_ref_name::name::{FullName, FullNameRef};
 use gix_ref_packed::raw::Reference;
 use gix_ref_store::file::Store;
 use gix_ref_store::file::find::existing;
@@ -136,7 +136,8 @@ fn take_step<F: Files>(
         IfErr result (RefusesStep (finds_in F.means asks_records store.old records)
         (names_of reached.old.items) (at_of reference.old)) }
     ensures hit { F.honest → AreHonest asked.old →
-        OnOk result (HitsNext F.means asks_records store.old asked.old reference.old reference.new) }
+        OnOk result (HitsNext F.means asks_records store.old asked.old reference.old
+        reference.new) }
     ensures failed { IfErr result (IsNotFollowed F.honest F.means F.faults asks_records store.old
         store.new
         asked.old reference.old) }

@@ -34,7 +34,7 @@ pub trait LooseReferenceExt: Sealed {
 
 impl LooseReferenceExt for Reference {
     ghost use Rattle.std.specs.Prelude.{◌≡◌, IfOk, IfErr, IfSome, OnOk, false, length};
-    ghost use Rattle.gix_ref_base.specs.Names.{full_bytes};
+    ghost use Rattle.gix_ref_name.specs.Names.{full_bytes};
     ghost use Rattle.gix_ref_files.specs.Tree.{is_file};
     ghost use Rattle.gix_ref_reflog.specs.Reflogs.{count_log};
     ghost use Rattle.gix_ref_store.specs.Lookup.{LooksUp};

@@ -1,6 +1,6 @@
 //! Peeling a reference: following it, and the tags of its object (`gitrevisions`).
 ghost use Rattle.std.specs.Prelude.{◌≡◌, List, Option, Some, None, Ok, Err, IfOk, IfErr, IfSome, OnOk, OnErr};
-ghost use Rattle.gix_ref_base.specs.Names.{full_bytes};
+ghost use Rattle.gix_ref_name.specs.Names.{full_bytes};
 ghost use Rattle.gix_ref_base.specs.PackedRecords.{Record};
 ghost use Rattle.gix_ref_base.specs.Targets.{target_value};
 ghost use Rattle.gix_ref_base.specs.Targets.TargetValue.{object_id};
@@ -14,11 +14,11 @@ ghost use Rattle.gix_ref_follow.specs.Peelings.{peeled_to, PeelsTags, IsTagError
 
 use crate::chain::follow_among;
 use crate::peel::to_id::Error;
-use gix_ref_base::name::FullName;
 use gix_ref_base::target::Target;
 use gix_ref_files::files::Files;
 use gix_ref_hash::hash::ObjectId;
 use gix_ref_lookup::find::records::Records;
+use gix_ref_name::name::FullName;
 use gix_ref_object::object::Find;
 use gix_ref_object::peel::{PeelError, peel_to_end};
 use gix_ref_packed::raw::Reference;

@@ -1,7 +1,7 @@
 //! Values for tests. A text that is not what a test means it to be ends the test.
-use gix_ref_base::name::PartialNameRef;
 use gix_ref_hash::hash::{Kind, ObjectId};
 use gix_ref_memory::memory::Memory;
+use gix_ref_name::name::PartialNameRef;
 use gix_ref_store::file::Store;
 use gix_ref_store::raw::Reference;
 use std::alloc::Global;

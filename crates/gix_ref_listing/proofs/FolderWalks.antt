@@ -8,8 +8,8 @@ use Rattle.std.proofs.Math.Seq.{take-append-add}
 use Rattle.std.proofs.lemmas.List.{get_or_default, drop_more, drop_all}
 use Rattle.gix_ref_hash.specs.Bytes.{NoByte, is_empty}
 use Rattle.gix_ref_listing.proofs.WalkLemmas.{behind_slash}
-use Rattle.gix_ref_base.specs.NameGrammar.{IsPartialName}
-use Rattle.gix_ref_base.proofs.PartialNames.{IsPath, rules_of, first_component, last_component}
+use Rattle.gix_ref_grammar.specs.NameGrammar.{IsPartialName}
+use Rattle.gix_ref_grammar.proofs.PartialNames.{IsPath, rules_of, first_component, last_component}
 use Rattle.gix_ref_base.proofs.LocationLemmas.{has_slash, cut_is, test_no_slash}
 use Rattle.gix_ref_base.specs.Locations.{cut_at_slash}
 use Rattle.gix_ref_files.specs.Tree.{Tree, Path, Content, IsShaped, is_folder, fronts, fronts_after}

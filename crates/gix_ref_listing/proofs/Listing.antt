@@ -6,8 +6,8 @@ use Rattle.std.specs.List.Sorted.{IsStrictlySortedBy}
 use Rattle.std.specs.declared.cmp.Ordering.TheVariants.{Less}
 use Rattle.std.proofs.lemmas.List.Elements.{All-head, All-tail}
 use Rattle.gix_ref_base.specs.PackedRecords.{Record, record_named}
-use Rattle.gix_ref_packed.specs.RecordGrammar.{Below, Ascending}
-use Rattle.gix_ref_packed.specs.Prefixes.{records_prefixed}
+use Rattle.gix_ref_records.specs.RecordGrammar.{Below, Ascending}
+use Rattle.gix_ref_records.specs.Prefixes.{records_prefixed}
 use Rattle.gix_ref_theory.specs.Views.{View}
 use Rattle.gix_ref_lookup.specs.declared.settings.Settings.{Settings}
 use Rattle.gix_ref_listing.specs.Walks.{Among, Holds, FoundEntry, IsFile}

@@ -9,9 +9,9 @@ use Rattle.std.proofs.lemmas.Bool.Decides.{Decides-eqb}
 use Rattle.gix_ref_base.specs.Layout.{Layout}
 use Rattle.gix_ref_base.specs.Locations.{Location, location, paths_of, paths_at, key_outside, no_namespace}
 use Rattle.gix_ref_base.specs.Locations.Location.{Common, ThisWorktree, MainWorktree, LinkedWorktree}
-use Rattle.gix_ref_base.specs.NameGrammar.{partial_error, IsPartialName}
-use Rattle.gix_ref_base.specs.declared.name.error.Error.{Error}
-use Rattle.gix_ref_base.proofs.FrontLemmas.{begins_true}
+use Rattle.gix_ref_grammar.specs.NameGrammar.{partial_error, IsPartialName}
+use Rattle.gix_ref_grammar.specs.declared.name.error.Error.{Error}
+use Rattle.gix_ref_name.proofs.FrontLemmas.{begins_true}
 use Rattle.gix_ref_theory.proofs.PlaceLaws.{cancel}
 use Rattle.gix_ref_lookup.specs.Lookups.{meaning_in}
 use Rattle.gix_ref_lookup.specs.StoreLayout.{namespace_text}

@@ -1,21 +1,21 @@
 -- Where settings lie does not matter to a listing.
-use Rattle.std.proofs.Common.{◌≡◌, ℕ, List, [], ◌∷◌, refl, sym, ◌∙◌, ap, Option, Some, None, Result, Ok, Err}
+use Rattle.std.proofs.Common.{◌≡◌, ℕ, List, [], ◌∷◌, refl, sym, ◌∙◌, ap, subst, Option, Some, None, Result, Ok, Err}
 use Rattle.std.specs.List.{All}
-use Rattle.std.specs.Prelude.{slice_index_or}
+use Rattle.std.specs.Prelude.{IfSome, IfNone, slice_index_or}
 use Rattle.gix_ref_base.specs.PackedRecords.{Record}
 use Rattle.gix_ref_files.specs.Files.{Meaning}
 use Rattle.gix_ref_packed.specs.declared.packed.iter.error.Error.{Error as LineError}
-use Rattle.gix_ref_packed.specs.declared.raw.Reference.{Reference}
+use Rattle.gix_ref_records.specs.declared.raw.Reference.{Reference}
 use Rattle.gix_ref_theory.specs.Views.{View}
 use Rattle.gix_ref_lookup.specs.declared.settings.Settings.{Settings}
 use Rattle.gix_ref_listing.specs.PlainSettings.{plain}
 use Rattle.gix_ref_listing.specs.Walks.{FoundEntry}
-use Rattle.gix_ref_listing.specs.OwnRecords.{own_of, own_name, own_records, with_own, AheadOf}
-use Rattle.gix_ref_listing.specs.Listings.{Listed}
+use Rattle.gix_ref_listing.specs.OwnRecords.{Own, own_of, own_name, own_records, with_own, AheadOf, AreAhead}
+use Rattle.gix_ref_listing.specs.Listings.{Listed, merged, TakesRecord, IsNoRecord}
 use Rattle.gix_ref_listing.specs.Listings.Listed.{Walked, InPacked}
 use Rattle.gix_ref_listing.specs.LooseListings.{IsLooseListed, IsFoundIn}
 use Rattle.gix_ref_listing.specs.Items.{IsItem}
-use Rattle.gix_ref_listing.specs.Steps.{AreYet, GivesItem}
+use Rattle.gix_ref_listing.specs.Steps.{AreYet, GivesItem, GivesRecord, IsDrained}
 use Rattle.gix_ref_listing.specs.declared.error.Error.{Error}
 use Rattle.gix_ref_listing.specs.declared.found.Found.TheVariants.{File, Unlisted}
 use Rattle.gix_ref_listing.specs.declared.merge.Merge.{Merge}
@@ -46,6 +46,25 @@ module _ (s : Settings) where
       by None none = none
       by (Some (Ok own)) (rs, yet, whole) = (rs, yet, whole ∙ ap (λ os. own_of own ∷ os) (sym (same_own rs)))
       by (Some (Err e)) bad = bad
+
+  -- a record that is lent
+  pub lends_plain : (old new : Merge) (result : Option OwnRecord) →
+      IfSome result (λ own. (owns : List Own) → AreAhead s old.packed owns → TakesRecord s (merged old.found.entries owns) own new) → IfSome result (λ own. IsDrained old → ⊥) →
+      IfSome result (GivesRecord (plain s) old new)
+  lends_plain old new None takes goes_on = _
+  lends_plain old new (Some own) takes goes_on = record {
+    gives = λ listed yet.
+        let before = of_plain old listed yet in
+        let took = takes before.0 before.1 in
+        (merged new.found.entries took.0, before.2 ∙ took.2, to_plain new (merged new.found.entries took.0) (took.0, took.1, refl));
+    goes_on = goes_on;
+  }
+
+  -- no record is lent
+  pub none_plain : (old : Merge) (result : Option OwnRecord) → IfNone result ((owns : List Own) → AreAhead s old.packed owns → IsNoRecord (merged old.found.entries owns)) →
+      IfNone result ((listed : List Listed) → AreYet (plain s) old listed → IsNoRecord listed)
+  none_plain old (Some own) none = _
+  none_plain old None none = λ listed yet. let before = of_plain old listed yet in subst IsNoRecord (sym before.2) (none before.0 before.1)
 
   -- an item
   pub item_plain : (honest : Type 0) (view : View) (before now : ℕ) (one : Listed) (item : Result Reference Error) → IsItem honest s view before now one item → IsItem honest (plain s) view before now one item

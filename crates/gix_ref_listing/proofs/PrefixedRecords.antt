@@ -8,9 +8,9 @@ use Rattle.gix_ref_files.specs.Tree.{Content, is_file, bytes_of, file_of}
 use Rattle.gix_ref_files.specs.Tree.Content.{File, Folder}
 use Rattle.gix_ref_packed.specs.Buffers.{HoldsRecords, buffer_kind, buffer_text}
 use Rattle.gix_ref_packed.specs.FilePrefixes.{HoldsPrefix}
-use Rattle.gix_ref_packed.specs.RecordGrammar.{Below, Ascending, Rising}
+use Rattle.gix_ref_records.specs.RecordGrammar.{Below, Ascending, Rising}
 use Rattle.gix_ref_packed.specs.declared.packed.buffer.Buffer.{Buffer}
-use Rattle.gix_ref_packed.proofs.Halves.{not_both}
+use Rattle.gix_ref_records.proofs.Halves.{not_both}
 use Rattle.gix_ref_packed.proofs.PrefixParts.{prefixed_hold}
 use Rattle.gix_ref_lookup.specs.Lookups.{ArePackedRecords}
 use Rattle.gix_ref_listing.specs.PrefixedRecords.{WholeBuffersHold}

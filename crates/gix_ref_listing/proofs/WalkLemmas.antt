@@ -12,11 +12,11 @@ use Rattle.std.proofs.lemmas.List.{get_or_default}
 use Rattle.std.proofs.lemmas.List.Elements.{All-cons, All-head, All-tail}
 use Rattle.gix_ref_hash.specs.Bytes.{BeginsWith, NoByte, is_slash}
 use Rattle.std.proofs.lemmas.List.Folds.{list_any-append}
-use Rattle.gix_ref_base.specs.NameGrammar.{IsPartialName, partial_error}
-use Rattle.gix_ref_base.specs.Names.{full_bytes}
-use Rattle.gix_ref_base.specs.declared.name.FullName.{FullName}
+use Rattle.gix_ref_grammar.specs.NameGrammar.{IsPartialName, partial_error}
+use Rattle.gix_ref_name.specs.Names.{full_bytes}
+use Rattle.gix_ref_name.specs.declared.name.FullName.{FullName}
 use Rattle.gix_ref_base.proofs.LocationLemmas.{has_slash, no_slash_test, test_no_slash}
-use Rattle.gix_ref_base.proofs.PartialNames.{none_or, IsPath, rules_of, first_component, behind_component}
+use Rattle.gix_ref_grammar.proofs.PartialNames.{none_or, IsPath, rules_of, first_component, behind_component}
 use Rattle.std.specs.Prelude.{Vec, slice_index_or}
 use Rattle.std.specs.declared.alloc.Global.{Global}
 use Rattle.std.specs.Ordering.{nat_cmp}

@@ -1,7 +1,7 @@
 -- The prefixes that have a listing.
 use Rattle.std.specs.Prelude.{◌≡◌, ◌-◌, ℕ, List, [], length, take, nat_eq, bytes_eq, codes, Bool, true, false, not, ◌&&◌, ◌||◌, if◌then◌else◌, Option, is_none}
 use Rattle.std.specs.List.{starts_with, ends_with}
-use Rattle.gix_ref_base.specs.declared.namespace.Namespace.{Namespace}
+use Rattle.gix_ref_name.specs.declared.namespace.Namespace.{Namespace}
 use Rattle.gix_ref_lookup.specs.CleanPaths.{is_clean}
 use Rattle.gix_ref_listing.specs.declared.prefix.Error.{Error}
 use Rattle.gix_ref_listing.specs.declared.prefix.Error.TheVariants.{EmptyPrefix, PrefixNotClean}

@@ -1,7 +1,7 @@
 -- The items of a listing: a reference for each name, or why it has none.
 use Rattle.std.specs.Prelude.{◌≡◌, ◌≢◌, ◌⊎◌, ℕ, List, Some, None, Result, Ok, Err, true, false}
 use Rattle.gix_ref_hash.specs.declared.hash.Kind.{Kind}
-use Rattle.gix_ref_base.specs.Names.{full_bytes}
+use Rattle.gix_ref_name.specs.Names.{full_bytes}
 use Rattle.gix_ref_base.specs.Targets.{target_value}
 use Rattle.gix_ref_files.specs.Files.{HasRisen}
 use Rattle.gix_ref_files.specs.declared.files.FileError.TheVariants.{Device, Memory as no_memory}
@@ -12,7 +12,7 @@ use Rattle.gix_ref_theory.specs.Lookups.{peeled_of}
 use Rattle.gix_ref_theory.specs.Views.{View}
 use Rattle.gix_ref_packed.specs.declared.packed.iter.error.Error.{Error as LineError}
 use Rattle.gix_ref_packed.specs.declared.packed.iter.error.Error.TheVariants.{Header as bad_header, Reference as bad_line}
-use Rattle.gix_ref_packed.specs.declared.raw.Reference.{Reference}
+use Rattle.gix_ref_records.specs.declared.raw.Reference.{Reference}
 use Rattle.gix_ref_lookup.specs.LooseFiles.{IsUndecodable}
 use Rattle.gix_ref_lookup.specs.Lookups.{meaning_in, IsLooseTarget}
 use Rattle.gix_ref_lookup.specs.declared.settings.Settings.{Settings}

@@ -4,7 +4,7 @@ use Rattle.std.specs.Ordering.{match_ordering, nat_cmp}
 use Rattle.std.specs.Cmp.Lexicographic.{slice_cmp}
 use Rattle.std.specs.declared.cmp.Ordering.{Ordering}
 use Rattle.std.specs.declared.cmp.Ordering.TheVariants.{Less, Greater}
-use Rattle.gix_ref_base.specs.Names.{full_ref_bytes}
+use Rattle.gix_ref_name.specs.Names.{full_ref_bytes}
 use Rattle.gix_ref_packed.specs.declared.packed.iter.error.Error.{Error}
 use Rattle.gix_ref_lookup.specs.declared.settings.Settings.{Settings}
 use Rattle.gix_ref_listing.specs.Walks.{FoundEntry}
@@ -52,6 +52,17 @@ TakesListed settings listed (Some (taking.Walked found)) t =
 TakesListed settings listed (Some (taking.Packed (Ok own))) t =
     (owns : List Own) × AreAhead settings t.packed owns × (listed ≡ InPacked (own_of own) ∷ merged t.found.entries owns)
 TakesListed settings listed (Some (taking.Packed (Err error))) t = ⊥
+
+-- the first of a listing is this record, and what is left then
+abbrev pub TakesRecord : Settings → List Listed → OwnRecord → Merge → Type 0
+TakesRecord settings listed own t =
+    (owns : List Own) × AreAhead settings t.packed owns × (listed ≡ InPacked (own_of own) ∷ merged t.found.entries owns)
+
+-- what comes next is no record
+abbrev pub IsNoRecord : List Listed → Type 0
+IsNoRecord [] = Unit {0}
+IsNoRecord (Walked e ∷ more) = Unit {0}
+IsNoRecord (InPacked own ∷ more) = ⊥
 
 -- how many items are yet to come at most
 abbrev pub merge_left : Merge → ℕ

@@ -3,11 +3,13 @@ use Rattle.std.specs.Prelude.{◌≡◌, ◌≤◌, ℕ, List, [], ◌∷◌, Op
 use Rattle.gix_ref_files.specs.Files.{Meaning, Leaves}
 use Rattle.gix_ref_files.specs.Calls.{Unchanged}
 use Rattle.gix_ref_theory.specs.OnRealTrees.{view_of}
-use Rattle.gix_ref_packed.specs.declared.raw.Reference.{Reference}
+use Rattle.gix_ref_records.specs.declared.raw.Reference.{Reference}
 use Rattle.gix_ref_lookup.specs.declared.settings.Settings.{Settings}
-use Rattle.gix_ref_listing.specs.OwnRecords.{Own, AreAhead}
+use Rattle.gix_ref_listing.specs.OwnRecords.{Own, own_of, AreAhead}
 use Rattle.gix_ref_listing.specs.Listings.{Listed, merged}
+use Rattle.gix_ref_listing.specs.Listings.Listed.{InPacked}
 use Rattle.gix_ref_listing.specs.Items.{IsItem}
+use Rattle.gix_ref_listing.specs.declared.own_records.OwnRecord.{OwnRecord}
 use Rattle.gix_ref_listing.specs.declared.error.Error.{Error}
 use Rattle.gix_ref_listing.specs.declared.merge.Merge.{Merge}
 
@@ -18,6 +20,11 @@ IsDrained m = (m.found.entries ≡ []) × (m.packed.first ≡ None)
 -- these are yet to come, without a line that is no record
 abbrev pub AreYet : Settings → Merge → List Listed → Type 0
 AreYet settings m listed = (owns : List Own) × AreAhead settings m.packed owns × (listed ≡ merged m.found.entries owns)
+
+-- What lending a record does: it is the first of those that are yet to come, of which there are some.
+pub record GivesRecord (settings : Settings) (s t : Merge) (own : OwnRecord) : Type 0 where
+  pub gives : (listed : List Listed) → AreYet settings s listed → (more : List Listed) × (listed ≡ InPacked (own_of own) ∷ more) × AreYet settings t more
+  pub goes_on : IsDrained s → ⊥
 
 module _ {F : Type 0} (honest : Type 0) (means : F → Meaning) (faults : F → ℕ) where
   -- the item is the first of these, and the rest is yet to come; or none is left

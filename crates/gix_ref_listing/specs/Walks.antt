@@ -2,8 +2,8 @@
 use Rattle.std.specs.Prelude.{◌≡◌, ◌≢◌, ◌⊎◌, ℕ, List, [], ◌∷◌, ◌++◌, Vec, IsSome, true, false, codes}
 use Rattle.std.specs.declared.alloc.Global.{Global}
 use Rattle.gix_ref_hash.specs.Bytes.{BeginsWith, NoByte}
-use Rattle.gix_ref_base.specs.NameGrammar.{IsPartialName}
-use Rattle.gix_ref_base.specs.Names.{full_bytes}
+use Rattle.gix_ref_grammar.specs.NameGrammar.{IsPartialName}
+use Rattle.gix_ref_name.specs.Names.{full_bytes}
 use Rattle.gix_ref_files.specs.declared.files.Entry.{Entry as ListedEntry}
 use Rattle.gix_ref_files.specs.declared.files.FileError.TheVariants as faulty
 use Rattle.gix_ref_theory.specs.Views.{View}

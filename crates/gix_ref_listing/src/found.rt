@@ -1,8 +1,8 @@
 //! What a walk found.
 ghost use Rattle.std.specs.Prelude.{◌≡◌};
 
-use gix_ref_base::name::FullName;
 use gix_ref_files::files::FileError;
+use gix_ref_name::name::FullName;
 use std::collections::BTreeMap;
 
 /// What a walk found under a key.

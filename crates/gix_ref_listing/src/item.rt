@@ -1,28 +1,28 @@
 //! One item of a listing.
-ghost use Rattle.std.specs.Prelude.{◌≡◌, ◌≤◌, ◌+◌};
+ghost use Rattle.std.specs.Prelude.{◌≡◌, ◌≤◌, ◌+◌, List, IfSome, IfNone};
 ghost use Rattle.std.specs.Option.{option_len};
-ghost use Rattle.gix_ref_base.specs.Names.{full_bytes};
+ghost use Rattle.gix_ref_name.specs.Names.{full_bytes};
 ghost use Rattle.gix_ref_files.specs.Files.{Leaves};
 ghost use Rattle.gix_ref_files.specs.Calls.{Unchanged};
 ghost use Rattle.gix_ref_theory.specs.OnRealTrees.{view_of};
 ghost use Rattle.gix_ref_lookup.specs.Lookups.{meaning_in};
 ghost use Rattle.gix_ref_listing.specs.OwnRecords.{own_of};
 ghost use Rattle.gix_ref_listing.specs.Items.{IsGone, IsFoundItem, IsRecordItem, IsTakenItem};
-ghost use Rattle.gix_ref_listing.specs.Listings.{merge_left};
+ghost use Rattle.gix_ref_listing.specs.Listings.{Listed, IsNoRecord, merge_left};
 ghost use Rattle.gix_ref_listing.specs.PlainSettings.{plain};
-ghost use Rattle.gix_ref_listing.specs.Steps.{GivesNext};
+ghost use Rattle.gix_ref_listing.specs.Steps.{AreYet, GivesNext, GivesRecord};
 ghost use Rattle.gix_ref_listing.specs.declared.found.Found.TheVariants.{File};
 
 use crate::error::{Error, of_line, of_reading};
 use crate::found::Found;
 use crate::merge::{Merge, Taken};
 use crate::own_records::OwnRecord;
-use gix_ref_base::name::FullName;
 use gix_ref_base::target::Target;
 use gix_ref_files::files::{FileError, Files};
 use gix_ref_lookup::find::ReadError;
 use gix_ref_lookup::find::candidate::read_at;
 use gix_ref_lookup::settings::Settings;
+use gix_ref_name::name::FullName;
 use gix_ref_packed::raw::Reference;
 use std::alloc::Global;
 use std::io::ErrorKind;
@@ -126,4 +126,16 @@ pub fn next_item<F: Files>(
     ensures left { option_len result + merge_left merge.new ≤ merge_left merge.old }
 {
     take_item(alloc, files, settings, merge)
+}
+
+/// The next of a listing, lent, where it is a record of `packed-refs`. `None`, and nothing is taken, where it is anything else,
+/// and where none is left. Takes no memory.
+pub fn next_record<'p>(settings: Settings<'_>, merge: &mut Merge<'p>) -> Option<OwnRecord<'p>>
+    ensures gives { IfSome result (GivesRecord (plain settings.entry) merge.old merge.new) }
+    ensures none { IfNone result ((listed : List Listed) →
+        AreYet (plain settings.entry) merge.old listed → IsNoRecord listed) }
+    ensures stays { IfNone result (merge.new ≡ merge.old) }
+    ensures left { option_len result + merge_left merge.new ≤ merge_left merge.old }
+{
+    merge.take_record(settings)
 }

@@ -14,9 +14,9 @@ use crate::own_records::OwnRecords;
 use crate::prefix::Error;
 use crate::store_walk::{text_of, walk_store};
 use crate::walk::joined;
-use gix_ref_base::namespace::Namespace;
 use gix_ref_files::files::Files;
 use gix_ref_lookup::settings::Settings;
+use gix_ref_name::namespace::Namespace;
 use gix_ref_packed::packed::{Buffer, Iter};
 use std::alloc::{AllocError, Global};
 
@@ -52,8 +52,8 @@ pub fn list<'p, F: Files>(
 ) -> Result<Merge<'p>, Error>
     ensures lists { F.honest → (records : List Record) →
         AreHeld (key_in settings.entry prefix.now) packed.entry records →
-        IfOk result (ListsAll (plain settings.entry) (view_of (F.means files.old).tree) records prefix.now
-        (F.faults files.old) (F.faults files.new)) }
+        IfOk result (ListsAll (plain settings.entry) (view_of (F.means files.old).tree) records
+        prefix.now (F.faults files.old) (F.faults files.new)) }
     ensures rises { F.faults files.old ≤ F.faults files.new }
     ensures leaves { F.honest → Leaves (F.means files.old) (F.means files.new)
         (Unchanged (F.means files.old).tree) }

@@ -24,10 +24,10 @@ pub struct Merge<'p> {
 }
 
 impl<'p> Merge<'p> {
-    ghost use Rattle.std.specs.Prelude.{◌≡◌, ◌≤◌, ◌+◌, List, IfNone, None};
+    ghost use Rattle.std.specs.Prelude.{◌≡◌, ◌≤◌, ◌+◌, List, IfNone, IfSome, None};
     ghost use Rattle.std.specs.Option.{option_len};
     ghost use Rattle.gix_ref_listing.specs.OwnRecords.{Own, AreAhead};
-    ghost use Rattle.gix_ref_listing.specs.Listings.{merged, order_of, TakesFirst, TakesListed, merge_left};
+    ghost use Rattle.gix_ref_listing.specs.Listings.{merged, order_of, TakesFirst, TakesListed, TakesRecord, IsNoRecord, merge_left};
     ghost use Rattle.gix_ref_listing.specs.Steps.{IsDrained};
 
     /// Whether what was found comes before the next record, is of the same name, or comes after it.
@@ -73,6 +73,25 @@ impl<'p> Merge<'p> {
                 Some(item) => Some(Taken::Packed(item)),
                 None => None,
             },
+        }
+    }
+
+    /// The next of the listing, where it is a record of `packed-refs`. `None`, and nothing is taken, where it is anything else,
+    /// and where none is left.
+    pub fn take_record(&mut self, settings: Settings<'_>) -> Option<OwnRecord<'p>>
+        ensures takes { IfSome result (λ own. (owns : List Own) →
+            AreAhead settings.entry self.old.packed owns →
+            TakesRecord settings.entry (merged self.old.found.entries owns) own self.new) }
+        ensures none { IfNone result ((owns : List Own) →
+            AreAhead settings.entry self.old.packed owns →
+            IsNoRecord (merged self.old.found.entries owns)) }
+        ensures goes_on { IfSome result (λ _. IsDrained self.old → ⊥) }
+        ensures stays { IfNone result (self.new ≡ self.old) }
+        ensures left { option_len result + merge_left self.new ≤ merge_left self.old }
+    {
+        match self.order() {
+            Ordering::Greater => self.packed.take_record(settings),
+            Ordering::Less | Ordering::Equal => None,
         }
     }
 }

@@ -1,8 +1,8 @@
 //! The records of `packed-refs` that a listing gives, with their names.
 ghost use Rattle.std.specs.Prelude.{◌≡◌, ◌≤◌, ◌+◌, ◌++◌, ℕ, List, MatchOption};
 ghost use Rattle.std.specs.Option.{option_map, option_len};
-ghost use Rattle.gix_ref_base.specs.Names.{full_ref_bytes};
-ghost use Rattle.gix_ref_base.specs.NameGrammar.{IsPartialName};
+ghost use Rattle.gix_ref_name.specs.Names.{full_ref_bytes};
+ghost use Rattle.gix_ref_grammar.specs.NameGrammar.{IsPartialName};
 ghost use Rattle.gix_ref_base.specs.PackedRecords.{Record};
 ghost use Rattle.gix_ref_lookup.specs.StoreLayout.{namespace_text};
 ghost use Rattle.gix_ref_packed.specs.YetToGive.{IsYet};
@@ -10,10 +10,10 @@ ghost use Rattle.gix_ref_lookup.specs.Lookups.{meaning_in};
 ghost use Rattle.gix_ref_listing.specs.OwnRecords.{is_key, own_name, own_records, records_left, GivesOwn};
 
 use gix_ref_base::layout::packed_key;
-use gix_ref_base::name::FullNameRef;
-use gix_ref_base::namespace::Namespace;
 use gix_ref_hash::bytes::strip_front;
 use gix_ref_lookup::settings::Settings;
+use gix_ref_name::name::FullNameRef;
+use gix_ref_name::namespace::Namespace;
 use gix_ref_packed::packed::Reference;
 use gix_ref_packed::packed::iter::{Error, Iter};
 
@@ -40,7 +40,8 @@ fn behind_namespace<'a>(namespace: &Option<Namespace>, key: &'a [u8]) -> Option<
 
 /// Whether `packed-refs` is asked for this key where it is asked for the name.
 fn has_key(settings: Settings<'_>, name: FullNameRef<'_>, key: &[u8]) -> bool
-    ensures { result ≡ is_key ((meaning_in settings.entry).key (full_ref_bytes name.entry)) key.now }
+    ensures { result
+        ≡ is_key ((meaning_in settings.entry).key (full_ref_bytes name.entry)) key.now }
 {
     let Some(own) = packed_key(name) else {
         return false;
@@ -111,7 +112,7 @@ pub struct OwnRecords<'p> {
 }
 
 impl<'p> OwnRecords<'p> {
-    ghost use Rattle.std.specs.Prelude.{◌≡◌, ◌≤◌, ◌+◌, List, IfNone, None};
+    ghost use Rattle.std.specs.Prelude.{◌≡◌, ◌≤◌, ◌+◌, [], List, IfNone, IfSome, None, Some, Ok};
     ghost use Rattle.std.specs.Option.{option_len};
     ghost use Rattle.gix_ref_base.specs.PackedRecords.{Record};
     ghost use Rattle.gix_ref_listing.specs.OwnRecords.{own_records, Own, YetOf, AreAhead, TakesOwn, ahead_left, left_of};
@@ -155,5 +156,24 @@ impl<'p> OwnRecords<'p> {
         };
         self.load(settings);
         Some(first)
+    }
+
+    /// The next one, where it is a record. `None`, and nothing is taken, where it is a line that is no record, and where none
+    /// is left.
+    pub fn take_record(&mut self, settings: Settings<'_>) -> Option<OwnRecord<'p>>
+        ensures takes { IfSome result (λ own. (owns : List Own) →
+            AreAhead settings.entry self.old owns →
+            TakesOwn settings.entry owns (Some (Ok own)) self.new) }
+        ensures was { IfSome result (λ own. self.old.first ≡ Some (Ok own)) }
+        ensures none { IfNone result ((owns : List Own) → AreAhead settings.entry self.old owns →
+            owns ≡ []) }
+        ensures stays { IfNone result (self.new ≡ self.old) }
+        ensures left { option_len result + ahead_left self.new ≤ ahead_left self.old }
+    {
+        let Some(Ok(own)) = self.first else {
+            return None;
+        };
+        self.load(settings);
+        Some(own)
     }
 }

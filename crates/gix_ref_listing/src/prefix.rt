@@ -2,8 +2,8 @@
 ghost use Rattle.std.specs.Prelude.{◌≡◌, MatchResult};
 ghost use Rattle.gix_ref_listing.specs.CleanPrefixes.{is_clean_prefix, without_slash, IsTaken, IsRefused};
 
-use gix_ref_base::namespace::Namespace;
 use gix_ref_lookup::folders::is_clean_path;
+use gix_ref_name::namespace::Namespace;
 use gix_ref_packed::packed::buffer::open;
 use std::alloc::AllocError;
 use thiserror::Error;

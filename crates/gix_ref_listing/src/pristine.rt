@@ -1,7 +1,7 @@
 //! Whether a store is as `git init` makes it.
 ghost use Rattle.std.specs.Prelude.{◌≡◌, ◌≢◌, ◌⊎◌, ◌≤◌, ◌↔◌, true, false, IsTrue, IfOk};
 ghost use Rattle.std.specs.List.{All};
-ghost use Rattle.gix_ref_base.specs.Names.{full_ref_bytes};
+ghost use Rattle.gix_ref_name.specs.Names.{full_ref_bytes};
 ghost use Rattle.gix_ref_base.specs.Targets.{target_value};
 ghost use Rattle.gix_ref_base.specs.Targets.TargetValue.{symbolic_name};
 ghost use Rattle.gix_ref_files.specs.Files.{Leaves, HasRisen};
@@ -14,13 +14,13 @@ ghost use Rattle.gix_ref_listing.specs.declared.pristine.Reading.TheVariants.{Fa
 
 use crate::found::{Found, FoundByKey};
 use crate::store_walk::walk_store;
-use gix_ref_base::name::FullNameRef;
 use gix_ref_base::target::Target;
 use gix_ref_files::files::{Files, Node};
 use gix_ref_lookup::find;
 use gix_ref_lookup::find::ReadError;
 use gix_ref_lookup::find::candidate::read_at;
 use gix_ref_lookup::settings::Settings;
+use gix_ref_name::name::FullNameRef;
 use std::alloc::{AllocError, Global};
 
 /// What the file at a path is read as.
@@ -64,7 +64,8 @@ fn reading_at<F: Files>(
 
 /// Whether a target is symbolic to a name.
 fn points_to(target: &Target, name: FullNameRef<'_>) -> bool
-    ensures { IsTrue result ↔ (target_value target.now ≡ symbolic_name (full_ref_bytes name.entry)) }
+    ensures { IsTrue result
+        ↔ (target_value target.now ≡ symbolic_name (full_ref_bytes name.entry)) }
 {
     match target {
         Target::Object(_) => false,

@@ -12,9 +12,9 @@ ghost use Rattle.gix_ref_listing.specs.LooseListings.{IsFront, IsLooseListed, Is
 
 use crate::found::FoundByKey;
 use crate::walk::Root;
-use gix_ref_base::namespace::Namespace;
 use gix_ref_files::files::{FileError, Files};
 use gix_ref_lookup::settings::Settings;
+use gix_ref_name::namespace::Namespace;
 use std::alloc::{AllocError, Global};
 use std::collections::BTreeMap;
 
@@ -67,8 +67,10 @@ fn walk_in<F: Files>(
     ensures files { OnOk result (All IsFile found.old.entries → All IsFile found.new.entries
         ⊎ HasRisen (F.faults files.old) (F.faults files.new)) }
     ensures there { F.honest → OnOk result (
-        All (IsFoundIn settings.entry (view_of (F.means files.old).tree) prefix.now) found.old.entries →
-        All (IsFoundIn settings.entry (view_of (F.means files.old).tree) prefix.now) found.new.entries) }
+        All (IsFoundIn settings.entry (view_of (F.means files.old).tree) prefix.now)
+        found.old.entries →
+        All (IsFoundIn settings.entry (view_of (F.means files.old).tree) prefix.now)
+        found.new.entries) }
     ensures rises { F.faults files.old ≤ F.faults files.new }
     ensures memory { IfErr result (λ error. error ≡ Memory) }
     ensures leaves { F.honest → Leaves (F.means files.old) (F.means files.new)
@@ -101,7 +103,8 @@ pub fn walk_store<F: Files>(
     ensures files { IfOk result (λ found. All IsFile found.entries
         ⊎ HasRisen (F.faults files.old) (F.faults files.new)) }
     ensures there { F.honest → IfOk result (λ found.
-        All (IsFoundIn settings.entry (view_of (F.means files.old).tree) prefix.now) found.entries) }
+        All (IsFoundIn settings.entry (view_of (F.means files.old).tree) prefix.now)
+        found.entries) }
     ensures rises { F.faults files.old ≤ F.faults files.new }
     ensures memory { IfErr result (λ error. error ≡ Memory) }
     ensures leaves { F.honest → Leaves (F.means files.old) (F.means files.new)

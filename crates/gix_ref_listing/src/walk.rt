@@ -3,8 +3,8 @@ ghost use Rattle.std.specs.Prelude.{◌≡◌, ◌≢◌, [], ◌++◌, ◌⊎�
 ghost use Rattle.std.specs.declared.alloc.Global.{Global};
 ghost use Rattle.std.specs.List.{All};
 ghost use Rattle.gix_ref_hash.specs.Bytes.{BeginsWith, NoByte};
-ghost use Rattle.gix_ref_base.specs.NameGrammar.{IsPartialName};
-ghost use Rattle.gix_ref_base.specs.Names.{full_bytes, full_ref_bytes};
+ghost use Rattle.gix_ref_grammar.specs.NameGrammar.{IsPartialName};
+ghost use Rattle.gix_ref_name.specs.Names.{full_bytes, full_ref_bytes};
 ghost use Rattle.gix_ref_files.specs.Files.{Leaves, HasRisen};
 ghost use Rattle.gix_ref_files.specs.Calls.{Unchanged, IsListing};
 ghost use Rattle.gix_ref_files.specs.declared.files.FileError.TheVariants.{Memory};
@@ -14,11 +14,11 @@ ghost use Rattle.gix_ref_lookup.specs.Lookups.{name_asked};
 ghost use Rattle.gix_ref_listing.specs.Walks.{FoundEntry, IsListedName, IsThereOr, IsOwnName, IsLooseName, Among, Holds, IsThere, IsFile, IsFileOf, IsTaken, StaysFound, IsFolderPath, IsInnerPath, IsBelow, IsRootPath, Reaches};
 
 use crate::found::{Found, FoundByKey};
-use gix_ref_base::name::{FullName, FullNameRef, PartialNameRef};
 use gix_ref_files::files::{Entry, FileError, Files};
 use gix_ref_hash::bytes::{begins_with, cut_last, strip_front};
 use gix_ref_lookup::find::composed::composed_name;
 use gix_ref_lookup::settings::Settings;
+use gix_ref_name::name::{FullName, FullNameRef, PartialNameRef};
 use std::alloc::{AllocError, Global};
 
 /// Where a walk looks for names.
@@ -135,8 +135,8 @@ fn keep_unlisted(
     ensures stays { StaysFound found.old.entries found.new.entries }
     ensures holds { OnOk result ((name : List ℕ) → BeginsWith name folder.now →
         Among (Holds name) found.new.entries) }
-    ensures there { (others : List FoundEntry) (root : Root) (view : View) → All (IsThereOr others root view)
-        found.old.entries →
+    ensures there { (others : List FoundEntry) (root : Root) (view : View) →
+        All (IsThereOr others root view) found.old.entries →
         error ≢ Memory → path.items ++ 47 ∷ [] ≡ root.path.now ++ folder.now →
         All (IsThereOr others root view) found.new.entries }
 {
@@ -148,7 +148,8 @@ fn keep_unlisted(
 impl Root<'_> {
     /// Whether a name is to be listed where a file is there: it has the prefix, and its own place is in this folder.
     fn is_own(self, alloc: Global, name: FullNameRef<'_>) -> Result<bool, AllocError>
-        ensures { IfOk result (λ own. IsTrue own ↔ IsOwnName self.entry (full_ref_bytes name.entry)) }
+        ensures { IfOk result (λ own.
+            IsTrue own ↔ IsOwnName self.entry (full_ref_bytes name.entry)) }
     {
         if !begins_with(name.to_path(), self.prefix) {
             return Ok(false);
@@ -203,7 +204,8 @@ impl Root<'_> {
         component: &[u8],
         next: &mut Vec<Vec<u8>>,
     ) -> Result<(), AllocError>
-        ensures stays { (name : List ℕ) → IsBelow next.old.items name → IsBelow next.new.items name }
+        ensures stays { (name : List ℕ) → IsBelow next.old.items name →
+            IsBelow next.new.items name }
         ensures leads { OnOk result (NoByte 47 component.now → IsFolderPath folder.now → (name :
             List ℕ) → IsListedName self.entry name →
             BeginsWith name (folder.now ++ (component.now ++ codes "/")) →
@@ -300,9 +302,12 @@ impl Root<'_> {
             All (λ f. IsInnerPath f.items) next.new.items) }
         ensures files { OnOk result (All IsFile found.old.entries → All IsFile found.new.entries
             ⊎ HasRisen (F.faults files.old) (F.faults files.new)) }
-        ensures there { F.honest → IfOk result (λ _. IsFolderPath folder.now → (others : List FoundEntry) →
-            All (IsThereOr others self.entry (view_of (F.means files.old).tree)) found.old.entries →
-            All (IsThereOr others self.entry (view_of (F.means files.old).tree)) found.new.entries) }
+        ensures there { F.honest → IfOk result (λ _. IsFolderPath folder.now →
+            (others : List FoundEntry) →
+            All (IsThereOr others self.entry (view_of (F.means files.old).tree))
+            found.old.entries →
+            All (IsThereOr others self.entry (view_of (F.means files.old).tree))
+            found.new.entries) }
         ensures rises { F.faults files.old ≤ F.faults files.new }
         ensures memory { IfErr result (λ error. error ≡ Memory) }
         ensures leaves { F.honest → Leaves (F.means files.old) (F.means files.new)
@@ -342,8 +347,10 @@ impl Root<'_> {
         ensures files { OnOk result (All IsFile found.old.entries → All IsFile found.new.entries
             ⊎ HasRisen (F.faults files.old) (F.faults files.new)) }
         ensures there { F.honest → OnOk result ((others : List FoundEntry) →
-            All (IsThereOr others self.entry (view_of (F.means files.old).tree)) found.old.entries →
-            All (IsThereOr others self.entry (view_of (F.means files.old).tree)) found.new.entries) }
+            All (IsThereOr others self.entry (view_of (F.means files.old).tree))
+            found.old.entries →
+            All (IsThereOr others self.entry (view_of (F.means files.old).tree))
+            found.new.entries) }
         ensures rises { F.faults files.old ≤ F.faults files.new }
         ensures memory { IfErr result (λ error. error ≡ Memory) }
         ensures leaves { F.honest → Leaves (F.means files.old) (F.means files.new)
@@ -372,8 +379,10 @@ impl Root<'_> {
         ensures files { OnOk result (All IsFile found.old.entries → All IsFile found.new.entries
             ⊎ HasRisen (F.faults files.old) (F.faults files.new)) }
         ensures there { F.honest → OnOk result ((others : List FoundEntry) →
-            All (IsThereOr others self.entry (view_of (F.means files.old).tree)) found.old.entries →
-            All (IsThereOr others self.entry (view_of (F.means files.old).tree)) found.new.entries) }
+            All (IsThereOr others self.entry (view_of (F.means files.old).tree))
+            found.old.entries →
+            All (IsThereOr others self.entry (view_of (F.means files.old).tree))
+            found.new.entries) }
         ensures rises { F.faults files.old ≤ F.faults files.new }
         ensures memory { IfErr result (λ error. error ≡ Memory) }
         ensures leaves { F.honest → Leaves (F.means files.old) (F.means files.new)

@@ -12,7 +12,7 @@ use Rattle.memchr.specs.Find.{NoneBefore, Passes}
 use Rattle.gix_ref_log.specs.LogCuts.{log_lines}
 use Rattle.gix_ref_log.specs.LogIds.{IdFront}
 use Rattle.gix_ref_log.specs.LogLines.{LogLine, IsLine}
-use Rattle.gix_ref_log.specs.LogFast.{HasFront}
+use Rattle.gix_ref_log.specs.internal.LogFast.{HasFront}
 use Rattle.gix_ref_log.proofs.LineLemmas.{none_in_rest}
 use Rattle.gix_ref_log.proofs.FirstLines.{first_of_lines}
 use Rattle.gix_ref_hash.proofs.IdDigits.{id_text, no_byte_in_id}

@@ -1,10 +1,9 @@
 pub mod LogCuts
-pub mod LogFast
 pub mod LogForward
 pub mod LogIds
 pub mod LogItems
 pub mod LogLines
 pub mod LogStages
 pub mod LogWindows
-pub mod Orders
 pub mod Signatures
+pub mod internal

@@ -2,5 +2,4 @@
 #![tactic(auto)]
 
 pub mod actor;
-pub mod laws;
 pub mod log;

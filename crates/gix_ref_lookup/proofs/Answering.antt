@@ -14,14 +14,14 @@ use Rattle.gix_ref_theory.specs.Readings.{Store, as_read, reading_among, reading
 use Rattle.gix_ref_theory.specs.Readings.Reading.{Is, Fault}
 use Rattle.gix_ref_theory.specs.Lookups.{peeled_of, peeled_in, hit_name, hit_peeled}
 use Rattle.gix_ref_theory.specs.Views.{View}
-use Rattle.gix_ref_packed.specs.declared.raw.Reference.{Reference}
-use Rattle.gix_ref_base.specs.Names.{full_bytes}
-use Rattle.gix_ref_base.specs.declared.name.FullName.{FullName}
+use Rattle.gix_ref_records.specs.declared.raw.Reference.{Reference}
+use Rattle.gix_ref_name.specs.Names.{full_bytes}
+use Rattle.gix_ref_name.specs.declared.name.FullName.{FullName}
 use Rattle.gix_ref_base.specs.declared.target.Target.{Target}
-use Rattle.gix_ref_base.specs.DeviceNames.{is_device}
+use Rattle.gix_ref_grammar.specs.DeviceNames.{is_device}
 use Rattle.gix_ref_lookup.specs.Lookups.{IsLooseTarget, IsCandidate, IsByRecord}
-use Rattle.gix_ref_packed.specs.Windows.{AreFound, IsFound, ReadsOption}
-use Rattle.gix_ref_packed.specs.declared.packed.window.Found.{Found}
+use Rattle.gix_ref_records.specs.Windows.{AreFound, IsFound, ReadsOption}
+use Rattle.gix_ref_records.specs.declared.packed.window.Found.{Found}
 use Rattle.gix_ref_base.specs.Layout.{Layout, LiesIn, below}
 use Rattle.gix_ref_lookup.specs.StoreLayout.{git_options}
 use Rattle.gix_ref_lookup.specs.LooseText.{HoldsTarget}

@@ -7,7 +7,7 @@ use Rattle.std.proofs.lemmas.Bool.{true≢false}
 use Rattle.gix_ref_hash.specs.Bytes.{BeginsWith, without_front}
 use Rattle.gix_ref_files.specs.Tree.{Path}
 use Rattle.gix_ref_files.proofs.Settling.{both_true}
-use Rattle.gix_ref_base.specs.declared.namespace.Namespace.{Namespace}
+use Rattle.gix_ref_name.specs.declared.namespace.Namespace.{Namespace}
 use Rattle.gix_ref_lookup.specs.CleanPaths.{common_of, is_clean}
 use Rattle.gix_ref_lookup.specs.StoreLayout.{folders_of}
 use Rattle.gix_ref_base.specs.Layout.{IsLayout}

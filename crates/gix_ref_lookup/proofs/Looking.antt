@@ -1,14 +1,14 @@
 -- One candidate of a lookup more.
 use Rattle.std.proofs.Common.{◌≡◌, ◌⊎◌, inl, inr, ℕ, zero, suc, ◌+◌, ◌<◌, List, [], ◌∷◌, ◌++◌, Option, Some, None, Bool, true, false, if◌then◌else◌, length, map, take, drop, get_or, arith, Bor, refl, sym, ◌∙◌, ap, subst}
 use Rattle.std.proofs.lemmas.List.{drop_more, get_or-map, length-map}
-use Rattle.gix_ref_base.specs.Names.{full_bytes}
+use Rattle.gix_ref_name.specs.Names.{full_bytes}
 use Rattle.gix_ref_base.specs.Targets.{target_value}
 use Rattle.gix_ref_base.specs.PackedRecords.{Record}
 use Rattle.gix_ref_theory.specs.Views.{View}
 use Rattle.gix_ref_theory.specs.Readings.{Store, Reading, reading_among}
 use Rattle.gix_ref_theory.specs.Readings.Reading.{Is, Absent, Fault}
 use Rattle.gix_ref_theory.specs.Lookups.{Hit, first_hit, hit, is_there}
-use Rattle.gix_ref_packed.specs.declared.raw.Reference.{Reference}
+use Rattle.gix_ref_records.specs.declared.raw.Reference.{Reference}
 use Rattle.gix_ref_lookup.specs.Lookups.{Answers, IsCandidate, FailsAt, Among, IsPassed, AreAsked, IsNotRead, CandidateFails, IsHit, IsLooseTarget, AreHonest, AreStillAsked, IsSearched, OfSearched, OfKey, meaning_in, to_list}
 use Rattle.gix_ref_lookup.specs.LooseFiles.{IsUndecodable}
 use Rattle.gix_ref_lookup.specs.StoreLayout.{namespace_text}
@@ -23,7 +23,7 @@ use Rattle.gix_ref_files.specs.Tree.{Tree}
 use Rattle.gix_ref_files.specs.Files.{HasRisen}
 use Rattle.gix_ref_files.specs.declared.files.ReadAt.{Ghosts}
 use Rattle.gix_ref_theory.specs.OnRealTrees.{view_of}
-use Rattle.gix_ref_packed.specs.Positions.{CannotRead}
+use Rattle.gix_ref_records.specs.Positions.{CannotRead}
 use Rattle.gix_ref_packed.specs.OpenFiles.{HasReadFault}
 use Rattle.gix_ref_packed.specs.Buffers.{IsRefusedFile}
 

@@ -10,7 +10,7 @@ use Rattle.gix_ref_packed.specs.declared.packed.file.PackedFile.{PackedFile}
 use Rattle.gix_ref_packed.specs.Buffers.{HoldsRecords, IsRefusedFile, IsRefusedBytes}
 use Rattle.gix_ref_packed.specs.OpenFiles.{OpenedFile, CountsRefusal, HasReadFault, FailsFindByRead, packed_file_text}
 use Rattle.gix_ref_packed.specs.FileSearches.{FailsIn}
-use Rattle.gix_ref_packed.specs.Positions.{CannotRead}
+use Rattle.gix_ref_records.specs.Positions.{CannotRead}
 use Rattle.gix_ref_packed.specs.declared.packed.sorted_file.FindError.{FindError}
 use Rattle.gix_ref_packed.specs.declared.packed.sorted_file.FindError.TheVariants.{Read, Parse}
 use Rattle.gix_ref_packed.specs.declared.packed.sorted_file.ReadError.TheVariants as reading
@@ -19,17 +19,17 @@ use Rattle.gix_ref_packed.proofs.WellFormedLemmas.{opened_file_holds}
 use Rattle.gix_ref_lookup.specs.Lookups.{ArePackedRecords, AreAsked, IsSearched, IsReady, OfSearched, IsHitOfKey, IsRecordIn, IsNotPacked, IsFaultOrMemory, of_opening, of_search, as_found}
 use Rattle.gix_ref_lookup.specs.declared.find.records.Records.{Records as Asked}
 use Rattle.gix_ref_lookup.specs.declared.find.records.Records.TheVariants as sources
-use Rattle.gix_ref_packed.specs.declared.raw.Reference.{Reference}
-use Rattle.gix_ref_packed.specs.OpenedText.{Fronts, PackedText}
-use Rattle.gix_ref_packed.specs.declared.packed.decode.options.Header.{Header}
-use Rattle.gix_ref_packed.specs.RecordGrammar.{Records, Takes, NoRecord}
-use Rattle.gix_ref_packed.proofs.OneReading.{same_record}
-use Rattle.gix_ref_packed.proofs.ReadBack.{same_heading}
-use Rattle.gix_ref_packed.proofs.RecordPlaces.{shorter_record}
+use Rattle.gix_ref_records.specs.declared.raw.Reference.{Reference}
+use Rattle.gix_ref_records.specs.OpenedText.{Fronts, PackedText}
+use Rattle.gix_ref_records.specs.declared.packed.decode.options.Header.{Header}
+use Rattle.gix_ref_records.specs.RecordGrammar.{Records, Takes, NoRecord}
+use Rattle.gix_ref_records.proofs.OneReading.{same_record}
+use Rattle.gix_ref_records.proofs.ReadBack.{same_heading}
+use Rattle.gix_ref_records.proofs.RecordPlaces.{shorter_record}
 use Rattle.gix_ref_lookup.specs.declared.find.error.Error.{Error}
 use Rattle.gix_ref_lookup.specs.declared.find.error.Error.TheVariants.{RefnameValidation, ReadFileContents, ReferenceCreation, PackedRef, PackedOpen, Memory}
 use Rattle.gix_ref_packed.specs.declared.packed.find.Error.TheVariants as parse
-use Rattle.gix_ref_packed.specs.declared.packed.window.Found.{Found}
+use Rattle.gix_ref_records.specs.declared.packed.window.Found.{Found}
 use Rattle.gix_ref_packed.specs.declared.packed.buffer.open.Error.{Error as OpenError}
 use Rattle.gix_ref_packed.specs.declared.packed.buffer.open.Error.TheVariants.{Iter, HeaderParsing, Io, Memory as open_memory}
 use Rattle.gix_ref_files.specs.Files.{HasRisen, one_more}

@@ -1,10 +1,10 @@
 -- The layout of a store: its folders and its namespace; and what it reads.
 use Rattle.std.specs.Prelude.{ℕ, List, [], Bool, false, ◌&&◌, Option, Some, None}
-use Rattle.gix_ref_base.specs.Namespaces.{namespace_bytes}
-use Rattle.gix_ref_base.specs.declared.namespace.Namespace.{Namespace}
+use Rattle.gix_ref_name.specs.Namespaces.{namespace_bytes}
+use Rattle.gix_ref_name.specs.declared.namespace.Namespace.{Namespace}
 use Rattle.gix_ref_hash.specs.declared.hash.Kind.{Kind}
 use Rattle.gix_ref_lookup.specs.CleanPaths.{common_of}
-use Rattle.gix_ref_base.specs.DeviceNames.{is_device}
+use Rattle.gix_ref_grammar.specs.DeviceNames.{is_device}
 use Rattle.gix_ref_base.specs.Layout.{Layout}
 use Rattle.gix_ref_packed.specs.RecordsOfText.{records_of_text}
 use Rattle.gix_ref_lookup.specs.LooseText.{target_in}
@@ -35,13 +35,5 @@ abbrev pub git_options : Kind → (prohibits : Bool) → Options
 git_options kind prohibits = record {
   target_of = target_in kind;
   records_of = records_of_text kind;
-  is_device = λ component. prohibits && is_device component;
-}
-
--- what a transaction reads in such a store: loose files alone, since it does not read `packed-refs` yet
-abbrev pub loose_alone : Kind → (prohibits : Bool) → Options
-loose_alone kind prohibits = record {
-  target_of = target_in kind;
-  records_of = λ text. [];
   is_device = λ component. prohibits && is_device component;
 }

@@ -12,8 +12,8 @@ pub mod loose;
 pub mod records;
 
 pub use error::{Error, ReadError};
-use gix_ref_base::namespace::Namespace;
 use gix_ref_base::target::Target;
+use gix_ref_name::namespace::Namespace;
 
 /// Takes the namespace off a symbolic target.
 pub fn strip(target: &mut Target, namespace: &Option<Namespace>)

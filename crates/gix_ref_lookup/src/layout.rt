@@ -5,7 +5,7 @@ ghost use Rattle.gix_ref_lookup.specs.StoreLayout.{folders_of, namespace_text};
 
 use crate::folders::Dirs;
 use gix_ref_base::layout::RefLayout;
-use gix_ref_base::namespace::Namespace;
+use gix_ref_name::namespace::Namespace;
 
 /// The text of the namespace, or nothing.
 fn text_of(namespace: &Option<Namespace>) -> &[u8]

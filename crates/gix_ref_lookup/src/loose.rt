@@ -2,7 +2,7 @@
 ghost use Rattle.std.specs.Prelude.{◌≡◌, ◌↔◌, IsTrue, ◌++◌, ℕ, List, IfOk, IfErr, OnOk, MatchResult, MatchOption, Some};
 ghost use Rattle.gix_ref_hash.specs.Ids.{IsHexOf, IsWhole};
 ghost use Rattle.gix_ref_hash.specs.declared.hash.Kind.{Kind};
-ghost use Rattle.gix_ref_base.specs.Names.{full_bytes};
+ghost use Rattle.gix_ref_name.specs.Names.{full_bytes};
 ghost use Rattle.gix_ref_base.specs.Targets.{TargetValue, target_value, target_kind};
 ghost use Rattle.gix_ref_base.specs.Targets.TargetValue.{object_id};
 ghost use Rattle.gix_ref_theory.specs.ConcreteStore.{loose_text};
@@ -11,10 +11,10 @@ ghost use Rattle.gix_ref_lookup.specs.LooseText.{HoldsPath, HoldsId, HoldsTarget
 mod error;
 
 pub use error::Error;
-use gix_ref_base::name::{FullName, FullNameRef};
 use gix_ref_base::target::{self, Target};
 use gix_ref_hash::bytes::{after_spaces, before_line_end, strip_front};
 use gix_ref_hash::hash::{Kind, ObjectId, hex_hash, is_hex};
+use gix_ref_name::name::{FullName, FullNameRef};
 use gix_ref_packed::raw;
 use std::alloc::{AllocError, Global};
 
@@ -104,7 +104,7 @@ impl From<raw::Reference> for Reference {
 
 /// A copy; the error says that there was no memory for it.
 impl Clone for Reference {
-    ghost use Rattle.gix_ref_base.specs.Names.{full_bytes};
+    ghost use Rattle.gix_ref_name.specs.Names.{full_bytes};
 
     ghost is_clone = { λ r copy. (full_bytes copy.name ≡ full_bytes r.name) × (target_value
         copy.target ≡ target_value r.target) };

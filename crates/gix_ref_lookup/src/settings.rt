@@ -5,10 +5,10 @@ ghost use Rattle.gix_ref_base.specs.Layout.{below};
 
 use crate::folders::{Dirs, rest_below};
 use crate::layout::layout_in;
-use gix_ref_base::name::device::has_device_name;
-use gix_ref_base::name::{FullName, FullNameRef};
-use gix_ref_base::namespace::Namespace;
 use gix_ref_hash::hash::Kind;
+use gix_ref_name::name::device::has_device_name;
+use gix_ref_name::name::{FullName, FullNameRef};
+use gix_ref_name::namespace::Namespace;
 use std::alloc::{AllocError, Global};
 
 /// What lies below a folder in a path, or else the path.
@@ -40,7 +40,7 @@ impl Settings<'_> {
     ghost use Rattle.std.specs.Prelude.{◌≡◌, Some, IfOk, MatchOption, vec_items};
     ghost use Rattle.std.specs.Bool.{OnTrue};
     ghost use Rattle.std.specs.Option.{option_map};
-    ghost use Rattle.gix_ref_base.specs.Names.{full_bytes, full_ref_bytes};
+    ghost use Rattle.gix_ref_name.specs.Names.{full_bytes, full_ref_bytes};
     ghost use Rattle.gix_ref_theory.specs.ConcreteStore.{below_folders};
     ghost use Rattle.gix_ref_lookup.specs.StoreLayout.{folders_of};
     ghost use Rattle.gix_ref_lookup.specs.Lookups.{meaning_in, HasNoKey};

@@ -10,7 +10,7 @@ use Rattle.gix_ref_files.specs.Losing.{last_synced, kept, chosen, lost_by, all_s
 use Rattle.gix_ref_files.proofs.Losing.{choices}
 use Rattle.gix_ref_files.proofs.Puts.{same_tree, put_at, put_other}
 use Rattle.gix_ref_memory.specs.Changes.{after, changed_on, replayed, disk_is, put_item, with_item_as, content_of, IsPlaced, place_of}
-use Rattle.gix_ref_memory.specs.Power.{Entry, no_entry, entered, settled, with_now, entry_after, entries, choice, IsChoice, Names, IsNamed, AreSynced, Fills, IsReachable}
+use Rattle.gix_ref_memory.specs.internal.Power.{Entry, no_entry, entered, settled, with_now, entry_after, entries, choice, IsChoice, Names, IsNamed, AreSynced, Fills, IsReachable}
 use Rattle.gix_ref_memory.specs.declared.memory.changes.Change.{Change}
 use Rattle.gix_ref_memory.specs.declared.memory.changes.Change.TheVariants.{Put, Append, Move, SyncFile, SyncFolder}
 use Rattle.gix_ref_memory.proofs.Grows.{disk}

@@ -12,7 +12,7 @@ use Rattle.std.proofs.lemmas.List.Folds.{Any-from_list_any}
 use Rattle.gix_ref_files.specs.Tree.{Tree, Path, is_folder}
 use Rattle.gix_ref_files.specs.Calls.{IsName, IsListing, IsEntryOf, entry_name}
 use Rattle.gix_ref_memory.specs.Changes.{IsPlaced, place_of, found_content}
-use Rattle.gix_ref_memory.specs.Listing.{IsListed, ListsSome, AddsEntries}
+use Rattle.gix_ref_memory.specs.internal.Listing.{IsListed, ListsSome, AddsEntries}
 use Rattle.gix_ref_files.specs.declared.files.Entry.{Entry}
 use Rattle.gix_ref_memory.specs.declared.memory.changes.Change.{Change}
 use Rattle.gix_ref_memory.specs.declared.memory.changes.Stands.{Stands}

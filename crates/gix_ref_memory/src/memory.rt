@@ -505,7 +505,8 @@ impl Files for Memory {
 
     fn sync_file(&mut self, path: &[u8]) -> Result<bool, FileError>
         ensures answer { Syncs (is_file (tree_of self.old path.now)) (disk_of (meaning self.old))
-            (file_synced (disk_of (meaning self.old)) path.now) (disk_of (meaning self.new)) result }
+            (file_synced (disk_of (meaning self.old)) path.now)
+            (disk_of (meaning self.new)) result }
         ensures leaves { Leaves (meaning self.old) (meaning self.new)
             (Unchanged (tree_of self.old)) }
         ensures passes { Passes (meaning self.old) (meaning self.new)
@@ -528,7 +529,8 @@ impl Files for Memory {
 
     fn sync_folder(&mut self, path: &[u8]) -> Result<bool, FileError>
         ensures answer { Syncs (is_folder (tree_of self.old path.now)) (disk_of (meaning self.old))
-            (folder_synced (disk_of (meaning self.old)) path.now) (disk_of (meaning self.new)) result }
+            (folder_synced (disk_of (meaning self.old)) path.now)
+            (disk_of (meaning self.new)) result }
         ensures leaves { Leaves (meaning self.old) (meaning self.new)
             (Unchanged (tree_of self.old)) }
         ensures passes { Passes (meaning self.old) (meaning self.new)

@@ -5,21 +5,21 @@ use Rattle.std.specs.Option.{option_map}
 use Rattle.std.proofs.lemmas.Slice.Eq.{starts_is}
 use Rattle.std.proofs.lemmas.Bool.Decides.{Decides-eqb}
 use Rattle.gix_ref_hash.specs.declared.hash.Kind.{Kind}
-use Rattle.gix_ref_base.specs.declared.name.error.Error.TheVariants.{SomeLowercase}
+use Rattle.gix_ref_grammar.specs.declared.name.error.Error.TheVariants.{SomeLowercase}
 use Rattle.gix_ref_hash.specs.Bytes.{is_slash}
-use Rattle.gix_ref_base.specs.NameGrammar.{IsFullName, IsPartialName, full_error, full_rule, first_told, told_if, is_pseudo_byte}
+use Rattle.gix_ref_grammar.specs.NameGrammar.{IsFullName, IsPartialName, full_error, full_rule, first_told, told_if, is_pseudo_byte}
 use Rattle.gix_ref_base.specs.Locations.{key_outside}
-use Rattle.gix_ref_packed.specs.declared.packed.reference.Reference.{Reference}
+use Rattle.gix_ref_records.specs.declared.packed.reference.Reference.{Reference}
 use Rattle.gix_ref_packed.specs.declared.packed.find.ParseError.{ParseError}
 use Rattle.gix_ref_packed.specs.declared.packed.find.Error.{Error}
 use Rattle.gix_ref_packed.specs.declared.packed.find.Error.TheVariants.{RefnameValidation, Parse, Memory}
 use Rattle.gix_ref_base.specs.PackedRecords.{Record, record_named}
-use Rattle.gix_ref_packed.specs.RecordGrammar.{Forms, Ascending}
-use Rattle.gix_ref_packed.specs.Positions.{IsNotMalformed}
-use Rattle.gix_ref_packed.specs.Views.{record_of}
+use Rattle.gix_ref_records.specs.RecordGrammar.{Forms, Ascending}
+use Rattle.gix_ref_records.specs.Positions.{IsNotMalformed}
+use Rattle.gix_ref_records.specs.Views.{record_of}
 use Rattle.gix_ref_packed.specs.AskedNames.{is_rooted, key_alone, four_names, asked_names, or_else, first_named}
 use Rattle.gix_ref_packed.specs.Searches.{Finds, FindsOne, FindsPartial}
-use Rattle.gix_ref_packed.proofs.RecordPlaces.{forms_of}
+use Rattle.gix_ref_records.proofs.RecordPlaces.{forms_of}
 
 pub asks_four : (p : List ℕ) → is_rooted p ≡ false → asked_names p ≡ four_names p
 asks_four p partial = ap (λ b. cond b (key_alone (key_outside p)) (four_names p)) partial

@@ -2,8 +2,8 @@
 use Rattle.std.specs.Prelude.{◌≡◌, ◌≤◌, ◌-◌, ◌⊎◌, ℕ, List, [], ◌∷◌, ◌++◌, take, drop}
 use Rattle.gix_ref_hash.specs.declared.hash.Kind.{Kind}
 use Rattle.gix_ref_base.specs.PackedRecords.{Record}
-use Rattle.gix_ref_packed.specs.RecordGrammar.{Records, Below, Rising}
-use Rattle.gix_ref_packed.specs.Prefixes.{IsListStart, records_prefixed}
+use Rattle.gix_ref_records.specs.RecordGrammar.{Records, Below, Rising}
+use Rattle.gix_ref_records.specs.Prefixes.{IsListStart, records_prefixed}
 use Rattle.gix_ref_packed.specs.declared.packed.buffer.Buffer.{Buffer}
 use Rattle.gix_ref_packed.specs.declared.packed.sorted_file.ReadError.{ReadError}
 use Rattle.gix_ref_packed.specs.declared.packed.sorted_file.ReadError.TheVariants.{Io, Memory, Changed}

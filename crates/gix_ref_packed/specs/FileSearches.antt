@@ -4,10 +4,10 @@ use Rattle.gix_ref_hash.specs.declared.hash.Kind.{Kind}
 use Rattle.gix_ref_files.specs.Files.{one_more}
 use Rattle.gix_ref_files.specs.declared.files.FileError.TheVariants.{Memory as NoMemory}
 use Rattle.gix_ref_base.specs.PackedRecords.{Record, record_named}
-use Rattle.gix_ref_packed.specs.RecordGrammar.{Records, Forms, Ascending}
-use Rattle.gix_ref_packed.specs.Positions.{IsNotMalformed, CannotRead, IsUnreadable}
-use Rattle.gix_ref_packed.specs.Windows.{AreFound, HitsRecord}
-use Rattle.gix_ref_packed.specs.declared.packed.window.Found.{Found}
+use Rattle.gix_ref_records.specs.RecordGrammar.{Records, Forms, Ascending}
+use Rattle.gix_ref_records.specs.Positions.{IsNotMalformed, CannotRead, IsUnreadable}
+use Rattle.gix_ref_records.specs.Windows.{AreFound, HitsRecord}
+use Rattle.gix_ref_records.specs.declared.packed.window.Found.{Found}
 use Rattle.gix_ref_packed.specs.declared.packed.sorted_file.ReadError.{ReadError}
 use Rattle.gix_ref_packed.specs.declared.packed.sorted_file.ReadError.TheVariants.{Io, Memory, Changed}
 use Rattle.gix_ref_packed.specs.declared.packed.sorted_file.FindError.{FindError}

@@ -1,14 +1,14 @@
 -- What an iterator of packed records is yet to give, for a caller that keeps it and takes one item at a time.
 use Rattle.std.specs.Prelude.{◌≡◌, ℕ, List, [], ◌∷◌, Option, Some, None, Result, Ok, Err}
 use Rattle.std.specs.List.{take_while}
-use Rattle.gix_ref_packed.specs.declared.packed.reference.Reference.{Reference}
+use Rattle.gix_ref_records.specs.declared.packed.reference.Reference.{Reference}
 use Rattle.gix_ref_packed.specs.declared.packed.iter.Iter.{Iter}
 use Rattle.gix_ref_packed.specs.declared.packed.iter.error.Error.{Error}
 use Rattle.gix_ref_packed.specs.declared.packed.iter.error.Error.TheVariants.{Header as bad_header, Reference as bad_line}
 use Rattle.gix_ref_base.specs.PackedRecords.{Record}
-use Rattle.gix_ref_packed.specs.RecordGrammar.{Records}
+use Rattle.gix_ref_records.specs.RecordGrammar.{Records}
 use Rattle.gix_ref_packed.specs.Items.{ItemStep, has_prefix, unread}
-use Rattle.gix_ref_packed.specs.Views.{record_of}
+use Rattle.gix_ref_records.specs.Views.{record_of}
 
 -- the records up to the first other name, where only some names are asked for
 abbrev pub asked_of : Option (List ℕ) → List Record → List Record

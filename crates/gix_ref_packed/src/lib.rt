@@ -1,6 +1,7 @@
-//! Packed references, and references as values.
+//! Packed references: `packed-refs` in memory and in its file.
 #![tactic(auto)]
 
 pub mod laws;
 pub mod packed;
-pub mod raw;
+
+pub use gix_ref_records::raw;

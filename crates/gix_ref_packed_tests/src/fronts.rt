@@ -1,10 +1,10 @@
 //! The search in memory and the search in a file give the same result on every front of a text, and with every byte
 //! of it replaced.
 use crate::made::{CRLF, NAMES, TEXT, buffer, full, sorted, stored};
-use gix_ref_base::name::FullNameRef;
 use gix_ref_files::files::Files;
 use gix_ref_hash::hash::{Kind, ObjectId};
 use gix_ref_memory::memory::Memory;
+use gix_ref_name::name::FullNameRef;
 use gix_ref_packed::packed::find::ParseError;
 use gix_ref_packed::packed::sorted_file::{FindError, SortedFile};
 use gix_ref_packed::packed::{Buffer, Found, Reference};

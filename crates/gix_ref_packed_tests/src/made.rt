@@ -1,7 +1,7 @@
 //! Values for tests of packed references: a text that is not what the test means it to be ends the test.
-use gix_ref_base::name::{FullNameRef, PartialNameRef};
 use gix_ref_hash::hash::{Kind, ObjectId};
 use gix_ref_memory::memory::Memory;
+use gix_ref_name::name::{FullNameRef, PartialNameRef};
 use gix_ref_packed::packed::Buffer;
 use std::alloc::Global;
 use std::process::Abort;

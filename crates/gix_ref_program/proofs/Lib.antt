@@ -6,3 +6,4 @@ pub mod WordLemmas
 pub mod ItemLemmas
 pub mod Listing
 pub mod ListLoop
+pub mod LentLines

@@ -1,12 +1,14 @@
 -- A listing that is printed, item by item.
-use Rattle.std.proofs.Common.{◌≡◌, arith, ℕ, List, [], ◌∷◌, ◌++◌, Bool, true, false, Option, Some, None, Result, Ok, Err, refl, sym, ◌∙◌, ap, subst}
+use Rattle.std.proofs.Common.{◌≡◌, arith, ℕ, List, [], ◌∷◌, ◌++◌, Bool, true, false, Option, Some, None, Result, Ok, Err, refl, sym, ◌∙◌, ap, subst, append-nil}
 use Rattle.std.specs.Prelude.{◌≤◌, if◌then◌else◌}
+use Rattle.std.specs.Option.{option_map}
 use Rattle.std.specs.Result.{is_err}
 use Rattle.std.specs.Iterator.{Yields}
 use Rattle.std.specs.Io.KnownBytes.{Appends, Keeps, append_known}
+use Rattle.std.proofs.KnownBytes.{Appends-kept}
 use Rattle.gix_ref_files.specs.Files.{Meaning}
 use Rattle.gix_ref_files.proofs.Moments.{starts}
-use Rattle.gix_ref_packed.specs.declared.raw.Reference.{Reference}
+use Rattle.gix_ref_records.specs.declared.raw.Reference.{Reference}
 use Rattle.gix_ref_listing.specs.declared.error.Error.{Error}
 use Rattle.gix_ref_store.specs.Store.{files_of}
 use Rattle.gix_ref_store.specs.Lookup.{LooksUp}
@@ -14,7 +16,7 @@ use Rattle.gix_ref_store.specs.Listings.{NextItem, count_in, store_of}
 use Rattle.gix_ref_store.specs.declared.file.store.Store.{Store}
 use Rattle.gix_ref_store.specs.declared.file.iter.LooseThenPacked.{LooseThenPacked}
 use Rattle.gix_ref_store.specs.declared.file.iter.Remaining.{Remaining}
-use Rattle.gix_ref_program.specs.ListPrinting.{item_text, list_text, PrintsAll}
+use Rattle.gix_ref_program.specs.ListPrinting.{item_text, list_text, next_text, PrintsAll, PrintsNext}
 use Rattle.gix_ref_program.specs.Printed.{items_status}
 use Rattle.gix_ref_program.proofs.ItemLemmas.{status_fault, status_line, item_printed, rest_printed}
 use Rattle.gix_ref_program.proofs.Listing.{looks_on}
@@ -82,13 +84,31 @@ module _ {F : Type 0} (honest : Type 0) (means : F → Meaning) (faults : F → 
       by true fault = status_fault so_far.items item fault
       by false line = status_line so_far.items item status so_far.status_is line
 
-  pub all : (first it last : LooseThenPacked F Remaining) (out before now : Option (List ℕ)) (text : List ℕ) (status : ℕ) → AreSoFar first it out before text status →
-      NextItem honest means faults it None last → Appends before now text → PrintsAll honest means faults first last out now status
-  all first it last out before now text status so_far step written = record {
-    items = so_far.items;
-    last = it;
-    gives = so_far.gives;
-    ends = step;
-    status_is = so_far.status_is;
-    prints = rest_printed out before now text (list_text so_far.items) so_far.prints written;
-  }
+  -- the next item is printed, if there is one
+  pub more_printed : (first it next : LooseThenPacked F Remaining) (out before now : Option (List ℕ)) (text left : List ℕ) (status after : ℕ) (found : Option Bool) (fault : Bool) →
+      AreSoFar first it out before text status → PrintsNext honest means faults it next before (append_known now left) text found → found ≡ Some fault → after ≡ (if fault then 1 else status) →
+      AreSoFar first next out now left after
+  more_printed first it next out before now text left status after found fault so_far printed is value = by printed.item printed.gives printed.fault_is printed.prints
+    where
+      by : (item : Option (Result Reference Error)) → NextItem honest means faults it item next → found ≡ option_map is_err item → Keeps (append_known before (text ++ next_text item)) (append_known now left) → AreSoFar first next out now left after
+      by None gives same kept = let bad = sym is ∙ same in absurd (cc)
+      by (Some item) gives same kept =
+          let both : Some fault ≡ Some (is_err item) = sym is ∙ same in
+          let as_told : fault ≡ is_err item = cc in
+          more first it next out before now text left status after item so_far gives kept (value ∙ ap (λ b. if b then 1 else status) as_told)
+
+  pub all_printed : (first it last : LooseThenPacked F Remaining) (out before mid now : Option (List ℕ)) (text left : List ℕ) (status : ℕ) (found : Option Bool) →
+      AreSoFar first it out before text status → PrintsNext honest means faults it last before (append_known mid left) text found → found ≡ None → Appends mid now left → PrintsAll honest means faults first last out now status
+  all_printed first it last out before mid now text left status found so_far printed is written = by printed.item printed.gives printed.fault_is printed.prints
+    where
+      by : (item : Option (Result Reference Error)) → NextItem honest means faults it item last → found ≡ option_map is_err item → Keeps (append_known before (text ++ next_text item)) (append_known mid left) → PrintsAll honest means faults first last out now status
+      by None gives same kept = record {
+        items = so_far.items;
+        last = it;
+        gives = so_far.gives;
+        ends = gives;
+        status_is = so_far.status_is;
+        prints = rest_printed out mid now left (list_text so_far.items)
+            (Appends-kept out (append_known before text) (append_known mid left) (list_text so_far.items) so_far.prints (subst (λ (x : List ℕ). Keeps (append_known before x) (append_known mid left)) (append-nil text) kept)) written;
+      }
+      by (Some item) gives same kept = let bad = sym is ∙ same in absurd (cc)

@@ -13,7 +13,7 @@ use Rattle.gix_ref_theory.specs.OnRealTrees.{view_of}
 use Rattle.gix_ref_theory.specs.Views.{View}
 use Rattle.gix_ref_packed.specs.Buffers.{buffer_kind, buffer_text}
 use Rattle.gix_ref_packed.specs.declared.packed.buffer.Buffer.{Buffer}
-use Rattle.gix_ref_packed.specs.declared.raw.Reference.{Reference}
+use Rattle.gix_ref_records.specs.declared.raw.Reference.{Reference}
 use Rattle.gix_ref_lookup.specs.declared.settings.Settings.{Settings}
 use Rattle.gix_ref_lookup.specs.declared.find.error.ReadError.TheVariants.{File as file_error, DeviceName}
 use Rattle.gix_ref_listing.specs.CleanPrefixes.{IsTaken, IsRefused}

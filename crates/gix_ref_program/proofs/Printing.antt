@@ -3,7 +3,7 @@ use Rattle.std.proofs.Common.{◌≡◌, inl, inr, ℕ, List, [], Bool, true, fa
 use Rattle.std.specs.Prelude.{IfOk, OnOk}
 use Rattle.std.specs.Iterator.Runs.{WholeRun}
 use Rattle.std.specs.Io.KnownBytes.{Appends}
-use Rattle.gix_ref_base.specs.NameGrammar.{full_error}
+use Rattle.gix_ref_grammar.specs.NameGrammar.{full_error}
 use Rattle.gix_ref_hash.specs.declared.hash.Kind.{Kind}
 use Rattle.gix_ref_files.specs.Files.{Meaning}
 use Rattle.gix_ref_files.specs.Tree.{Content, is_file, bytes_of}
@@ -58,16 +58,16 @@ logged G honest means old new name lines out now (Err e) full reads ends ran =
     record { ran = Logged false []; does = (full, λ h. inr ((reads h).0, λ never. absurd (cc)), _); prints = _ }
 
 -- an update that has no edit
-pub no_edit : {F : Type 0} (honest : Type 0) (means : F → Meaning) (faults : F → ℕ) (store : Store F) (kind : Kind) (asked : Asked) (refusal : Refusal) (locks : Vec (Vec ℕ Global) Global) →
-    NoEdit asked refusal → locks.items ≡ [] → UpdateOutcome honest means faults store store kind asked (outcomes.Refused refusal locks)
-no_edit honest means faults store kind asked (refusals.Name error) locks none empty = (none, refl, empty)
-no_edit honest means faults store kind asked refusals.Memory locks none empty = (refl, empty)
-no_edit honest means faults store kind asked refusals.PathNotClean locks none empty = absurd none
-no_edit honest means faults store kind asked (refusals.Find error) locks none empty = absurd none
-no_edit honest means faults store kind asked (refusals.List error) locks none empty = absurd none
-no_edit honest means faults store kind asked (refusals.Log error) locks none empty = absurd none
-no_edit honest means faults store kind asked (refusals.Update error) locks none empty = absurd none
-no_edit honest means faults store kind asked refusals.NotFound locks none empty = absurd none
+pub no_edit : {F : Type 0} (honest : Type 0) (means : F → Meaning) (faults : F → ℕ) (read : Type 0) (store : Store F) (kind : Kind) (asked : Asked) (refusal : Refusal) (locks : Vec (Vec ℕ Global) Global) →
+    NoEdit asked refusal → locks.items ≡ [] → UpdateOutcome honest means faults read store store kind asked (outcomes.Refused refusal locks)
+no_edit honest means faults read store kind asked (refusals.Name error) locks none empty = (none, refl, empty)
+no_edit honest means faults read store kind asked refusals.Memory locks none empty = (refl, empty)
+no_edit honest means faults read store kind asked refusals.PathNotClean locks none empty = absurd none
+no_edit honest means faults read store kind asked (refusals.Find error) locks none empty = absurd none
+no_edit honest means faults read store kind asked (refusals.List error) locks none empty = absurd none
+no_edit honest means faults read store kind asked (refusals.Log error) locks none empty = absurd none
+no_edit honest means faults read store kind asked (refusals.Update error) locks none empty = absurd none
+no_edit honest means faults read store kind asked refusals.NotFound locks none empty = absurd none
 
 -- nothing is printed where there is no log
 pub no_log : {F E : Type 0} (honest : Type 0) (means : F → Meaning) (old new : Store F) (name : List ℕ) (out : Option (List ℕ)) → full_error name ≡ None → (honest → is_file (reflog_at means old name) ≡ false) →

@@ -9,8 +9,8 @@ use Rattle.gix_ref_edits.specs.declared.transaction.PreviousValue.{PreviousValue
 use Rattle.gix_ref_files.specs.Files.{Meaning, Leaves}
 use Rattle.gix_ref_files.proofs.Moments.{weaken}
 use Rattle.gix_ref_transaction.specs.DirectUpdates.{AreDirectUpdates}
-use Rattle.gix_ref_store.specs.Prepared.{tree_of}
-use Rattle.gix_ref_store.specs.Store.{files_of, loose_meaning_of}
+use Rattle.gix_ref_store.specs.Prepared.{HasGoodRecords, tree_of}
+use Rattle.gix_ref_store.specs.Store.{files_of, meaning_of}
 use Rattle.gix_ref_edits.specs.RefEdits.{new_of}
 use Rattle.gix_ref_store.specs.declared.file.store.Store.{Store}
 use Rattle.gix_ref_edits.specs.declared.transaction.RefEdit.{RefEdit}
@@ -28,22 +28,22 @@ one edits edit are update no_deref =
     subst AreDirectUpdates (sym are) (All-cons (λ e. IsSome (new_of e.change) × (e.deref ≡ false)) edit [] (update, no_deref) (All-nil (λ (e : RefEdit). IsSome (new_of e.change) × (e.deref ≡ false))))
 
 module _ {F : Type 0} (honest : Type 0) (means : F → Meaning) (faults : F → ℕ) where
-  pub update_comes : (old new : Store F) (kind : Kind) (asked : Asked) (edit : RefEdit) (outcome : Outcome) → IsAskedFor kind asked edit →
-      EditOutcome honest means faults old new edit outcome → UpdateOutcome honest means faults old new kind asked outcome
-  update_comes old new kind asked edit (outcomes.Updated locks) is comes = (edit, is, comes)
-  update_comes old new kind asked edit (outcomes.Refused (refusals.Update error) locks) is comes = (edit, is, comes)
-  update_comes old new kind asked edit (outcomes.Refused refusals.Memory locks) is comes = comes
-  update_comes old new kind asked edit (outcomes.Refused refusals.PathNotClean locks) is comes = absurd comes
-  update_comes old new kind asked edit (outcomes.Refused (refusals.Name error) locks) is comes = absurd comes
-  update_comes old new kind asked edit (outcomes.Refused (refusals.Find error) locks) is comes = absurd comes
-  update_comes old new kind asked edit (outcomes.Refused (refusals.List error) locks) is comes = absurd comes
-  update_comes old new kind asked edit (outcomes.Refused (refusals.Log error) locks) is comes = absurd comes
-  update_comes old new kind asked edit (outcomes.Refused refusals.NotFound locks) is comes = absurd comes
-  update_comes old new kind asked edit outcomes.WrongWords is comes = absurd comes
-  update_comes old new kind asked edit (outcomes.Shown reference) is comes = absurd comes
+  pub update_comes : (read : Type 0) (old new : Store F) (kind : Kind) (asked : Asked) (edit : RefEdit) (outcome : Outcome) → IsAskedFor kind asked edit →
+      EditOutcome honest means faults read old new edit outcome → UpdateOutcome honest means faults read old new kind asked outcome
+  update_comes read old new kind asked edit (outcomes.Updated locks) is comes = (edit, is, comes)
+  update_comes read old new kind asked edit (outcomes.Refused (refusals.Update error) locks) is comes = (edit, is, comes)
+  update_comes read old new kind asked edit (outcomes.Refused refusals.Memory locks) is comes = comes
+  update_comes read old new kind asked edit (outcomes.Refused refusals.PathNotClean locks) is comes = absurd comes
+  update_comes read old new kind asked edit (outcomes.Refused (refusals.Name error) locks) is comes = absurd comes
+  update_comes read old new kind asked edit (outcomes.Refused (refusals.Find error) locks) is comes = absurd comes
+  update_comes read old new kind asked edit (outcomes.Refused (refusals.List error) locks) is comes = absurd comes
+  update_comes read old new kind asked edit (outcomes.Refused (refusals.Log error) locks) is comes = absurd comes
+  update_comes read old new kind asked edit (outcomes.Refused refusals.NotFound locks) is comes = absurd comes
+  update_comes read old new kind asked edit outcomes.WrongWords is comes = absurd comes
+  update_comes read old new kind asked edit (outcomes.Shown reference) is comes = absurd comes
 
   pub update_stops : (old new : Store F) (kind : Kind) (asked : Asked) (edit : RefEdit) → IsAskedFor kind asked edit →
-      Leaves (means (files_of old)) (means (files_of new)) (λ T. (T ≡ tree_of means old) ⊎ IsStopOf (loose_meaning_of old) (edit ∷ []) (tree_of means old) T) →
+      Leaves (means (files_of old)) (means (files_of new)) (λ T. (T ≡ tree_of means old) ⊎ IsStopOf (HasGoodRecords means old) (meaning_of old) (edit ∷ []) (tree_of means old) T) →
       Leaves (means (files_of old)) (means (files_of new)) (IsUpdateStop honest means faults old kind asked)
   update_stops old new kind asked edit is leaves = weaken leaves (λ T stop. ⊎_elim (λ same. inl same) (λ s. inr (edit, is, s)) stop)
 

@@ -1,6 +1,6 @@
 -- An update whose preparation succeeded: what its commit returns, seen from before the preparation.
 use Rattle.std.proofs.Common.{◌≡◌, ◌≤◌, ◌⊎◌, inl, inr, ⊎_elim, ℕ, suc, ◌<◌, List, [], ◌∷◌, length, get_or, true, Option, Some, None, Result, Ok, Err, OnOk, IfOk, IfErr, IfSome, refl, sym, ◌∙◌, ap, subst, arith}
-use Rattle.gix_ref_base.specs.Names.{full_bytes}
+use Rattle.gix_ref_name.specs.Names.{full_bytes}
 use Rattle.gix_ref_base.specs.Targets.{TargetValue}
 use Rattle.gix_ref_files.specs.Tree.{Tree, Path, file_of}
 use Rattle.gix_ref_files.specs.Files.{Meaning, Leaves, Loses, HasRisen}
@@ -10,8 +10,8 @@ use Rattle.gix_ref_transaction.specs.Causes.{names_of}
 use Rattle.gix_ref_transaction.specs.CommittedEdits.{AreCommitted}
 use Rattle.gix_ref_store.specs.CommitResult.{CommitsFrom, EveryStopFrom, EveryLossFrom, SettlesFrom, FailsFor, left_of}
 use Rattle.gix_ref_transaction.specs.DirectUpdates.{AreDirectUpdates}
-use Rattle.gix_ref_store.specs.Prepared.{PreparesFrom, RefusesFrom, LosesNothing, IsAtRest, tree_of, disk_in, locks_in, places_in}
-use Rattle.gix_ref_store.specs.Store.{files_of, folders, loose_meaning_of}
+use Rattle.gix_ref_store.specs.Prepared.{PreparesFrom, HasGoodRecords, RefusesFrom, LosesNothing, IsAtRest, tree_of, disk_in, locks_in, places_in}
+use Rattle.gix_ref_store.specs.Store.{files_of, folders, meaning_of}
 use Rattle.gix_ref_transaction.specs.CarriedEdits.{AreCarried}
 use Rattle.gix_ref_edits.specs.RefEdits.{name_of}
 use Rattle.gix_ref_edits.specs.declared.transaction.RefEdit.{RefEdit}
@@ -73,21 +73,21 @@ pub refused_loses : {F : Type 0} (means : F → Meaning) (old new : Store F) (ed
 refused_loses means old new edits lost = loses_weaken lost.loses (λ T kept. inl kept)
 
 -- a preparation that was refused
-module _ {F : Type 0} (honest : Type 0) (means : F → Meaning) (faults : F → ℕ) (old new : Store F) (edits : List RefEdit) (error : Cause) (left : List Path) (from : RefusesFrom honest means faults old new edits error left) where
+module _ {F : Type 0} (honest : Type 0) (means : F → Meaning) (faults : F → ℕ) (old new : Store F) (edits : List RefEdit) (error : Cause) (left : List Path) (read : Type 0) (from : RefusesFrom honest read means faults old new edits error left) where
   pub refused_named : AreNamed honest means faults old new edits left
   refused_named = record { ours = from.ours; named = from.named }
 
-  pub refused_stops : honest → Leaves (means (files_of old)) (means (files_of new)) (IsStopOf (loose_meaning_of old) edits (tree_of means old))
+  pub refused_stops : honest → Leaves (means (files_of old)) (means (files_of new)) (IsStopOf (HasGoodRecords means old) (meaning_of old) edits (tree_of means old))
   refused_stops h = weaken (from.leaves h) (λ T adds. inl adds)
 
 -- one that was committed, or whose commit failed
 module _ {F : Type 0} (honest : Type 0) (means : F → Meaning) (faults : F → ℕ) (old mid new : Store F) (edits carried : List RefEdit) (paths : List Paths) (direct : AreDirectUpdates edits) (from : PreparesFrom honest means faults old mid edits carried paths) where
   pub done : (answer : Result Done Failed) (error : Option UpdateError) (left : List Path) → error ≡ error_of answer → left ≡ left_of answer →
-      IfOk answer (λ d. CommitsFrom honest means faults mid new carried paths (paths_of d.locks_left.items)) → honest → error ≡ None →
-      AreCommitted (loose_meaning_of old) edits (tree_of means old) left (tree_of means new)
-  done (Ok d) error left told same commits h none =
-      subst (λ l. AreCommitted (loose_meaning_of old) edits (tree_of means old) l (tree_of means new)) (sym same) (commits old edits direct from h)
-  done (Err f) error left told same commits h none = cc
+      IfOk answer (λ d. CommitsFrom honest means faults mid new carried paths (paths_of d.locks_left.items)) → honest → HasGoodRecords means old → error ≡ None →
+      AreCommitted (meaning_of old) edits (tree_of means old) left (tree_of means new)
+  done (Ok d) error left told same commits h good none =
+      subst (λ l. AreCommitted (meaning_of old) edits (tree_of means old) l (tree_of means new)) (sym same) (commits old edits direct from h good)
+  done (Err f) error left told same commits h good none = cc
     where
       no : Some (Commit f.error) ≡ None
       no = sym told ∙ none
@@ -102,17 +102,17 @@ module _ {F : Type 0} (honest : Type 0) (means : F → Meaning) (faults : F → 
   failed (FolderInPlace path) fails = (
     subst (λ p. is_in (places_in old edits) p ≡ true) (sym fails.2)
         (subst (λ places. is_in places (place_at paths fails.0) ≡ true) from.places
-        (in_at (place_paths paths) fails.0 [] (omega (arith, fails.1.within, from.carried.len, ap length from.places, length-map edits (λ (edit : RefEdit). (loose_meaning_of old).place (name_of edit)))))),
+        (in_at (place_paths paths) fails.0 [] (omega (arith, fails.1.within, from.carried.len, ap length from.places, length-map edits (λ (edit : RefEdit). (meaning_of old).place (name_of edit)))))),
     λ h. (fails.3 h).1,
   )
   failed Memory fails = λ h q apart.
       ⊎_elim (λ same. ap file_of same) (λ gone. clash (subst (λ locks. is_in locks q ≡ true) from.locks gone.0) apart) (fails h q)
       ∙ same_view file_of refl (locks_in old edits) (locks_in old edits) (tree_of means old) (tree_of means mid) q (from.held.adds h) apart
 
-  pub loses : honest → IsAtRest means old → EveryLossFrom honest means faults mid new carried paths → Loses (means (files_of old)) (means (files_of new)) (IsLossOf means old edits)
-  loses h at_rest losses =
+  pub loses : honest → HasGoodRecords means old → IsAtRest means old → EveryLossFrom honest means faults mid new carried paths → Loses (means (files_of old)) (means (files_of new)) (IsLossOf means old edits)
+  loses h good at_rest losses =
       let started = rest_kept (places_in old edits) (roots (folders old)) (disk_in means old) (disk_in means mid) at_rest.0 ((from.lost h).keeps (roots (folders old)) at_rest.1).disk in
-      loses_joins (loses_weaken (from.lost h).loses (λ T kept. inl kept)) (loses_weaken (losses old edits direct from h at_rest).loses (λ T well. inr (disk_in means mid, started.0, well)))
+      loses_joins (loses_weaken (from.lost h).loses (λ T kept. inl kept)) (loses_weaken (losses old edits direct from h good at_rest).loses (λ T well. inr (disk_in means mid, started.0, well)))
 
   pub settles : (answer : Result Done Failed) (error : Option UpdateError) → error ≡ error_of answer → OnOk answer (SettlesFrom honest means faults mid new carried paths) → honest → error ≡ None → IsAtRest means old → IsAtRest means new
   settles (Ok d) error is settled h none at_rest = settled old edits direct from h at_rest
@@ -121,16 +121,16 @@ module _ {F : Type 0} (honest : Type 0) (means : F → Meaning) (faults : F → 
       no : Some (Commit f.error) ≡ None
       no = sym is ∙ none
 
-  pub told : (answer : Result Done Failed) (error : Option UpdateError) (left : List Path) → error ≡ error_of answer → left ≡ left_of answer →
+  pub told : (read : Type 0) (answer : Result Done Failed) (error : Option UpdateError) (left : List Path) → error ≡ error_of answer → left ≡ left_of answer →
       IfErr answer (λ f. FailsFor honest means faults mid new carried paths f.error) → EveryStopFrom honest means faults mid new carried paths (left_of answer) →
-      IfSome error (λ u. IsUpdateError honest means faults old new edits u left)
-  told (Ok d) error left is same fails ends = subst (λ r. IfSome r (λ u. IsUpdateError honest means faults old new edits u left)) (sym is) tt
-  told (Err f) error left is same fails ends =
-      subst (λ r. IfSome r (λ u. IsUpdateError honest means faults old new edits u left)) (sym is)
-      (subst (λ l. IsUpdateError honest means faults old new edits (Commit f.error) l) (sym same) (failed f.error fails, (ends old edits direct from).gone))
+      IfSome error (λ u. IsUpdateError honest means faults read old new edits u left)
+  told read (Ok d) error left is same fails ends = subst (λ r. IfSome r (λ u. IsUpdateError honest means faults read old new edits u left)) (sym is) tt
+  told read (Err f) error left is same fails ends =
+      subst (λ r. IfSome r (λ u. IsUpdateError honest means faults read old new edits u left)) (sym is)
+      (subst (λ l. IsUpdateError honest means faults read old new edits (Commit f.error) l) (sym same) (failed f.error fails, (ends old edits direct from).gone))
 
   pub stops : (left : List Path) → EveryStopFrom honest means faults mid new carried paths left → honest →
-      Leaves (means (files_of old)) (means (files_of new)) (IsStopOf (loose_meaning_of old) edits (tree_of means old))
+      Leaves (means (files_of old)) (means (files_of new)) (IsStopOf (HasGoodRecords means old) (meaning_of old) edits (tree_of means old))
   stops left ends h = joins (weaken (from.held.leaves h) (λ T adds. inl adds)) (weaken ((ends old edits direct from).leaves h) (λ T well. inr well))
 
   pub named : (left all : List Path) → left ≡ all → (all ≡ []) ⊎ HasRisen (faults (files_of mid)) (faults (files_of new)) → EveryStopFrom honest means faults mid new carried paths all →

@@ -1,10 +1,15 @@
 -- How a listing is printed (`git for-each-ref`).
-use Rattle.std.specs.Prelude.{◌≡◌, ℕ, List, ◌++◌, codes, None, Option, Result, Ok, Err}
+use Rattle.std.specs.Prelude.{◌≡◌, ℕ, Bool, List, [], ◌++◌, codes, Some, None, Option, Result, Ok, Err}
+use Rattle.std.specs.Option.{option_map}
+use Rattle.std.specs.Result.{is_err}
 use Rattle.std.specs.List.{flat_map}
-use Rattle.std.specs.Io.KnownBytes.{Appends}
+use Rattle.std.specs.Io.KnownBytes.{Appends, Keeps, append_known}
 use Rattle.std.specs.Iterator.{Yields}
 use Rattle.gix_ref_files.specs.Files.{Meaning}
-use Rattle.gix_ref_packed.specs.declared.raw.Reference.{Reference}
+use Rattle.gix_ref_records.specs.declared.raw.Reference.{Reference}
+use Rattle.gix_ref_listing.specs.Items.{IsRecordItem}
+use Rattle.gix_ref_listing.specs.OwnRecords.{own_of}
+use Rattle.gix_ref_listing.specs.declared.own_records.OwnRecord.{OwnRecord}
 use Rattle.gix_ref_listing.specs.declared.error.Error.{Error}
 use Rattle.gix_ref_listing.specs.declared.error.Error.TheVariants.{Traversal, ReadFileContents, ReferenceCreation, PackedReference, Memory}
 use Rattle.gix_ref_store.specs.Listings.{NextItem}
@@ -36,3 +41,21 @@ pub record PrintsAll {F : Type 0} (honest : Type 0) (means : F → Meaning) (fau
   pub ends : NextItem honest means faults last None new
   pub status_is : status ≡ items_status items
   pub prints : Appends out now (list_text items)
+
+-- The line of a record is added: that of the reference with its name, its id and the id at which its tag ends.
+pub record PushesRecord (own : OwnRecord) (old new : List ℕ) : Type 0 where
+  pub reference : Reference
+  pub is : IsRecordItem (own_of own) (Ok reference)
+  pub added : new ≡ old ++ reference_line reference
+
+-- the text of an item, if there is one
+abbrev pub next_text : Option (Result Reference Error) → List ℕ
+next_text None = []
+next_text (Some item) = item_text item
+
+-- The next that an iterator gives is printed behind a text, and `fault` is whether it is a fault.
+pub record PrintsNext {F : Type 0} (honest : Type 0) (means : F → Meaning) (faults : F → ℕ) (old new : LooseThenPacked F Remaining) (out now : Option (List ℕ)) (text : List ℕ) (fault : Option Bool) : Type 0 where
+  pub item : Option (Result Reference Error)
+  pub gives : NextItem honest means faults old item new
+  pub fault_is : fault ≡ option_map is_err item
+  pub prints : Keeps (append_known out (text ++ next_text item)) now

@@ -4,18 +4,18 @@ use Rattle.std.specs.List.{flat_map}
 use Rattle.std.specs.declared.alloc.Global.{Global}
 use Rattle.hex.specs.Hex.{encode_lower}
 use Rattle.gix_ref_hash.specs.Ids.{id_bytes}
-use Rattle.gix_ref_base.specs.Names.{full_bytes}
+use Rattle.gix_ref_name.specs.Names.{full_bytes}
 use Rattle.gix_ref_base.specs.Targets.{TargetValue, target_value}
 use Rattle.gix_ref_base.specs.Targets.TargetValue.{object_id, symbolic_name}
-use Rattle.gix_ref_base.specs.declared.name.error.Error as names
-use Rattle.gix_ref_base.specs.declared.name.error.Error.TheVariants as name
+use Rattle.gix_ref_grammar.specs.declared.name.error.Error as names
+use Rattle.gix_ref_grammar.specs.declared.name.error.Error.TheVariants as name
 use Rattle.gix_ref_transaction.specs.declared.prepare.error.Error as prepares
 use Rattle.gix_ref_transaction.specs.declared.prepare.error.Error.TheVariants as prepare
 use Rattle.gix_ref_transaction.specs.declared.commit.error.Error as commits
 use Rattle.gix_ref_transaction.specs.declared.commit.error.Error.TheVariants as commit
 use Rattle.gix_ref_lookup.specs.declared.find.error.Error as finds
 use Rattle.gix_ref_lookup.specs.declared.find.error.Error.TheVariants as find
-use Rattle.gix_ref_packed.specs.declared.raw.Reference.{Reference}
+use Rattle.gix_ref_records.specs.declared.raw.Reference.{Reference}
 use Rattle.gix_ref_packed.specs.declared.packed.buffer.open.Error as opens
 use Rattle.gix_ref_packed.specs.declared.packed.buffer.open.Error.TheVariants as opening
 use Rattle.gix_ref_listing.specs.declared.prefix.Error as lists
@@ -52,6 +52,8 @@ prepare_word prepare.DeviceName = codes "DeviceName"
 prepare_word prepare.TargetNotFull = codes "TargetNotFull"
 prepare_word prepare.OtherHashKind = codes "OtherHashKind"
 prepare_word (prepare.PreprocessingFailed source) = codes "PreprocessingFailed"
+prepare_word (prepare.Packed error) = codes "Packed"
+prepare_word (prepare.PackedFind error) = codes "PackedFind"
 prepare_word (prepare.PathCollision name) = codes "PathCollision"
 prepare_word (prepare.LockAcquire name) = codes "LockAcquire"
 prepare_word (prepare.MustExist name expected) = codes "MustExist"

@@ -3,11 +3,11 @@ use Rattle.std.specs.Prelude.{◌≡◌, ◌⊎◌, ℕ, List, [], ◌∷◌, Bo
 use Rattle.std.specs.Io.KnownBytes.{Appends}
 use Rattle.std.specs.List.{AllByRecursion}
 use Rattle.gix_ref_hash.specs.Ids.{null_id}
-use Rattle.gix_ref_base.specs.NameGrammar.{full_error, partial_error}
-use Rattle.gix_ref_base.specs.Namespaces.{expanded}
+use Rattle.gix_ref_grammar.specs.NameGrammar.{full_error, partial_error}
+use Rattle.gix_ref_name.specs.Namespaces.{expanded}
 use Rattle.gix_ref_base.specs.Targets.{TargetValue}
 use Rattle.gix_ref_base.specs.Targets.TargetValue.{object_id, symbolic_name}
-use Rattle.gix_ref_base.specs.declared.name.error.Error.{Error as NameError}
+use Rattle.gix_ref_grammar.specs.declared.name.error.Error.{Error as NameError}
 use Rattle.gix_ref_hash.specs.declared.hash.Kind.{Kind}
 use Rattle.gix_ref_hash.specs.declared.hash.ObjectId.{ObjectId}
 use Rattle.gix_ref_files.specs.Tree.{Tree}
@@ -22,12 +22,12 @@ use Rattle.gix_ref_lookup.specs.declared.settings.Settings.{Settings}
 use Rattle.gix_ref_theory.specs.Views.{View}
 use Rattle.gix_ref_lookup.specs.declared.find.records.Records.TheVariants.{Unopened}
 use Rattle.gix_ref_store.specs.Lookup.{AreRecordsIn, FindsAmong, HitsIn, FailsIn, RefusesBuffer, settings_of, view_in}
-use Rattle.gix_ref_store.specs.Prepared.{tree_of}
-use Rattle.gix_ref_store.specs.Store.{files_of, folders, kind_of, loose_meaning_of}
+use Rattle.gix_ref_store.specs.Prepared.{HasGoodRecords, tree_of}
+use Rattle.gix_ref_store.specs.Store.{files_of, folders, kind_of, meaning_of}
 use Rattle.gix_ref_store.specs.Reflogs.{reflog_at, IsNoReflog}
 use Rattle.gix_ref_store.specs.Listings.{prefix_of_all, AreFirst}
-use Rattle.gix_ref_packed.specs.OpenFiles.{CountsRefusal}
-use Rattle.gix_ref_packed.specs.declared.raw.Reference.{Reference}
+use Rattle.gix_ref_packed.specs.OpenFiles.{CountsRefusal, HasReadFault}
+use Rattle.gix_ref_records.specs.declared.raw.Reference.{Reference}
 use Rattle.gix_ref_listing.specs.CleanPrefixes.{IsTaken, IsRefused}
 use Rattle.gix_ref_listing.specs.Listings.{Listed as ListedName}
 use Rattle.gix_ref_listing.specs.WholeListings.{IsListing, IsName}
@@ -200,32 +200,32 @@ module _ {F : Type 0} where
 
   module _ (honest : Type 0) (means : F → Meaning) (faults : F → ℕ) where
     -- An edit: it is committed, but for locks that stay; or it was not made, and locks may stay; or there was no memory for it.
-    abbrev pub EditOutcome : (old new : Store F) → RefEdit → Outcome → Type 0
-    EditOutcome old new edit (outcomes.Updated locks) =
-        (honest → AreCommitted (loose_meaning_of old) (edit ∷ []) (tree_of means old) (paths_of locks.items) (tree_of means new))
+    abbrev pub EditOutcome : (read : Type 0) → (old new : Store F) → RefEdit → Outcome → Type 0
+    EditOutcome read old new edit (outcomes.Updated locks) =
+        (honest → HasGoodRecords means old → AreCommitted (meaning_of old) (edit ∷ []) (tree_of means old) (paths_of locks.items) (tree_of means new))
         × AreNamed honest means faults old new (edit ∷ []) (paths_of locks.items)
-    EditOutcome old new edit (outcomes.Refused (refusals.Update error) locks) =
-        IsUpdateError honest means faults old new (edit ∷ []) error (paths_of locks.items)
+    EditOutcome read old new edit (outcomes.Refused (refusals.Update error) locks) =
+        IsUpdateError honest means faults read old new (edit ∷ []) error (paths_of locks.items)
         × AreNamed honest means faults old new (edit ∷ []) (paths_of locks.items)
-    EditOutcome old new edit (outcomes.Refused refusals.Memory locks) = (new ≡ old) × (locks.items ≡ [])
-    EditOutcome old new edit outcome = ⊥
+    EditOutcome read old new edit (outcomes.Refused refusals.Memory locks) = (new ≡ old) × (locks.items ≡ [])
+    EditOutcome read old new edit outcome = ⊥
 
     -- An update of either kind: the outcome of its edit; or a name is no full name; or there was no memory.
-    abbrev pub UpdateOutcome : (old new : Store F) → Kind → Asked → Outcome → Type 0
-    UpdateOutcome old new kind asked (outcomes.Refused (refusals.Name error) locks) = BreaksRule asked error × (new ≡ old) × (locks.items ≡ [])
-    UpdateOutcome old new kind asked (outcomes.Refused refusals.Memory locks) = (new ≡ old) × (locks.items ≡ [])
-    UpdateOutcome old new kind asked outcome = (edit : RefEdit) × IsAskedFor kind asked edit × EditOutcome old new edit outcome
+    abbrev pub UpdateOutcome : (read : Type 0) → (old new : Store F) → Kind → Asked → Outcome → Type 0
+    UpdateOutcome read old new kind asked (outcomes.Refused (refusals.Name error) locks) = BreaksRule asked error × (new ≡ old) × (locks.items ≡ [])
+    UpdateOutcome read old new kind asked (outcomes.Refused refusals.Memory locks) = (new ≡ old) × (locks.items ≡ [])
+    UpdateOutcome read old new kind asked outcome = (edit : RefEdit) × IsAskedFor kind asked edit × EditOutcome read old new edit outcome
 
     -- and what is printed of it
-    abbrev pub UpdateRan : (old new : Store F) → Kind → Asked → Ran → Type 0
-    UpdateRan old new kind asked (Said outcome) = UpdateOutcome old new kind asked outcome
-    UpdateRan old new kind asked ran = ⊥
+    abbrev pub UpdateRan : (read : Type 0) → (old new : Store F) → Kind → Asked → Ran → Type 0
+    UpdateRan read old new kind asked (Said outcome) = UpdateOutcome read old new kind asked outcome
+    UpdateRan read old new kind asked ran = ⊥
 
     -- a stop in it leaves this tree: as before, or what a stop in its edit leaves
     abbrev pub IsUpdateStop : Store F → Kind → Asked → Tree → Type 0
     IsUpdateStop old kind asked T =
         (T ≡ tree_of means old)
-        ⊎ ((edit : RefEdit) × IsAskedFor kind asked edit × IsStopOf (loose_meaning_of old) (edit ∷ []) (tree_of means old) T)
+        ⊎ ((edit : RefEdit) × IsAskedFor kind asked edit × IsStopOf (HasGoodRecords means old) (meaning_of old) (edit ∷ []) (tree_of means old) T)
 
     -- A lookup: what it finds is shown; or there is nothing; or it fails; or its name breaks a rule.
     abbrev pub ShowOutcome : {R : Type 0} (G : Ghosts R) → (old new : Store F) → (name : List ℕ) → Outcome → Type 0
@@ -275,8 +275,8 @@ module _ {F : Type 0} where
     ListRan G old new prefix ran = ⊥
 
     abbrev pub CommandRan : {R : Type 0} (G : Ghosts R) → (old new : Store F) → Kind → Asked → Ran → Type 0
-    CommandRan G old new kind (Update name id before) ran = UpdateRan old new kind (Update name id before) ran
-    CommandRan G old new kind (Symbolic name target) ran = UpdateRan old new kind (Symbolic name target) ran
+    CommandRan G old new kind (Update name id before) ran = UpdateRan (HasReadFault G.faults) old new kind (Update name id before) ran
+    CommandRan G old new kind (Symbolic name target) ran = UpdateRan (HasReadFault G.faults) old new kind (Symbolic name target) ran
     CommandRan G old new kind (Show name) (Said outcome) = ShowOutcome G old new name outcome
     CommandRan G old new kind (AskedListing prefix) ran = ListRan G old new (prefix_asked old prefix) ran
     CommandRan G old new kind (Log name) ran = LogRan honest means old new name ran

@@ -1,6 +1,6 @@
 -- An update from its preparation to its commit, over any files.
 use Rattle.std.specs.Prelude.{◌≡◌, ◌⊎◌, ℕ, List, [], true, false, Option, Some, None, Result, Ok, Err}
-use Rattle.gix_ref_base.specs.Names.{full_bytes}
+use Rattle.gix_ref_name.specs.Names.{full_bytes}
 use Rattle.gix_ref_files.specs.Tree.{Tree, Path, is_file, is_folder}
 use Rattle.gix_ref_files.specs.Disk.{Disk}
 use Rattle.gix_ref_files.specs.Files.{Meaning, HasRisen}
@@ -14,7 +14,7 @@ use Rattle.gix_ref_transaction.specs.Causes.{locks_of, names_of}
 use Rattle.gix_ref_transaction.specs.CommittedEdits.{IsOldOrNew, planned}
 use Rattle.gix_ref_store.specs.Prepared.{RefusesFrom, tree_of, disk_in, locks_in, places_in}
 use Rattle.gix_ref_theory.specs.Readings as readings
-use Rattle.gix_ref_store.specs.Store.{files_of, loose_meaning_of}
+use Rattle.gix_ref_store.specs.Store.{files_of, meaning_of}
 use Rattle.gix_ref_transaction.specs.PrepareSteps.{places_of}
 use Rattle.gix_ref_store.specs.declared.file.store.Store.{Store}
 use Rattle.gix_ref_edits.specs.declared.transaction.RefEdit.{RefEdit}
@@ -25,10 +25,10 @@ use Rattle.gix_ref_transaction.specs.declared.commit.error.Error.TheVariants.{Lo
 use Rattle.gix_ref_program.specs.declared.update.UpdateError.{UpdateError}
 use Rattle.gix_ref_program.specs.declared.update.UpdateError.TheVariants.{Prepare, Commit}
 
--- A stop in an update: before its commit nothing is added but its locks and folders on the way to them; in it each reference reads as
--- before or as edited.
-abbrev pub IsStopOf : readings.Store → List RefEdit → (before T : Tree) → Type 0
-IsStopOf s edits before T = AddsLocks (locks_of s edits) (locks_of s edits) before T ⊎ IsOldOrNew s edits before T
+-- A stop in an update: before its commit nothing is added but its locks and folders on the way to them; in it, where `packed-refs` was good,
+-- each reference reads as before or as edited.
+abbrev pub IsStopOf : (good : Type 0) → readings.Store → List RefEdit → (before T : Tree) → Type 0
+IsStopOf good s edits before T = AddsLocks (locks_of s edits) (locks_of s edits) before T ⊎ (good → IsOldOrNew s edits before T)
 
 module _ {F : Type 0} (means : F → Meaning) where
   -- A loss of power in an update: before its commit each file that was settled is as before, but for the locks of the edits; in it each
@@ -36,7 +36,7 @@ module _ {F : Type 0} (means : F → Meaning) where
   abbrev pub IsLossOf : Store F → List RefEdit → Tree → Type 0
   IsLossOf old edits T =
       ((q : Path) → IsSpokenOf (places_in old edits) (disk_in means old) q → view_of T q ≡ view_of (tree_of means old) q)
-      ⊎ ((D : Disk) × IsAllSettled D × IsLostWell (loose_meaning_of old) DeletionsOnly (places_in old edits) (planned edits) D (tree_of means old) T)
+      ⊎ ((D : Disk) × IsAllSettled D × IsLostWell (meaning_of old) DeletionsOnly (places_in old edits) (planned edits) D (tree_of means old) T)
 
 -- why a commit did not do it, if it did not
 abbrev pub error_of : Result Done Failed → Option UpdateError
@@ -60,11 +60,11 @@ module _ {F : Type 0} (honest : Type 0) (means : F → Meaning) (faults : F → 
   HasFailed old new edits (LockCommit source name) =
       HasRisen (faults (files_of old)) (faults (files_of new)) × (is_in (names_of edits) (full_bytes name) ≡ true)
   HasFailed old new edits (FolderInPlace path) =
-      (is_in (places_of (loose_meaning_of old) edits) path.items ≡ true) × (honest → is_folder (tree_of means new path.items) ≡ true)
+      (is_in (places_of (meaning_of old) edits) path.items ≡ true) × (honest → is_folder (tree_of means new path.items) ≡ true)
   HasFailed old new edits Memory = honest → (q : Path) → is_in (locks_in old edits) q ≡ false → view_of (tree_of means new) q ≡ view_of (tree_of means old) q
 
   -- Why an update was not made, and the locks that stay: it was refused by the first cause against it, and all is as before but for
   -- these locks; or its commit failed.
-  abbrev pub IsUpdateError : (old new : Store F) → List RefEdit → UpdateError → (left : List Path) → Type 0
-  IsUpdateError old new edits (Prepare error) left = RefusesFrom honest means faults old new edits error left
-  IsUpdateError old new edits (Commit error) left = HasFailed old new edits error × (honest → OnlyStay old new edits left)
+  abbrev pub IsUpdateError : (read : Type 0) → (old new : Store F) → List RefEdit → UpdateError → (left : List Path) → Type 0
+  IsUpdateError read old new edits (Prepare error) left = RefusesFrom honest read means faults old new edits error left
+  IsUpdateError read old new edits (Commit error) left = HasFailed old new edits error × (honest → OnlyStay old new edits left)

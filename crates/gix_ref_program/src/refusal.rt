@@ -3,7 +3,7 @@ ghost use Rattle.std.specs.Prelude.{◌≡◌};
 ghost use Rattle.gix_ref_program.specs.Outcomes.{name_word, prepare_word, commit_word, find_word, open_word, list_word, log_word, word_of};
 
 use crate::update::UpdateError;
-use gix_ref_base::name;
+use gix_ref_name::name;
 use gix_ref_packed::packed::buffer::open;
 use gix_ref_store::file::transaction::{commit, prepare};
 use gix_ref_store::file::{find, iter, log};
@@ -61,6 +61,8 @@ fn prepare_variant(error: &prepare::Error) -> &'static str
         prepare::Error::TargetNotFull => "TargetNotFull",
         prepare::Error::OtherHashKind => "OtherHashKind",
         prepare::Error::PreprocessingFailed { .. } => "PreprocessingFailed",
+        prepare::Error::Packed(_) => "Packed",
+        prepare::Error::PackedFind(_) => "PackedFind",
         prepare::Error::PathCollision { .. } => "PathCollision",
         prepare::Error::LockAcquire { .. } => "LockAcquire",
         prepare::Error::MustExist { .. } => "MustExist",

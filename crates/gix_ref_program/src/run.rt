@@ -2,18 +2,19 @@
 ghost use Rattle.std.specs.Prelude.{◌≡◌, ◌⊎◌, [], ◌∷◌, false, None, IsSome, IfOk, MatchResult};
 ghost use Rattle.std.specs.Option.{option_map};
 ghost use Rattle.gix_ref_hash.specs.declared.hash.Kind.{Kind};
-ghost use Rattle.gix_ref_base.specs.NameGrammar.{full_error};
-ghost use Rattle.gix_ref_base.specs.Names.{full_bytes};
+ghost use Rattle.gix_ref_grammar.specs.NameGrammar.{full_error};
+ghost use Rattle.gix_ref_name.specs.Names.{full_bytes};
 ghost use Rattle.gix_ref_base.specs.Targets.{target_value};
 ghost use Rattle.gix_ref_base.specs.Targets.TargetValue.{object_id, symbolic_name};
 ghost use Rattle.gix_ref_lookup.specs.StoreLayout.{namespace_text};
-ghost use Rattle.gix_ref_store.specs.Store.{files_of, loose_meaning_of};
+ghost use Rattle.gix_ref_store.specs.Store.{files_of, meaning_of};
 ghost use Rattle.gix_ref_store.specs.Listings.{AreHeldFor};
 ghost use Rattle.gix_ref_store.specs.Lookup.{LooksUp};
-ghost use Rattle.gix_ref_store.specs.Prepared.{tree_of};
+ghost use Rattle.gix_ref_store.specs.Prepared.{tree_of, HasGoodRecords};
 ghost use Rattle.gix_ref_edits.specs.RefEdits.{new_of};
 ghost use Rattle.gix_ref_files.specs.Calls.{Unchanged};
 ghost use Rattle.gix_ref_files.specs.Files.{Leaves};
+ghost use Rattle.gix_ref_packed.specs.OpenFiles.{HasReadFault};
 ghost use Rattle.gix_ref_program.specs.Runs.{IsExpected, IsEditOf, IsAskedFor, NoNamespace, IsNoName, NoEdit, UpdateRan, IsUpdateStop, IsNoFolder, IsAt, namespace_of, IsOpened, EditOutcome, ShowOutcome, Prints, CommandRan, LogRan, ListRan, ListRanAmong, prefix_asked, IsStop, IsUnopened, LineRan, IsStopIn, RunsWrong, RunsLine};
 ghost use Rattle.gix_ref_program.specs.Updates.{IsStopOf};
 ghost use Rattle.gix_ref_program.specs.Words.{Asked, Symbolic, texts, line_of, asked_of};
@@ -24,12 +25,12 @@ use crate::outcome::{Outcome, print};
 use crate::refusal::Refusal;
 use crate::update::{UpdateReport, update};
 use crate::words::{Command, Line, parse};
-use gix_ref_base::name::{FullName, FullNameRef, PartialNameRef};
-use gix_ref_base::namespace::{Namespace, expand};
 use gix_ref_base::target::Target;
 use gix_ref_edits::transaction::{Change, LogChange, PreviousValue, RefEdit};
 use gix_ref_files::files::Files;
 use gix_ref_hash::hash::{Kind, ObjectId};
+use gix_ref_name::name::{FullName, FullNameRef, PartialNameRef};
+use gix_ref_name::namespace::{Namespace, expand};
 use gix_ref_packed::packed::Buffer;
 use gix_ref_store::file::iter::{self, prefix_of_all};
 use gix_ref_store::file::transaction::PackedRefs;
@@ -209,9 +210,9 @@ fn make_update<F: Files>(
     requires update { IsSome (new_of edit.change) }
     requires no_deref { edit.deref ≡ false }
     ensures packed_refs { result.0 ≡ packed_refs }
-    ensures outcome { EditOutcome F.honest F.means F.faults store.old store.new edit result.1 }
+    ensures outcome { EditOutcome F.honest F.means F.faults (HasReadFault F.Reader.faults) store.old store.new edit result.1 }
     ensures leaves { F.honest → Leaves (F.means (files_of store.old)) (F.means (files_of store.new))
-        (λ T. (T ≡ tree_of F.means store.old) ⊎ IsStopOf (loose_meaning_of store.old) (edit ∷ [])
+        (λ T. (T ≡ tree_of F.means store.old) ⊎ IsStopOf (HasGoodRecords F.means store.old) (meaning_of store.old) (edit ∷ [])
         (tree_of F.means store.old) T) }
 {
     let Ok(edits) = one_edit(alloc, edit) else {
@@ -335,7 +336,7 @@ fn print_update<F: Files, W: Write>(
     ensures packed_refs { result.0 ≡ packed_refs }
     ensures prints { (kind : Kind) (asked : Asked) →
         MatchResult edit (IsAskedFor kind asked) (NoEdit asked) →
-        Prints (UpdateRan F.honest F.means F.faults store.old store.new kind asked)
+        Prints (UpdateRan F.honest F.means F.faults (HasReadFault F.Reader.faults) store.old store.new kind asked)
         (W.contents out.old) (W.contents out.new) result.1 }
     ensures leaves { F.honest → (kind : Kind) (asked : Asked) →
         MatchResult edit (IsAskedFor kind asked) (NoEdit asked) →

@@ -1,12 +1,13 @@
 //! Updates from their preparation to their commit.
 ghost use Rattle.std.specs.Prelude.{◌≡◌, None, IfSome};
 ghost use Rattle.gix_ref_files.specs.Files.{Leaves, Loses};
+ghost use Rattle.gix_ref_packed.specs.OpenFiles.{HasReadFault};
 ghost use Rattle.gix_ref_transaction.specs.OwnLocks.{paths_of};
 ghost use Rattle.gix_ref_transaction.specs.CommittedEdits.{AreCommitted};
 ghost use Rattle.gix_ref_store.specs.CommitResult.{left_of, mode_of};
 ghost use Rattle.gix_ref_transaction.specs.DirectUpdates.{AreDirectUpdates};
-ghost use Rattle.gix_ref_store.specs.Prepared.{tree_of, IsAtRest};
-ghost use Rattle.gix_ref_store.specs.Store.{files_of, loose_meaning_of, IsSameStore};
+ghost use Rattle.gix_ref_store.specs.Prepared.{tree_of, HasGoodRecords, IsAtRest};
+ghost use Rattle.gix_ref_store.specs.Store.{files_of, meaning_of, IsSameStore};
 ghost use Rattle.gix_ref_program.specs.Updates.{IsStopOf, IsLossOf, IsUpdateError, AreNamed, error_of};
 
 use gix_ref_edits::transaction::RefEdit;
@@ -39,7 +40,7 @@ pub struct UpdateReport {
 /// Prepares updates that follow no symbolic reference, and commits them in their order. The store writes no log line.
 ///
 /// The result says why they were not made: the first cause against them, or what stopped their commit. Each lock that could
-/// not be removed is named. Costs what `prepare` and `commit` do: five calls of files for a reference that changes, the sync of
+/// not be removed is named. Costs what `prepare` and `commit` do: six calls of files for a reference that changes, the sync of
 /// its lock, and one sync for each folder from that of its file up to the git folder.
 /// (`git update-ref`)
 pub fn update<F: Files>(
@@ -50,14 +51,14 @@ pub fn update<F: Files>(
 ) -> UpdateReport
     requires direct { AreDirectUpdates edits.items }
     requires quiet { store.old.write_reflog ≡ WriteReflog.Disable }
-    ensures done { F.honest → result.error ≡ None → AreCommitted (loose_meaning_of store.old)
+    ensures done { F.honest → HasGoodRecords F.means store.old → result.error ≡ None → AreCommitted (meaning_of store.old)
         edits.items
         (tree_of F.means store.old) (paths_of result.locks_left.items) (tree_of F.means store.new) }
-    ensures error { IfSome result.error (λ error. IsUpdateError F.honest F.means F.faults store.old
+    ensures error { IfSome result.error (λ error. IsUpdateError F.honest F.means F.faults (HasReadFault F.Reader.faults) store.old
         store.new edits.items error (paths_of result.locks_left.items)) }
     ensures leaves { F.honest → Leaves (F.means (files_of store.old)) (F.means (files_of store.new))
-        (IsStopOf (loose_meaning_of store.old) edits.items (tree_of F.means store.old)) }
-    ensures lost { F.honest → IsAtRest F.means store.old → Loses (F.means (files_of store.old))
+        (IsStopOf (HasGoodRecords F.means store.old) (meaning_of store.old) edits.items (tree_of F.means store.old)) }
+    ensures lost { F.honest → HasGoodRecords F.means store.old → IsAtRest F.means store.old → Loses (F.means (files_of store.old))
         (F.means (files_of store.new)) (IsLossOf F.means store.old edits.items) }
     ensures settled { F.honest → result.error ≡ None → IsAtRest F.means store.old →
         IsAtRest F.means store.new }

@@ -195,6 +195,58 @@ fn updates(rt: HostRuntime) {
 }
 
 #[test]
+fn updates_of_packed_references(rt: HostRuntime) {
+    let alloc = rt.alloc();
+    let rows = [
+        Row {
+            meaning: "the packed value is the old one",
+            before: (PACKED, RECORDS),
+            words: &["/r", "update", "refs/heads/a", I1, I2],
+            printed: Printed::Nothing,
+            after: (A, ONE),
+        },
+        Row {
+            meaning: "the packed value is another one",
+            before: (PACKED, RECORDS),
+            words: &["/r", "update", "refs/heads/a", I2, I1],
+            printed: Printed::Refused("ReferenceOutOfDate"),
+            after: (A, "-"),
+        },
+        Row {
+            meaning: "it exists, packed",
+            before: (PACKED, RECORDS),
+            words: &["/r", "update", "refs/heads/a", I1, I0],
+            printed: Printed::Refused("MustNotExist"),
+            after: (A, "-"),
+        },
+        Row {
+            meaning: "it has the id already, packed",
+            before: (PACKED, RECORDS),
+            words: &["/r", "update", "refs/heads/a", I2],
+            printed: Printed::Nothing,
+            after: (A, "-"),
+        },
+        Row {
+            meaning: "packed-refs cannot be opened",
+            before: (PACKED, "# no header\n"),
+            words: &["/r", "update", "refs/heads/a", I1],
+            printed: Printed::Refused("Packed"),
+            after: (A, "-"),
+        },
+        Row {
+            meaning: "its record cannot be read",
+            before: (PACKED, "# pack-refs with: sorted \n123 refs/heads/a\n"),
+            words: &["/r", "update", "refs/heads/a", I1],
+            printed: Printed::Refused("PackedFind"),
+            after: (A, "-"),
+        },
+    ];
+    for row in rows {
+        check(&rt, alloc, row);
+    }
+}
+
+#[test]
 fn symbolic_updates(rt: HostRuntime) {
     let rows: [Row<'_>; 8] = [
         Row {

@@ -12,12 +12,12 @@ const SHOW: [&str; 3] = ["/r", "show", "refs/heads/a"];
 
 const NEW: &[u8] = b"1111111111111111111111111111111111111111 refs/heads/a\n";
 
-/// The call that renames the lock: before it the update makes the folders of the lock and the lock, reads the reference,
-/// writes the text and syncs it.
-const RENAME: u64 = 6;
+/// The call that renames the lock: before it the update looks for `packed-refs`, makes the folders of the lock and the lock, reads
+/// the reference, writes the text and syncs it.
+const RENAME: u64 = 7;
 
 /// The number of calls of files that the update makes: after the rename it syncs `refs/heads`, `refs` and the git folder.
-const CALLS: u64 = 9;
+const CALLS: u64 = 10;
 
 /// After a restart: the reference is absent or new. The next update meets the lock where there is one; without it, it works.
 fn recovers(rt: &impl Abort, alloc: Global, mut memory: Memory) {
@@ -46,7 +46,7 @@ fn recovers(rt: &impl Abort, alloc: Global, mut memory: Memory) {
 }
 
 #[test]
-fn nine_calls_of_files(rt: HostRuntime) {
+fn ten_calls_of_files(rt: HostRuntime) {
     let alloc = rt.alloc();
     let ran = run_words(&rt, alloc, with_file(&rt, alloc, "", ""), &UPDATE);
     assert_eq!(rt; ran.files.calls(), CALLS);
@@ -75,10 +75,10 @@ fn failed_at_each_call(rt: HostRuntime) {
         let mut memory = with_file(&rt, alloc, "", "");
         memory.fail_at(k);
         let ran = run_words(&rt, alloc, memory, &UPDATE);
-        let want: &[u8] = if k < RENAME {
-            b"refused: Io\n"
-        } else {
-            b"refused: LockCommit\n"
+        let want: &[u8] = match k {
+            1 => b"refused: Packed\n",
+            2..RENAME => b"refused: Io\n",
+            _ => b"refused: LockCommit\n",
         };
         assert!(rt; ran.output.as_slice() == want, "call {k}");
         assert_eq!(rt;

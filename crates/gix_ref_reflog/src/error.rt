@@ -1,7 +1,7 @@
 //! Why a reflog is not read.
-use gix_ref_base::name;
 use gix_ref_files::files::FileError;
 use gix_ref_log::log::iter::EmptyBuffer;
+use gix_ref_name::name;
 use std::alloc::AllocError;
 use thiserror::Error;
 

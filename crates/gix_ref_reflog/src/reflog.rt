@@ -1,15 +1,15 @@
 //! The reflog of a name: one call of files for each of these.
 ghost use Rattle.std.specs.Prelude.{◌≡◌, ℕ, List, true, false, IfOk, IfErr, OnOk};
-ghost use Rattle.gix_ref_base.specs.Names.{full_ref_bytes};
+ghost use Rattle.gix_ref_name.specs.Names.{full_ref_bytes};
 ghost use Rattle.gix_ref_files.specs.Files.{Leaves};
 ghost use Rattle.gix_ref_files.specs.Calls.{Unchanged, Opens};
 ghost use Rattle.gix_ref_files.specs.Tree.{is_file, bytes_of};
 ghost use Rattle.gix_ref_reflog.specs.Reflogs.{log_path, is_prohibited, log_at, count_log, IsNoPath, IsNoLog, HoldsLog};
 
 use crate::error::Error;
-use gix_ref_base::name::FullNameRef;
 use gix_ref_files::files::{Files, Node};
 use gix_ref_lookup::settings::Settings;
+use gix_ref_name::name::FullNameRef;
 use std::alloc::Global;
 
 /// The path of the reflog of a name, unless the store prohibits it.

@@ -1,5 +1,7 @@
 pub mod Commits
 pub mod ListingRuns
+pub mod LentRecords
 pub mod LooseAnswers
 pub mod Platforms
 pub mod PreparedLosses
+pub mod Refusals

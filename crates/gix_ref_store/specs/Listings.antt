@@ -1,20 +1,22 @@
 -- What a listing of a store gives (`git for-each-ref`).
-use Rattle.std.specs.Prelude.{◌≡◌, ◌⊎◌, ◌≤◌, ℕ, List, [], ◌∷◌, Option, Some, None, Result, codes}
+use Rattle.std.specs.Prelude.{◌≡◌, ◌⊎◌, ◌≤◌, ℕ, List, [], ◌∷◌, Option, Some, None, Result, Ok, codes}
 use denote.Ref.{Bor}
 use Rattle.std.specs.Iterator.{Yields}
 use Rattle.std.specs.List.{AllByRecursion}
-use Rattle.gix_ref_base.specs.declared.namespace.Namespace.{Namespace}
+use Rattle.gix_ref_name.specs.declared.namespace.Namespace.{Namespace}
 use Rattle.gix_ref_base.specs.PackedRecords.{Record}
 use Rattle.gix_ref_files.specs.Files.{Meaning, HasRisen}
 use Rattle.gix_ref_packed.specs.declared.packed.buffer.Buffer.{Buffer}
-use Rattle.gix_ref_packed.specs.declared.raw.Reference.{Reference}
-use Rattle.gix_ref_listing.specs.Items.{IsItem}
+use Rattle.gix_ref_records.specs.declared.raw.Reference.{Reference}
+use Rattle.gix_ref_listing.specs.Items.{IsItem, IsRecordItem}
 use Rattle.gix_ref_listing.specs.Listings.{Listed, merge_left}
+use Rattle.gix_ref_listing.specs.OwnRecords.{own_of}
 use Rattle.gix_ref_listing.specs.PrefixedRecords.{IsHeldFor}
 use Rattle.gix_ref_listing.specs.PseudoListings.{IsPseudoListing}
-use Rattle.gix_ref_listing.specs.Steps.{GivesNext}
+use Rattle.gix_ref_listing.specs.Steps.{GivesNext, GivesRecord}
 use Rattle.gix_ref_listing.specs.WholeListings.{AreHeld, IsListing, IsName, key_in}
 use Rattle.gix_ref_listing.specs.declared.error.Error.{Error}
+use Rattle.gix_ref_listing.specs.declared.own_records.OwnRecord.{OwnRecord}
 use Rattle.gix_ref_lookup.specs.declared.settings.Settings.{Settings}
 use Rattle.gix_ref_theory.specs.Views.{View}
 use Rattle.gix_ref_store.specs.Store as stores
@@ -79,6 +81,12 @@ module _ {F : Type 0} where
       pub same_reference : t.store.ghost_name ≡ s.store.ghost_name
       pub same_store : stores.IsSameStore s.store.now t.store.now
       pub gives : GivesNext honest means faults (settings_of s.store.now) (stores.files_of s.store.now) (stores.files_of t.store.now) s.rest.merge r t.rest.merge
+
+    -- A record that is lent: it is the first of those that are yet to come; and a reference with its name, its id and the id at
+    -- which its tag ends is what `next` gives.
+    pub record LendsNext (s t : LooseThenPacked F Remaining) (own : OwnRecord) : Type 0 where
+      pub gives : GivesRecord (settings_of s.store.now) s.rest.merge t.rest.merge own
+      pub next : (r : Reference) → IsRecordItem (own_of own) (Ok r) → NextItem s (Some (Ok r)) t
 
     -- These are the first items of a listing, in its order, and `rest` is yet to come. Each is made between two counts of faults, the
     -- first of which is `before`, and the last at most `now`.

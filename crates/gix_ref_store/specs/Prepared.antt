@@ -9,9 +9,10 @@ use Rattle.gix_ref_theory.specs.OnDisks.{IsSpokenOf, IsAsBefore}
 use Rattle.gix_ref_theory.specs.OnRealTrees.{view_of}
 use Rattle.gix_ref_theory.specs.Roots.{roots}
 use Rattle.gix_ref_transaction.specs.OwnLocks.{is_in, AddsLocks, RemovesLocks, OnlyRemoves}
-use Rattle.gix_ref_transaction.specs.Causes.{Refuses, IsAccepted, IsCounted, locks_of}
-use Rattle.gix_ref_store.specs.Store.{files_of, kind_of, folders, loose_meaning_of, IsSameStore}
-use Rattle.gix_ref_transaction.specs.PrepareSteps.{HoldTexts, HoldWhole, old_targets, lock_paths, place_paths, places_of}
+use Rattle.gix_ref_transaction.specs.Causes.{AllValid, Refuses, IsAccepted, IsCountedWith, IsPackedRefusal, IsPackedWell, locks_of}
+use Rattle.gix_ref_transaction.specs.CommitRenames.{written_flags}
+use Rattle.gix_ref_store.specs.Store.{files_of, kind_of, folders, meaning_of, IsSameStore}
+use Rattle.gix_ref_transaction.specs.PrepareSteps.{AreLockable, AreWholeLocks, are_written, HoldTexts, old_targets, lock_paths, place_paths, places_of}
 use Rattle.gix_ref_transaction.specs.CarriedEdits.{AreCarried}
 use Rattle.gix_ref_edits.specs.declared.transaction.RefEdit.{RefEdit}
 use Rattle.gix_ref_store.specs.declared.file.store.Store.{Store}
@@ -27,6 +28,10 @@ module _ {F : Type 0} (means : F → Meaning) where
   abbrev pub disk_in : Store F → Disk
   disk_in store = disk_of (means (files_of store))
 
+  -- its `packed-refs` is well formed, or there is none
+  abbrev pub HasGoodRecords : Store F → Type 0
+  HasGoodRecords store = IsPackedWell (kind_of store) (view_of (tree_of store) (meaning_of store).packed_path)
+
   -- Nothing of a store is unsynced but locks, and folders that hold no other file; and the git folder, the common folder and those above
   -- them stay after every loss of power.
   abbrev pub IsAtRest : Store F → Type 0
@@ -36,41 +41,46 @@ module _ {F : Type 0} (means : F → Meaning) where
   abbrev pub KeepsAll : (old new : Store F) → List RefEdit → Type 0
   KeepsAll old new edits =
       (staying : List Path) → AllStay (disk_in old) staying →
-      Passes (means (files_of old)) (means (files_of new)) (IsAsBefore (places_of (loose_meaning_of old) edits) staying (disk_in old))
+      Passes (means (files_of old)) (means (files_of new)) (IsAsBefore (places_of (meaning_of old) edits) staying (disk_in old))
 
   -- Every loss of power meanwhile leaves each file that was settled, but for these locks; and all stays as settled as it was.
   pub record LosesNothing (old new : Store F) (edits : List RefEdit) : Type 0 where
     pub keeps : KeepsAll old new edits
     pub loses : Loses (means (files_of old)) (means (files_of new))
-        (λ T. (q : Path) → IsSpokenOf (places_of (loose_meaning_of old) edits) (disk_in old) q → view_of T q ≡ view_of (tree_of old) q)
+        (λ T. (q : Path) → IsSpokenOf (places_of (meaning_of old) edits) (disk_in old) q → view_of T q ≡ view_of (tree_of old) q)
 
 module _ {F : Type 0} where
   -- the locks of edits in a store
   abbrev pub locks_in : Store F → List RefEdit → List Path
-  locks_in store edits = locks_of (loose_meaning_of store) edits
+  locks_in store edits = locks_of (meaning_of store) edits
 
   -- and their places
   abbrev pub places_in : Store F → List RefEdit → List Path
-  places_in store edits = places_of (loose_meaning_of store) edits
+  places_in store edits = places_of (meaning_of store) edits
 
-module _ {F : Type 0} (honest : Type 0) (means : F → Meaning) (faults : F → ℕ) where
-  -- A refusal: its error is the first cause that applies; `Io` came with a fault; all is as before but for the locks that are named, and
-  -- folders that lead to locks; those that are named are locks of the edits, and one is named only where a fault came.
+module _ {F : Type 0} (honest read : Type 0) (means : F → Meaning) (faults : F → ℕ) where
+  -- A refusal. Where `packed-refs` is well formed, its error is the first cause that applies; `Packed` is returned for a `packed-refs` that is
+  -- refused; a fault of files came with a rise of their count, or a read by a reader failed; all is as before but for the locks that are
+  -- named, and folders that lead to locks; those that are named are locks of the edits, and one is named only where a fault came.
   pub record RefusesFrom (old new : Store F) (edits : List RefEdit) (error : Error) (left : List Path) : Type 0 where
-    pub cause : honest → Refuses (loose_meaning_of old) (kind_of old) (tree_of means old) edits error
-    pub counted : IsCounted (faults (files_of old)) (faults (files_of new)) error
+    pub cause : honest → HasGoodRecords means old → Refuses (meaning_of old) (kind_of old) (tree_of means old) edits error
+    pub opened : honest → IsPackedRefusal (kind_of old) (tree_of means old (meaning_of old).packed_path) error
+    pub counted : IsCountedWith honest read (faults (files_of old)) (faults (files_of new)) error
     pub as_before : honest → AddsLocks left (locks_in old edits) (tree_of means old) (tree_of means new)
     pub ours : (q : Path) → is_in left q ≡ true → is_in (locks_in old edits) q ≡ true
     pub named : (left ≡ []) ⊎ HasRisen (faults (files_of old)) (faults (files_of new))
     pub leaves : honest → Leaves (means (files_of old)) (means (files_of new)) (AddsLocks (locks_in old edits) (locks_in old edits) (tree_of means old))
     pub same : IsSameStore old new
 
-  -- Locks that are held: no cause applies; this was found of each edit; each lock has its whole text, and nothing else was added but folders
-  -- that lead to locks.
+module _ {F : Type 0} (honest : Type 0) (means : F → Meaning) (faults : F → ℕ) where
+  -- Locks that are held. Where `packed-refs` is well formed, no cause applies; this was found of each edit; each lock has its whole text.
+  -- In any case each edit is valid by itself, its lock was free, and nothing else was added but folders that lead to locks.
   pub record HoldsFrom (old new : Store F) (edits : List RefEdit) (was : List (Option TargetValue)) : Type 0 where
-    pub accepted : honest → IsAccepted (loose_meaning_of old) (kind_of old) (tree_of means old) edits
-    pub found : honest → was ≡ old_targets (loose_meaning_of old) (tree_of means old) edits
-    pub texts : honest → HoldTexts (loose_meaning_of old) (tree_of means old) (tree_of means new) edits
+    pub accepted : honest → HasGoodRecords means old → IsAccepted (meaning_of old) (kind_of old) (tree_of means old) edits
+    pub found : honest → HasGoodRecords means old → was ≡ old_targets (meaning_of old) (tree_of means old) edits
+    pub texts : honest → HasGoodRecords means old → HoldTexts (meaning_of old) (tree_of means old) (tree_of means new) edits
+    pub valid : AllValid (meaning_of old) (kind_of old) [] edits
+    pub lockable : honest → AreLockable (meaning_of old) (kind_of old) (tree_of means old) [] edits
     pub adds : honest → AddsLocks (locks_in old edits) (locks_in old edits) (tree_of means old) (tree_of means new)
     pub leaves : honest → Leaves (means (files_of old)) (means (files_of new)) (AddsLocks (locks_in old edits) (locks_in old edits) (tree_of means old))
     pub no_fewer : faults (files_of old) ≤ faults (files_of new)
@@ -82,10 +92,12 @@ module _ {F : Type 0} (honest : Type 0) (means : F → Meaning) (faults : F → 
     pub held : HoldsFrom old new edits was
     pub lost : honest → LosesNothing means old new edits
     -- each lock is whole: a loss of power once it is renamed leaves all of its text
-    pub whole : honest → HoldWhole (loose_meaning_of old) (tree_of means old) (disk_in means new) edits
+    pub whole : honest → AreWholeLocks (disk_in means new) (locks_in old edits)
     pub carried : AreCarried edits was after
-    pub places : place_paths paths ≡ places_of (loose_meaning_of old) edits
-    pub locks : lock_paths paths ≡ locks_of (loose_meaning_of old) edits
+    pub places : place_paths paths ≡ places_of (meaning_of old) edits
+    pub locks : lock_paths paths ≡ locks_of (meaning_of old) edits
+    -- those locks are to be renamed whose reference is written
+    pub writes : honest → HasGoodRecords means old → written_flags paths ≡ are_written (meaning_of old) (view_of (tree_of means old)) edits
 
   -- A transaction that is given up: of its locks only those stay that are named, and one is named only where a fault came.
   pub record RollsBackFrom (old new : Store F) (locks left : List Path) : Type 0 where

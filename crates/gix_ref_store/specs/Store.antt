@@ -5,7 +5,7 @@ use Rattle.std.specs.declared.alloc.Global.{Global}
 use Rattle.gix_ref_hash.specs.declared.hash.Kind.{Kind}
 use Rattle.gix_ref_base.specs.Layout.{Layout, AreCompatible}
 use Rattle.gix_ref_lookup.specs.CleanPaths.{are_clean, common_of}
-use Rattle.gix_ref_lookup.specs.StoreLayout.{folders_of, git_options, loose_alone}
+use Rattle.gix_ref_lookup.specs.StoreLayout.{folders_of, git_options}
 use Rattle.gix_ref_theory.specs.Readings as readings
 use Rattle.gix_ref_theory.specs.ConcreteStore.{store_of}
 use Rattle.gix_ref_store.specs.declared.file.store.Store.{Store}
@@ -32,10 +32,6 @@ kind_of store = store.object_hash
 -- where it keeps names and what it reads: loose files, and the records of `packed-refs`
 abbrev pub meaning_of : {F : Type 0} → Store F → readings.Store
 meaning_of store = store_of (folders store) (git_options (kind_of store) store.prohibit_windows_device_names)
-
--- where it keeps names, and what its loose files alone say: all that a transaction reads for now
-abbrev pub loose_meaning_of : {F : Type 0} → Store F → readings.Store
-loose_meaning_of store = store_of (folders store) (loose_alone (kind_of store) store.prohibit_windows_device_names)
 
 -- the threshold that it keeps for its `packed-refs`
 abbrev pub threshold_of : {F : Type 0} → Store F → ℕ

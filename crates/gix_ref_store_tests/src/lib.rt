@@ -22,6 +22,8 @@ mod loose;
 #[cfg(test)]
 mod made;
 #[cfg(test)]
+mod packed_edits;
+#[cfg(test)]
 mod platforms;
 #[cfg(test)]
 mod power;

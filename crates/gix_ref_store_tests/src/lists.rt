@@ -326,8 +326,9 @@ const EDITS: [(&str, &[u8], bool); 4] = [
     ("refs/heads/a", b"/r/refs/heads/a", true),
 ];
 
-/// The calls of files that they make: five for each before the commit, then the rename and the syncs up to the git folder.
-const CALLS: u64 = 20 + 4 + 4 + 2 + 4;
+/// The calls of files that they make: the opening of `packed-refs`, five for each before the commit, then the rename and the syncs
+/// up to the git folder.
+const CALLS: u64 = 21 + 4 + 4 + 2 + 4;
 
 /// How a run ends.
 #[derive(Clone, Copy, Debug, PartialEq, Eq)]
@@ -399,7 +400,7 @@ fn a_stop_and_a_loss_show_the_first_updates(rt: HostRuntime) {
                 let (outcome, memory) = run_and_lose(&rt, alloc, End::Stops(k, n), pick_at(row));
                 assert!(rt; outcome != Outcome::Done, "call {k}");
                 let shown = shown(&rt, &memory);
-                assert!(rt; shown == 0 || k > 20, "call {k}, {n} parts, loss {row}");
+                assert!(rt; shown == 0 || k > 21, "call {k}, {n} parts, loss {row}");
             }
         }
     }
@@ -408,10 +409,10 @@ fn a_stop_and_a_loss_show_the_first_updates(rt: HostRuntime) {
 /// The name of the edit whose rename, or a sync after it, is the call of this number.
 fn edit_of_call(call: u64) -> &'static str {
     match call {
-        0..=20 => "",
-        21..=24 => "refs/heads/b",
-        25..=28 => "refs/tags/t",
-        29 | 30 => "HEAD",
+        0..=21 => "",
+        22..=25 => "refs/heads/b",
+        26..=29 => "refs/tags/t",
+        30 | 31 => "HEAD",
         _ => "refs/heads/a",
     }
 }
@@ -422,7 +423,7 @@ fn a_fault_leaves_the_first_updates(rt: HostRuntime) {
     for k in 1..CALLS + 1 {
         let name = edit_of_call(k);
         let (outcome, reported, memory) = run_with(&rt, alloc, End::Fails(k), name);
-        let want = if k > 20 {
+        let want = if k > 21 {
             Outcome::LockCommit
         } else {
             Outcome::Refused

@@ -1,9 +1,9 @@
 //! Values for tests. A text that is not what a test means it to be ends the test.
-use gix_ref_base::name::{FullName, FullNameRef, PartialNameRef};
-use gix_ref_base::namespace::expand;
 use gix_ref_base::target::Target;
 use gix_ref_hash::hash::{Kind, ObjectId};
 use gix_ref_memory::memory::Memory;
+use gix_ref_name::name::{FullName, FullNameRef, PartialNameRef};
+use gix_ref_name::namespace::expand;
 use gix_ref_store::file::Store;
 use std::alloc::Global;
 use std::process::Abort;

@@ -20,9 +20,9 @@ const ONE: &[u8] = b"1111111111111111111111111111111111111111\n";
 
 const TWO: &[u8] = b"2222222222222222222222222222222222222222\n";
 
-/// What an update makes: folders, lock, text, its sync, and after a read the rename and the syncs of `refs/heads`, `refs` and the
+/// What an update makes: the opening of `packed-refs`, folders, lock, text, its sync, and after a read the rename and the syncs of `refs/heads`, `refs` and the
 /// git folder.
-const CALLS: u64 = 9;
+const CALLS: u64 = 10;
 
 /// How a call ends.
 #[derive(Clone, Copy, Debug, PartialEq, Eq)]
@@ -155,7 +155,7 @@ fn a_fault_and_a_loss_leave_the_old_or_the_new(rt: HostRuntime) {
     for k in 1..(CALLS + 1) {
         for row in 0..9u64 {
             let (answer, memory) = after_loss(&rt, alloc, true, End::Fails(k), pick_at(row));
-            let want = if k < 6 {
+            let want = if k < 7 {
                 Answer::Refused
             } else {
                 Answer::LockCommit

@@ -1,7 +1,7 @@
 //! Whether a store is as `git init` makes it.
 use crate::listings::{File, ONE, files_of};
 use crate::made::store;
-use gix_ref_base::name::FullNameRef;
+use gix_ref_name::name::FullNameRef;
 
 /// `HEAD` of a new repository.
 const MAIN: &[u8] = b"ref: refs/heads/main\n";

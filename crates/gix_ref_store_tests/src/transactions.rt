@@ -2,10 +2,11 @@
 ghost use Rattle.gix_ref_transaction.specs.DirectUpdates.{AreDirectUpdates};
 
 use crate::made::{Id, digits, files, full_name, object, partial, store};
-use gix_ref_base::namespace::expand;
 use gix_ref_base::target::Target;
 use gix_ref_edits::transaction::{Change, LogChange, PreviousValue, RefEdit};
+use gix_ref_files::files::Files;
 use gix_ref_memory::memory::Memory;
+use gix_ref_name::namespace::expand;
 use gix_ref_store::file::Store;
 use gix_ref_store::file::transaction::prepare::Error;
 use gix_ref_store::file::transaction::{PackedRefs, commit};
@@ -41,6 +42,8 @@ pub enum Answer {
     TargetNotFull,
     OtherHashKind,
     PreprocessingFailed,
+    Packed,
+    PackedFind,
     PathCollision,
     LockAcquire,
     MustExist,
@@ -58,6 +61,8 @@ pub fn answer_of(error: &Error) -> Answer {
         Error::TargetNotFull => Answer::TargetNotFull,
         Error::OtherHashKind => Answer::OtherHashKind,
         Error::PreprocessingFailed { .. } => Answer::PreprocessingFailed,
+        Error::Packed(_) => Answer::Packed,
+        Error::PackedFind(_) => Answer::PackedFind,
         Error::PathCollision { .. } => Answer::PathCollision,
         Error::LockAcquire { .. } => Answer::LockAcquire,
         Error::MustExist { .. } => Answer::MustExist,
@@ -104,7 +109,7 @@ pub fn update(
 }
 
 /// Prepares an update and rolls it back. Answers what `prepare` did, with the files.
-fn prepared(alloc: Global, mut store: Store<Memory>, edits: Vec<RefEdit>) -> (Answer, Memory)
+pub fn prepared(alloc: Global, mut store: Store<Memory>, edits: Vec<RefEdit>) -> (Answer, Memory)
     requires { AreDirectUpdates edits.items }
 {
     let answer = match store.transaction().prepare(alloc, edits) {
@@ -338,14 +343,15 @@ fn a_symbolic_target_is_a_full_name(rt: HostRuntime) {
 #[test]
 fn each_call_fails_once(rt: HostRuntime) {
     let alloc = rt.alloc();
-    for k in 1..6u64 {
+    for k in 1..7u64 {
         let mut memory = Memory::new(alloc);
         memory.fail_at(k);
         let store = store(&rt, alloc, memory, "", "");
         let new = object(&rt, Id::One);
         let edits = update(&rt, alloc, "refs/heads/a", PreviousValue::Any, new);
         let (answer, memory) = prepared(alloc, store, edits);
-        assert_eq!(rt; answer, Answer::Io, "call {k}");
+        let wanted = if k == 1 { Answer::Packed } else { Answer::Io };
+        assert_eq!(rt; answer, wanted, "call {k}");
         assert!(rt;
             memory.get(LOCK.as_bytes()).is_none(),
             "no lock after call {k}"
@@ -357,8 +363,8 @@ fn each_call_fails_once(rt: HostRuntime) {
 fn a_stop_leaves_the_whole_text_in_the_lock(rt: HostRuntime) {
     let alloc = rt.alloc();
     let mut memory = files(&rt, alloc, A, ONE);
-    // The append is the fourth call, and the process ends in it after all of its bytes.
-    memory.stop_at(4, 100);
+    // The append is the fifth call, and the process ends in it after all of its bytes.
+    memory.stop_at(5, 100);
     let mut store = store(&rt, alloc, memory, "", "");
     let new = object(&rt, Id::Two);
     let edits = update(&rt, alloc, "refs/heads/a", PreviousValue::Any, new);
@@ -384,7 +390,7 @@ fn a_stop_leaves_the_whole_text_in_the_lock(rt: HostRuntime) {
 }
 
 /// Commits an update of a name to forty digits `2`: the folder that was in its place, or the edits.
-fn committed(
+pub fn committed(
     alloc: Global,
     store: &mut Store<Memory>,
     edits: Vec<RefEdit>,
@@ -500,6 +506,22 @@ fn a_folder_in_place(rt: HostRuntime) {
         store.into_files().get(LOCK.as_bytes()).is_none(),
         "the lock is gone"
     );
+}
+
+#[test]
+fn an_empty_folder_in_place(rt: HostRuntime) {
+    let alloc = rt.alloc();
+    let mut memory = Memory::new(alloc);
+    assert!(rt; memory.make_folders(A.as_bytes()).expect(&rt, "memory"));
+    let mut store = store(&rt, alloc, memory, "", "");
+    let new = object(&rt, Id::One);
+    let edits = update(&rt, alloc, "refs/heads/a", PreviousValue::Any, new);
+    match committed(alloc, &mut store, edits) {
+        Err(commit::Error::FolderInPlace { path }) => {
+            assert!(rt; path.as_slice() == A.as_bytes());
+        }
+        _ => panic!(rt; "an empty folder is there"),
+    }
 }
 
 #[test]

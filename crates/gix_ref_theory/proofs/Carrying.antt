@@ -15,6 +15,7 @@ use Rattle.gix_ref_theory.specs.Views.{IsLeft, IsLeftBy, IsOwnLock, IsSameButLoc
 use Rattle.gix_ref_theory.specs.Views.Write.{Append, Put, Remove}
 use Rattle.gix_ref_theory.specs.Views.Ending.{Stop}
 use Rattle.gix_ref_files.proofs.Puts.{put_at}
+use Rattle.gix_ref_files.proofs.Folders.{none_later}
 
 -- these are the files of the tree
 pub record Views (T : Tree) (view : View) : Type 0 where
@@ -84,16 +85,6 @@ removed_none view p q none = by (bytes_eq p q) refl
     by false e = refl
 
 -- Steps on folders change no file.
-
-none_later : (T : Tree) (p : Path) (fs : List Path) → list_any (λ f. is_file (T f)) fs ≡ false → list_any (λ f. is_file (put T p (Some Folder) f)) fs ≡ false
-none_later T p [] h = refl
-none_later T p (f ∷ fs) h =
-    let parts = or_parts (is_file (T f)) (list_any (λ f. is_file (T f)) fs) h in
-    or_from (is_file (put T p (Some Folder) f)) (list_any (λ f. is_file (put T p (Some Folder) f)) fs) (by (bytes_eq p f) parts.0) (none_later T p fs parts.1)
-  where
-    by : (b : Bool) → is_file (T f) ≡ false → is_file (if b then Some Folder else T f) ≡ false
-    by true h = refl
-    by false h = h
 
 folders_views : (fs : List Path) (T : Tree) (view : View) → list_any (λ f. is_file (T f)) fs ≡ false → Views T view → Views (with_folders T fs) view
 folders_views [] T view h views = views

@@ -7,9 +7,9 @@ use Rattle.std.proofs.lemmas.Bool.Decides.{Decides-eqb}
 use Rattle.std.proofs.lemmas.List.{append-nil}
 use Rattle.std.proofs.lemmas.Slice.Eq.{ends_is}
 use Rattle.gix_ref_hash.specs.Bytes.{BeginsWith, NoByte, is_empty}
-use Rattle.gix_ref_base.specs.NameGrammar.{is_pseudo_byte, is_locked, partial_error, IsPartialName}
+use Rattle.gix_ref_grammar.specs.NameGrammar.{is_pseudo_byte, is_locked, partial_error, IsPartialName}
 use Rattle.gix_ref_hash.proofs.ByteLemmas.{apart}
-use Rattle.gix_ref_base.proofs.PartialNames.{IsPath, IsComponent, rules_of, first_component, last_component}
+use Rattle.gix_ref_grammar.proofs.PartialNames.{IsPath, IsComponent, rules_of, first_component, last_component}
 use Rattle.gix_ref_theory.proofs.Writes.{same}
 use Rattle.gix_ref_base.proofs.LocationLemmas.{head, has_slash, EndsIn, ends_after, short, no_slash_test, test_no_slash, IsBy, HasSpot, has_spot}
 use Rattle.gix_ref_base.specs.Layout.{IsLayout, Layout, LiesIn, below, is_private_ref, packed_refs}

@@ -11,7 +11,7 @@ use Rattle.gix_ref_files.proofs.Climbing.{climbs}
 use Rattle.gix_ref_base.specs.Layout.{Layout, LiesIn, below}
 use Rattle.gix_ref_base.specs.Locations.{Location, location, paths_of}
 use Rattle.gix_ref_base.specs.Locations.Location.{Common, ThisWorktree, MainWorktree, LinkedWorktree}
-use Rattle.gix_ref_base.proofs.FrontLemmas.{begins_true, begins_false}
+use Rattle.gix_ref_name.proofs.FrontLemmas.{begins_true, begins_false}
 use Rattle.gix_ref_theory.specs.ConcreteStore.{Options, store_of}
 use Rattle.gix_ref_theory.specs.Roots.{root_of, roots, PlacesSettle}
 

@@ -5,8 +5,8 @@ use Rattle.hex.specs.Hex.{encode_lower}
 use Rattle.gix_ref_hash.specs.declared.hash.ObjectId.{ObjectId}
 use Rattle.gix_ref_hash.specs.Bytes.{components, without_front}
 use Rattle.gix_ref_hash.specs.Ids.{id_bytes}
-use Rattle.gix_ref_base.specs.NameGrammar.{partial_error}
-use Rattle.gix_ref_base.specs.Namespaces.{stripped}
+use Rattle.gix_ref_grammar.specs.NameGrammar.{partial_error}
+use Rattle.gix_ref_name.specs.Namespaces.{stripped}
 use Rattle.gix_ref_base.specs.PackedRecords.{Record, written_text}
 use Rattle.gix_ref_base.specs.Targets.{TargetValue}
 use Rattle.gix_ref_base.specs.Targets.TargetValue.{object_id, symbolic_name}

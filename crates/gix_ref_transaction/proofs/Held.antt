@@ -12,86 +12,81 @@ use Rattle.gix_ref_theory.specs.Edits.{Edit}
 use Rattle.gix_ref_theory.specs.OnRealTrees.{view_of}
 use Rattle.gix_ref_theory.specs.Readings.{Store}
 use Rattle.gix_ref_transaction.specs.OwnLocks.{is_in, AddsLocks}
-use Rattle.gix_ref_transaction.specs.Causes.{found, AllValid, IsAccepted, IsValidEdit, NoCause, locks_of}
-use Rattle.gix_ref_transaction.specs.CarriedEdits.{AreCarried, IsCarried, edit_of}
+use Rattle.gix_ref_transaction.specs.Causes.{AllValid, IsAccepted, IsValidEdit, NoCause, locks_of}
+use Rattle.gix_ref_transaction.specs.CarriedEdits.{edit_of}
+use Rattle.gix_ref_transaction.specs.CommitRenames.{written_flags}
 use Rattle.gix_ref_transaction.specs.CommittedEdits.{planned}
-use Rattle.gix_ref_transaction.specs.PrepareSteps.{HoldTexts, lock_text, lock_paths, old_targets, place_paths, places_of}
-use Rattle.gix_ref_edits.specs.RefEdits.{name_of, new_of, expected_of, AreUpdates, Expects}
+use Rattle.gix_ref_transaction.specs.PrepareSteps.{HoldTexts, are_written, effect_on, is_written, lock_text, lock_paths, place_paths, places_of}
+use Rattle.gix_ref_edits.specs.RefEdits.{name_of, new_of, AreUpdates}
 use Rattle.gix_ref_edits.specs.declared.transaction.RefEdit.{RefEdit}
 use Rattle.gix_ref_transaction.specs.declared.paths.Paths.{Paths}
 use Rattle.gix_ref_transaction.proofs.Adds.{clash, any_left, any_right, in_here, is_same_path}
 
 -- A transaction as `prepare` gives it, from the tree `before` it to the tree T.
-pub record IsReady (s : Store) (kind : Kind) (before T : Tree) (given carried : List RefEdit) (paths : List Paths) : Type 0 where
+pub record IsReady (s : Store) (kind : Kind) (before T : Tree) (given : List RefEdit) (paths : List Paths) : Type 0 where
   pub accepted : IsAccepted s kind before given
   pub texts : HoldTexts s before T given
   pub adds : AddsLocks (locks_of s given) (locks_of s given) before T
-  pub carry : AreCarried given (old_targets s before given) carried
+  pub flags : written_flags paths ≡ are_written s (view_of before) given
   pub places : place_paths paths ≡ places_of s given
   pub locks : lock_paths paths ≡ locks_of s given
 
+-- equal lists have equal parts
+pub heads : {X : Type 0} {x y : X} {xs ys : List X} → x ∷ xs ≡ y ∷ ys → (x ≡ y) × (xs ≡ ys)
+heads h = (cc, cc)
+
 module _ (s : Store) (kind : Kind) (before T : Tree) where
-  -- One of its edits, as given and as carried, and its paths.
-  pub record IsHeld (e a : RefEdit) (p : Paths) : Type 0 where
+  -- One of its edits, and its paths.
+  pub record IsHeld (e : RefEdit) (p : Paths) : Type 0 where
     pub update : IsSome (new_of e.change)
     pub valid : IsValidEdit s kind e
     pub free : before (lock_of (s.place (name_of e))) ≡ None
-    pub expects : Expects (expected_of e.change) (new_of e.change) (found s (view_of before) (name_of e))
-    pub text : T (lock_of (s.place (name_of e))) ≡ Some (File (lock_text e.change (found s (view_of before) (name_of e))))
-    pub carried : IsCarried e (found s (view_of before) (name_of e)) a
+    pub text : T (lock_of (s.place (name_of e))) ≡ Some (File (lock_text (effect_on s (view_of before) e)))
+    pub flag : p.writes ≡ is_written (effect_on s (view_of before) e)
     pub place : p.place.items ≡ s.place (name_of e)
     pub lock : p.lock.items ≡ lock_of (s.place (name_of e))
 
-  abbrev pub AreHeld : List RefEdit → List RefEdit → List Paths → Type 0
-  AreHeld [] [] [] = Unit {0}
-  AreHeld (e ∷ given) (a ∷ carried) (p ∷ paths) = IsHeld e a p × AreHeld given carried paths
-  AreHeld given carried paths = ⊥
+  abbrev pub AreHeld : List RefEdit → List Paths → Type 0
+  AreHeld [] [] = Unit {0}
+  AreHeld (e ∷ given) (p ∷ paths) = IsHeld e p × AreHeld given paths
+  AreHeld given paths = ⊥
 
-  heads : {x y : Path} {xs ys : List Path} → x ∷ xs ≡ y ∷ ys → (x ≡ y) × (xs ≡ ys)
-  heads h = (cc, cc)
-
-  held_by : (seen sound given carried : List RefEdit) (paths : List Paths) → AllValid s kind sound given → NoCause s kind before seen given → AreUpdates given → HoldTexts s before T given →
-      AreCarried given (old_targets s before given) carried → place_paths paths ≡ places_of s given → lock_paths paths ≡ locks_of s given → AreHeld given carried paths
-  held_by seen sound [] [] [] valid causes updates texts carry places locks = tt
-  held_by seen sound [] [] (p ∷ paths) valid causes updates texts carry places locks = absurd (omega (arith, ap length places))
-  held_by seen sound [] (a ∷ carried) paths valid causes updates texts carry places locks = absurd (omega (arith, carry.len))
-  held_by seen sound (e ∷ given) [] paths valid causes updates texts carry places locks = absurd (omega (arith, carry.len))
-  held_by seen sound (e ∷ given) (a ∷ carried) [] valid causes updates texts carry places locks = absurd (omega (arith, ap length places))
-  held_by seen sound (e ∷ given) (a ∷ carried) (p ∷ paths) valid causes updates texts carry places locks = (
+  held_by : (seen sound given : List RefEdit) (paths : List Paths) → AllValid s kind sound given → NoCause s kind before seen given → AreUpdates given → HoldTexts s before T given →
+      written_flags paths ≡ are_written s (view_of before) given → place_paths paths ≡ places_of s given → lock_paths paths ≡ locks_of s given → AreHeld given paths
+  held_by seen sound [] [] valid causes updates texts flags places locks = tt
+  held_by seen sound [] (p ∷ paths) valid causes updates texts flags places locks = absurd (omega (arith, ap length places))
+  held_by seen sound (e ∷ given) [] valid causes updates texts flags places locks = absurd (omega (arith, ap length places))
+  held_by seen sound (e ∷ given) (p ∷ paths) valid causes updates texts flags places locks = (
     record {
       update = updates 0 e (omega arith);
       valid = valid.0;
       free = causes.0.0.free;
-      expects = causes.0.1;
       text = texts.0;
-      carried = carry.each 0 e (omega arith);
+      flag = (heads flags).0;
       place = (heads places).0;
       lock = (heads locks).0;
     },
-    held_by (seen ++ e ∷ []) (sound ++ e ∷ []) given carried paths valid.1 causes.1 (λ k d lt. updates (suc k) d (omega (arith, lt))) texts.1
-        (record { len = let len = carry.len in omega (arith, len); each = λ k d lt. carry.each (suc k) d (omega (arith, lt)) }) (heads places).1 (heads locks).1,
+    held_by (seen ++ e ∷ []) (sound ++ e ∷ []) given paths valid.1 causes.1 (λ k d lt. updates (suc k) d (omega (arith, lt))) texts.1 (heads flags).1 (heads places).1 (heads locks).1,
   )
 
-  pub held : (given carried : List RefEdit) (paths : List Paths) → AreUpdates given → IsReady s kind before T given carried paths → AreHeld given carried paths
-  held given carried paths updates ready = held_by [] [] given carried paths ready.accepted.sound ready.accepted.no_cause updates ready.texts ready.carry ready.places ready.locks
+  pub held : (given : List RefEdit) (paths : List Paths) → AreUpdates given → IsReady s kind before T given paths → AreHeld given paths
+  held given paths updates ready = held_by [] [] given paths ready.accepted.sound ready.accepted.no_cause updates ready.texts ready.flags ready.places ready.locks
 
   -- each edit of its plan is one of these
-  pub held_at : (given carried : List RefEdit) (paths : List Paths) → AreHeld given carried paths → (x : Edit) → IsEdit x (planned given) →
-      (e : RefEdit) × (a : RefEdit) × (p : Paths) × IsHeld e a p × (edit_of e ≡ x) × (is_in (locks_of s given) (lock_of (s.place (name_of e))) ≡ true) × (is_in (places_of s given) (s.place (name_of e)) ≡ true)
-  held_at [] carried paths hold x within = absurd within
-  held_at (e ∷ given) [] paths hold x within = absurd hold
-  held_at (e ∷ given) (a ∷ carried) [] hold x within = absurd hold
-  held_at (e ∷ given) (a ∷ carried) (p ∷ paths) hold x (inl here) =
-      (e, a, p, hold.0, here, in_here (lock_of (s.place (name_of e))) (lock_of (s.place (name_of e))) (locks_of s given) refl, in_here (s.place (name_of e)) (s.place (name_of e)) (places_of s given) refl)
-  held_at (e ∷ given) (a ∷ carried) (p ∷ paths) hold x (inr later) =
-      let at = held_at given carried paths hold.1 x later in (
+  pub held_at : (given : List RefEdit) (paths : List Paths) → AreHeld given paths → (x : Edit) → IsEdit x (planned given) →
+      (e : RefEdit) × (p : Paths) × IsHeld e p × (edit_of e ≡ x) × (is_in (locks_of s given) (lock_of (s.place (name_of e))) ≡ true) × (is_in (places_of s given) (s.place (name_of e)) ≡ true)
+  held_at [] paths hold x within = absurd within
+  held_at (e ∷ given) [] hold x within = absurd hold
+  held_at (e ∷ given) (p ∷ paths) hold x (inl here) =
+      (e, p, hold.0, here, in_here (lock_of (s.place (name_of e))) (lock_of (s.place (name_of e))) (locks_of s given) refl, in_here (s.place (name_of e)) (s.place (name_of e)) (places_of s given) refl)
+  held_at (e ∷ given) (p ∷ paths) hold x (inr later) =
+      let at = held_at given paths hold.1 x later in (
         at.0,
         at.1,
         at.2,
         at.3,
-        at.4,
-        any_right (λ l. bytes_eq l (lock_of (s.place (name_of at.0)))) (locks_of s (e ∷ [])) (locks_of s given) at.5,
-        any_right (λ l. bytes_eq l (s.place (name_of at.0))) (places_of s (e ∷ [])) (places_of s given) at.6,
+        any_right (λ l. bytes_eq l (lock_of (s.place (name_of at.0)))) (locks_of s (e ∷ [])) (locks_of s given) at.4,
+        any_right (λ l. bytes_eq l (s.place (name_of at.0))) (places_of s (e ∷ [])) (places_of s given) at.5,
       )
 
   -- No two of its edits have one place, since each took its lock.

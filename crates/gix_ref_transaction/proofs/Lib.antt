@@ -7,8 +7,11 @@ pub mod Held
 pub mod LockRounds
 pub mod Locking
 pub mod LookupLemmas
+pub mod PackedLemmas
+pub mod Released
 pub mod Removing
 pub mod Renames
 pub mod Rounds
+pub mod SettledRuns
 pub mod Taking
 pub mod Updates

@@ -1,6 +1,7 @@
 -- One round of the loop that takes the locks, on the disk.
 use Rattle.std.proofs.Common.{◌≡◌, ◌≢◌, inl, inr, ⊎_elim, ℕ, ◌+◌, ◌<◌, List, [], ◌∷◌, ◌++◌, length, get_or, take, true, Option, None, Some, refl, sym, ap, subst}
 use Rattle.std.specs.Prelude.{bytes_eq}
+use Rattle.std.proofs.lemmas.List.{map-append}
 use Rattle.gix_ref_hash.specs.declared.hash.Kind.{Kind}
 use Rattle.gix_ref_base.specs.Targets.{TargetValue}
 use Rattle.gix_ref_files.specs.Tree.{Tree, Path, is_file}
@@ -18,7 +19,7 @@ use Rattle.gix_ref_theory.specs.Views.{IsOwnLock}
 use Rattle.gix_ref_theory.proofs.LockDisks.{locking_as_before, writing_as_before, whole_locking, whole_writing}
 use Rattle.gix_ref_transaction.specs.OwnLocks.{is_in, AddsLocks}
 use Rattle.gix_ref_transaction.specs.Causes.{found, LocksAreApart, locks_of}
-use Rattle.gix_ref_transaction.specs.PrepareSteps.{places_of, lock_text, IsNewLock, FillingOn, HoldWhole}
+use Rattle.gix_ref_transaction.specs.PrepareSteps.{places_of, IsNewLock, FillingOn, IsSomeWhole, AreWholeLocks}
 use Rattle.gix_ref_edits.specs.RefEdits.{name_of}
 use Rattle.gix_ref_edits.specs.declared.transaction.RefEdit.{RefEdit}
 use Rattle.gix_ref_transaction.proofs.Adds.{clash, any_cases, in_one}
@@ -52,25 +53,25 @@ module _ (locked staying : List Path) (first : Disk) where
       passes_joins run (passes_weaken next (λ E found. filling_as_before (disk_of mid) E lock own file run.disk found))
 
 -- locks that stay whole
-whole_on : (s : Store) (before : Tree) (D E : Disk) (edits : List RefEdit) → ((q : Path) (bytes : List ℕ) → IsWhole D q bytes → IsWhole E q bytes) → HoldWhole s before D edits → HoldWhole s before E edits
-whole_on s before D E [] keeps whole = tt
-whole_on s before D E (edit ∷ edits) keeps whole = (keeps _ _ whole.0, whole_on s before D E edits keeps whole.1)
+whole_on : (D E : Disk) (locks : List Path) → ((q : Path) (bytes : List ℕ) → IsWhole D q bytes → IsWhole E q bytes) → AreWholeLocks D locks → AreWholeLocks E locks
+whole_on D E [] keeps whole = tt
+whole_on D E (lock ∷ locks) keeps whole = ((whole.0.0, keeps lock whole.0.0 whole.0.1), whole_on D E locks keeps whole.1)
 
-whole_more : (s : Store) (before : Tree) (D : Disk) (edits : List RefEdit) (edit : RefEdit) → HoldWhole s before D edits →
-    IsWhole D (lock_of (s.place (name_of edit))) (lock_text edit.change (found s (view_of before) (name_of edit))) → HoldWhole s before D (edits ++ edit ∷ [])
-whole_more s before D [] edit whole here = (here, tt)
-whole_more s before D (e ∷ edits) edit whole here = (whole.0, whole_more s before D edits edit whole.1 here)
+whole_more : (D : Disk) (locks : List Path) (lock : Path) → AreWholeLocks D locks → IsSomeWhole D lock → AreWholeLocks D (locks ++ lock ∷ [])
+whole_more D [] lock whole here = (here, tt)
+whole_more D (l ∷ locks) lock whole here = (whole.0, whole_more D locks lock whole.1 here)
 
 filling_whole : (D E : Disk) (lock q : Path) (bytes : List ℕ) → lock ≢ q → IsWhole D q bytes → FillingOn D lock E → IsWhole E q bytes
 filling_whole D E lock q bytes apart whole (inl e) = subst (λ (X : Disk). IsWhole X q bytes) (sym e) whole
 filling_whole D E lock q bytes apart whole (inr (text, writing)) = whole_writing D E lock q text bytes apart whole writing
 
 -- one more lock is whole: it was free, so those that are held are elsewhere
-pub whole_then : (s : Store) (before : Tree) (D U E : Disk) (seen : List RefEdit) (edit : RefEdit) → HoldWhole s before D seen → D.tree (lock_of (s.place (name_of edit))) ≡ None →
+pub whole_then : (s : Store) (D U E : Disk) (seen : List RefEdit) (edit : RefEdit) → AreWholeLocks D (locks_of s seen) → D.tree (lock_of (s.place (name_of edit))) ≡ None →
     LockingOn D (s.place (name_of edit)) U → FillingOn U (lock_of (s.place (name_of edit))) E →
-    IsWhole E (lock_of (s.place (name_of edit))) (lock_text edit.change (found s (view_of before) (name_of edit))) → HoldWhole s before E (seen ++ edit ∷ [])
-whole_then s before D U E seen edit whole free locking filling here =
-    whole_more s before E seen edit (whole_on s before D E seen keeps whole) here
+    IsSomeWhole E (lock_of (s.place (name_of edit))) → AreWholeLocks E (locks_of s (seen ++ edit ∷ []))
+whole_then s D U E seen edit whole free locking filling here =
+    subst (AreWholeLocks E) (sym (map-append (λ (e : RefEdit). lock_of (s.place (name_of e))) seen (edit ∷ [])))
+    (whole_more E (locks_of s seen) lock (whole_on D E (locks_of s seen) keeps whole) here)
   where
     lock : Path
     lock = lock_of (s.place (name_of edit))
@@ -94,14 +95,13 @@ module _ (s : Store) (kind : Kind) (edits : List RefEdit) (apart : LocksAreApart
   filling_round staying one two before next file last =
       filling_passes (places_of s edits) staying (disk_of first) first one two lock (subst (IsOwnLock (places_of s edits)) (sym at) own) file (locking_round staying one before next) last
 
-  pub whole_round : (one two : Meaning) (took : Leaves mid one (AddsLocks (lock ∷ []) (lock ∷ []) mid.tree)) (new : IsNewLock mid.tree lock one.tree) → HoldWhole s first.tree (disk_of mid) (take i edits) →
+  pub whole_round : (one two : Meaning) (took : Leaves mid one (AddsLocks (lock ∷ []) (lock ∷ []) mid.tree)) (new : IsNewLock mid.tree lock one.tree) → AreWholeLocks (disk_of mid) (locks_of s (take i edits)) →
       Passes mid one (LockingOn (disk_of mid) place) → Passes one two (FillingOn (disk_of one) lock) →
-      IsWhole (disk_of two) lock (lock_text edit.change (found s (view_of one.tree) (name_of edit))) → HoldWhole s first.tree (disk_of two) (take (i + 1) edits)
+      IsSomeWhole (disk_of two) lock → AreWholeLocks (disk_of two) (locks_of s (take (i + 1) edits))
   whole_round one two took new whole next last here =
-      subst (HoldWhole s first.tree (disk_of two)) (sym (more s kind edits apart first mid i edit lt is lock at held run))
-      (whole_then s first.tree (disk_of mid) (disk_of one) (disk_of two) (take i edits) edit whole
+      subst (λ (l : List RefEdit). AreWholeLocks (disk_of two) (locks_of s l)) (sym (more s kind edits apart first mid i edit lt is lock at held run))
+      (whole_then s (disk_of mid) (disk_of one) (disk_of two) (take i edits) edit whole
       (subst (λ (l : Path). mid.tree l ≡ None) at new.free)
       (subst (λ (p : Path). LockingOn (disk_of mid) p (disk_of one)) placed next.disk)
       (subst (λ (l : Path). FillingOn (disk_of one) l (disk_of two)) at last.disk)
-      (subst (λ (was : Option TargetValue). IsWhole (disk_of two) (lock_of (s.place (name_of edit))) (lock_text edit.change was)) (same_as_first s kind edits apart first mid i edit lt is lock at held run one took new)
-      (subst (λ (l : Path). IsWhole (disk_of two) l (lock_text edit.change (found s (view_of one.tree) (name_of edit)))) at here)))
+      (subst (λ (l : Path). IsSomeWhole (disk_of two) l) at here))

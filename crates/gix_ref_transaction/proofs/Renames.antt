@@ -23,57 +23,56 @@ use Rattle.gix_ref_transaction.specs.declared.commit.renames.Why.TheVariants.{Fo
 use Rattle.gix_ref_transaction.specs.OwnLocks.{is_in, RemovesLocks}
 use Rattle.gix_ref_transaction.specs.CommitRenames.{first_renames, rename_at, renames_of, IsStepOf, SayTheirEdits, IsCutAt, IsFolderInPlace, first_synced_renames, lock_at, place_at, stays_at, is_written_at, why_is, IsRaised}
 use Rattle.gix_ref_transaction.specs.PrepareSteps.{lock_paths}
-use Rattle.gix_ref_edits.specs.declared.transaction.RefEdit.{RefEdit}
 use Rattle.gix_ref_transaction.specs.declared.paths.Paths.{Paths}
 use Rattle.gix_ref_lookup.proofs.Opening.{risen}
 use Rattle.gix_ref_transaction.proofs.Adds.{clash, either_way, same_path, is_same_path, false_is_true, is_false, any_right, any_cases, in_here, in_one}
 use Rattle.gix_ref_transaction.proofs.Removing.{no_file_then}
 
 -- one edit more is planned
-module _ (dirs : Dirs) (edits : List RefEdit) (paths : List Paths) (plan : List (Planned ℕ)) (i : ℕ) where
+module _ (dirs : Dirs) (paths : List Paths) (plan : List (Planned ℕ)) (i : ℕ) where
   next : i + 1 ≡ suc i
   next = omega arith
 
-  pub steps_more : (p : Planned ℕ) → steps_of plan ≡ first_renames edits paths i → is_written_at edits i ≡ true → step_of p.action ≡ Rename (lock_at paths i) (place_at paths i) → steps_of (plan ++ p ∷ []) ≡ first_renames edits paths (i + 1)
+  pub steps_more : (p : Planned ℕ) → steps_of plan ≡ first_renames paths i → is_written_at paths i ≡ true → step_of p.action ≡ Rename (lock_at paths i) (place_at paths i) → steps_of (plan ++ p ∷ []) ≡ first_renames paths (i + 1)
   steps_more p so_far written step =
       map-append (λ (q : Planned ℕ). step_of q.action) plan (p ∷ [])
       ∙ ap (λ l. l ++ step_of p.action ∷ []) so_far
-      ∙ ap (λ s. first_renames edits paths i ++ s ∷ []) step
-      ∙ sym (ap (λ b. first_renames edits paths i ++ (if b then Rename (lock_at paths i) (place_at paths i) ∷ [] else [])) written)
-      ∙ sym (ap (first_renames edits paths) next)
+      ∙ ap (λ s. first_renames paths i ++ s ∷ []) step
+      ∙ sym (ap (λ b. first_renames paths i ++ (if b then Rename (lock_at paths i) (place_at paths i) ∷ [] else [])) written)
+      ∙ sym (ap (first_renames paths) next)
 
-  pub steps_same : steps_of plan ≡ first_renames edits paths i → is_written_at edits i ≡ false → steps_of plan ≡ first_renames edits paths (i + 1)
+  pub steps_same : steps_of plan ≡ first_renames paths i → is_written_at paths i ≡ false → steps_of plan ≡ first_renames paths (i + 1)
   steps_same so_far unwritten =
       so_far
-      ∙ sym (append-nil (first_renames edits paths i))
-      ∙ sym (ap (λ b. first_renames edits paths i ++ (if b then Rename (lock_at paths i) (place_at paths i) ∷ [] else [])) unwritten)
-      ∙ sym (ap (first_renames edits paths) next)
+      ∙ sym (append-nil (first_renames paths i))
+      ∙ sym (ap (λ b. first_renames paths i ++ (if b then Rename (lock_at paths i) (place_at paths i) ∷ [] else [])) unwritten)
+      ∙ sym (ap (first_renames paths) next)
 
   abbrev synced_one : Synced
   synced_one = With (Rename (lock_at paths i) (place_at paths i)) (climb (place_at paths i) (root_in dirs (place_at paths i)))
 
-  pub synced_more : (p : Planned ℕ) → synced_steps plan ≡ first_synced_renames dirs edits paths i → is_written_at edits i ≡ true → synced_step p ≡ synced_one → synced_steps (plan ++ p ∷ []) ≡ first_synced_renames dirs edits paths (i + 1)
+  pub synced_more : (p : Planned ℕ) → synced_steps plan ≡ first_synced_renames dirs paths i → is_written_at paths i ≡ true → synced_step p ≡ synced_one → synced_steps (plan ++ p ∷ []) ≡ first_synced_renames dirs paths (i + 1)
   synced_more p so_far written step =
       map-append (λ (q : Planned ℕ). synced_step q) plan (p ∷ [])
       ∙ ap (λ l. l ++ synced_step p ∷ []) so_far
-      ∙ ap (λ s. first_synced_renames dirs edits paths i ++ s ∷ []) step
-      ∙ sym (ap (λ b. first_synced_renames dirs edits paths i ++ (if b then synced_one ∷ [] else [])) written)
-      ∙ sym (ap (first_synced_renames dirs edits paths) next)
+      ∙ ap (λ s. first_synced_renames dirs paths i ++ s ∷ []) step
+      ∙ sym (ap (λ b. first_synced_renames dirs paths i ++ (if b then synced_one ∷ [] else [])) written)
+      ∙ sym (ap (first_synced_renames dirs paths) next)
 
-  pub synced_same : synced_steps plan ≡ first_synced_renames dirs edits paths i → is_written_at edits i ≡ false → synced_steps plan ≡ first_synced_renames dirs edits paths (i + 1)
+  pub synced_same : synced_steps plan ≡ first_synced_renames dirs paths i → is_written_at paths i ≡ false → synced_steps plan ≡ first_synced_renames dirs paths (i + 1)
   synced_same so_far unwritten =
       so_far
-      ∙ sym (append-nil (first_synced_renames dirs edits paths i))
-      ∙ sym (ap (λ b. first_synced_renames dirs edits paths i ++ (if b then synced_one ∷ [] else [])) unwritten)
-      ∙ sym (ap (first_synced_renames dirs edits paths) next)
+      ∙ sym (append-nil (first_synced_renames dirs paths i))
+      ∙ sym (ap (λ b. first_synced_renames dirs paths i ++ (if b then synced_one ∷ [] else [])) unwritten)
+      ∙ sym (ap (first_synced_renames dirs paths) next)
 
 -- one planned step more that says its edit
-pub says_more : (edits : List RefEdit) (paths : List Paths) (plan : List (Planned ℕ)) (p : Planned ℕ) → SayTheirEdits edits paths plan → IsStepOf edits paths (length plan) p.about → SayTheirEdits edits paths (plan ++ p ∷ [])
-says_more edits paths plan p says here k d lt = ⊎_elim
+pub says_more : (paths : List Paths) (plan : List (Planned ℕ)) (p : Planned ℕ) → SayTheirEdits paths plan → IsStepOf paths (length plan) p.about → SayTheirEdits paths (plan ++ p ∷ [])
+says_more paths plan p says here k d lt = ⊎_elim
     (λ (same : k ≡ length plan).
-    subst (λ j. IsStepOf edits paths j (get_or (plan ++ p ∷ []) j d).about) (sym same)
-    (subst (λ (q : Planned ℕ). IsStepOf edits paths (length plan) q.about) (sym (at_end plan)) here))
-    (λ (less : k < length plan). subst (λ (q : Planned ℕ). IsStepOf edits paths k q.about) (sym (get_or_append_left plan (p ∷ []) d k less)) (says k d less))
+    subst (λ j. IsStepOf paths j (get_or (plan ++ p ∷ []) j d).about) (sym same)
+    (subst (λ (q : Planned ℕ). IsStepOf paths (length plan) q.about) (sym (at_end plan)) here))
+    (λ (less : k < length plan). subst (λ (q : Planned ℕ). IsStepOf paths k q.about) (sym (get_or_append_left plan (p ∷ []) d k less)) (says k d less))
     (eq-or-lt_of_le (omega (arith, lt, length-append plan (p ∷ []))))
   where
     at_end : (l : List (Planned ℕ)) → get_or (l ++ p ∷ []) (length l) d ≡ p
@@ -81,20 +80,20 @@ says_more edits paths plan p says here k d lt = ⊎_elim
     at_end (q ∷ l) = at_end l
 
 -- the renames of a list, cut at one of them
-cut_in_two : (edits : List RefEdit) (paths : List Paths) (at n : ℕ) → at < n → is_written_at edits at ≡ true →
-    (rest : List Step) × (first_renames edits paths n ≡ first_renames edits paths at ++ Rename (lock_at paths at) (place_at paths at) ∷ rest)
-cut_in_two edits paths at zero lt written = absurd (omega (arith, lt))
-cut_in_two edits paths at (suc n) lt written = ⊎_elim
+cut_in_two : (paths : List Paths) (at n : ℕ) → at < n → is_written_at paths at ≡ true →
+    (rest : List Step) × (first_renames paths n ≡ first_renames paths at ++ Rename (lock_at paths at) (place_at paths at) ∷ rest)
+cut_in_two paths at zero lt written = absurd (omega (arith, lt))
+cut_in_two paths at (suc n) lt written = ⊎_elim
     (λ (same : at ≡ n). (
       [],
-      subst (λ m. first_renames edits paths m ++ rename_at edits paths m ≡ first_renames edits paths at ++ Rename (lock_at paths at) (place_at paths at) ∷ []) same
-          (ap (λ b. first_renames edits paths at ++ (if b then Rename (lock_at paths at) (place_at paths at) ∷ [] else [])) written),
+      subst (λ m. first_renames paths m ++ rename_at paths m ≡ first_renames paths at ++ Rename (lock_at paths at) (place_at paths at) ∷ []) same
+          (ap (λ b. first_renames paths at ++ (if b then Rename (lock_at paths at) (place_at paths at) ∷ [] else [])) written),
     ))
     (λ (less : at < n).
-    let cut = cut_in_two edits paths at n less written in (
-      cut.0 ++ rename_at edits paths n,
-      ap (λ steps. steps ++ rename_at edits paths n) cut.1
-          ∙ append_assoc (first_renames edits paths at) (Rename (lock_at paths at) (place_at paths at) ∷ cut.0) (rename_at edits paths n),
+    let cut = cut_in_two paths at n less written in (
+      cut.0 ++ rename_at paths n,
+      ap (λ steps. steps ++ rename_at paths n) cut.1
+          ∙ append_assoc (first_renames paths at) (Rename (lock_at paths at) (place_at paths at) ∷ cut.0) (rename_at paths n),
     ))
     (eq-or-lt_of_le (omega (arith, lt)))
 
@@ -107,16 +106,16 @@ ends_behind (y ∷ xs) x rest (suc k) cause S T is (next, done, ends) =
     let later = ends_behind xs x rest k cause next T (omega (arith, is)) ends in (later.0, (next, done, later.1), later.2)
 
 -- a run of the renames that ended at the rename of an edit
-ended_at : (edits : List RefEdit) (paths : List Paths) (at k : ℕ) (cause : Cause) (S T : Tree) → IsStepOf edits paths k at → EndsAt (renames_of edits paths) k cause S T →
-    (mid : Tree) × IsAfter (first_renames edits paths at) S mid × EndsBy (Rename (lock_at paths at) (place_at paths at)) cause mid T
-ended_at edits paths at k cause S T step ends =
-    let cut = cut_in_two edits paths at (length edits) step.within step.written in
-    ends_behind (first_renames edits paths at) (Rename (lock_at paths at) (place_at paths at)) cut.0 k cause S T step.number (subst (λ steps. EndsAt steps k cause S T) cut.1 ends)
+ended_at : (paths : List Paths) (at k : ℕ) (cause : Cause) (S T : Tree) → IsStepOf paths k at → EndsAt (renames_of paths) k cause S T →
+    (mid : Tree) × IsAfter (first_renames paths at) S mid × EndsBy (Rename (lock_at paths at) (place_at paths at)) cause mid T
+ended_at paths at k cause S T step ends =
+    let cut = cut_in_two paths at (length paths) step.within step.written in
+    ends_behind (first_renames paths at) (Rename (lock_at paths at) (place_at paths at)) cut.0 k cause S T step.number (subst (λ steps. EndsAt steps k cause S T) cut.1 ends)
 
 -- leaves the tree cut there
-pub cut_at : (edits : List RefEdit) (paths : List Paths) (at k : ℕ) (cause : Cause) (S T : Tree) → IsStepOf edits paths k at → EndsAt (renames_of edits paths) k cause S T → IsCutAt edits paths at S T
-cut_at edits paths at k cause S T step ends =
-    let ended = ended_at edits paths at k cause S T step ends in (
+pub cut_at : (paths : List Paths) (at k : ℕ) (cause : Cause) (S T : Tree) → IsStepOf paths k at → EndsAt (renames_of paths) k cause S T → IsCutAt paths at S T
+cut_at paths at k cause S T step ends =
+    let ended = ended_at paths at k cause S T step ends in (
       ended.0,
       ended.1,
       subst (λ b. IsLeftBy (if b then Rename (lock_at paths at) (place_at paths at) ∷ [] else []) ended.0 T) (sym step.written)
@@ -137,10 +136,10 @@ one_of_both [] ys step h = inr h
 one_of_both (x ∷ xs) ys step (inl h) = inl (inl h)
 one_of_both (x ∷ xs) ys step (inr h) = ⊎_elim (λ l. inl (inr l)) (λ r. inr r) (one_of_both xs ys step h)
 
-all_renames : (edits : List RefEdit) (paths : List Paths) (n : ℕ) (step : Step) → IsOneOf step (first_renames edits paths n) → IsRename step
-all_renames edits paths zero step none = absurd none
-all_renames edits paths (suc n) step h =
-    ⊎_elim (λ before. all_renames edits paths n step before) (λ here. last (is_written_at edits n) here) (one_of_both (first_renames edits paths n) (rename_at edits paths n) step h)
+all_renames : (paths : List Paths) (n : ℕ) (step : Step) → IsOneOf step (first_renames paths n) → IsRename step
+all_renames paths zero step none = absurd none
+all_renames paths (suc n) step h =
+    ⊎_elim (λ before. all_renames paths n step before) (λ here. last (is_written_at paths n) here) (one_of_both (first_renames paths n) (rename_at paths n) step h)
   where
     last : (w : Bool) → IsOneOf step (if w then Rename (lock_at paths n) (place_at paths n) ∷ [] else []) → IsRename step
     last true (inl is) = subst IsRename is tt
@@ -177,13 +176,13 @@ folder_before (step ∷ steps) S T q renames (M, done, after) folder =
     back End is does there = absurd is
 
 -- and where it ended, but not by a fault, it found a folder at the place, which was there before
-pub folder_there : (edits : List RefEdit) (paths : List Paths) (at k : ℕ) (cause : Cause) (S T : Tree) → IsStepOf edits paths k at → EndsAt (renames_of edits paths) k cause S T → why_is cause ≡ Folder → IsFolderInPlace S T (place_at paths at)
-folder_there edits paths at k cause S T step ends why = let ended = ended_at edits paths at k cause S T step ends in by cause ended.0 ended.1 ended.2 why
+pub folder_there : (paths : List Paths) (at k : ℕ) (cause : Cause) (S T : Tree) → IsStepOf paths k at → EndsAt (renames_of paths) k cause S T → why_is cause ≡ Folder → IsFolderInPlace S T (place_at paths at)
+folder_there paths at k cause S T step ends why = let ended = ended_at paths at k cause S T step ends in by cause ended.0 ended.1 ended.2 why
   where
-    by : (c : Cause) (mid : Tree) → IsAfter (first_renames edits paths at) S mid → EndsBy (Rename (lock_at paths at) (place_at paths at)) c mid T → why_is c ≡ Folder → IsFolderInPlace S T (place_at paths at)
+    by : (c : Cause) (mid : Tree) → IsAfter (first_renames paths at) S mid → EndsBy (Rename (lock_at paths at) (place_at paths at)) c mid T → why_is c ≡ Folder → IsFolderInPlace S T (place_at paths at)
     by (File error) mid after ends why = cc
     by Unexpected mid after ends why = (
-      folder_before (first_renames edits paths at) S mid (place_at paths at) (all_renames edits paths at) after ends.0,
+      folder_before (first_renames paths at) S mid (place_at paths at) (all_renames paths at) after ends.0,
       ap (λ (R : Tree). is_folder (R (place_at paths at))) ends.1 ∙ ends.0,
     )
     by Asked mid after ends why = cc
@@ -201,6 +200,11 @@ pub lock_there : (rest : List Paths) (own : Paths) (tail : List Paths) → lock_
 lock_there [] own tail = refl
 lock_there (p ∷ rest) own tail = lock_there rest own tail
 
+-- and so is whether it is written
+pub flag_there : (rest : List Paths) (own : Paths) (tail : List Paths) → is_written_at (rest ++ own ∷ tail) (length rest) ≡ own.writes
+flag_there [] own tail = refl
+flag_there (p ∷ rest) own tail = flag_there rest own tail
+
 -- it is among the locks
 pub lock_within : (rest : List Paths) (own : Paths) (tail : List Paths) → is_in (lock_paths (rest ++ own ∷ tail)) own.lock.items ≡ true
 lock_within rest own tail =
@@ -208,15 +212,15 @@ lock_within rest own tail =
     (any_right (λ p. bytes_eq p own.lock.items) (lock_paths rest) (lock_paths (own ∷ tail)) (in_here own.lock.items own.lock.items (lock_paths tail) refl))
 
 -- one more is released: the lock at a place from it on is gone, renamed or left
-module _ (all : List Paths) (total : ℕ) (edits : List RefEdit) (done n : ℕ) (lock : Path) (at : lock_at all n ≡ lock) (T U : Tree) (removes : RemovesLocks (lock ∷ []) T U) where
+module _ (all : List Paths) (total : ℕ) (done n : ℕ) (lock : Path) (at : lock_at all n ≡ lock) (T U : Tree) (removes : RemovesLocks (lock ∷ []) T U) where
   pub released : (left left' : List Path) → ((q : Path) → is_in left q ≡ true → is_in left' q ≡ true) →
-      (stays_at edits done n ≡ true → is_in left' lock ≡ false → is_file (U lock) ≡ false) →
-      ((k : ℕ) → n + 1 ≤ k → k < total → stays_at edits done k ≡ true → is_in left (lock_at all k) ≡ false → is_file (T (lock_at all k)) ≡ false) →
-      (k : ℕ) → n ≤ k → k < total → stays_at edits done k ≡ true → is_in left' (lock_at all k) ≡ false → is_file (U (lock_at all k)) ≡ false
+      (stays_at all done n ≡ true → is_in left' lock ≡ false → is_file (U lock) ≡ false) →
+      ((k : ℕ) → n + 1 ≤ k → k < total → stays_at all done k ≡ true → is_in left (lock_at all k) ≡ false → is_file (T (lock_at all k)) ≡ false) →
+      (k : ℕ) → n ≤ k → k < total → stays_at all done k ≡ true → is_in left' (lock_at all k) ≡ false → is_file (U (lock_at all k)) ≡ false
   released left left' wider here before k le lt stays out = ⊎_elim
       (λ (same : n ≡ k).
       let e : lock_at all k ≡ lock = ap (lock_at all) (sym same) ∙ at in
-      subst (λ (p : Path). is_file (U p) ≡ false) (sym e) (here (ap (stays_at edits done) same ∙ stays) (subst (λ (p : Path). is_in left' p ≡ false) e out)))
+      subst (λ (p : Path). is_file (U p) ≡ false) (sym e) (here (ap (stays_at all done) same ∙ stays) (subst (λ (p : Path). is_in left' p ≡ false) e out)))
       (λ (less : n < k).
       no_file_then lock T U (lock_at all k) removes
       (before k (omega (arith, less)) lt stays (is_false (is_in left (lock_at all k)) (λ h. clash (wider (lock_at all k) h) out))))
@@ -231,5 +235,5 @@ lock_found (own ∷ paths) q h = ⊎_elim
     (any_cases (λ p. bytes_eq p q) (own.lock.items ∷ []) (lock_paths paths) h)
 
 -- where none is done, no lock was renamed
-pub none_renamed : (edits : List RefEdit) (k : ℕ) → stays_at edits 0 k ≡ true
-none_renamed edits k = ap (λ b. not (b && is_written_at edits k)) (le-ltb k 0 (omega arith))
+pub none_renamed : (paths : List Paths) (k : ℕ) → stays_at paths 0 k ≡ true
+none_renamed paths k = ap (λ b. not (b && is_written_at paths k)) (le-ltb k 0 (omega arith))

@@ -8,14 +8,15 @@ use Rattle.gix_ref_files.specs.Tree.Content.{File}
 use Rattle.gix_ref_files.proofs.Puts.{put_at, put_other}
 use Rattle.gix_ref_transaction.specs.OwnLocks.{is_in, leads_to, IsOurs, AddsLocks}
 use Rattle.gix_ref_theory.specs.OnRealTrees.{view_of, file_of}
-use Rattle.gix_ref_transaction.specs.Causes.{found, found_by, decoded, IsFault, IsLockable, LocksAreApart, locks_of}
+use Rattle.gix_ref_transaction.specs.Causes.{found, found_by, decoded, packed_id, packed_of, IsFault, IsLockable, LocksAreApart, locks_of}
 use Rattle.gix_ref_theory.specs.Readings.{Store, records_in}
-use Rattle.gix_ref_transaction.specs.PrepareSteps.{lock_text, IsRefusedLock, IsNewLock, FillsLock, HoldTexts}
+use Rattle.gix_ref_transaction.specs.PrepareSteps.{effect_on, lock_text, IsRefusedLock, IsNewLock, FillsLock, HoldTexts}
 use Rattle.gix_ref_edits.specs.RefEdits.{name_of}
 use Rattle.gix_ref_files.specs.Lock.{lock_of}
 use Rattle.gix_ref_edits.specs.declared.transaction.RefEdit.{RefEdit}
 use Rattle.gix_ref_transaction.specs.declared.prepare.error.Error.{Error}
-use Rattle.gix_ref_transaction.specs.declared.prepare.error.Error.TheVariants.{UnsafeName, DeviceName, TargetNotFull, OtherHashKind, PreprocessingFailed, PathCollision, LockAcquire, MustExist, MustNotExist, ReferenceOutOfDate, Io, Memory}
+use Rattle.gix_ref_transaction.specs.declared.prepare.error.Error.TheVariants.{UnsafeName, DeviceName, TargetNotFull, OtherHashKind, PreprocessingFailed, Packed, PackedFind, PathCollision, LockAcquire, MustExist, MustNotExist, ReferenceOutOfDate, Io, Memory}
+use Rattle.gix_ref_transaction.proofs.LookupLemmas.{effect_alike}
 use Rattle.gix_ref_transaction.proofs.Adds.{clash, is_false, either_way, any_left, any_right, any_cases, in_one, in_here, any_same, leads_in, leads_one, no_way, adds_wider, adds_then, same_view, same_lock, same_path, is_same_path}
 
 -- the locks of some edits and one more
@@ -42,17 +43,9 @@ hold_on s kind before S T [] same holds = tt
 hold_on s kind before S T (edit ∷ edits) same holds =
     (same (lock_of (s.place (name_of edit))) (ap is_file holds.0) ∙ holds.0, hold_on s kind before S T edits same holds.1)
 
-pub hold_more : (s : Store) (kind : Kind) (before T : Tree) (edits : List RefEdit) (edit : RefEdit) → HoldTexts s before T edits → T (lock_of (s.place (name_of edit))) ≡ Some (File (lock_text edit.change (found s (view_of before) (name_of edit)))) → HoldTexts s before T (edits ++ edit ∷ [])
+pub hold_more : (s : Store) (kind : Kind) (before T : Tree) (edits : List RefEdit) (edit : RefEdit) → HoldTexts s before T edits → T (lock_of (s.place (name_of edit))) ≡ Some (File (lock_text (effect_on s (view_of before) edit))) → HoldTexts s before T (edits ++ edit ∷ [])
 hold_more s kind before T [] edit holds here = (here, tt)
 hold_more s kind before T (e ∷ edits) edit holds here = (holds.0, hold_more s kind before T edits edit holds.1 here)
-
-pub hold_files : (s : Store) (kind : Kind) (before T : Tree) (edits : List RefEdit) (q : Path) → HoldTexts s before T edits → is_in (locks_of s edits) q ≡ true → is_file (T q) ≡ true
-hold_files s kind before T [] q holds within = clash within refl
-hold_files s kind before T (edit ∷ edits) q holds within =
-    ⊎_elim
-    (λ here. subst (λ (p : Path). is_file (T p) ≡ true) (in_one (lock_of (s.place (name_of edit))) q here) (ap is_file holds.0))
-    (λ there. hold_files s kind before T edits q holds.1 there)
-    (any_cases (λ p. bytes_eq p q) (locks_of s (edit ∷ [])) (locks_of s edits) within)
 
 module _ (s : Store) (kind : Kind) (edits : List RefEdit) (apart : LocksAreApart s edits) (T0 : Tree) where
   abbrev all : List Path
@@ -62,7 +55,7 @@ module _ (s : Store) (kind : Kind) (edits : List RefEdit) (apart : LocksAreApart
   pub record Held (seen : List RefEdit) (T : Tree) : Type 0 where
     pub adds : AddsLocks (locks_of s seen) all T0 T
     pub free : (q : Path) → is_in (locks_of s seen) q ≡ true → T0 q ≡ None
-    pub texts : HoldTexts s T0 T seen
+    pub files : (q : Path) → is_in (locks_of s seen) q ≡ true → is_file (T q) ≡ true
 
   module _ (seen : List RefEdit) (known : (q : Path) → is_in (locks_of s seen) q ≡ true → is_in all q ≡ true) (edit : RefEdit) (within : is_in all (lock_of (s.place (name_of edit))) ≡ true) (T : Tree) (held : Held seen T) where
     abbrev lock : Path
@@ -89,6 +82,8 @@ module _ (s : Store) (kind : Kind) (edits : List RefEdit) (apart : LocksAreApart
     refused TargetNotFull why = absurd why
     refused OtherHashKind why = absurd why
     refused (PreprocessingFailed source) why = absurd why
+    refused (Packed error) why = absurd why
+    refused (PackedFind error) why = absurd why
     refused (MustExist name expected) why = absurd why
     refused (MustNotExist name actual new) why = absurd why
     refused (ReferenceOutOfDate name expected actual) why = absurd why
@@ -115,7 +110,7 @@ module _ (s : Store) (kind : Kind) (edits : List RefEdit) (apart : LocksAreApart
 
     module _ (U : Tree) (adds : AddsLocks (lock ∷ []) (lock ∷ []) T U) (new : IsNewLock T lock U) where
       not_ours : is_in (locks_of s seen) lock ≡ false
-      not_ours = is_false (is_in (locks_of s seen) lock) (λ taken. clash (hold_files s kind T0 T seen lock held.texts taken) (ap is_file new.free))
+      not_ours = is_false (is_in (locks_of s seen) lock) (λ taken. clash (held.files lock taken) (ap is_file new.free))
 
       pub lockable : IsLockable s kind T0 seen edit
       lockable = record { way = sym same_way ∙ new.way; free = sym (at_lock not_ours) ∙ new.free; ours = not_ours }
@@ -128,10 +123,17 @@ module _ (s : Store) (kind : Kind) (edits : List RefEdit) (apart : LocksAreApart
       same_file path apart_path = same_view file_of refl (locks_of s (seen ++ edit ∷ [])) all T0 U path (begun U adds)
           (is_false (is_in (locks_of s (seen ++ edit ∷ [])) path) (λ taken. clash (all_known path taken) apart_path))
 
-      pub same_found : is_in all (s.place (name_of edit)) ≡ false → found s (view_of U) (name_of edit) ≡ found s (view_of T0) (name_of edit)
-      same_found apart_place =
-          ap (λ (file : Option (List ℕ)). found_by s (s.key (name_of edit)) (decoded s file) (records_in s (view_of U s.packed_path))) (same_file (s.place (name_of edit)) apart_place)
-          ∙ ap (λ (file : Option (List ℕ)). found_by s (s.key (name_of edit)) (decoded s (view_of T0 (s.place (name_of edit)))) (records_in s file)) (same_file s.packed_path apart.packed)
+      module _ (apart_place : is_in all (s.place (name_of edit)) ≡ false) where
+        pub same_id : packed_of s (view_of U) (name_of edit) ≡ packed_of s (view_of T0) (name_of edit)
+        same_id = ap (λ (file : Option (List ℕ)). packed_id (s.key (name_of edit)) (records_in s file)) (same_file s.packed_path apart.packed)
+
+        pub same_found : found s (view_of U) (name_of edit) ≡ found s (view_of T0) (name_of edit)
+        same_found =
+            ap (λ (file : Option (List ℕ)). found_by s (decoded s file) (packed_of s (view_of U) (name_of edit))) (same_file (s.place (name_of edit)) apart_place)
+            ∙ ap (λ id. found_by s (decoded s (view_of T0 (s.place (name_of edit)))) id) same_id
+
+        pub same_effect : effect_on s (view_of U) edit ≡ effect_on s (view_of T0) edit
+        same_effect = effect_alike s (view_of U) (view_of T0) edit (same_file (s.place (name_of edit)) apart_place) (same_file s.packed_path apart.packed)
 
       -- with a text in it
       pub filling : (W : Tree) → FillsLock U lock W → AddsLocks (locks_of s (seen ++ edit ∷ [])) all T0 W
@@ -149,15 +151,32 @@ module _ (s : Store) (kind : Kind) (edits : List RefEdit) (apart : LocksAreApart
       pub stop_filling : (W : Tree) → FillsLock U lock W → AddsLocks all all T0 W
       stop_filling W fills = adds_wider (locks_of s (seen ++ edit ∷ [])) all all all T0 W all_known (λ q h. h) (filling W fills)
 
-      pub held_more : (W : Tree) → W ≡ put U lock (Some (File (lock_text edit.change (found s (view_of T0) (name_of edit))))) → Held (seen ++ edit ∷ []) W
-      held_more W is = record {
-        adds = filling W (inr (_, is));
-        free = free_more;
-        texts = hold_more s kind T0 W seen edit (hold_on s kind T0 T W seen same held.texts) (ap (λ (t : Tree). t lock) is ∙ put_at U lock _);
-      }
+      -- its lock has one file more
+      still_file : (W : Tree) → FillsLock U lock W → (q : Path) → lock ≢ q → is_file (T q) ≡ true → W q ≡ T q
+      still_file W fills q other a_file = filled fills ∙ ⊎_elim (λ old. old) (λ more. clash a_file (ap is_file more.0)) (adds q)
         where
-          same : (q : Path) → is_file (T q) ≡ true → W q ≡ T q
-          same q a_file =
-              let apart_from : lock ≢ q = λ e. clash a_file (subst (λ (p : Path). is_file (T p) ≡ false) e (ap is_file new.free)) in
-              ap (λ (t : Tree). t q) is ∙ put_other U lock q _ apart_from
-              ∙ ⊎_elim (λ old. old) (λ more. clash a_file (ap is_file more.0)) (adds q)
+          filled : FillsLock U lock W → W q ≡ U q
+          filled (inl same) = ap (λ (t : Tree). t q) same
+          filled (inr (text, is)) = ap (λ (t : Tree). t q) is ∙ put_other U lock q _ other
+
+      own_file : (W : Tree) → FillsLock U lock W → is_file (W lock) ≡ true
+      own_file W (inl same) = ap (λ (t : Tree). is_file (t lock)) same ∙ ap is_file new.empty
+      own_file W (inr (text, is)) = ap (λ (t : Tree). is_file (t lock)) is ∙ ap is_file (put_at U lock (Some (File text)))
+
+      taken_apart : (q : Path) → is_file (T q) ≡ true → lock ≢ q
+      taken_apart q a_file e = clash a_file (subst (λ (p : Path). is_file (T p) ≡ false) e (ap is_file new.free))
+
+      pub held_more : (W : Tree) → FillsLock U lock W → Held (seen ++ edit ∷ []) W
+      held_more W fills = record {
+        adds = filling W fills;
+        free = free_more;
+        files = λ q h. ⊎_elim
+            (λ old. let a_file = held.files q old in ap is_file (still_file W fills q (taken_apart q a_file) a_file) ∙ a_file)
+            (λ here. subst (λ (p : Path). is_file (W p) ≡ true) here (own_file W fills))
+            (more_cases s kind seen edit q h);
+      }
+
+      -- and its text
+      pub texts_more : (W : Tree) → HoldTexts s T0 T seen → W ≡ put U lock (Some (File (lock_text (effect_on s (view_of T0) edit)))) → HoldTexts s T0 W (seen ++ edit ∷ [])
+      texts_more W texts is =
+          hold_more s kind T0 W seen edit (hold_on s kind T0 T W seen (λ q a_file. still_file W (inr (_, is)) q (taken_apart q a_file) a_file) texts) (ap (λ (t : Tree). t lock) is ∙ put_at U lock _)

@@ -2,12 +2,12 @@
 use Rattle.std.specs.Prelude.{◌≡◌, ◌≢◌, ◌⊎◌, ℕ, List, [], true, false, Option, Some, None, IsSome, map, All}
 use Rattle.std.specs.Option.{option_map}
 use Rattle.gix_ref_hash.specs.Ids.{id_kind, null_id, IsWhole}
-use Rattle.gix_ref_base.specs.NameGrammar.{IsFullName}
-use Rattle.gix_ref_base.specs.Names.{full_bytes}
+use Rattle.gix_ref_grammar.specs.NameGrammar.{IsFullName}
+use Rattle.gix_ref_name.specs.Names.{full_bytes}
 use Rattle.gix_ref_base.specs.Targets.{TargetValue, target_value}
 use Rattle.gix_ref_base.specs.Targets.TargetValue.{object_id, symbolic_name}
 use Rattle.gix_ref_hash.specs.declared.hash.Kind.{Kind}
-use Rattle.gix_ref_files.specs.Tree.{Tree, Path, is_blocked, fronts}
+use Rattle.gix_ref_files.specs.Tree.{Tree, Path, Content, is_blocked, fronts}
 use Rattle.gix_ref_files.specs.Files.{HasRisen}
 use Rattle.gix_ref_files.specs.declared.files.FileError.{FileError}
 use Rattle.gix_ref_files.specs.declared.files.FileError.TheVariants.{Device, NotUtf8, Memory as out_of_memory}
@@ -15,6 +15,10 @@ use Rattle.gix_ref_theory.specs.Views.{View}
 use Rattle.gix_ref_files.specs.Lock.{lock_of}
 use Rattle.gix_ref_theory.specs.OnRealTrees.{view_of}
 use Rattle.gix_ref_base.specs.PackedRecords.{Record, record_named, id_read}
+use Rattle.gix_ref_hash.specs.declared.hash.ObjectId.{ObjectId}
+use Rattle.gix_ref_packed.specs.Buffers.{IsRefusedFile}
+use Rattle.gix_ref_packed.specs.declared.packed.buffer.open.Error.TheVariants.{Io as unread}
+use Rattle.gix_ref_lookup.specs.Lookups.{ArePackedRecords}
 use Rattle.gix_ref_theory.specs.Readings.{Store, as_read, records_in}
 use Rattle.gix_ref_base.specs.Locations.{is_safe}
 use Rattle.gix_ref_transaction.specs.OwnLocks.{is_in}
@@ -26,7 +30,7 @@ use Rattle.gix_ref_edits.specs.declared.transaction.PreviousValue.{PreviousValue
 use Rattle.gix_ref_edits.specs.declared.transaction.PreviousValue.TheVariants.{MustExist, MustNotExist as must_not_exist, MustExistAndMatch}
 use Rattle.gix_ref_edits.specs.declared.transaction.RefEdit.{RefEdit}
 use Rattle.gix_ref_transaction.specs.declared.prepare.error.Error.{Error}
-use Rattle.gix_ref_transaction.specs.declared.prepare.error.Error.TheVariants.{UnsafeName, DeviceName, TargetNotFull, OtherHashKind, PreprocessingFailed, PathCollision, LockAcquire, MustExist as must_exist, MustNotExist, ReferenceOutOfDate, Io, Memory}
+use Rattle.gix_ref_transaction.specs.declared.prepare.error.Error.TheVariants.{UnsafeName, DeviceName, TargetNotFull, OtherHashKind, PreprocessingFailed, Packed, PackedFind, PathCollision, LockAcquire, MustExist as must_exist, MustNotExist, ReferenceOutOfDate, Io, Memory}
 
 -- how a fault of files is reported
 abbrev pub cause_of : FileError → Error
@@ -37,18 +41,40 @@ cause_of out_of_memory = Memory
 -- `Io` is returned only where the count of faults rose, and never for want of memory.
 abbrev pub IsCounted : ℕ → ℕ → Error → Type 0
 IsCounted before now (Io error) = HasRisen before now × (error ≡ out_of_memory → ⊥)
+IsCounted before now (Packed error) = ⊥
+IsCounted before now (PackedFind error) = ⊥
 IsCounted before now other = Unit {0}
+
+-- And so where `packed-refs` is read too: of honest files, `Packed` of `Io` is returned only where that count rose, or a read by a reader
+-- failed.
+abbrev pub IsCountedWith : (honest read : Type 0) → ℕ → ℕ → Error → Type 0
+IsCountedWith honest read before now (Packed (unread error)) = honest → (HasRisen before now ⊎ read) × (error ≡ out_of_memory → ⊥)
+IsCountedWith honest read before now (Packed error) = Unit {0}
+IsCountedWith honest read before now (PackedFind error) = Unit {0}
+IsCountedWith honest read before now error = IsCounted before now error
 
 -- a fault of files or of memory, which can come anywhere
 abbrev pub IsIoOrMemory : Error → Type 0
 IsIoOrMemory (Io error) = Unit {0}
+IsIoOrMemory (Packed (unread error)) = Unit {0}
 IsIoOrMemory Memory = Unit {0}
 IsIoOrMemory other = ⊥
 
--- not a fault of files
+-- neither a fault of files nor one of `packed-refs`
 abbrev pub IsNotIo : Error → Type 0
 IsNotIo (Io error) = ⊥
+IsNotIo (Packed error) = ⊥
+IsNotIo (PackedFind error) = ⊥
 IsNotIo other = Unit {0}
+
+-- `Packed` is returned for a `packed-refs` that is refused: it cannot be read, its header cannot, or a line of it is no record
+abbrev pub IsPackedRefusal : Kind → Option Content → Error → Type 0
+IsPackedRefusal kind packed (Packed error) = IsRefusedFile kind packed error
+IsPackedRefusal kind packed other = Unit {0}
+
+-- `packed-refs` is well formed, or there is none
+abbrev pub IsPackedWell : Kind → Option (List ℕ) → Type 0
+IsPackedWell kind packed = (records : List Record) × ArePackedRecords kind packed records
 
 -- Each edit by itself: its name is safe, its place is not prohibited, the name of a symbolic target is a full name, and its ids are of
 -- the store's kind.
@@ -113,17 +139,27 @@ abbrev pub decoded : Store → Option (List ℕ) → Option TargetValue
 decoded s None = None
 decoded s (Some bytes) = s.target_of bytes
 
-abbrev pub target_of_record : Option Record → Option TargetValue
-target_of_record None = None
-target_of_record (Some r) = option_map object_id (id_read r.target)
+-- the id of a record, if there is one and its digits can be read
+abbrev pub id_of_record : Option Record → Option ObjectId
+id_of_record None = None
+id_of_record (Some r) = id_read r.target
 
-abbrev pub found_by : Store → Option (List ℕ) → Option TargetValue → List Record → Option TargetValue
-found_by s key (Some target) records = Some (as_read s target)
-found_by s None None records = None
-found_by s (Some key) None records = target_of_record (record_named key records)
+-- the id of the record of a key, if there is a key
+abbrev pub packed_id : Option (List ℕ) → List Record → Option ObjectId
+packed_id None records = None
+packed_id (Some key) records = id_of_record (record_named key records)
+
+-- the target of the loose file, or else the object of the record
+abbrev pub found_by : Store → Option TargetValue → Option ObjectId → Option TargetValue
+found_by s (Some target) packed = Some (as_read s target)
+found_by s None packed = option_map object_id packed
+
+-- the id of a name's record among these files
+abbrev pub packed_of : Store → View → List ℕ → Option ObjectId
+packed_of s view name = packed_id (s.key name) (records_in s (view s.packed_path))
 
 abbrev pub found : Store → View → List ℕ → Option TargetValue
-found s view name = found_by s (s.key name) (decoded s (view (s.place name))) (records_in s (view s.packed_path))
+found s view name = found_by s (decoded s (view (s.place name))) (packed_of s view name)
 
 -- What an edit expects against what is found.
 

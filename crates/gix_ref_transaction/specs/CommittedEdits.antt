@@ -1,6 +1,6 @@
 -- What a commit leaves of its edits, and what it reports.
 use Rattle.std.specs.Prelude.{◌≡◌, ℕ, List, [], true, false, map, get_or}
-use Rattle.gix_ref_base.specs.Names.{full_bytes}
+use Rattle.gix_ref_name.specs.Names.{full_bytes}
 use Rattle.gix_ref_files.specs.Tree.{Tree, Path}
 use Rattle.gix_ref_theory.specs.Between.{IsCommitted}
 use Rattle.gix_ref_theory.specs.Edits as plan

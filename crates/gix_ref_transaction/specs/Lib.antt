@@ -5,4 +5,5 @@ pub mod CommittedEdits
 pub mod DirectUpdates
 pub mod First
 pub mod OwnLocks
+pub mod PackedCauses
 pub mod PrepareSteps

@@ -5,6 +5,7 @@ mod error;
 mod expect;
 pub mod hold;
 pub mod lock;
+pub mod records;
 pub mod take;
 
 pub use error::Error;

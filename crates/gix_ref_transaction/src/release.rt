@@ -1,5 +1,5 @@
 //! The locks of a transaction, removed: those that a commit has not renamed, or all.
-ghost use Rattle.std.specs.Prelude.{◌≡◌, ◌≤◌, ◌<◌, ◌⊎◌, ℕ, [], ◌∷◌, IsTrue, true, false, length, vec_len};
+ghost use Rattle.std.specs.Prelude.{◌≡◌, ◌≤◌, ◌<◌, ◌⊎◌, ℕ, [], ◌∷◌, IsTrue, true, false, not, ◌&&◌, nat_lt, vec_len};
 ghost use Rattle.std.specs.Vec.{vec_capacity};
 ghost use Rattle.std.specs.Bool.{OnFalse};
 ghost use Rattle.gix_ref_files.specs.Tree.{Path, is_file};
@@ -9,9 +9,7 @@ ghost use Rattle.gix_ref_transaction.specs.OwnLocks.{paths_of, RemovesLocks, Onl
 ghost use Rattle.gix_ref_transaction.specs.CommitRenames.{lock_at, stays_at};
 ghost use Rattle.gix_ref_transaction.specs.PrepareSteps.{lock_paths};
 
-use crate::commit::renames::writes;
 use crate::paths::Paths;
-use gix_ref_edits::transaction::RefEdit;
 use gix_ref_files::files::Files;
 
 /// Removes one lock; false where it could not.
@@ -31,39 +29,36 @@ fn remove_lock<F: Files>(files: &mut F, lock: &[u8]) -> bool
 }
 
 /// Removes the lock at a place of the list, unless it was renamed: another may hold it by now. False where it could not.
-fn release<F: Files>(files: &mut F, edits: &[RefEdit], done: usize, at: usize, lock: &[u8]) -> bool
-    requires { done ≤ length edits.now }
-    ensures renamed { stays_at edits.now done at ≡ false → files.new ≡ files.old }
-    ensures gone { F.honest → stays_at edits.now done at ≡ true → IsTrue result →
-        is_file ((F.means files.new).tree lock.now) ≡ false }
+fn release<F: Files>(files: &mut F, done: usize, at: usize, own: &Paths) -> bool
+    ensures renamed { not (nat_lt at done && own.now.writes) ≡ false → files.new ≡ files.old }
+    ensures gone { F.honest → not (nat_lt at done && own.now.writes) ≡ true → IsTrue result →
+        is_file ((F.means files.new).tree own.now.lock.items) ≡ false }
     ensures leaves { F.honest → Leaves (F.means files.old) (F.means files.new)
-        (RemovesLocks (lock.now ∷ []) (F.means files.old).tree) }
+        (RemovesLocks (own.now.lock.items ∷ []) (F.means files.old).tree) }
     ensures passes { F.honest → Passes (F.means files.old) (F.means files.new)
-        (RemovingFileOn (disk_of (F.means files.old)) lock.now) }
+        (RemovingFileOn (disk_of (F.means files.old)) own.now.lock.items) }
     ensures no_fewer { F.faults files.old ≤ F.faults files.new }
     ensures counted { OnFalse result (HasRisen (F.faults files.old) (F.faults files.new)) }
 {
-    if at < done && writes(&edits[at].change) {
+    if at < done && own.writes {
         return true;
     }
-    remove_lock(files, lock)
+    remove_lock(files, &own.lock)
 }
 
 /// Removes the locks of these paths but for those that were renamed, where the edits before `done` are done. Hands back in
 /// `left`, which has room for all of them, those that it could not remove. Where all were renamed no call is made.
 pub fn release_locks<F: Files>(
     files: &mut F,
-    edits: &[RefEdit],
     done: usize,
     mut paths: Vec<Paths>,
     mut left: Vec<Vec<u8>>,
 ) -> Vec<Vec<u8>>
-    requires done { done ≤ length edits.now }
     requires room { vec_len paths ≤ vec_capacity left }
     requires none { left.items ≡ [] }
-    ensures renamed { ((k : ℕ) → k < vec_len paths → stays_at edits.now done k ≡ false) →
+    ensures renamed { ((k : ℕ) → k < vec_len paths → stays_at paths.items done k ≡ false) →
         files.new ≡ files.old }
-    ensures gone { F.honest → (k : ℕ) → k < vec_len paths → stays_at edits.now done k ≡ true →
+    ensures gone { F.honest → (k : ℕ) → k < vec_len paths → stays_at paths.items done k ≡ true →
         is_in (paths_of result.items) (lock_at paths.items k) ≡ false →
         is_file ((F.means files.new).tree (lock_at paths.items k)) ≡ false }
     ensures ours { (q : Path) → is_in (paths_of result.items) q ≡ true →
@@ -76,7 +71,7 @@ pub fn release_locks<F: Files>(
     ensures counted { (result.items ≡ []) ⊎ HasRisen (F.faults files.old) (F.faults files.new) }
 {
     while let Some(own) = paths.pop() {
-        if !release(files, edits, done, paths.len(), &own.lock) {
+        if !release(files, done, paths.len(), &own) {
             let _ = left.push(own.lock);
         }
     }
@@ -98,5 +93,5 @@ pub fn remove_locks<F: Files>(files: &mut F, locks: Vec<Paths>, left: Vec<Vec<u8
     ensures no_fewer { F.faults files.old ≤ F.faults files.new }
     ensures counted { (result.items ≡ []) ⊎ HasRisen (F.faults files.old) (F.faults files.new) }
 {
-    release_locks(files, &[], 0, locks, left)
+    release_locks(files, 0, locks, left)
 }

@@ -5,7 +5,7 @@ use Rattle.std.proofs.lemmas.Bool.{false≢true, cases_Bool, cond-false}
 use Rattle.hex.specs.Hex.{encode_with, decode_pairs}
 use Rattle.gix_ref_hash.specs.declared.hash.ObjectId.TheVariants.{Sha1, Sha256}
 use Rattle.gix_ref_hash.specs.Bytes.{without_front, components}
-use Rattle.gix_ref_base.specs.NameGrammar.{partial_error}
+use Rattle.gix_ref_grammar.specs.NameGrammar.{partial_error}
 use Rattle.gix_ref_theory.proofs.Writes.{same, same_true, same_false}
 use Rattle.gix_ref_base.specs.Targets.{TargetValue}
 use Rattle.gix_ref_base.specs.Targets.TargetValue.{object_id, symbolic_name}

@@ -1,7 +1,7 @@
 //! Why a reference is not peeled to an object that is no tag.
 use crate::peel::to_object;
-use gix_ref_base::name::FullName;
 use gix_ref_hash::hash::ObjectId;
+use gix_ref_name::name::FullName;
 use std::alloc::AllocError;
 use thiserror::Error;
 

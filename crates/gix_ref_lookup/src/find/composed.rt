@@ -1,7 +1,7 @@
 //! Lookups of names in composed Unicode (`core.precomposeUnicode` of `git config`).
 ghost use Rattle.std.specs.Prelude.{◌≡◌, ◌≢◌, ◌⊎◌, List, IfOk, IfErr, IfSome, OnOk, MatchOption};
-ghost use Rattle.gix_ref_base.specs.ComposedNames.{decomposed};
-ghost use Rattle.gix_ref_base.specs.Names.{full_bytes, partial_bytes, partial_ref_bytes};
+ghost use Rattle.gix_ref_name.specs.ComposedNames.{decomposed};
+ghost use Rattle.gix_ref_name.specs.Names.{full_bytes, partial_bytes, partial_ref_bytes};
 ghost use Rattle.gix_ref_base.specs.PackedRecords.{Record};
 ghost use Rattle.gix_ref_files.specs.Files.{Leaves};
 ghost use Rattle.gix_ref_files.specs.Calls.{Unchanged};
@@ -12,9 +12,9 @@ use crate::find::Error;
 use crate::find::lookup::find_asked;
 use crate::find::records::Records;
 use crate::settings::Settings;
-use gix_ref_base::name::compose::{compose, decompose};
-use gix_ref_base::name::{PartialName, PartialNameRef};
 use gix_ref_files::files::Files;
+use gix_ref_name::name::compose::{compose, decompose};
+use gix_ref_name::name::{PartialName, PartialNameRef};
 use gix_ref_packed::raw::Reference;
 use std::alloc::{AllocError, Global};
 

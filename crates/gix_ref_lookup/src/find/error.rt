@@ -1,7 +1,7 @@
 //! Why a lookup fails.
 use crate::loose;
-use gix_ref_base::name;
 use gix_ref_files::files::FileError;
+use gix_ref_name::name;
 use gix_ref_packed::packed;
 use std::alloc::AllocError;
 use thiserror::Error;

@@ -1,6 +1,6 @@
 //! Why a lookup that has to find something fails.
 use crate::find;
-use gix_ref_base::name::PartialName;
+use gix_ref_name::name::PartialName;
 use std::alloc::AllocError;
 use thiserror::Error;
 

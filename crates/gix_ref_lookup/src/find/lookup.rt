@@ -1,7 +1,7 @@
 //! The lookup of a partial name (`gitrevisions`): its candidates, one after the other.
 ghost use Rattle.std.specs.Prelude.{◌≡◌, ◌⊎◌, None, List, IfOk, IfErr, IfSome, OnOk};
-ghost use Rattle.gix_ref_base.specs.Candidates.{candidates, remote_head};
-ghost use Rattle.gix_ref_base.specs.Names.{partial_ref_bytes};
+ghost use Rattle.gix_ref_name.specs.Candidates.{candidates, remote_head};
+ghost use Rattle.gix_ref_name.specs.Names.{partial_ref_bytes};
 ghost use Rattle.gix_ref_base.specs.PackedRecords.{Record};
 ghost use Rattle.gix_ref_files.specs.Files.{Leaves};
 ghost use Rattle.gix_ref_files.specs.Calls.{Unchanged};
@@ -13,9 +13,9 @@ use crate::find::Error;
 use crate::find::candidate::find_candidate;
 use crate::find::records::Records;
 use crate::settings::Settings;
-use gix_ref_base::name::PartialNameRef;
-use gix_ref_base::name::candidates::{fronts_of, name_behind, remote_head};
 use gix_ref_files::files::Files;
+use gix_ref_name::name::PartialNameRef;
+use gix_ref_name::name::candidates::{fronts_of, name_behind, remote_head};
 use gix_ref_packed::raw::Reference;
 use std::alloc::Global;
 

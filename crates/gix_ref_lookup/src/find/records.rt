@@ -1,10 +1,11 @@
 //! The records that a lookup asks for a name: those of `packed-refs`, which is opened when the first name is asked for.
-ghost use Rattle.std.specs.Prelude.{◌≡◌, ◌⊎◌, ℕ, List, Option, None, IfOk, IfErr, OnOk};
+ghost use Rattle.std.specs.Prelude.{◌≡◌, ◌≤◌, ◌⊎◌, ℕ, List, Option, None, IfOk, IfErr, OnOk};
 ghost use Rattle.gix_ref_hash.specs.declared.hash.Kind.{Kind};
-ghost use Rattle.gix_ref_base.specs.Names.{full_ref_bytes};
+ghost use Rattle.gix_ref_name.specs.Names.{full_ref_bytes};
 ghost use Rattle.gix_ref_base.specs.PackedRecords.{Record};
-ghost use Rattle.gix_ref_files.specs.Files.{Leaves, HasRisen};
+ghost use Rattle.gix_ref_files.specs.Files.{disk_of, Leaves, Passes, HasRisen};
 ghost use Rattle.gix_ref_files.specs.Calls.{Unchanged};
+ghost use Rattle.gix_ref_files.specs.DiskCalls.{Untouched};
 ghost use Rattle.gix_ref_packed.specs.Buffers.{buffer_text, buffer_kind, IsRefusedFile};
 ghost use Rattle.gix_ref_packed.specs.FileSearches.{FindsIn};
 ghost use Rattle.gix_ref_packed.specs.OpenFiles.{HasReadFault};
@@ -12,8 +13,8 @@ ghost use Rattle.gix_ref_lookup.specs.Lookups.{meaning_in, packed_refs_in, ArePa
 
 use crate::find::Error;
 use crate::settings::Settings;
-use gix_ref_base::name::FullNameRef;
 use gix_ref_files::files::{FileError, Files, ReadAt};
+use gix_ref_name::name::FullNameRef;
 use gix_ref_packed::packed;
 use gix_ref_packed::packed::buffer::open;
 use gix_ref_packed::packed::file::PackedFile;
@@ -113,6 +114,9 @@ fn open_records<'b, F: Files>(
     ensures no_fault { OnOk result (F.faults files.new ≡ F.faults files.old) }
     ensures leaves { F.honest → Leaves (F.means files.old) (F.means files.new)
         (Unchanged (F.means files.old).tree) }
+    ensures passes { F.honest → Passes (F.means files.old) (F.means files.new)
+        (Untouched (disk_of (F.means files.old))) }
+    ensures no_fewer { F.faults files.old ≤ F.faults files.new }
 {
     let path = settings.packed_refs_path(alloc)?;
     match PackedFile::open(alloc, files, &path, settings.kind) {
@@ -123,15 +127,16 @@ fn open_records<'b, F: Files>(
 }
 
 impl<R: ReadAt + Drop> Records<'_, R> {
-    ghost use Rattle.std.specs.Prelude.{◌≡◌, ◌⊎◌, ℕ, List, Option, OnOk, OnErr, IfErr, IfOk, IfSome, MatchResult, None};
-    ghost use Rattle.gix_ref_base.specs.Names.{full_ref_bytes};
+    ghost use Rattle.std.specs.Prelude.{◌≡◌, ◌≤◌, ◌⊎◌, ℕ, List, Option, OnOk, OnErr, IfErr, IfOk, IfSome, MatchResult, None};
+    ghost use Rattle.gix_ref_name.specs.Names.{full_ref_bytes};
     ghost use Rattle.gix_ref_base.specs.PackedRecords.{Record, record_named};
     ghost use Rattle.gix_ref_hash.specs.declared.hash.Kind.{Kind};
-    ghost use Rattle.gix_ref_files.specs.Files.{Leaves, HasRisen};
+    ghost use Rattle.gix_ref_files.specs.Files.{disk_of, Leaves, Passes, HasRisen};
     ghost use Rattle.gix_ref_files.specs.Calls.{Unchanged};
-    ghost use Rattle.gix_ref_packed.specs.Positions.{CannotRead};
+    ghost use Rattle.gix_ref_files.specs.DiskCalls.{Untouched};
+    ghost use Rattle.gix_ref_records.specs.Positions.{CannotRead};
     ghost use Rattle.gix_ref_packed.specs.Buffers.{IsRefusedFile};
-    ghost use Rattle.gix_ref_packed.specs.Windows.{AreFound, HitsRecord};
+    ghost use Rattle.gix_ref_records.specs.Windows.{AreFound, HitsRecord};
     ghost use Rattle.gix_ref_packed.specs.OpenFiles.{HasReadFault};
     ghost use Rattle.gix_ref_lookup.specs.Lookups.{meaning_in, packed_refs_in, AreAsked, IsSearched, IsReady, IsNotPacked, AreHonest, IsFaultOrMemory, OfSearched};
 
@@ -164,6 +169,9 @@ impl<R: ReadAt + Drop> Records<'_, R> {
         ensures no_fault { OnOk result (F.faults files.new ≡ F.faults files.old) }
         ensures leaves { F.honest → Leaves (F.means files.old) (F.means files.new)
             (Unchanged (F.means files.old).tree) }
+        ensures passes { F.honest → Passes (F.means files.old) (F.means files.new)
+            (Untouched (disk_of (F.means files.old))) }
+        ensures no_fewer { F.faults files.old ≤ F.faults files.new }
     {
         let Records::Unopened = self else {
             return Ok(());

@@ -1,5 +1,5 @@
 //! Why the bytes of a loose file are no target.
-use gix_ref_base::name;
+use gix_ref_name::name;
 use std::alloc::AllocError;
 use thiserror::Error;
 

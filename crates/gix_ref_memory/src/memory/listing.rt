@@ -4,7 +4,7 @@ ghost use Rattle.std.specs.List.{list_any};
 ghost use Rattle.gix_ref_files.specs.Tree.{no_tree};
 ghost use Rattle.gix_ref_files.specs.Calls.{IsListing, IsName, entry_name};
 ghost use Rattle.gix_ref_memory.specs.Changes.{after};
-ghost use Rattle.gix_ref_memory.specs.Listing.{AddsEntries};
+ghost use Rattle.gix_ref_memory.specs.internal.Listing.{AddsEntries};
 
 use super::changes::{Change, find, place};
 use gix_ref_files::files::Entry;

@@ -5,7 +5,7 @@ ghost use Rattle.gix_ref_files.specs.Disk.{reachable, Lost};
 ghost use Rattle.gix_ref_files.specs.Files.{disk_of};
 ghost use Rattle.gix_ref_files.specs.Losing.{kept, lost_by, all_synced};
 ghost use Rattle.gix_ref_memory.specs.Changes.{after, content_of, found_item, meaning_after};
-ghost use Rattle.gix_ref_memory.specs.Power.{IsChoice, IsReachable, Names, Fills, AreSynced};
+ghost use Rattle.gix_ref_memory.specs.internal.Power.{IsChoice, IsReachable, Names, Fills, AreSynced};
 
 use super::births::{Birth, all_births, births_of, keeps};
 use super::changes::{Change, Known, Stands, Stored, find, place, stands_in_folders};

@@ -2,7 +2,7 @@
 ghost use Rattle.std.specs.Prelude.{◌≡◌};
 ghost use Rattle.gix_ref_files.specs.Disk.{folder_of};
 ghost use Rattle.gix_ref_memory.specs.Changes.{found_item};
-ghost use Rattle.gix_ref_memory.specs.Power.{entries, entry_after, entered, settled, no_entry, sure_entry};
+ghost use Rattle.gix_ref_memory.specs.internal.Power.{entries, entry_after, entered, settled, no_entry, sure_entry};
 
 use super::changes::{Change, Known, Stands, len_of, stored_stands};
 

@@ -3,10 +3,12 @@ ghost use Rattle.std.specs.Prelude.{◌≤◌, ◌<◌, vec_len};
 
 pub mod open;
 
-use crate::packed::header_end::{HeaderEnd, first_line_behind, read_header_end, says_sorted};
 use crate::packed::sorting::sorted_text;
 use gix_ref_files::files::{FileError, Files, Node};
 use gix_ref_hash::hash::Kind;
+use gix_ref_records::packed::header_end::{
+    HeaderEnd, first_line_behind, read_header_end, says_sorted,
+};
 use open::Error;
 use std::alloc::Global;
 
@@ -28,7 +30,7 @@ impl Buffer {
     ghost use Rattle.gix_ref_files.specs.Tree.{is_file, bytes_of};
     ghost use Rattle.gix_ref_files.specs.Files.{Leaves};
     ghost use Rattle.gix_ref_files.specs.Calls.{Unchanged};
-    ghost use Rattle.gix_ref_packed.specs.OpenedText.{Keeps};
+    ghost use Rattle.gix_ref_records.specs.OpenedText.{Keeps};
     ghost use Rattle.gix_ref_packed.specs.Buffers.{buffer_text, buffer_kind, buffer_line, Opened, IsRefused, IsRefusedFile, IsStuck, count_open};
 
     /// Opens the file at a path, whose ids are of the kind; `None` where no file is there. `Io` where it cannot be

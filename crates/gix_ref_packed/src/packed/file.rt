@@ -8,12 +8,12 @@ use crate::packed::buffer::Buffer;
 use crate::packed::buffer::open::Error;
 use crate::packed::file_header::file_header;
 use crate::packed::find::ParseError;
-use crate::packed::header_end::says_sorted;
 use crate::packed::sorted_file::{FindError, ReadError, SortedFile, read_window};
-use crate::packed::window::{Found, ids_of};
-use gix_ref_base::name::FullNameRef;
 use gix_ref_files::files::{FileError, Files, ReadAt};
 use gix_ref_hash::hash::Kind;
+use gix_ref_name::name::FullNameRef;
+use gix_ref_records::packed::header_end::says_sorted;
+use gix_ref_records::packed::window::{Found, ids_of};
 use std::alloc::Global;
 
 /// A `packed-refs` that is open for searches: the file itself where its header says that it is sorted, and else its
@@ -75,10 +75,11 @@ fn open_reader<R: ReadAt + Drop>(
 
 impl<R: ReadAt + Drop> PackedFile<R> {
     ghost use Rattle.std.specs.Prelude.{◌≡◌, IfOk, IfErr, MatchOption, true, false};
-    ghost use Rattle.gix_ref_base.specs.Names.{full_ref_bytes};
+    ghost use Rattle.gix_ref_name.specs.Names.{full_ref_bytes};
     ghost use Rattle.gix_ref_files.specs.Tree.{is_file, bytes_of};
-    ghost use Rattle.gix_ref_files.specs.Files.{Leaves};
+    ghost use Rattle.gix_ref_files.specs.Files.{disk_of, Leaves, Passes};
     ghost use Rattle.gix_ref_files.specs.Calls.{Unchanged};
+    ghost use Rattle.gix_ref_files.specs.DiskCalls.{Untouched};
     ghost use Rattle.gix_ref_packed.specs.Buffers.{IsRefusedFile};
     ghost use Rattle.gix_ref_packed.specs.OpenFiles.{OpenedFile, CountsRefusal, packed_file_text, packed_file_kind, packed_file_line, packed_file_faults, FailsFindByRead};
     ghost use Rattle.gix_ref_packed.specs.FilePrefixes.{HoldsPrefix, FailsReadBy};
@@ -110,6 +111,8 @@ impl<R: ReadAt + Drop> PackedFile<R> {
             (IsRefusedFile kind ((F.means files.old).tree path.now)) }
         ensures leaves { F.honest → Leaves (F.means files.old) (F.means files.new)
             (Unchanged (F.means files.old).tree) }
+        ensures passes { F.honest → Passes (F.means files.old) (F.means files.new)
+            (Untouched (disk_of (F.means files.old))) }
         ensures no_fault { IfOk result (λ _. F.faults files.new ≡ F.faults files.old) }
         ensures failed { IfErr result
             (CountsRefusal R.faults (F.faults files.old) (F.faults files.new)) }

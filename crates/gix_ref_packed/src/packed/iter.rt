@@ -5,14 +5,14 @@ ghost use Rattle.std.specs.Iterator.{at_most};
 mod error;
 mod parts;
 
-use crate::packed::bound::lower_bound_in_memory;
 use crate::packed::buffer::Buffer;
-use crate::packed::decode::take_record;
-use crate::packed::header_end::{first_line_behind, read_header_end};
-use crate::packed::reference::Reference;
 use crate::packed::sorting::line_count;
 pub use error::Error;
 use gix_ref_hash::hash::Kind;
+use gix_ref_records::packed::Reference;
+use gix_ref_records::packed::bound::lower_bound_in_memory;
+use gix_ref_records::packed::decode::take_record;
+use gix_ref_records::packed::header_end::{first_line_behind, read_header_end};
 use parts::{begins_with_prefix, count_line_feeds, cut_line, first_line};
 
 /// The records of a text, and a fault for each line that is no record. A record whose line with `^` is bad is two faults.
@@ -31,8 +31,8 @@ pub struct Iter<'a> {
 impl<'a> Iter<'a> {
     ghost use Rattle.std.specs.Prelude.{◌≡◌, List, Option, None, IfOk, IfErr, true};
     ghost use Rattle.std.specs.Iterator.Runs.{EachRunFrom};
-    ghost use Rattle.gix_ref_packed.specs.declared.packed.decode.options.Header.{Header};
-    ghost use Rattle.gix_ref_packed.specs.OpenedText.{Heads, line_behind};
+    ghost use Rattle.gix_ref_records.specs.declared.packed.decode.options.Header.{Header};
+    ghost use Rattle.gix_ref_records.specs.OpenedText.{Heads, line_behind};
     ghost use Rattle.gix_ref_packed.specs.Items.{ItemStep, AreItems, IsHeaderError, unread, unread_text};
 
     /// The records of a whole text, in the order of its lines; lines are numbered from 1, the header's too. The error,
@@ -111,8 +111,8 @@ impl Buffer {
     ghost use Rattle.std.specs.Prelude.{◌≡◌, ◌+◌, ℕ, List, None, Some, true, take, drop};
     ghost use Rattle.std.specs.Iterator.Runs.{EachRunFrom};
     ghost use Rattle.gix_ref_base.specs.PackedRecords.{Record};
-    ghost use Rattle.gix_ref_packed.specs.RecordGrammar.{Records, Rising};
-    ghost use Rattle.gix_ref_packed.specs.Prefixes.{records_prefixed, IsListStart};
+    ghost use Rattle.gix_ref_records.specs.RecordGrammar.{Records, Rising};
+    ghost use Rattle.gix_ref_records.specs.Prefixes.{records_prefixed, IsListStart};
     ghost use Rattle.gix_ref_packed.specs.Buffers.{buffer_text, buffer_kind, buffer_line};
     ghost use Rattle.gix_ref_packed.specs.Items.{ItemStep, AreItems, AreRecords, unread_buffer, unread_from};
     ghost use Rattle.gix_ref_packed.specs.YetToGive.{IsYet};

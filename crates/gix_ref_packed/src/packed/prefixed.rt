@@ -1,15 +1,15 @@
 //! Reading, of a sorted file, only the records of a prefix.
 ghost use Rattle.std.specs.Prelude.{◌≡◌, ◌≤◌, List, IfOk, IfSome, IfNone, MatchBool};
 ghost use Rattle.gix_ref_base.specs.PackedRecords.{Record};
-ghost use Rattle.gix_ref_packed.specs.RecordGrammar.{Records};
+ghost use Rattle.gix_ref_records.specs.RecordGrammar.{Records};
 ghost use Rattle.gix_ref_packed.specs.FilePrefixes.{IsPast, HasNoNext};
 
-use crate::packed::bound::lower_bound;
 use crate::packed::buffer::Buffer;
-use crate::packed::decode::take_record;
 use crate::packed::sorted_file::{ReadError, SortedFile, read_window};
 use gix_ref_files::files::ReadAt;
 use gix_ref_hash::hash::Kind;
+use gix_ref_records::packed::bound::lower_bound;
+use gix_ref_records::packed::decode::take_record;
 use std::alloc::{AllocError, Global};
 
 /// Where the records of a prefix are more than this part of the file, the whole is read: that costs less than to look

@@ -1,17 +1,17 @@
 //! The records of a `packed-refs` that is not in memory: probed at windows of its file.
 ghost use Rattle.std.specs.Prelude.{◌≡◌, ◌+◌, ◌-◌, ◌<◌, ◌≤◌, ◌^◌, length, take, drop, OnOk, IfOk, IfErr};
-ghost use Rattle.gix_ref_base.specs.Names.{full_ref_bytes};
+ghost use Rattle.gix_ref_name.specs.Names.{full_ref_bytes};
 ghost use Rattle.gix_ref_packed.specs.FileSearches.{IsNoChange, FindsIn, count_read, count_find};
-ghost use Rattle.gix_ref_packed.specs.Windows.{IsWindow};
+ghost use Rattle.gix_ref_records.specs.Windows.{IsWindow};
 ghost use Rattle.gix_ref_packed.specs.declared.packed.sorted_file.TheConstants.{MAX_WINDOW_DOUBLINGS};
 
-use crate::packed::probes::Probes;
-use crate::packed::search::{SearchError, search};
-use crate::packed::searchable::{Look, Probe, SearchableRecords};
-use crate::packed::window::{Found, InWindow, probe_in, record_in};
-use gix_ref_base::name::FullNameRef;
 use gix_ref_files::files::{FileError, ReadAt};
 use gix_ref_hash::hash::Kind;
+use gix_ref_name::name::FullNameRef;
+use gix_ref_records::packed::Probes;
+use gix_ref_records::packed::search::{SearchError, search};
+use gix_ref_records::packed::searchable::{Look, Probe, SearchableRecords};
+use gix_ref_records::packed::window::{Found, InWindow, probe_in, record_in};
 use std::alloc::{AllocError, Global};
 use std::marker::Brand;
 use std::sync::ledger::{Blank, Ledger};
@@ -125,12 +125,12 @@ pub(crate) fn read_window<R: ReadAt>(
 
 impl<R: ReadAt + Drop> SortedFile<R> {
     ghost use Rattle.std.specs.Prelude.{◌≡◌, ◌≤◌, ◌<◌, ◌+◌, ◌^◌, false, length, drop, IfOk, IfErr, IfSome, IsSome};
-    ghost use Rattle.gix_ref_base.specs.Names.{full_ref_bytes};
-    ghost use Rattle.gix_ref_packed.specs.SearchCosts.{CountsProbes};
-    ghost use Rattle.gix_ref_packed.specs.Windows.{FrontIs};
-    ghost use Rattle.gix_ref_packed.specs.Positions.{IsPlain};
-    ghost use Rattle.gix_ref_packed.specs.Probed.{IsProbeAt};
-    ghost use Rattle.gix_ref_packed.specs.Shown.{IfHere, IsHere};
+    ghost use Rattle.gix_ref_name.specs.Names.{full_ref_bytes};
+    ghost use Rattle.gix_ref_records.specs.SearchCosts.{CountsProbes};
+    ghost use Rattle.gix_ref_records.specs.Windows.{FrontIs};
+    ghost use Rattle.gix_ref_records.specs.Positions.{IsPlain};
+    ghost use Rattle.gix_ref_records.specs.Probed.{IsProbeAt};
+    ghost use Rattle.gix_ref_records.specs.Shown.{IfHere, IsHere};
     ghost use Rattle.gix_ref_packed.specs.FileSearches.{IsNoChange, FindsIn, count_read, count_find};
 
     /// The records of a file from that place on. Nothing is read yet.
@@ -329,7 +329,7 @@ fn find_blank<R: ReadAt + Drop, L: Ledger>(
 
 impl<R: ReadAt + Drop> SortedFile<R> {
     ghost use Rattle.std.specs.Prelude.{◌≡◌, drop, IfOk, IfErr};
-    ghost use Rattle.gix_ref_base.specs.Names.{full_ref_bytes};
+    ghost use Rattle.gix_ref_name.specs.Names.{full_ref_bytes};
     ghost use Rattle.gix_ref_packed.specs.FileSearches.{FindsIn, count_find};
 
     /// The ids of the record of a full name, as `try_find_full` finds it, for a caller who does not count.

@@ -1,17 +1,17 @@
 //! Finding references (`gitrevisions`).
 ghost use Rattle.std.specs.Prelude.{◌≡◌};
-ghost use Rattle.gix_ref_base.specs.Names.{partial_ref_bytes};
+ghost use Rattle.gix_ref_name.specs.Names.{partial_ref_bytes};
 ghost use Rattle.gix_ref_store.specs.Lookup.{IsNotFound};
 
 use crate::file::store::Store;
 use crate::raw::Reference;
-use gix_ref_base::name::PartialNameRef;
 use gix_ref_files::files::Files;
 use gix_ref_lookup::find::composed::find_reference;
 use gix_ref_lookup::find::records::Records;
 pub use gix_ref_lookup::find::{Error, ReadError, existing};
 use gix_ref_lookup::loose;
 use gix_ref_lookup::settings::Settings;
+use gix_ref_name::name::PartialNameRef;
 use gix_ref_packed::packed::Buffer;
 use std::alloc::Global;
 
@@ -27,7 +27,7 @@ fn not_found(alloc: Global, partial: PartialNameRef<'_>) -> existing::Error
 
 impl<F: Files> Store<F> {
     ghost use Rattle.std.specs.Prelude.{◌≡◌, List, Some, IfOk, IfErr, OnOk, true, false, is_some};
-    ghost use Rattle.gix_ref_base.specs.Names.{partial_ref_bytes};
+    ghost use Rattle.gix_ref_name.specs.Names.{partial_ref_bytes};
     ghost use Rattle.gix_ref_base.specs.PackedRecords.{Record};
     ghost use Rattle.gix_ref_lookup.specs.Lookups.{IsSound, AreHonest};
     ghost use Rattle.gix_ref_lookup.specs.declared.find.records.Records.TheVariants.{Unopened};

@@ -4,15 +4,16 @@ ghost use Rattle.std.specs.Borrow.{sem, RestsIfErr};
 ghost use Rattle.gix_ref_store.specs.Listings.{of_open, prefix_of_all};
 
 use crate::file::store::Store;
-use gix_ref_base::namespace::Namespace;
 use gix_ref_files::files::Files;
-use gix_ref_listing::item::next_item;
+use gix_ref_listing::item::{next_item, next_record};
 use gix_ref_listing::list::list;
 use gix_ref_listing::merge::Merge;
+use gix_ref_listing::own_records::OwnRecord;
 pub use gix_ref_listing::prefix::Error;
 use gix_ref_listing::prefix::check_prefix;
 use gix_ref_listing::pseudo::list_pseudo;
 use gix_ref_lookup::settings::Settings;
+use gix_ref_name::namespace::Namespace;
 use gix_ref_packed::packed::Buffer;
 use gix_ref_packed::packed::buffer::open;
 use gix_ref_packed::raw::Reference;
@@ -62,6 +63,35 @@ impl<'p, F: Files> Iterator for LooseThenPacked<'p, F> {
     fn next(&mut self) -> Option<Result<Reference, loose_then_packed::Error>> {
         self.store
             .next_listed(self.rest.alloc, &mut self.rest.merge)
+    }
+}
+
+impl<'p, F: Files> LooseThenPacked<'p, F> {
+    ghost use Rattle.std.specs.Prelude.{◌≡◌, ◌≤◌, ◌+◌, List, IfSome, IfNone};
+    ghost use Rattle.std.specs.Option.{option_len};
+    ghost use Rattle.gix_ref_listing.specs.Listings.{Listed, IsNoRecord};
+    ghost use Rattle.gix_ref_listing.specs.Steps.{AreYet};
+    ghost use Rattle.gix_ref_store.specs.Lookup.{settings_of};
+    ghost use Rattle.gix_ref_store.specs.Listings.{LendsNext, items_left};
+
+    /// The next item, where it is a record of `packed-refs`: the record is lent from the buffer, where `next` would make a
+    /// `Reference` of it. `None`, and nothing is taken, where the next item is anything else, and where none is left. Takes no
+    /// memory, and reads no file.
+    ///
+    /// ```text
+    /// while let Some(own) = items.next_record() {
+    ///     println!(rt; "{} {}", own.record.target(), own.name)?;
+    /// }
+    /// ```
+    pub fn next_record(&mut self) -> Option<OwnRecord<'p>>
+        ensures lends { IfSome result (LendsNext F.honest F.means F.faults self.old self.new) }
+        ensures none { IfNone result ((listed : List Listed) →
+            AreYet (settings_of self.old.store.now) self.old.rest.merge listed → IsNoRecord listed) }
+        ensures same_store { self.new.store ≡ self.old.store }
+        ensures stays { IfNone result (self.new ≡ self.old) }
+        ensures left { option_len result + items_left self.new ≤ items_left self.old }
+    {
+        self.store.lend_listed(&mut self.rest.merge)
     }
 }
 
@@ -164,14 +194,14 @@ fn of_open(error: open::Error) -> Error
 }
 
 impl<F: Files> Store<F> {
-    ghost use Rattle.std.specs.Prelude.{◌≡◌, ◌⊎◌, ◌≤◌, ◌+◌, [], List, IfOk, IfErr, OnOk, OnErr};
+    ghost use Rattle.std.specs.Prelude.{◌≡◌, ◌⊎◌, ◌≤◌, ◌+◌, [], List, IfOk, IfErr, IfSome, IfNone, OnOk, OnErr};
     ghost use Rattle.gix_ref_base.specs.PackedRecords.{Record};
     ghost use Rattle.gix_ref_listing.specs.declared.prefix.Error.TheVariants.{Memory};
     ghost use Rattle.gix_ref_store.specs.Lookup.{AreRecordsIn, LooksUp, settings_of};
     ghost use Rattle.std.specs.Option.{option_len};
-    ghost use Rattle.gix_ref_listing.specs.Listings.{merge_left};
+    ghost use Rattle.gix_ref_listing.specs.Listings.{Listed, IsNoRecord, merge_left};
     ghost use Rattle.gix_ref_listing.specs.CleanPrefixes.{IsTaken, IsRefused};
-    ghost use Rattle.gix_ref_listing.specs.Steps.{GivesNext};
+    ghost use Rattle.gix_ref_listing.specs.Steps.{AreYet, GivesNext, GivesRecord};
     ghost use Rattle.gix_ref_store.specs.Store.{files_of, IsSameStore};
     ghost use Rattle.gix_ref_store.specs.Listings.{AreHeldFor, Lists, ListsPseudo, HasRecords, IsNotOpened, prefix_of_all};
     ghost use Rattle.gix_ref_store.specs.contracts.file.store.Store.{the_row};
@@ -195,6 +225,24 @@ impl<F: Files> Store<F> {
             precompose_unicode: self.precompose_unicode,
         };
         next_item(alloc, &mut self.files, settings, merge)
+    }
+
+    /// The next of a listing, lent, where it is a record.
+    fn lend_listed<'p>(&self, merge: &mut Merge<'p>) -> Option<OwnRecord<'p>>
+        ensures gives { IfSome result (GivesRecord (settings_of self.now) merge.old merge.new) }
+        ensures none { IfNone result ((listed : List Listed) →
+            AreYet (settings_of self.now) merge.old listed → IsNoRecord listed) }
+        ensures stays { IfNone result (merge.new ≡ merge.old) }
+        ensures left { option_len result + merge_left merge.new ≤ merge_left merge.old }
+    {
+        let settings = Settings {
+            dirs: &self.dirs,
+            namespace: &self.namespace,
+            kind: self.object_hash,
+            prohibit_windows_device_names: self.prohibit_windows_device_names,
+            precompose_unicode: self.precompose_unicode,
+        };
+        next_record(settings, merge)
     }
 
     /// The listing of a prefix, among the records of a buffer if one is given.

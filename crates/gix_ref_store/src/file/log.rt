@@ -2,10 +2,10 @@
 ghost use Rattle.std.specs.Prelude.{◌≡◌};
 
 use crate::file::store::Store;
-use gix_ref_base::name::FullNameRef;
 use gix_ref_files::files::Files;
 use gix_ref_log::log::iter::{Forward, Reverse, forward, reverse};
 use gix_ref_lookup::settings::Settings;
+use gix_ref_name::name::FullNameRef;
 pub use gix_ref_reflog::Error;
 use gix_ref_reflog::reflog::{log_exists, open_log, read_log};
 use std::alloc::Global;
@@ -15,7 +15,7 @@ const REVERSE_BUFFER: usize = 4096;
 
 impl<F: Files> Store<F> {
     ghost use Rattle.std.specs.Prelude.{◌≡◌, length, false, IfOk, IfSome, IfErr, OnOk};
-    ghost use Rattle.gix_ref_base.specs.Names.{full_ref_bytes};
+    ghost use Rattle.gix_ref_name.specs.Names.{full_ref_bytes};
     ghost use Rattle.gix_ref_files.specs.Tree.{is_file};
     ghost use Rattle.gix_ref_reflog.specs.Reflogs.{count_log};
     ghost use Rattle.gix_ref_store.specs.Store.{files_of};
@@ -159,7 +159,7 @@ pub struct Platform<'a, 's, F> {
 
 impl<F: Files> Platform<'_, '_, F> {
     ghost use Rattle.std.specs.Prelude.{◌≡◌, IfOk, IfErr, OnOk, false};
-    ghost use Rattle.gix_ref_base.specs.Names.{full_ref_bytes};
+    ghost use Rattle.gix_ref_name.specs.Names.{full_ref_bytes};
     ghost use Rattle.gix_ref_store.specs.Reflogs.{reflog_at, is_log_prohibited, ReadsForward, ReadsBackward, IsNoReflog, EndsAtErrors};
 
     /// The lines of the log, oldest first; `None` where the reference has no log. As `Store::reflog_iter`.

@@ -1,15 +1,15 @@
 //! Whether a store is as `git init` makes it.
 use crate::file::iter::prefix_of_all;
 use crate::file::store::Store;
-use gix_ref_base::name::FullNameRef;
 use gix_ref_files::files::Files;
 use gix_ref_listing::pristine::is_pristine;
 use gix_ref_lookup::settings::Settings;
+use gix_ref_name::name::FullNameRef;
 use std::alloc::{AllocError, Global};
 
 impl<F: Files> Store<F> {
     ghost use Rattle.std.specs.Prelude.{◌⊎◌, IfOk};
-    ghost use Rattle.gix_ref_base.specs.Names.{full_ref_bytes};
+    ghost use Rattle.gix_ref_name.specs.Names.{full_ref_bytes};
     ghost use Rattle.gix_ref_files.specs.Files.{HasRisen};
     ghost use Rattle.gix_ref_listing.specs.PristineStores.{Says};
     ghost use Rattle.gix_ref_store.specs.Store.{files_of};

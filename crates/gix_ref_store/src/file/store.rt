@@ -3,11 +3,11 @@ ghost use Rattle.std.specs.Prelude.{◌≡◌};
 ghost use Rattle.gix_ref_lookup.specs.CleanPaths.{are_clean};
 
 use crate::store::{Options, WriteReflog};
-use gix_ref_base::name::FullNameRef;
-use gix_ref_base::namespace::Namespace;
 use gix_ref_hash::hash::Kind;
 use gix_ref_lookup::folders::{Dirs, dirs_are_compatible, is_clean_path, resolved};
 use gix_ref_lookup::layout::layout_in;
+use gix_ref_name::name::FullNameRef;
+use gix_ref_name::namespace::Namespace;
 use std::alloc::{AllocError, Global};
 use std::fmt::Debug;
 use thiserror::Error;
@@ -57,7 +57,7 @@ fn are_clean_paths(git_dir: &Vec<u8>, common_dir: &Option<Vec<u8>>) -> bool
 impl<F> Store<F> {
     ghost use Rattle.std.specs.Prelude.{◌≡◌, IfOk, IfErr, MatchResult, MatchOption, Some, None};
     ghost use Rattle.gix_ref_base.specs.Layout.{packed_refs};
-    ghost use Rattle.gix_ref_base.specs.Names.{full_ref_bytes};
+    ghost use Rattle.gix_ref_name.specs.Names.{full_ref_bytes};
     ghost use Rattle.std.specs.Option.{option_map};
     ghost use Rattle.gix_ref_store.specs.Options.{default_options};
     ghost use Rattle.gix_ref_store.specs.Store.{files_of, folders, given_common, kind_of, meaning_of, IsMade, AreDirs, HasNoStore};

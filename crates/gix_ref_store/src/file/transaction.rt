@@ -3,6 +3,7 @@ ghost use Rattle.std.specs.Prelude.{◌≡◌, ◌≤◌, ◌⊎◌, [], OnOk, I
 ghost use Rattle.std.specs.Vec.{vec_capacity};
 ghost use Rattle.std.specs.Borrow.{sem, RestsIfErr};
 ghost use Rattle.gix_ref_files.specs.Files.{HasRisen};
+ghost use Rattle.gix_ref_packed.specs.OpenFiles.{HasReadFault};
 ghost use Rattle.gix_ref_transaction.specs.OwnLocks.{paths_of};
 ghost use Rattle.gix_ref_transaction.specs.DirectUpdates.{AreDirectUpdates};
 ghost use Rattle.gix_ref_store.specs.Prepared.{RefusesFrom, LosesNothing, PreparesFrom, RollsBackFrom};
@@ -18,7 +19,7 @@ use gix_ref_log::actor::SignatureRef;
 use gix_ref_transaction::commit::failure::{failure, take_place};
 use gix_ref_transaction::commit::renames::Unpublished;
 use gix_ref_transaction::paths::Paths;
-use gix_ref_transaction::prepare::carry::carry_edits;
+use gix_ref_transaction::prepare::carry::{carry_edits, note_writes};
 use gix_ref_transaction::prepare::hold::{Taken, Untaken};
 use gix_ref_transaction::release::{release_locks, remove_locks};
 use std::alloc::Global;
@@ -162,13 +163,14 @@ impl<'s, F: Files> Transaction<'s, F> {
     /// written.
     ///
     /// `Refused` has the first cause that applies, in the order of `prepare::Error`; then all is as before but for
-    /// the locks that it names, and folders on the way to locks. Reads one file for each edit, and makes one; the names of
-    /// the edits are sorted.
+    /// the locks that it names, and folders on the way to locks. Reads one file for each edit, and makes one; `packed-refs` is
+    /// opened once, and searched once for each edit whose reference can be in it; the names of the edits are sorted.
     pub fn prepare(self, alloc: Global, edits: Vec<RefEdit>) -> Result<Prepared<'s, F>, Refused>
         requires { AreDirectUpdates edits.items }
         ensures* rests { sem 𝓛 (RestsIfErr (the_row F.row) self.entry.store
             (λ p. p.store.ghost_name) result
-            (λ n. IfErr result (λ r. RefusesFrom F.honest F.means F.faults self.entry.store.now n
+            (λ n. IfErr result (λ r. RefusesFrom F.honest (HasReadFault F.Reader.faults)
+            F.means F.faults self.entry.store.now n
             edits.items r.error (paths_of r.locks_left.items)
             × (F.honest → LosesNothing F.means self.entry.store.now n edits.items)
             × (r.packed_refs ≡ self.entry.packed_refs)))) }
@@ -191,6 +193,7 @@ impl<'s, F: Files> Transaction<'s, F> {
             }
             Ok(taken) => {
                 let Taken { found, paths, left } = taken;
+                let paths = note_writes(paths, &found);
                 let edits = carry_edits(edits, found);
                 Ok(Prepared {
                     store,
@@ -270,16 +273,16 @@ impl<F: Files> Prepared<'_, F> {
             mut paths,
             left,
         } = plan;
-        if let Err(Unpublished { at, why }) = store.publish(alloc, &edits, &paths) {
+        if let Err(Unpublished { at, why }) = store.publish(alloc, &paths) {
             let place = take_place(alloc, &mut paths, at);
-            let locks_left = release_locks(&mut store.files, &edits, at, paths, left);
+            let locks_left = release_locks(&mut store.files, at, paths, left);
             return Err(Failed {
                 error: failure(edits, at, place, why),
                 packed_refs,
                 locks_left,
             });
         }
-        let locks_left = release_locks(&mut store.files, &edits, edits.len(), paths, left);
+        let locks_left = release_locks(&mut store.files, edits.len(), paths, left);
         Ok(Done {
             edits,
             packed_refs,

@@ -1,6 +1,6 @@
 //! Why a transaction is not committed.
-use gix_ref_base::name::FullName;
 use gix_ref_files::files::FileError;
+use gix_ref_name::name::FullName;
 use thiserror::Error;
 
 /// Why a commit ended. The edits before the one that is named are done.

@@ -1,6 +1,6 @@
 //! What a commit reports of renames that ended early.
 ghost use Rattle.std.specs.Prelude.{◌≡◌, ◌<◌, vec_len};
-ghost use Rattle.gix_ref_transaction.specs.CommitRenames.{place_at};
+ghost use Rattle.gix_ref_transaction.specs.CommitRenames.{place_at, written_flags};
 ghost use Rattle.gix_ref_transaction.specs.CommittedEdits.{SaysWhy};
 ghost use Rattle.gix_ref_transaction.specs.PrepareSteps.{lock_paths};
 
@@ -15,6 +15,7 @@ use std::mem;
 pub fn take_place(alloc: Global, paths: &mut Vec<Paths>, at: usize) -> Vec<u8>
     ensures place { at < vec_len paths.old → result.items ≡ place_at paths.old.items at }
     ensures locks { lock_paths paths.new.items ≡ lock_paths paths.old.items }
+    ensures written { written_flags paths.new.items ≡ written_flags paths.old.items }
     ensures len { vec_len paths.new ≡ vec_len paths.old }
 {
     if at < paths.len() {

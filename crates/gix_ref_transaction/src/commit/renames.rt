@@ -5,15 +5,10 @@ ghost use Rattle.gix_ref_files.specs.Steps.Step.{Rename};
 ghost use Rattle.gix_ref_files.specs.DiskSteps.{synced_step, synced_steps};
 ghost use Rattle.gix_ref_files.specs.DiskSteps.Synced.{With};
 ghost use Rattle.gix_ref_files.specs.Settled.{climb};
-ghost use Rattle.gix_ref_base.specs.Targets.{target_value};
 ghost use Rattle.gix_ref_lookup.specs.StoreLayout.{root_in};
-ghost use Rattle.gix_ref_transaction.specs.CommitRenames.{writes as writes_it, renames_of, synced_renames_of, IsStepOf, SayTheirEdits, why_is};
-ghost use Rattle.gix_ref_transaction.specs.PrepareSteps.{is_found};
-ghost use Rattle.gix_ref_edits.specs.RefEdits.{matched};
+ghost use Rattle.gix_ref_transaction.specs.CommitRenames.{renames_of, synced_renames_of, IsStepOf, SayTheirEdits, why_is};
 
 use crate::paths::Paths;
-use gix_ref_base::target::Target;
-use gix_ref_edits::transaction::{Change, PreviousValue, RefEdit, RefLog};
 use gix_ref_files::files::FileError;
 use gix_ref_files::steps::{Action, Cause, Ended, Planned, Settle};
 use gix_ref_lookup::folders::Dirs;
@@ -39,27 +34,6 @@ pub struct Unpublished {
     pub why: Why,
 }
 
-/// Whether the reference has the new object already, by what a prepared edit expects.
-fn has_already(expected: &PreviousValue, new: &Target) -> bool
-    ensures { result ≡ is_found (matched expected.now) (target_value new.now) }
-{
-    match (expected, new) {
-        (PreviousValue::MustExistAndMatch(Target::Object(old)), Target::Object(new)) => old == new,
-        _ => false,
-    }
-}
-
-/// Whether a prepared edit writes its reference.
-pub fn writes(change: &Change) -> bool
-    ensures { result ≡ writes_it change.now }
-{
-    match change {
-        Change::Update { log, expected, new } => log.mode == RefLog::AndReference
-            && !has_already(expected, new),
-        Change::Delete { .. } => false,
-    }
-}
-
 /// The rename of a lock to its place, and the syncs of the folders above it.
 fn rename_of<'p>(dirs: &Dirs, own: &'p Paths, at: usize) -> Planned<'p, usize>
     ensures step { step_of result.action ≡ Rename own.now.lock.items own.now.place.items }
@@ -83,19 +57,17 @@ fn rename_of<'p>(dirs: &Dirs, own: &'p Paths, at: usize) -> Planned<'p, usize>
 pub fn plan_renames<'p>(
     alloc: Global,
     dirs: &Dirs,
-    edits: &[RefEdit],
     paths: &'p [Paths],
 ) -> Result<Vec<Planned<'p, usize>>, AllocError>
-    requires { length paths.now ≡ length edits.now }
-    ensures steps { IfOk result (λ plan. steps_of plan.items ≡ renames_of edits.now paths.now) }
+    ensures steps { IfOk result (λ plan. steps_of plan.items ≡ renames_of paths.now) }
     ensures synced { IfOk result (λ plan. synced_steps plan.items
-        ≡ synced_renames_of dirs.now edits.now paths.now) }
-    ensures each { IfOk result (λ plan. SayTheirEdits edits.now paths.now plan.items) }
+        ≡ synced_renames_of dirs.now paths.now) }
+    ensures each { IfOk result (λ plan. SayTheirEdits paths.now plan.items) }
 {
-    let mut plan = Vec::with_capacity(alloc, edits.len())?;
-    for (at, edit) in edits.iter().enumerate() {
-        if writes(&edit.change) {
-            plan.push(rename_of(dirs, &paths[at], at))?;
+    let mut plan = Vec::with_capacity(alloc, paths.len())?;
+    for (at, own) in paths.iter().enumerate() {
+        if own.writes {
+            plan.push(rename_of(dirs, own, at))?;
         }
     }
     Ok(plan)
@@ -114,8 +86,8 @@ fn why_of(cause: Cause) -> Why
 /// Where a run of these renames ended, in the list of edits.
 pub fn where_ended(plan: &[Planned<'_, usize>], ended: Ended) -> Unpublished
     requires { ended.at < length plan.now }
-    ensures at { (edits : List RefEdit) (paths : List Paths) → SayTheirEdits edits paths plan.now →
-        IsStepOf edits paths ended.at result.at }
+    ensures at { (paths : List Paths) → SayTheirEdits paths plan.now →
+        IsStepOf paths ended.at result.at }
     ensures why { result.why ≡ why_is ended.cause }
 {
     Unpublished {

@@ -2,7 +2,7 @@
 ghost use Rattle.std.specs.Prelude.{◌≡◌, ◌↔◌, ◌⊎◌, [], IsTrue, OnOk, IfOk, IfErr, Option, Some, None};
 ghost use Rattle.std.specs.Option.{option_map};
 ghost use Rattle.gix_ref_hash.specs.Ids.{id_kind, IsWhole};
-ghost use Rattle.gix_ref_base.specs.Names.{full_ref_bytes};
+ghost use Rattle.gix_ref_name.specs.Names.{full_ref_bytes};
 ghost use Rattle.gix_ref_base.specs.Targets.{target_ref_value};
 ghost use Rattle.gix_ref_transaction.specs.Causes.{IsValidEdit, IsInvalidEdit, AllValid, IsFirstInvalid, IsFullTarget, IsOfKind, IsWholeTarget, HasKind, IsNotIo, IsDoubling, names_of};
 ghost use Rattle.gix_ref_transaction.specs.PrepareSteps.{setting_of};
@@ -12,11 +12,11 @@ ghost use Rattle.gix_ref_edits.specs.RefEdits.{name_of, new_of};
 
 use crate::prepare::Error;
 use gix_ref_base::layout::location_of;
-use gix_ref_base::name::FullNameRef;
 use gix_ref_base::target::TargetRef;
 use gix_ref_edits::transaction::{EditError, RefEdit, RefEditsExt};
 use gix_ref_hash::hash::{Kind, ObjectId};
 use gix_ref_lookup::settings::Settings;
+use gix_ref_name::name::FullNameRef;
 use std::alloc::{AllocError, Global};
 
 /// Whether the name of a new symbolic target is a full name.

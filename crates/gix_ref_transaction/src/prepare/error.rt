@@ -1,13 +1,15 @@
 //! Why a transaction is not prepared.
-use gix_ref_base::name::FullName;
 use gix_ref_base::target::Target;
 use gix_ref_edits::transaction::EditError;
 use gix_ref_files::files::FileError;
+use gix_ref_name::name::FullName;
+use gix_ref_packed::packed;
 use std::alloc::AllocError;
 use thiserror::Error;
 
 /// The causes of a refusal, in the order in which `prepare` reports them: the first four of each edit by itself, then a name
-/// that two edits have, before it takes any lock; the others edit by edit. `Io` and `Memory` can come anywhere.
+/// that two edits have, then `packed-refs` and its records, before it takes any lock; the others edit by edit. `Io` and
+/// `Memory` can come anywhere.
 #[derive(Debug, Drop, Error)]
 pub enum Error {
     /// The name of an edit neither begins with `refs/` nor has a category, so it may lie where Git keeps something else.
@@ -27,6 +29,12 @@ pub enum Error {
     PreprocessingFailed {
         source: EditError,
     },
+    /// `packed-refs` could not be opened or read, or it is malformed where it is read as a whole.
+    #[error("packed-refs could not be opened: {0}")]
+    Packed(packed::buffer::open::Error),
+    /// The record of an edit's reference cannot be read, or a malformed line was met in the search for it.
+    #[error("a search in packed-refs failed: {0}")]
+    PackedFind(packed::find::Error),
     /// A file is in the path of the edit's lock.
     #[error("a file stands in the path of the lock of {full_name}")]
     PathCollision {

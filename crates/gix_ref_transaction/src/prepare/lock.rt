@@ -1,33 +1,36 @@
 //! One lock of a transaction: its paths, taking it, and giving it its text.
-ghost use Rattle.std.specs.Prelude.{◌≡◌, ◌≤◌, ◌⊎◌, ℕ, List, [], ◌∷◌, OnOk, OnErr, IfOk, IfErr, IsSome, Some, true, length, vec_len};
+ghost use Rattle.std.specs.Prelude.{◌≡◌, ◌≤◌, ◌⊎◌, ℕ, List, [], ◌∷◌, OnOk, OnErr, IfOk, IfErr, IsSome, Some, true, false, length, vec_len};
 ghost use Rattle.gix_ref_files.specs.Tree.{Tree, Path, is_blocked, put};
 ghost use Rattle.gix_ref_files.specs.Tree.Content.{File};
 ghost use Rattle.gix_ref_files.specs.Files.{disk_of, Leaves, Passes};
 ghost use Rattle.gix_ref_files.specs.Calls.{Unchanged};
 ghost use Rattle.gix_ref_files.specs.DiskCalls.{Untouched, WritingOn};
 ghost use Rattle.gix_ref_files.specs.Settled.{IsWhole};
+ghost use Rattle.std.specs.Option.{option_map};
 ghost use Rattle.gix_ref_base.specs.Targets.{target_value};
+ghost use Rattle.gix_ref_base.specs.Targets.TargetValue.{object_id};
 ghost use Rattle.gix_ref_lookup.specs.StoreLayout.{namespace_text};
 ghost use Rattle.gix_ref_files.specs.Lock.{lock_of, LockingOn};
 ghost use Rattle.gix_ref_theory.specs.OnRealTrees.{view_of};
 ghost use Rattle.gix_ref_transaction.specs.OwnLocks.{AddsLocks};
-ghost use Rattle.gix_ref_transaction.specs.Causes.{found, IsCounted, IsNotIo, IsMismatch, IsIoOrMemory, locks_of};
+ghost use Rattle.gix_ref_transaction.specs.Causes.{found, found_by, decoded, packed_of, IsCounted, IsNotIo, IsMismatch, IsIoOrMemory, locks_of};
 ghost use Rattle.gix_ref_edits.specs.RefEdits.{name_of, expected_of, new_of, Expects};
-ghost use Rattle.gix_ref_transaction.specs.PrepareSteps.{setting_of, value_of, places_of, place_paths, lock_paths, lock_text, is_new, held_by, IsText, IsRefusedLock, IsNewLock, FillsLock, FillingOn};
+ghost use Rattle.gix_ref_transaction.specs.PrepareSteps.{setting_of, value_of, places_of, place_paths, lock_paths, lock_text, effect_on, is_written, is_new, is_damaged, is_undecodable, target_by, IsTextFor, IsSomeWhole, IsRefusedLock, IsNewLock, FillsLock, FillingOn};
 
 use crate::paths::Paths;
 use crate::prepare::Error;
 use crate::prepare::expect::check_expected;
-use gix_ref_base::namespace::Namespace;
 use gix_ref_base::target::Target;
 use gix_ref_edits::transaction::{Change, RefEdit, RefLog};
 use gix_ref_files::files::{Create, Files};
 use gix_ref_files::lock::{make_lock, write_lock};
+use gix_ref_hash::hash::ObjectId;
 use gix_ref_lookup::find::loose::{Loose, loose_at};
 use gix_ref_lookup::find::strip;
 use gix_ref_lookup::layout::layout_in;
 use gix_ref_lookup::loose::text_of;
 use gix_ref_lookup::settings::Settings;
+use gix_ref_name::namespace::Namespace;
 use std::alloc::{AllocError, Global};
 
 /// The place of an edit's reference, and its lock.
@@ -45,7 +48,11 @@ fn paths_of_edit(
     let place = layout.loose(alloc, edit.name.as_ref())?;
     let mut lock = place.clone()?;
     lock.extend_from_slice(b".lock")?;
-    Ok(Paths { place, lock })
+    Ok(Paths {
+        place,
+        lock,
+        writes: false,
+    })
 }
 
 /// The paths of each edit.
@@ -122,29 +129,73 @@ pub fn acquire<F: Files>(
     }
 }
 
-/// The target that a loose file holds, less the namespace.
-fn target_of(loose: Loose, namespace: &Option<Namespace>) -> Option<Target>
-    ensures { value_of result ≡ held_by (namespace_text namespace.now) loose }
+/// What there is of a reference before its edit.
+#[derive(Debug, Drop)]
+struct Was {
+    /// Its target: that of its loose file, or else the object of its record.
+    target: Option<Target>,
+    /// Whether there is a loose file that holds no target.
+    damaged: bool,
+}
+
+/// What was found of the reference of an edit.
+#[derive(Debug, Drop)]
+pub struct Found {
+    /// Its target, if it has one.
+    pub target: Option<Target>,
+    /// Whether the edit writes the reference: its lock holds the new text.
+    pub writes: bool,
+}
+
+/// The target of the object of a record.
+fn object_of(packed: Option<ObjectId>) -> Option<Target>
+    ensures { value_of result ≡ option_map object_id packed }
+{
+    match packed {
+        Some(id) => Some(Target::Object(id)),
+        None => None,
+    }
+}
+
+/// What there is of a reference, by its loose file and its record.
+fn was_of(loose: Loose, packed: Option<ObjectId>, namespace: &Option<Namespace>) -> Was
+    ensures target { value_of result.target ≡ target_by (namespace_text namespace.now) loose
+        packed }
+    ensures damaged { result.damaged ≡ is_undecodable loose }
 {
     match loose {
         Loose::Holds(mut target) => {
             strip(&mut target, namespace);
-            Some(target)
+            Was {
+                target: Some(target),
+                damaged: false,
+            }
         }
-        Loose::Absent | Loose::Undecodable(_) => None,
+        Loose::Absent => Was {
+            target: object_of(packed),
+            damaged: false,
+        },
+        Loose::Undecodable(_) => Was {
+            target: object_of(packed),
+            damaged: true,
+        },
     }
 }
 
-/// What is found at a place: its target less the namespace, if its file holds one.
-fn found_at<F: Files>(
+/// What there is at a place, whose reference has this id in `packed-refs`.
+fn was_at<F: Files>(
     alloc: Global,
     files: &mut F,
     settings: &Settings<'_>,
     place: &[u8],
-) -> Result<Option<Target>, Error>
-    ensures found { F.honest → IfOk result (λ was. (name : List ℕ) →
-        place.now ≡ (setting_of settings.now).place name →
-        value_of was ≡ found (setting_of settings.now) (view_of (F.means files.old).tree) name) }
+    packed: Option<ObjectId>,
+) -> Result<Was, Error>
+    ensures target { F.honest →
+        IfOk result (λ was. value_of was.target ≡ found_by (setting_of settings.now)
+        (decoded (setting_of settings.now) (view_of (F.means files.old).tree place.now)) packed) }
+    ensures damaged { F.honest →
+        IfOk result (λ was. was.damaged ≡ is_damaged (setting_of settings.now)
+        (view_of (F.means files.old).tree place.now)) }
     ensures outside { IfErr result IsIoOrMemory }
     ensures leaves { F.honest → Leaves (F.means files.old) (F.means files.new)
         (Unchanged (F.means files.old).tree) }
@@ -154,30 +205,29 @@ fn found_at<F: Files>(
     ensures counted { IfErr result (IsCounted (F.faults files.old) (F.faults files.new)) }
 {
     let loose = loose_at(alloc, files, place, settings.kind)?;
-    Ok(target_of(loose, settings.namespace))
+    Ok(was_of(loose, packed, settings.namespace))
 }
 
-/// Whether the update changes what is found: the reference has not this object already.
-fn is_change(new: &Target, found: &Option<Target>) -> bool
-    ensures { result ≡ is_new (Some (target_value new.now)) (value_of found.now) }
+/// Whether the update changes the reference: it has not this object already, in a file that can be read.
+fn is_change(new: &Target, was: &Was) -> bool
+    ensures { result ≡ is_new (Some (target_value new.now)) (value_of was.now.target) was.now.damaged }
 {
-    match (new, found) {
+    if was.damaged {
+        return true;
+    }
+    match (new, &was.target) {
         (Target::Object(new), Some(Target::Object(old))) => new != old,
         _ => true,
     }
 }
 
 /// The text that the lock of an edit gets; `None` where its reference is not written.
-pub fn text_for(
-    alloc: Global,
-    change: &Change,
-    found: &Option<Target>,
-) -> Result<Option<Vec<u8>>, AllocError>
-    ensures { IfOk result (IsText change.now (value_of found.now)) }
+fn text_for(alloc: Global, change: &Change, was: &Was) -> Result<Option<Vec<u8>>, AllocError>
+    ensures { IfOk result (IsTextFor change.now (value_of was.now.target) was.now.damaged) }
 {
     match change {
         Change::Update { log, new, .. }
-            if log.mode == RefLog::AndReference && is_change(new, found) => {
+            if log.mode == RefLog::AndReference && is_change(new, was) => {
             Ok(Some(text_of(alloc, new)?))
         }
         _ => Ok(None),
@@ -204,29 +254,42 @@ fn fill<F: Files>(files: &mut F, lock: &[u8], text: &[u8]) -> Result<(), Error>
     Ok(())
 }
 
-/// Compares what is found with what the edit expects, and writes the text into its lock, which is empty.
+/// Compares what is found with what the edit expects, and writes the text into its lock, which is empty. `packed` is the id
+/// of the reference's record.
 pub fn settle<F: Files>(
     alloc: Global,
     files: &mut F,
     settings: &Settings<'_>,
     edit: &RefEdit,
     paths: &Paths,
-) -> Result<Option<Target>, Error>
+    packed: Option<ObjectId>,
+) -> Result<Found, Error>
     requires update { IsSome (new_of edit.now.change) }
     requires place { paths.now.place.items ≡ (setting_of settings.now).place (name_of edit.now) }
-    ensures found { F.honest →
-        IfOk result (λ was. value_of was ≡ found (setting_of settings.now)
+    requires allowed { (setting_of settings.now).is_prohibited
+        ((setting_of settings.now).place (name_of edit.now)) ≡ false }
+    ensures found { F.honest → packed ≡ packed_of (setting_of settings.now) (view_of (F.means
+        files.old).tree) (name_of edit.now) →
+        IfOk result (λ f. value_of f.target ≡ found (setting_of settings.now)
         (view_of (F.means files.old).tree) (name_of edit.now)) }
-    ensures expected { F.honest →
+    ensures written { F.honest → packed ≡ packed_of (setting_of settings.now) (view_of (F.means
+        files.old).tree) (name_of edit.now) →
+        IfOk result (λ f. f.writes ≡ is_written (effect_on (setting_of settings.now)
+        (view_of (F.means files.old).tree) edit.now)) }
+    ensures expected { F.honest → packed ≡ packed_of (setting_of settings.now) (view_of (F.means
+        files.old).tree) (name_of edit.now) →
         OnOk result (Expects (expected_of edit.now.change) (new_of edit.now.change)
         (found (setting_of settings.now) (view_of (F.means files.old).tree) (name_of edit.now))) }
-    ensures filled { F.honest → (F.means files.old).tree paths.now.lock.items ≡ Some (File []) →
+    ensures filled { F.honest → packed ≡ packed_of (setting_of settings.now) (view_of (F.means
+        files.old).tree) (name_of edit.now) →
+        (F.means files.old).tree paths.now.lock.items ≡ Some (File []) →
         OnOk result ((F.means files.new).tree ≡ put (F.means files.old).tree paths.now.lock.items
         (Some
         (File
-        (lock_text edit.now.change
-        (found (setting_of settings.now) (view_of (F.means files.old).tree) (name_of edit.now)))))) }
-    ensures refused { F.honest →
+        (lock_text (effect_on (setting_of settings.now) (view_of (F.means files.old).tree)
+        edit.now))))) }
+    ensures refused { F.honest → packed ≡ packed_of (setting_of settings.now) (view_of (F.means
+        files.old).tree) (name_of edit.now) →
         IfErr result (λ error. IsIoOrMemory error ⊎ IsMismatch settings.now.kind edit.now
         (found (setting_of settings.now) (view_of (F.means files.old).tree) (name_of edit.now))
         error) }
@@ -234,19 +297,22 @@ pub fn settle<F: Files>(
         Leaves (F.means files.old) (F.means files.new) (FillsLock (F.means files.old).tree
         paths.now.lock.items) }
     ensures whole { F.honest → IsWhole (disk_of (F.means files.old)) paths.now.lock.items [] →
-        OnOk result (IsWhole (disk_of (F.means files.new)) paths.now.lock.items
-        (lock_text edit.now.change
-        (found (setting_of settings.now) (view_of (F.means files.old).tree) (name_of edit.now)))) }
+        OnOk result (IsSomeWhole (disk_of (F.means files.new)) paths.now.lock.items) }
     ensures passes { F.honest → Passes (F.means files.old) (F.means files.new)
         (FillingOn (disk_of (F.means files.old)) paths.now.lock.items) }
     ensures no_fewer { F.faults files.old ≤ F.faults files.new }
     ensures counted { IfErr result (IsCounted (F.faults files.old) (F.faults files.new)) }
 {
-    let was = found_at(alloc, files, settings, &paths.place)?;
-    check_expected(edit, &was, settings.kind)?;
+    let was = was_at(alloc, files, settings, &paths.place, packed)?;
+    check_expected(edit, &was.target, settings.kind)?;
     let text = text_for(alloc, &edit.change, &was)?;
-    if let Some(text) = text {
-        fill(files, &paths.lock, &text)?;
+    let writes = text.is_some();
+    match text {
+        Some(text) => fill(files, &paths.lock, &text)?,
+        None => {}
     }
-    Ok(was)
+    Ok(Found {
+        target: was.target,
+        writes,
+    })
 }

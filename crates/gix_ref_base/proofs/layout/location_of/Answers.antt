@@ -1,5 +1,5 @@
 use Rattle.std.proofs.Common.{sym, ◌∙◌}
-use Rattle.gix_ref_base.specs.Names.{full_ref_bytes}
+use Rattle.gix_ref_name.specs.Names.{full_ref_bytes}
 use Rattle.gix_ref_base.specs.RefLayout.{location_value}
 use Rattle.gix_ref_base.proofs.LocationLemmas.{found_category, found_refs, not_found}
 use Rattle.gix_ref_base.proofs.layout.location_of.Goals as goal

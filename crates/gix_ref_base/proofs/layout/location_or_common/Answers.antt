@@ -1,5 +1,5 @@
 use Rattle.std.proofs.Common.{List, ℕ, sym, ap, ◌∙◌}
-use Rattle.gix_ref_base.specs.Names.{full_ref_bytes}
+use Rattle.gix_ref_name.specs.Names.{full_ref_bytes}
 use Rattle.gix_ref_base.specs.Locations.{paths_at, paths_of}
 use Rattle.gix_ref_base.specs.Locations.Location.{Common}
 use Rattle.gix_ref_base.proofs.LocationLemmas.{unsafe_paths}

@@ -1,5 +1,5 @@
 use Rattle.std.proofs.Common.{◌≡◌, ◌++◌, ℕ, List, map, take, Bor}
-use Rattle.gix_ref_base.specs.Names.{full_bytes, partial_ref_bytes}
+use Rattle.gix_ref_name.specs.Names.{full_bytes, partial_ref_bytes}
 use Rattle.gix_ref_base_tests.proofs.uses.candidates_of.Given as goal
 
 abbrev pub invariant-loop-front : goal.invariant-loop-front

@@ -1,12 +1,12 @@
 //! Names that more than one edit of a list has. They are sorted, so that equal names are neighbours.
 ghost use Rattle.std.specs.Prelude.{◌≡◌, ◌+◌, map, MatchOption, OnOk, IfOk, IfErr};
 ghost use Rattle.std.specs.List.Sorted.{IsSortedBy};
-ghost use Rattle.gix_ref_base.specs.Names.{full_ref_bytes};
+ghost use Rattle.gix_ref_name.specs.Names.{full_ref_bytes};
 ghost use Rattle.gix_ref_edits.specs.DoubledNames.{NoneDoubled, IsLeastDoubled, is_below, names_of};
 ghost use Rattle.gix_ref_edits.specs.SplitErrors.{IsNameFault};
 
 use crate::transaction::ext::{EditEntry, EditError};
-use gix_ref_base::name::FullNameRef;
+use gix_ref_name::name::FullNameRef;
 use std::alloc::{AllocError, Global};
 
 /// The least of the names that occur twice, in a list of names that ascends.

@@ -1,5 +1,5 @@
 //! Why a list of edits is refused.
-use gix_ref_base::name::FullName;
+use gix_ref_name::name::FullName;
 use std::alloc::{AllocError, AllocFailed};
 use thiserror::Error;
 

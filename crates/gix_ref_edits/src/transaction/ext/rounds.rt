@@ -3,14 +3,14 @@
 ghost use Rattle.std.specs.Prelude.{◌≡◌, ◌+◌, ◌≤◌, [], ◌∷◌, length, take, drop, OnOk, IfOk, IfErr, option_to_list};
 ghost use Rattle.gix_ref_edits.specs.EditValues.{edit_value};
 ghost use Rattle.gix_ref_edits.specs.MadeEntries.{KeepsEdits, IsSameButEdit, edits_of};
-ghost use Rattle.gix_ref_edits.specs.Rounds.{HasRound, HasSplitLevel, IsFault, values_of};
+ghost use Rattle.gix_ref_edits.specs.internal.Rounds.{HasRound, HasSplitLevel, IsFault, values_of};
 ghost use Rattle.gix_ref_edits.specs.SplitErrors.{IsSplitFault};
 ghost use Rattle.gix_ref_edits.specs.SplitResults.{HasSplits, HasTooManySplits};
 
 use crate::transaction::RefEdit;
 use crate::transaction::ext::{EditEntry, SplitError};
-use gix_ref_base::name::PartialNameRef;
 use gix_ref_base::target::Target;
+use gix_ref_name::name::PartialNameRef;
 use std::alloc::Global;
 
 /// Looks up the reference of an entry's edit, where the edit follows it. Where it is symbolic, the entry for the child

@@ -1,14 +1,14 @@
 //! The split of one edit: what stays with a symbolic reference, and what goes to the reference that it leads to.
 ghost use Rattle.std.specs.Prelude.{◌≡◌, [], ◌∷◌, Option, Some, List, OnOk, OnErr, IfOk, IfErr};
-ghost use Rattle.gix_ref_base.specs.Names.{full_bytes};
+ghost use Rattle.gix_ref_name.specs.Names.{full_bytes};
 ghost use Rattle.gix_ref_edits.specs.EditValues.{change_value, edit_value};
 ghost use Rattle.gix_ref_edits.specs.SplitLists.{parent_change, looked_up, child_of};
-ghost use Rattle.gix_ref_edits.specs.Rounds.{HasRound, IsFault, values_of};
+ghost use Rattle.gix_ref_edits.specs.internal.Rounds.{HasRound, IsFault, values_of};
 
 use crate::transaction::ext::SplitError;
 use crate::transaction::{Change, PreviousValue, RefEdit, RefLog};
-use gix_ref_base::name::{FullName, PartialNameRef};
 use gix_ref_base::target::Target;
+use gix_ref_name::name::{FullName, PartialNameRef};
 use std::alloc::AllocError;
 
 impl Change {

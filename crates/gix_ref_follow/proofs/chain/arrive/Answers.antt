@@ -1,7 +1,7 @@
 use Rattle.std.proofs.Common.{◌≡◌, ◌∙◌, List, false, true, sym, ap, subst, bytes_eq}
 use Rattle.std.specs.List.{list_any}
-use Rattle.gix_ref_base.specs.Names.{full_bytes, full_ref_bytes}
-use Rattle.gix_ref_base.specs.declared.name.FullName.{FullName}
+use Rattle.gix_ref_name.specs.Names.{full_bytes, full_ref_bytes}
+use Rattle.gix_ref_name.specs.declared.name.FullName.{FullName}
 use Rattle.gix_ref_store.specs.Store.{meaning_of}
 use Rattle.gix_ref_follow.proofs.Steps.{any_named, leads_back}
 use Rattle.gix_ref_follow.proofs.chain.arrive.Goals as goal

@@ -1,5 +1,5 @@
 use Rattle.std.proofs.Common.{◌∙◌, Some}
-use Rattle.gix_ref_base.specs.Names.{partial_ref_bytes, full_bytes}
+use Rattle.gix_ref_name.specs.Names.{partial_ref_bytes, full_bytes}
 use Rattle.gix_ref_store.specs.Lookup.{FindsBy, MissesBy, HitsIn}
 use Rattle.gix_ref_follow.proofs.Steps.{both, ok_named}
 use Rattle.gix_ref_follow.proofs.chain.find_next.Goals as goal

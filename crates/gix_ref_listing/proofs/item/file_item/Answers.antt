@@ -1,4 +1,4 @@
-use Rattle.gix_ref_base.specs.Names.{full_bytes}
+use Rattle.gix_ref_name.specs.Names.{full_bytes}
 use Rattle.gix_ref_theory.specs.OnRealTrees.{view_of}
 use Rattle.gix_ref_listing.proofs.ItemLemmas.{gone_unread}
 use Rattle.gix_ref_listing.proofs.item.file_item.Goals as goal

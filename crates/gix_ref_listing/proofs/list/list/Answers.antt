@@ -1,6 +1,6 @@
 use Rattle.std.proofs.Common.{inl, inr, ⊎_elim, sym, ap}
 use Rattle.gix_ref_theory.specs.OnRealTrees.{view_of}
-use Rattle.gix_ref_packed.specs.Prefixes.{records_prefixed}
+use Rattle.gix_ref_records.specs.Prefixes.{records_prefixed}
 use Rattle.gix_ref_listing.specs.OwnRecords.{own_records}
 use Rattle.gix_ref_listing.specs.Listings.{merged}
 use Rattle.gix_ref_listing.specs.WholeListings.{key_in}

@@ -1,6 +1,6 @@
 use Rattle.std.proofs.Common.{◌∙◌, ap, subst, ◌++◌, List}
 use Rattle.gix_ref_base.specs.PackedRecords.{Record}
-use Rattle.gix_ref_packed.specs.Prefixes.{records_prefixed}
+use Rattle.gix_ref_records.specs.Prefixes.{records_prefixed}
 use Rattle.gix_ref_packed.specs.YetToGive.{IsYet}
 use Rattle.gix_ref_listing.proofs.list.records_of.Goals as goal
 

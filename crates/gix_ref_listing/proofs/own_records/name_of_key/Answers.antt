@@ -1,5 +1,5 @@
 use Rattle.std.proofs.Common.{◌∙◌, sym}
-use Rattle.gix_ref_base.specs.Names.{full_ref_bytes}
+use Rattle.gix_ref_name.specs.Names.{full_ref_bytes}
 use Rattle.gix_ref_listing.proofs.OwnLemmas.{own_inside, not_inside}
 use Rattle.gix_ref_listing.proofs.own_records.name_of_key.Goals as goal
 

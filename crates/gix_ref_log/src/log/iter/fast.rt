@@ -3,7 +3,7 @@ ghost use Rattle.std.specs.Prelude.{◌<◌, ℕ, List, length, IfSome};
 ghost use Rattle.gix_ref_hash.specs.Bytes.{NoByte, Cuts};
 ghost use Rattle.gix_ref_log.specs.LogIds.{IdFront};
 ghost use Rattle.gix_ref_log.specs.LogLines.{IsLine, line_ref_parts};
-ghost use Rattle.gix_ref_log.specs.LogFast.{HasFront, BeginsWithLine};
+ghost use Rattle.gix_ref_log.specs.internal.LogFast.{HasFront, BeginsWithLine};
 
 use crate::actor::SignatureRef;
 use crate::log::line::LineRef;

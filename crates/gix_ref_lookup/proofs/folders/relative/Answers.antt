@@ -1,5 +1,5 @@
 use Rattle.std.proofs.Common.{sym, codes}
-use Rattle.gix_ref_base.proofs.FrontLemmas.{without-append, without-none}
+use Rattle.gix_ref_name.proofs.FrontLemmas.{without-append, without-none}
 use Rattle.gix_ref_lookup.proofs.folders.relative.Goals as goal
 
 pub returns-in-Some : goal.returns-in-Some

@@ -1,5 +1,5 @@
 use Rattle.std.proofs.Common.{◌≡◌, refl, sym, subst, List, ℕ, Some, false}
-use Rattle.gix_ref_base.specs.Names.{full_ref_bytes}
+use Rattle.gix_ref_name.specs.Names.{full_ref_bytes}
 use Rattle.gix_ref_files.specs.Tree.{is_file}
 use Rattle.gix_ref_store.specs.Reflogs.{reflog_at, ReadsBackward, IsNoReflog}
 use Rattle.gix_ref_program.specs.Runs.{LogOutcome, LogRan}

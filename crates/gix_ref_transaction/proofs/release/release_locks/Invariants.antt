@@ -22,10 +22,10 @@ invariant-loop-own g l =
       counted : (l.left.items ≡ []) ⊎ HasRisen (faults l.fn.files) (faults l.files);
       room : vec_len l.paths + vec_len l.left ≤ vec_capacity l.left;
       bound : vec_len l.paths ≤ vec_len l.fn.paths;
-      renamed : ((k : ℕ) → k < vec_len l.fn.paths → stays_at l.edits l.done k ≡ false) → l.files ≡ l.fn.files;
+      renamed : ((k : ℕ) → k < vec_len l.fn.paths → stays_at all l.done k ≡ false) → l.files ≡ l.fn.files;
       front : (tail : List Paths) × (all ≡ l.paths.items ++ tail);
       ours : (q : Path) → is_in left q ≡ true → is_in (lock_paths all) q ≡ true;
-      gone : g.F.Files.honest → (k : ℕ) → vec_len l.paths ≤ k → k < vec_len l.fn.paths → stays_at l.edits l.done k ≡ true → is_in left (lock_at all k) ≡ false → is_file (now.tree (lock_at all k)) ≡ false;
+      gone : g.F.Files.honest → (k : ℕ) → vec_len l.paths ≤ k → k < vec_len l.fn.paths → stays_at all l.done k ≡ true → is_in left (lock_at all k) ≡ false → is_file (now.tree (lock_at all k)) ≡ false;
       passes : g.F.Files.honest → OnlyRemoves (lock_paths all) first now;
       leaves : g.F.Files.honest → Leaves first now (RemovesLocks (lock_paths all) first.tree);
     }

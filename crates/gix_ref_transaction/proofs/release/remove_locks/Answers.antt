@@ -9,4 +9,4 @@ returns-clause-gone g c h q within out =
     let at = lock_found c.args.locks.items q within in
     let now = (g.F.Files.means c.release_locks.new.files).tree in
     subst (λ (p : Path). is_file (now p) ≡ false) at.2
-    (c.release_locks.ensures.gone h at.0 (omega (arith, at.1)) (none_renamed [] at.0) (subst (λ (p : Path). is_in (paths_of c.release_locks.result.items) p ≡ false) (sym at.2) out))
+    (c.release_locks.ensures.gone h at.0 (omega (arith, at.1)) (none_renamed c.args.locks.items at.0) (subst (λ (p : Path). is_in (paths_of c.release_locks.result.items) p ≡ false) (sym at.2) out))

@@ -1,6 +1,6 @@
 use Rattle.std.proofs.Common.{refl, ap, ◌∙◌, [], ◌∷◌, true, false, Some, None, Ok}
 use Rattle.gix_ref_base.specs.declared.target.Target.TheVariants.{Symbolic, Object}
-use Rattle.gix_ref_base.specs.Names.{full_bytes}
+use Rattle.gix_ref_name.specs.Names.{full_bytes}
 use Rattle.gix_ref_edits.specs.EditValues.{EditValue, ChangeValue}
 use Rattle.std.proofs.lemmas.Result.{err_from_is_err_and}
 use Rattle.gix_ref_edits.proofs.Rounds.{answered, looked_up_once, failed_at_once, not_followed, followed}

@@ -1,5 +1,5 @@
 use Rattle.std.proofs.Common.{sym, ◌∙◌, subst, IsSome}
-use Rattle.gix_ref_base.specs.Names.{full_bytes}
+use Rattle.gix_ref_name.specs.Names.{full_bytes}
 use Rattle.gix_ref_listing.specs.Walks.{Among, Holds, IsFileOfName}
 use Rattle.gix_ref_listing.proofs.WalkLemmas.{file_stays, file_holds, known_holds, file_is_file, file_there}
 use Rattle.gix_ref_listing.proofs.walk.Root.take_file.Goals as goal

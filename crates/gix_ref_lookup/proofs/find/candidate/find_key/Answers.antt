@@ -1,5 +1,5 @@
 use Rattle.std.proofs.Common.{ap, ◌∙◌}
-use Rattle.gix_ref_base.specs.Namespaces.{stripped}
+use Rattle.gix_ref_name.specs.Namespaces.{stripped}
 use Rattle.gix_ref_lookup.specs.StoreLayout.{namespace_text}
 use Rattle.gix_ref_lookup.proofs.find.candidate.find_key.Goals as goal
 

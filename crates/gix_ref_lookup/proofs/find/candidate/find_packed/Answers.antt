@@ -1,4 +1,4 @@
-use Rattle.gix_ref_base.specs.Names.{full_ref_bytes}
+use Rattle.gix_ref_name.specs.Names.{full_ref_bytes}
 use Rattle.gix_ref_lookup.specs.Lookups.{packed_refs_in}
 use Rattle.gix_ref_lookup.proofs.NamedRecords.{without_key}
 use Rattle.gix_ref_lookup.proofs.find.candidate.find_packed.Goals as goal

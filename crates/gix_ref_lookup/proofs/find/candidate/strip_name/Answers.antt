@@ -1,4 +1,4 @@
-use Rattle.gix_ref_base.specs.Names.{full_bytes}
+use Rattle.gix_ref_name.specs.Names.{full_bytes}
 use Rattle.gix_ref_lookup.proofs.Stripping.{no_less}
 use Rattle.gix_ref_lookup.proofs.find.candidate.strip_name.Goals as goal
 

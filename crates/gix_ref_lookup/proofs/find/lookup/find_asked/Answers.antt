@@ -1,6 +1,6 @@
 use Rattle.std.proofs.Common.{◌≡◌, ◌⊎◌, inl, inr, ⊎_elim, List, ℕ, None, sym, ◌∙◌, ap, subst}
-use Rattle.gix_ref_base.specs.Candidates.{candidates, remote_head}
-use Rattle.gix_ref_base.specs.Names.{partial_ref_bytes}
+use Rattle.gix_ref_name.specs.Candidates.{candidates, remote_head}
+use Rattle.gix_ref_name.specs.Names.{partial_ref_bytes}
 use Rattle.gix_ref_theory.specs.OnRealTrees.{view_of}
 use Rattle.gix_ref_lookup.specs.Lookups.{meaning_in, IsHit, IsPassed, CandidateFails, to_list}
 use Rattle.gix_ref_lookup.specs.declared.find.error.Error.{Error}

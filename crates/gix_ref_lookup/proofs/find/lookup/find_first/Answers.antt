@@ -1,7 +1,7 @@
 use Rattle.std.proofs.Common.{◌≡◌, inl, ℕ, ◌+◌, ◌<◌, List, [], ◌∷◌, ◌++◌, Some, None, Bor, get_or, length, drop, arith, sym, ◌∙◌, ap, subst}
 use Rattle.gix_ref_hash.specs.declared.hash.Kind.{Kind}
-use Rattle.gix_ref_base.specs.Candidates.{candidates, fronts_of}
-use Rattle.gix_ref_base.specs.Names.{partial_ref_bytes, full_ref_bytes}
+use Rattle.gix_ref_name.specs.Candidates.{candidates, fronts_of}
+use Rattle.gix_ref_name.specs.Names.{partial_ref_bytes, full_ref_bytes}
 use Rattle.gix_ref_base.specs.PackedRecords.{Record}
 use Rattle.gix_ref_files.specs.Tree.{Tree}
 use Rattle.gix_ref_files.proofs.Moments.{joins, weaken}

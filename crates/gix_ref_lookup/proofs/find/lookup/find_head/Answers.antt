@@ -1,7 +1,7 @@
 use Rattle.std.proofs.Common.{◌≡◌, inr, List, ℕ, [], Some, None, Option, IfOk, IfErr, refl, sym, ◌∙◌, ap, subst}
 use Rattle.std.specs.Option.{option_map}
-use Rattle.gix_ref_base.specs.Candidates.{remote_head}
-use Rattle.gix_ref_base.specs.Names.{partial_ref_bytes, full_ref_bytes, full_bytes}
+use Rattle.gix_ref_name.specs.Candidates.{remote_head}
+use Rattle.gix_ref_name.specs.Names.{partial_ref_bytes, full_ref_bytes, full_bytes}
 use Rattle.gix_ref_theory.specs.Lookups.{hit_or_head}
 use Rattle.gix_ref_theory.specs.OnRealTrees.{view_of}
 use Rattle.gix_ref_lookup.specs.Lookups.{meaning_in, Answers}

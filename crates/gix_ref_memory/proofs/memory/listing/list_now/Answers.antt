@@ -2,7 +2,7 @@ use Rattle.std.proofs.Common.{◌+◌, Vec, sym, subst, inr, ap, ◌∙◌}
 use Rattle.std.specs.declared.alloc.Global.{Global}
 use Rattle.gix_ref_files.specs.Tree.{no_tree}
 use Rattle.gix_ref_memory.specs.Changes.{after}
-use Rattle.gix_ref_memory.specs.Listing.{ListsSome}
+use Rattle.gix_ref_memory.specs.internal.Listing.{ListsSome}
 use Rattle.gix_ref_files.specs.declared.files.Entry.{Entry}
 use Rattle.gix_ref_memory.proofs.Placed.{placed}
 use Rattle.gix_ref_memory.proofs.ListingLemmas.{Remains, lists_none, remains_named, remains_else, all_listed}

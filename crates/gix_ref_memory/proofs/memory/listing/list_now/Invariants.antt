@@ -1,6 +1,6 @@
 use Rattle.gix_ref_files.specs.Tree.{no_tree}
 use Rattle.gix_ref_memory.specs.Changes.{after}
-use Rattle.gix_ref_memory.specs.Listing.{ListsSome}
+use Rattle.gix_ref_memory.specs.internal.Listing.{ListsSome}
 use Rattle.gix_ref_memory.proofs.ListingLemmas.{Remains}
 use Rattle.gix_ref_memory.proofs.memory.listing.list_now.Given as goal
 

@@ -1,6 +1,6 @@
 use Rattle.std.proofs.Common.{◌≡◌, ◌≤◌, ◌+◌, ◌∷◌, ◌++◌, [], List, length, take, sym, ◌∙◌, ap, subst, arith}
 use Rattle.std.proofs.lemmas.List.{take_more, take_all}
-use Rattle.gix_ref_memory.specs.Power.{Fills, IsChoice, IsNamed, Names}
+use Rattle.gix_ref_memory.specs.internal.Power.{Fills, IsChoice, IsNamed, Names}
 use Rattle.gix_ref_memory.specs.declared.memory.changes.Change.{Change}
 use Rattle.gix_ref_memory.proofs.Knowing.{fills_more, named_snoc, all_chosen}
 use Rattle.gix_ref_memory.proofs.memory.power.left_entries.Goals as goal

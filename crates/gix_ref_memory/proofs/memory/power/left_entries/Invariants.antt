@@ -1,5 +1,5 @@
 use Rattle.std.proofs.Common.{[], take}
-use Rattle.gix_ref_memory.specs.Power.{Fills, IsChoice, IsNamed}
+use Rattle.gix_ref_memory.specs.internal.Power.{Fills, IsChoice, IsNamed}
 use Rattle.gix_ref_memory.proofs.memory.power.left_entries.Given as goal
 
 -- the paths that were named so far hold what is left

@@ -2,7 +2,7 @@ use Rattle.std.proofs.Common.{◌≡◌, ◌≤◌, ◌+◌, ◌∷◌, ◌++◌
 use Rattle.std.proofs.lemmas.List.{take_more, take_all}
 use Rattle.gix_ref_files.specs.Tree.{no_tree}
 use Rattle.gix_ref_memory.specs.Changes.{after, IsPlaced}
-use Rattle.gix_ref_memory.specs.Power.{Fills, IsReachable}
+use Rattle.gix_ref_memory.specs.internal.Power.{Fills, IsReachable}
 use Rattle.gix_ref_memory.specs.declared.memory.changes.Change.{Change}
 use Rattle.gix_ref_memory.proofs.Knowing.{fills_more, placed_snoc, all_reached}
 use Rattle.gix_ref_memory.proofs.memory.power.reachable_entries.Goals as goal

@@ -1,7 +1,7 @@
 use Rattle.std.proofs.Common.{[], take}
 use Rattle.gix_ref_files.specs.Tree.{no_tree}
 use Rattle.gix_ref_memory.specs.Changes.{after, IsPlaced}
-use Rattle.gix_ref_memory.specs.Power.{Fills, IsReachable}
+use Rattle.gix_ref_memory.specs.internal.Power.{Fills, IsReachable}
 use Rattle.gix_ref_memory.proofs.memory.power.reachable_entries.Given as goal
 
 -- the paths so far hold what can be reached

@@ -1,6 +1,6 @@
 use Rattle.std.proofs.Common.{◌≤◌, List, length, ◌∙◌, sym, ap, arith}
 use Rattle.std.proofs.lemmas.List.{drop_all}
-use Rattle.gix_ref_memory.specs.Power.{entries, sure_entry}
+use Rattle.gix_ref_memory.specs.internal.Power.{entries, sure_entry}
 use Rattle.gix_ref_memory.specs.declared.memory.changes.Change.{Change}
 use Rattle.gix_ref_memory.proofs.memory.sure.sure_at.Goals as goal
 

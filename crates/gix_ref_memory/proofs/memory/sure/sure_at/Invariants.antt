@@ -1,5 +1,5 @@
 use Rattle.std.proofs.Common.{◌≡◌, drop}
-use Rattle.gix_ref_memory.specs.Power.{entries, no_entry, sure_entry}
+use Rattle.gix_ref_memory.specs.internal.Power.{entries, no_entry, sure_entry}
 use Rattle.gix_ref_memory.proofs.memory.sure.sure_at.Given as goal
 
 -- what is known so far leads to what is known in the end

@@ -1,6 +1,6 @@
 use Rattle.std.proofs.Common.{◌≡◌, take}
 use Rattle.std.specs.List.{flat_map}
-use Rattle.gix_ref_packed.specs.Entries.{entry_bytes}
+use Rattle.gix_ref_packed.specs.internal.Entries.{entry_bytes}
 use Rattle.gix_ref_packed.proofs.packed.sorting.joined.Given as goal
 
 abbrev pub invariant-loop-entry : goal.invariant-loop-entry

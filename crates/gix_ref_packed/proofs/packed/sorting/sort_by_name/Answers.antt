@@ -3,7 +3,7 @@ use Rattle.std.specs.Cmp.Lexicographic.{slice_cmp}
 use Rattle.std.proofs.lemmas.Cmp.{nat_list_cmp_total}
 use Rattle.std.proofs.lemmas.List.Sorted.{answers_always}
 use Rattle.std.proofs.slice.Orders.{ranks_by}
-use Rattle.gix_ref_packed.specs.Entries.{entry_name}
+use Rattle.gix_ref_packed.specs.internal.Entries.{entry_name}
 use Rattle.gix_ref_packed.proofs.packed.sorting.sort_by_name.Goals as goal
 
 pub returns-clause-sorted : goal.returns-clause-sorted

@@ -9,34 +9,30 @@ use Rattle.gix_ref_files.specs.DiskSteps.{synced_step, synced_steps}
 use Rattle.gix_ref_files.specs.DiskSteps.Synced.{With}
 use Rattle.gix_ref_files.specs.declared.steps.Planned.{Planned}
 use Rattle.gix_ref_lookup.specs.StoreLayout.{root_in}
-use Rattle.gix_ref_transaction.specs.CommitRenames.{writes, lock_at, place_at, is_written_at, IsStepOf, SayTheirEdits}
+use Rattle.gix_ref_transaction.specs.CommitRenames.{lock_at, place_at, is_written_at, IsStepOf, SayTheirEdits}
 use Rattle.gix_ref_transaction.specs.declared.paths.Paths.{Paths}
-use Rattle.gix_ref_edits.specs.declared.transaction.RefEdit.{RefEdit}
 use Rattle.gix_ref_transaction.proofs.Renames.{says_more, steps_more, steps_same, synced_more, synced_same}
 use Rattle.gix_ref_transaction.proofs.commit.renames.plan_renames.Goals as goal
-use Rattle.gix_ref_transaction.proofs.commit.renames.plan_renames.Goals.{then-writes+in_ok-push, else-writes}
+use Rattle.gix_ref_transaction.proofs.commit.renames.plan_renames.Goals.{then-own+in_ok-push, else-own}
 
 pub loop-at-preserved : goal.loop-at-preserved
 loop-at-preserved c =
     let x = c.loop-at.invariant in
     let dirs = c.args.dirs.now in
-    let edits = c.args.edits.now in
     let paths = c.args.paths.now in
     let plan = c.loop-at.plan.items in
     let i = c.loop-at.at in
-    let edit = c.index-edits-at.result in
-    let lt : i < length edits = omega arith in
-    let lt_paths : i < length paths = omega (arith, lt, c.requires) in
-    let is : is_written_at edits i ≡ c.writes.result =
-    get_or-map (λ (e : RefEdit). writes e.change) edits i edit false lt ∙ (ap (λ (e : RefEdit). writes e.change) (sym c.index-edits-at.is) ∙ sym c.writes.ensures) in
-    elim c.if-writes.branch [
-      | then-writes+in_ok-push w ↦
+    let own = c.index-paths-at.result in
+    let lt : i < length paths = omega arith in
+    let is : is_written_at paths i ≡ own.writes =
+    get_or-map (λ (p : Paths). p.writes) paths i own false lt ∙ ap (λ (p : Paths). p.writes) (sym c.index-paths-at.is) in
+    elim c.if-own.branch [
+      | then-own+in_ok-push w ↦
           let planned = w.rename_of.result in
-          let own = w.index-paths-at.result in
-          let items : c.if-writes.plan.items ≡ plan ++ planned ∷ [] = ap (λ (v : Vec (Planned ℕ) Global). v.items) w.plan-is ∙ w.in_ok-push.ensures.items in
-          let written : is_written_at edits i ≡ true = is ∙ w.if-writes.true in
-          let lock : own.lock.items ≡ lock_at paths i = ap (λ (p : Paths). p.lock.items) w.index-paths-at.is ∙ sym (get_or-map (λ (p : Paths). p.lock.items) paths i own _ lt_paths) in
-          let place : own.place.items ≡ place_at paths i = ap (λ (p : Paths). p.place.items) w.index-paths-at.is ∙ sym (get_or-map (λ (p : Paths). p.place.items) paths i own _ lt_paths) in
+          let items : c.if-own.plan.items ≡ plan ++ planned ∷ [] = ap (λ (v : Vec (Planned ℕ) Global). v.items) w.plan-is ∙ w.in_ok-push.ensures.items in
+          let written : is_written_at paths i ≡ true = is ∙ w.if-own.true in
+          let lock : own.lock.items ≡ lock_at paths i = ap (λ (p : Paths). p.lock.items) c.index-paths-at.is ∙ sym (get_or-map (λ (p : Paths). p.lock.items) paths i own _ lt) in
+          let place : own.place.items ≡ place_at paths i = ap (λ (p : Paths). p.place.items) c.index-paths-at.is ∙ sym (get_or-map (λ (p : Paths). p.place.items) paths i own _ lt) in
           let step : step_of planned.action ≡ Rename (lock_at paths i) (place_at paths i) =
           w.rename_of.ensures.step ∙ (ap (λ (l : Path). Rename l own.place.items) lock ∙ ap (Rename (lock_at paths i)) place) in
           let synced : synced_step planned ≡ With (Rename (lock_at paths i) (place_at paths i)) (climb (place_at paths i) (root_in dirs (place_at paths i))) =
@@ -45,19 +41,19 @@ loop-at-preserved c =
           ∙ ap (λ (p : Path). With (Rename (lock_at paths i) p) (climb p (root_in dirs p))) place) in
           let about : planned.about ≡ i = w.rename_of.ensures.about in
           record {
-            steps = ap steps_of items ∙ steps_more dirs edits paths plan i planned x.steps written step;
-            synced = ap synced_steps items ∙ synced_more dirs edits paths plan i planned x.synced written synced;
-            each = subst (λ (l : List (Planned ℕ)). SayTheirEdits edits paths l) (sym items)
-                (says_more edits paths plan planned x.each
-                (subst (λ k. IsStepOf edits paths (length plan) k) (sym about)
+            steps = ap steps_of items ∙ steps_more dirs paths plan i planned x.steps written step;
+            synced = ap synced_steps items ∙ synced_more dirs paths plan i planned x.synced written synced;
+            each = subst (λ (l : List (Planned ℕ)). SayTheirEdits paths l) (sym items)
+                (says_more paths plan planned x.each
+                (subst (λ k. IsStepOf paths (length plan) k) (sym about)
                 (record { within = lt; written = written; number = sym (ap length x.steps) ∙ length-map plan (λ (q : Planned ℕ). step_of q.action) })));
           }
-      | else-writes w ↦
-          let items : c.if-writes.plan.items ≡ plan = ap (λ (v : Vec (Planned ℕ) Global). v.items) w.plan-is in
-          let unwritten : is_written_at edits i ≡ false = is ∙ w.if-writes.false in
+      | else-own w ↦
+          let items : c.if-own.plan.items ≡ plan = ap (λ (v : Vec (Planned ℕ) Global). v.items) w.plan-is in
+          let unwritten : is_written_at paths i ≡ false = is ∙ w.if-own.false in
           record {
-            steps = ap steps_of items ∙ steps_same dirs edits paths plan i x.steps unwritten;
-            synced = ap synced_steps items ∙ synced_same dirs edits paths plan i x.synced unwritten;
-            each = subst (λ (l : List (Planned ℕ)). SayTheirEdits edits paths l) (sym items) x.each;
+            steps = ap steps_of items ∙ steps_same dirs paths plan i x.steps unwritten;
+            synced = ap synced_steps items ∙ synced_same dirs paths plan i x.synced unwritten;
+            each = subst (λ (l : List (Planned ℕ)). SayTheirEdits paths l) (sym items) x.each;
           }
     ]

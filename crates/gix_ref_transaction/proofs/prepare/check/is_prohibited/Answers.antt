@@ -1,6 +1,6 @@
 use Rattle.std.proofs.Common.{sym}
 use Rattle.gix_ref_hash.specs.Bytes.{components}
-use Rattle.gix_ref_base.specs.Names.{full_ref_bytes}
+use Rattle.gix_ref_name.specs.Names.{full_ref_bytes}
 use Rattle.gix_ref_theory.specs.ConcreteStore.{below_folders}
 use Rattle.gix_ref_lookup.specs.StoreLayout.{folders_of}
 use Rattle.gix_ref_transaction.specs.PrepareSteps.{setting_of}

@@ -1,4 +1,4 @@
-use Rattle.gix_ref_base.specs.Names.{full_ref_bytes}
+use Rattle.gix_ref_name.specs.Names.{full_ref_bytes}
 use Rattle.gix_ref_edits.proofs.Doubled.{none_of_sorted, least_of_sorted}
 use Rattle.gix_ref_edits.proofs.transaction.ext.doubled.assure_single_names.Goals as goal
 

@@ -1,7 +1,7 @@
 use Rattle.std.proofs.Common.{◌≡◌, ◌+◌, ◌-◌, ◌<◌, get_or, map, length, arith, ap, sym, ◌∙◌, subst}
 use Rattle.std.proofs.lemmas.List.{get_or_read}
 use Rattle.std.specs.Cmp.Lexicographic.{bytes_decides}
-use Rattle.gix_ref_base.specs.Names.{full_ref_bytes}
+use Rattle.gix_ref_name.specs.Names.{full_ref_bytes}
 use Rattle.gix_ref_edits.specs.DoubledNames.{IsLeastDoubled}
 use Rattle.gix_ref_edits.proofs.Doubled.{least_doubled, all_differ}
 use Rattle.gix_ref_edits.proofs.transaction.ext.doubled.least_doubled.Goals as goal

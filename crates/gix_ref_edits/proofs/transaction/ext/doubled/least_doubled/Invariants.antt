@@ -1,6 +1,6 @@
 use Rattle.std.proofs.Common.{ℕ, ◌≢◌, ◌+◌, ◌<◌, get_or}
-use Rattle.gix_ref_base.specs.declared.name.FullNameRef.{FullNameRef}
-use Rattle.gix_ref_base.specs.Names.{full_ref_bytes}
+use Rattle.gix_ref_name.specs.declared.name.FullNameRef.{FullNameRef}
+use Rattle.gix_ref_name.specs.Names.{full_ref_bytes}
 use Rattle.gix_ref_edits.proofs.transaction.ext.doubled.least_doubled.Given as goal
 
 abbrev pub invariant-loop-at : goal.invariant-loop-at

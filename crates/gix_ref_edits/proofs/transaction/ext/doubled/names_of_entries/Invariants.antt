@@ -1,5 +1,5 @@
 use Rattle.std.proofs.Common.{◌≡◌, map, take}
-use Rattle.gix_ref_base.specs.Names.{full_ref_bytes}
+use Rattle.gix_ref_name.specs.Names.{full_ref_bytes}
 use Rattle.gix_ref_edits.specs.DoubledNames.{names_of}
 use Rattle.gix_ref_edits.proofs.transaction.ext.doubled.names_of_entries.Given as goal
 

@@ -1,5 +1,5 @@
 use Rattle.std.proofs.Common.{◌≤◌, length}
-use Rattle.gix_ref_edits.specs.Rounds.{HasRounds}
+use Rattle.gix_ref_edits.specs.internal.Rounds.{HasRounds}
 use Rattle.gix_ref_edits.proofs.transaction.ext.rounds.extend_with_splits.Given as goal
 
 abbrev pub invariant-loop-round : goal.invariant-loop-round

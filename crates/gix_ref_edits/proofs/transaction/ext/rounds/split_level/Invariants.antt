@@ -1,5 +1,5 @@
 use Rattle.std.proofs.Common.{◌≡◌, take, drop}
-use Rattle.gix_ref_edits.specs.Rounds.{HasSplitLevel}
+use Rattle.gix_ref_edits.specs.internal.Rounds.{HasSplitLevel}
 use Rattle.gix_ref_edits.proofs.transaction.ext.rounds.split_level.Given as goal
 
 abbrev pub invariant-loop-place : goal.invariant-loop-place

@@ -1,5 +1,5 @@
 use Rattle.std.proofs.Common.{refl}
-use Rattle.gix_ref_base.specs.Names.{full_ref_bytes}
+use Rattle.gix_ref_name.specs.Names.{full_ref_bytes}
 use Rattle.gix_ref_packed.specs.OpenFiles.{packed_file_text, packed_file_kind}
 use Rattle.gix_ref_lookup.proofs.Opening.{not_searched}
 use Rattle.gix_ref_lookup.proofs.find.records.Records.find.Goals as goal

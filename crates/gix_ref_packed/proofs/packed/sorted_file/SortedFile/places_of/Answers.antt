@@ -1,5 +1,5 @@
 use Rattle.std.proofs.Common.{◌≡◌, ◌∙◌, List, ℕ, length, drop, sym, ap, subst, arith}
-use Rattle.gix_ref_packed.specs.Prefixes.{IsListStart}
+use Rattle.gix_ref_records.specs.Prefixes.{IsListStart}
 use Rattle.gix_ref_packed.specs.FilePrefixes.{Encloses}
 use Rattle.gix_ref_packed.proofs.PrefixRuns.{EachSplits}
 use Rattle.gix_ref_packed.proofs.PrefixParts.{encloses_rest, encloses_between}

@@ -1,5 +1,5 @@
 use Rattle.std.proofs.Common.{Bool, List, ◌⊎◌, ◌≡◌, IfOk, IfErr, IfSome, subst}
-use Rattle.gix_ref_base.specs.Names.{partial_ref_bytes}
+use Rattle.gix_ref_name.specs.Names.{partial_ref_bytes}
 use Rattle.gix_ref_lookup.specs.Lookups.{Answers, IsHitOf, FailsAmong, lookup_of, asked_names, name_asked}
 use Rattle.gix_ref_lookup.specs.declared.find.error.Error.TheVariants.{Memory}
 use Rattle.gix_ref_store.specs.Lookup.{settings_of, view_in}

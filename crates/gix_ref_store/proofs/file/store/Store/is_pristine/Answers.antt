@@ -1,6 +1,6 @@
 use Rattle.std.proofs.Common.{◌⊎◌, List, ℕ, subst}
 use Rattle.std.specs.Prelude.{IfOk}
-use Rattle.gix_ref_base.specs.Names.{full_ref_bytes}
+use Rattle.gix_ref_name.specs.Names.{full_ref_bytes}
 use Rattle.gix_ref_files.specs.Files.{HasRisen}
 use Rattle.gix_ref_listing.specs.PristineStores as listings
 use Rattle.gix_ref_store.specs.Lookup.{settings_of}

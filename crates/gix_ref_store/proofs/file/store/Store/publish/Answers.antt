@@ -18,38 +18,35 @@ use Rattle.gix_ref_store.proofs.file.store.Store.publish.Goals as goal
 pub returns-in_default-clause-leaves : goal.returns-in_default-clause-leaves
 returns-in_default-clause-leaves g c h =
     let now = g.F.Files.means c.args.self.now.files in
-    starts now (IsLeftBy (renames_of c.args.edits.now c.args.paths.now) now.tree) (none_begun (renames_of c.args.edits.now c.args.paths.now) now.tree)
+    starts now (IsLeftBy (renames_of c.args.paths.now) now.tree) (none_begun (renames_of c.args.paths.now) now.tree)
 
 pub returns-in_default-clause-passes : goal.returns-in_default-clause-passes
 returns-in_default-clause-passes g c h =
     let now = g.F.Files.means c.args.self.now.files in
-    let steps = synced_renames_of c.args.self.now.dirs c.args.edits.now c.args.paths.now in
+    let steps = synced_renames_of c.args.self.now.dirs c.args.paths.now in
     passes_starts now (IsReachedBy steps (disk_of now)) (none_reached steps (disk_of now))
 
 pub returns-in_default-clause-ended : goal.returns-in_default-clause-ended
 returns-in_default-clause-ended g c h =
     let now = (g.F.Files.means c.args.self.now.files).tree in
-    (now, refl, none_begun (rename_at c.args.edits.now c.args.paths.now 0) now)
+    (now, refl, none_begun (rename_at c.args.paths.now 0) now)
 
 pub returns-clause-within : goal.returns-clause-within
 returns-clause-within g c =
-    let edits = c.args.edits.now in
     let paths = c.args.paths.now in
-    let at = c.where_ended.ensures.at edits paths (subst (λ (l : List (Planned ℕ)). SayTheirEdits edits paths l) (sym c.deref-in-Err.ensures.value) c.in-Ok.ensures.each) in
+    let at = c.where_ended.ensures.at paths (subst (λ (l : List (Planned ℕ)). SayTheirEdits paths l) (sym c.deref-in-Err.ensures.value) c.in-Ok.ensures.each) in
     omega (arith, at.within)
 
 pub returns-clause-place : goal.returns-clause-place
 returns-clause-place g c why =
-    let edits = c.args.edits.now in
     let paths = c.args.paths.now in
-    (c.where_ended.ensures.at edits paths (subst (λ (l : List (Planned ℕ)). SayTheirEdits edits paths l) (sym c.deref-in-Err.ensures.value) c.in-Ok.ensures.each)).within
+    (c.where_ended.ensures.at paths (subst (λ (l : List (Planned ℕ)). SayTheirEdits paths l) (sym c.deref-in-Err.ensures.value) c.in-Ok.ensures.each)).within
 
 pub returns-clause-ended : goal.returns-clause-ended
 returns-clause-ended g c h =
-    let edits = c.args.edits.now in
     let paths = c.args.paths.now in
-    let at = c.where_ended.ensures.at edits paths (subst (λ (l : List (Planned ℕ)). SayTheirEdits edits paths l) (sym c.deref-in-Err.ensures.value) c.in-Ok.ensures.each) in
-    cut_at edits paths c.where_ended.result.at c.in-Err.ended.at c.in-Err.ended.cause (g.F.Files.means c.args.self.now.files).tree (g.F.Files.means c.run_steps.new.files).tree at
+    let at = c.where_ended.ensures.at paths (subst (λ (l : List (Planned ℕ)). SayTheirEdits paths l) (sym c.deref-in-Err.ensures.value) c.in-Ok.ensures.each) in
+    cut_at paths c.where_ended.result.at c.in-Err.ended.at c.in-Err.ended.cause (g.F.Files.means c.args.self.now.files).tree (g.F.Files.means c.run_steps.new.files).tree at
     (rw (c.deref.ensures.value, c.in-Ok.ensures.steps) at (c.in-Err.ensures.ended h))
 
 never_memory : (cause : Cause) → why_is cause ≡ Memory → ⊥
@@ -62,10 +59,9 @@ returns-clause-memory g c why = absurd (never_memory c.in-Err.ended.cause (sym c
 
 pub returns-clause-folder : goal.returns-clause-folder
 returns-clause-folder g c h why =
-    let edits = c.args.edits.now in
     let paths = c.args.paths.now in
-    let at = c.where_ended.ensures.at edits paths (subst (λ (l : List (Planned ℕ)). SayTheirEdits edits paths l) (sym c.deref-in-Err.ensures.value) c.in-Ok.ensures.each) in
-    folder_there edits paths c.where_ended.result.at c.in-Err.ended.at c.in-Err.ended.cause (g.F.Files.means c.args.self.now.files).tree (g.F.Files.means c.run_steps.new.files).tree at
+    let at = c.where_ended.ensures.at paths (subst (λ (l : List (Planned ℕ)). SayTheirEdits paths l) (sym c.deref-in-Err.ensures.value) c.in-Ok.ensures.each) in
+    folder_there paths c.where_ended.result.at c.in-Err.ended.at c.in-Err.ended.cause (g.F.Files.means c.args.self.now.files).tree (g.F.Files.means c.run_steps.new.files).tree at
     (rw (c.deref.ensures.value, c.in-Ok.ensures.steps) at (c.in-Err.ensures.ended h)) (sym c.where_ended.ensures.why ∙ why)
 
 pub returns-clause-counted : goal.returns-clause-counted
@@ -77,9 +73,8 @@ returns-clause-counted g c =
 
 pub returns-clause-written : goal.returns-clause-written
 returns-clause-written g c why =
-    let edits = c.args.edits.now in
     let paths = c.args.paths.now in
-    (c.where_ended.ensures.at edits paths (subst (λ (l : List (Planned ℕ)). SayTheirEdits edits paths l) (sym c.deref-in-Err.ensures.value) c.in-Ok.ensures.each)).written
+    (c.where_ended.ensures.at paths (subst (λ (l : List (Planned ℕ)). SayTheirEdits paths l) (sym c.deref-in-Err.ensures.value) c.in-Ok.ensures.each)).written
 
 no_memory : (cause : Cause) → (cause ≡ File no_room → ⊥) → why_is cause ≡ Fault no_room → ⊥
 no_memory (File error) none is = none (ap File (inner is))

@@ -1,5 +1,5 @@
 use Rattle.std.proofs.Common.{[], false, refl}
-use Rattle.gix_ref_base.specs.Names.{partial_ref_bytes}
+use Rattle.gix_ref_name.specs.Names.{partial_ref_bytes}
 use Rattle.gix_ref_store.specs.Lookup.{hit_in}
 use Rattle.gix_ref_store.proofs.LooseAnswers.{loose_some, loose_none}
 use Rattle.gix_ref_store.proofs.file.store.Store.try_find_loose.Goals as goal

@@ -1,0 +1,2 @@
+pub mod DeviceNames
+pub mod NameGrammar

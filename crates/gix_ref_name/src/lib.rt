@@ -1,0 +1,5 @@
+//! Names of references, the categories and the candidates of names, and namespaces.
+#![tactic(auto)]
+
+pub mod name;
+pub mod namespace;

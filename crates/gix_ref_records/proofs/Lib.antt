@@ -1,0 +1,11 @@
+pub mod DigitLemmas
+pub mod Halves
+pub mod HeaderLemmas
+pub mod LineLemmas
+pub mod LowerBounds
+pub mod OneReading
+pub mod QuickOrders
+pub mod ReadBack
+pub mod RecordBytes
+pub mod RecordPlaces
+pub mod WindowLemmas

@@ -1,0 +1,15 @@
+pub mod HeaderEnds
+pub mod HeaderGrammar
+pub mod IdDigits
+pub mod OpenedText
+pub mod Orders
+pub mod Positions
+pub mod Prefixes
+pub mod Probed
+pub mod RawReference
+pub mod RecordGrammar
+pub mod SearchCosts
+pub mod Shown
+pub mod Views
+pub mod Windows
+pub mod WrittenText

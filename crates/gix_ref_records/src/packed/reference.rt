@@ -1,0 +1,61 @@
+//! A record of `packed-refs`, lent from its text.
+ghost use Rattle.std.specs.Prelude.{◌≡◌, true};
+ghost use Rattle.gix_ref_hash.specs.Ids.{is_id_text};
+ghost use Rattle.gix_ref_records.specs.IdDigits.{is_id_if_any};
+
+use gix_ref_hash::hash::{ObjectId, id_of_digits};
+use gix_ref_name::name::FullNameRef;
+
+/// A record of `packed-refs`, lent from the text.
+#[derive(Clone, Copy, Debug, PartialEq, Eq)]
+pub struct Reference<'a> {
+    /// The full name.
+    pub name: FullNameRef<'a>,
+    /// The hex digits of the id, as written.
+    pub target: &'a [u8],
+    /// The hex digits of the object that a tag ends at, as written, if the record has it.
+    pub object: Option<&'a [u8]>,
+    pub ghost target_reads: { is_id_text target.now ≡ true },
+    pub ghost object_reads: { is_id_if_any object ≡ true },
+}
+
+impl<'a> Reference<'a> {
+    ghost use Rattle.std.specs.Prelude.{◌≡◌, ◌↔◌, IsTrue};
+    ghost use Rattle.gix_ref_hash.specs.Ids.{ReadsId};
+    ghost use Rattle.gix_ref_name.specs.Names.{full_ref_bytes};
+    ghost use Rattle.gix_ref_records.specs.IdDigits.{object_or, ReadsIfAny};
+
+    /// The id.
+    pub fn target(self) -> ObjectId
+        ensures { ReadsId self.entry.target.now result }
+    {
+        id_of_digits(self.target)
+    }
+
+    /// The id of the object that a tag ends at, and the id itself if the record has none.
+    pub fn object(self) -> ObjectId
+        ensures { ReadsId (object_or self.entry.object self.entry.target.now) result }
+    {
+        match self.object {
+            Some(object) => id_of_digits(object),
+            None => id_of_digits(self.target),
+        }
+    }
+
+    /// The id of the object that a tag ends at, if the record has it.
+    pub fn peeled(self) -> Option<ObjectId>
+        ensures { ReadsIfAny self.entry.object result }
+    {
+        match self.object {
+            Some(object) => Some(id_of_digits(object)),
+            None => None,
+        }
+    }
+
+    /// Whether these are the bytes of the name.
+    pub fn eq_bytes(self, bytes: &[u8]) -> bool
+        ensures { IsTrue result ↔ (full_ref_bytes self.entry.name ≡ bytes.now) }
+    {
+        self.name.eq_bytes(bytes)
+    }
+}

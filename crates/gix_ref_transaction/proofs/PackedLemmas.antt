@@ -1,0 +1,146 @@
+-- Faults of `packed-refs` as `prepare` reports them, and the ids of records.
+use Rattle.std.proofs.Common.{◌≡◌, ◌≤◌, ◌⊎◌, inl, inr, arith, ℕ, List, Bool, Option, Some, None, Result, Ok, Err, IfErr, refl, sym, ap, ◌∙◌}
+use Rattle.gix_ref_hash.specs.declared.hash.Kind.{Kind}
+use Rattle.gix_ref_hash.specs.declared.hash.ObjectId.{ObjectId}
+use Rattle.gix_ref_base.specs.PackedRecords.{Record, record_named, id_read}
+use Rattle.gix_ref_files.specs.Files.{HasRisen}
+use Rattle.gix_ref_files.specs.Tree.{Content, Tree}
+use Rattle.gix_ref_packed.proofs.RecordsOfText.{records_computed}
+use Rattle.gix_ref_packed.specs.declared.packed.buffer.open.Error.{Error as OpenError}
+use Rattle.gix_ref_packed.specs.declared.packed.buffer.open.Error.TheVariants.{Iter, HeaderParsing, Io as unread, Memory as open_memory}
+use Rattle.gix_ref_packed.specs.declared.packed.find.Error.TheVariants as finds
+use Rattle.gix_ref_base.specs.Layout.{Layout}
+use Rattle.gix_ref_theory.specs.ConcreteStore.{store_of}
+use Rattle.gix_ref_lookup.specs.StoreLayout.{git_options}
+use Rattle.gix_ref_theory.specs.Readings.{Store, Reading, reading_by, reading_of_record, reading_of_id, records_in}
+use Rattle.gix_ref_theory.specs.Readings.Reading.{Is, Fault, Absent}
+use Rattle.gix_ref_lookup.specs.Lookups.{IsNotPacked, ArePackedRecords}
+use Rattle.gix_ref_lookup.specs.declared.find.error.Error.{Error as LookupError}
+use Rattle.gix_ref_lookup.specs.declared.find.error.Error.TheVariants.{RefnameValidation, ReadFileContents, ReferenceCreation, PackedRef, PackedOpen, Memory}
+use Rattle.gix_ref_transaction.specs.Causes.{IsCounted, IsCountedWith, IsPackedRefusal, id_of_record, packed_id}
+use Rattle.gix_ref_transaction.specs.PackedCauses.{as_cause, ids_among}
+use Rattle.gix_ref_transaction.specs.PrepareSteps.{packed_ids}
+use Rattle.gix_ref_theory.specs.OnRealTrees.{view_of}
+use Rattle.gix_ref_edits.specs.declared.transaction.RefEdit.{RefEdit}
+use Rattle.gix_ref_transaction.specs.declared.prepare.error.Error.{Error}
+use Rattle.gix_ref_transaction.specs.declared.prepare.error.Error.TheVariants.{UnsafeName, DeviceName, TargetNotFull, OtherHashKind, PreprocessingFailed, Packed, PackedFind, PathCollision, LockAcquire, MustExist, MustNotExist, ReferenceOutOfDate, Io, Memory as NoMemory}
+
+-- why no record is found, as it is reported
+pub counted_cause : (honest fault unreadable read : Type 0) (refused : OpenError → Type 0) (before now : ℕ) (error : LookupError) → (fault → HasRisen before now ⊎ read) →
+    IsNotPacked honest fault unreadable refused error → IsCountedWith honest read before now (as_cause error)
+counted_cause honest fault unreadable read refused before now (PackedOpen (unread error)) came told = λ h. let why = told h in (came why.1, why.0)
+counted_cause honest fault unreadable read refused before now (PackedOpen HeaderParsing) came told = tt
+counted_cause honest fault unreadable read refused before now (PackedOpen (Iter line)) came told = tt
+counted_cause honest fault unreadable read refused before now (PackedOpen open_memory) came told = absurd told
+counted_cause honest fault unreadable read refused before now (PackedRef error) came told = tt
+counted_cause honest fault unreadable read refused before now Memory came told = tt
+counted_cause honest fault unreadable read refused before now (RefnameValidation error) came told = tt
+counted_cause honest fault unreadable read refused before now (ReadFileContents source path) came told = tt
+counted_cause honest fault unreadable read refused before now (ReferenceCreation source path) came told = tt
+
+-- where honesty follows from another, so does what is counted
+pub counted_by : (honest other read : Type 0) (before now : ℕ) (error : Error) → (other → honest) → IsCountedWith honest read before now error → IsCountedWith other read before now error
+counted_by honest other read before now (Packed (unread error)) follows told = λ o. told (follows o)
+counted_by honest other read before now (Packed HeaderParsing) follows told = tt
+counted_by honest other read before now (Packed (Iter line)) follows told = tt
+counted_by honest other read before now (Packed open_memory) follows told = tt
+counted_by honest other read before now (PackedFind error) follows told = tt
+counted_by honest other read before now (Io error) follows told = told
+counted_by honest other read before now UnsafeName follows told = told
+counted_by honest other read before now DeviceName follows told = told
+counted_by honest other read before now TargetNotFull follows told = told
+counted_by honest other read before now OtherHashKind follows told = told
+counted_by honest other read before now (PreprocessingFailed source) follows told = told
+counted_by honest other read before now (PathCollision name) follows told = told
+counted_by honest other read before now (LockAcquire name) follows told = told
+counted_by honest other read before now (MustExist name expected) follows told = told
+counted_by honest other read before now (MustNotExist name actual new) follows told = told
+counted_by honest other read before now (ReferenceOutOfDate name expected actual) follows told = told
+counted_by honest other read before now NoMemory follows told = told
+
+-- a search refuses no file
+pub searched_refusal : (honest fault unreadable : Type 0) (kind : Kind) (packed : Option Content) (error : LookupError) → honest →
+    IsNotPacked honest fault unreadable (λ e. ⊥) error → IsPackedRefusal kind packed (as_cause error)
+searched_refusal honest fault unreadable kind packed (PackedOpen (unread error)) h told = (told h).0
+searched_refusal honest fault unreadable kind packed (PackedOpen HeaderParsing) h told = absurd (told h)
+searched_refusal honest fault unreadable kind packed (PackedOpen (Iter line)) h told = absurd (told h)
+searched_refusal honest fault unreadable kind packed (PackedOpen open_memory) h told = absurd told
+searched_refusal honest fault unreadable kind packed (PackedRef error) h told = tt
+searched_refusal honest fault unreadable kind packed Memory h told = tt
+searched_refusal honest fault unreadable kind packed (RefnameValidation error) h told = tt
+searched_refusal honest fault unreadable kind packed (ReadFileContents source path) h told = tt
+searched_refusal honest fault unreadable kind packed (ReferenceCreation source path) h told = tt
+
+-- a name that reads nothing by records has no id
+pub no_id : (s : Store) (key : Option (List ℕ)) (rs : List Record) → reading_by s key None rs ≡ Absent → packed_id key rs ≡ None
+no_id s None rs absent = refl
+no_id s (Some key) rs absent = by (record_named key rs) absent
+  where
+    unread_is : (id : Option ObjectId) → reading_of_id id ≡ Absent → id ≡ None
+    unread_is None absent' = refl
+    unread_is (Some id) absent' = cc
+
+    by : (r : Option Record) → reading_of_record r ≡ Absent → id_of_record r ≡ None
+    by None absent' = refl
+    by (Some r) absent' = unread_is (id_read r.target) absent'
+
+-- the records of a well-formed `packed-refs` are those that the store reads
+pub records_are : (f : Layout) (kind : Kind) (prohibits : Bool) (packed : Option (List ℕ)) (rs : List Record) → ArePackedRecords kind packed rs → records_in (store_of f (git_options kind prohibits)) packed ≡ rs
+records_are f kind prohibits None rs are = sym are
+records_are f kind prohibits (Some text) rs are = records_computed kind text are.0 rs are.1.whole
+
+-- carried through a result
+pub if_err : {X E : Type 0} {P Q : E → Type 0} (r : Result X E) → ((e : E) → P e → Q e) → IfErr r P → IfErr r Q
+if_err (Ok x) wider holds = tt
+if_err (Err e) wider holds = wider e holds
+
+-- the ids of edits among the records of a well-formed `packed-refs` are those that `prepare` asks for
+pub asked_ids : (f : Layout) (kind : Kind) (prohibits : Bool) (T U : Tree) (edits : List RefEdit) (rs : List Record) (ids : List (Option ObjectId)) →
+    let s = store_of f (git_options kind prohibits) in ArePackedRecords kind (view_of T s.packed_path) rs → ids ≡ ids_among s rs edits → U ≡ T → ids ≡ packed_ids s U edits
+asked_ids f kind prohibits T U edits rs ids are found same =
+    let s = store_of f (git_options kind prohibits) in
+    found
+    ∙ (ap (λ records. ids_among s records edits) (sym (records_are f kind prohibits (view_of T s.packed_path) rs are))
+    ∙ ap (λ (R : Tree). packed_ids s R edits) (sym same))
+
+-- what is counted of files alone is none of `packed-refs`
+pub not_packed : (kind : Kind) (packed : Option Content) (before now : ℕ) (error : Error) → IsCounted before now error → IsPackedRefusal kind packed error × ((honest read : Type 0) → IsCountedWith honest read before now error)
+not_packed kind packed before now (Packed error) told = absurd told
+not_packed kind packed before now (PackedFind error) told = absurd told
+not_packed kind packed before now UnsafeName told = (tt, λ honest read. told)
+not_packed kind packed before now DeviceName told = (tt, λ honest read. told)
+not_packed kind packed before now TargetNotFull told = (tt, λ honest read. told)
+not_packed kind packed before now OtherHashKind told = (tt, λ honest read. told)
+not_packed kind packed before now (PreprocessingFailed source) told = (tt, λ honest read. told)
+not_packed kind packed before now (PathCollision name) told = (tt, λ honest read. told)
+not_packed kind packed before now (LockAcquire name) told = (tt, λ honest read. told)
+not_packed kind packed before now (MustExist name expected) told = (tt, λ honest read. told)
+not_packed kind packed before now (MustNotExist name actual new) told = (tt, λ honest read. told)
+not_packed kind packed before now (ReferenceOutOfDate name expected actual) told = (tt, λ honest read. told)
+not_packed kind packed before now NoMemory told = (tt, λ honest read. told)
+not_packed kind packed before now (Io error) told = (tt, λ honest read. told)
+
+-- a rise of a count is one from an earlier moment too
+rise_before : (a b d : ℕ) → a ≤ b → HasRisen b d → HasRisen a d
+rise_before a b d le (inl more) = inl (omega (arith, le, more))
+rise_before a b d le (inr full) = inr full
+
+pub rises_on : {A : Type 0} (a b d : ℕ) → a ≤ b → A ⊎ HasRisen b d → A ⊎ HasRisen a d
+rises_on a b d le (inl none) = inl none
+rises_on a b d le (inr risen) = inr (rise_before a b d le risen)
+
+pub counted_later : (honest read : Type 0) (a b d : ℕ) (error : Error) → a ≤ b → IsCounted b d error → IsCountedWith honest read a d error
+counted_later honest read a b d (Packed error) le told = absurd told
+counted_later honest read a b d (PackedFind error) le told = absurd told
+counted_later honest read a b d (Io error) le told = (rise_before a b d le told.0, told.1)
+counted_later honest read a b d UnsafeName le told = tt
+counted_later honest read a b d DeviceName le told = tt
+counted_later honest read a b d TargetNotFull le told = tt
+counted_later honest read a b d OtherHashKind le told = tt
+counted_later honest read a b d (PreprocessingFailed source) le told = tt
+counted_later honest read a b d (PathCollision name) le told = tt
+counted_later honest read a b d (LockAcquire name) le told = tt
+counted_later honest read a b d (MustExist name expected) le told = tt
+counted_later honest read a b d (MustNotExist name actual new) le told = tt
+counted_later honest read a b d (ReferenceOutOfDate name expected actual) le told = tt
+counted_later honest read a b d NoMemory le told = tt

@@ -1,0 +1,149 @@
+//! The records of the edits of a transaction in `packed-refs`.
+ghost use Rattle.std.specs.Prelude.{◌≡◌, ◌≤◌, ◌⊎◌, ℕ, List, Option, None, OnOk, IfOk, IfErr, length, vec_len};
+ghost use Rattle.gix_ref_hash.specs.declared.hash.Kind.{Kind};
+ghost use Rattle.gix_ref_name.specs.Names.{full_ref_bytes};
+ghost use Rattle.gix_ref_base.specs.PackedRecords.{Record, record_named};
+ghost use Rattle.gix_ref_files.specs.Tree.{Content};
+ghost use Rattle.gix_ref_files.specs.Calls.{Unchanged};
+ghost use Rattle.gix_ref_files.specs.DiskCalls.{Untouched};
+ghost use Rattle.gix_ref_files.specs.Files.{disk_of, Leaves, Passes};
+ghost use Rattle.gix_ref_packed.specs.OpenFiles.{HasReadFault};
+ghost use Rattle.gix_ref_lookup.specs.Lookups.{packed_refs_in, ArePackedRecords, AreAsked, AreHonest, IsReady, HasKey};
+ghost use Rattle.gix_ref_transaction.specs.Causes.{id_of_record, packed_id, IsCountedWith, IsIoOrMemory, IsPackedRefusal};
+ghost use Rattle.gix_ref_transaction.specs.PackedCauses.{as_cause, ids_among};
+ghost use Rattle.gix_ref_transaction.specs.PrepareSteps.{setting_of};
+
+use crate::prepare::Error;
+use gix_ref_edits::transaction::RefEdit;
+use gix_ref_files::files::{Files, ReadAt};
+use gix_ref_hash::hash::ObjectId;
+use gix_ref_lookup::find;
+use gix_ref_lookup::find::records::Records;
+use gix_ref_lookup::settings::Settings;
+use gix_ref_name::name::FullNameRef;
+use std::alloc::{AllocError, Global};
+
+/// How a fault of `packed-refs` in a lookup is reported.
+fn refused(error: find::Error) -> Error
+    ensures { result ≡ as_cause error }
+{
+    match error {
+        find::Error::PackedOpen(error) => Error::Packed(error),
+        find::Error::PackedRef(error) => Error::PackedFind(error),
+        _ => Error::Memory,
+    }
+}
+
+/// The id of the record of a key, once `packed-refs` is open.
+fn id_at<R: ReadAt + Drop>(
+    records: &mut Records<'_, R>,
+    key: FullNameRef<'_>,
+) -> Result<Option<ObjectId>, Error>
+    requires { IsReady records.now }
+    ensures found { (kind : Kind) (rs : List Record) → AreAsked kind None records.old rs →
+        IfOk result (λ id. id ≡ id_of_record (record_named (full_ref_bytes key.entry) rs)) }
+    ensures sound { (kind : Kind) (rs : List Record) → AreAsked kind None records.old rs →
+        IfErr result IsIoOrMemory }
+    ensures refused { AreHonest records.old → (kind : Kind) (packed : Option Content) →
+        IfErr result (IsPackedRefusal kind packed) }
+    ensures counted { (before now : ℕ) →
+        IfErr result (IsCountedWith (AreHonest records.old) (HasReadFault R.faults) before now) }
+    ensures asked { (kind : Kind) (rs : List Record) → AreAsked kind None records.old rs →
+        AreAsked kind None records.new rs }
+    ensures honest { AreHonest records.old → AreHonest records.new }
+    ensures ready { IsReady records.new }
+{
+    match records.find(key) {
+        Ok(Some(found)) => Ok(Some(found.target)),
+        Ok(None) => Ok(None),
+        Err(error) => Err(refused(error)),
+    }
+}
+
+/// The id of the record of a name, once `packed-refs` is open.
+fn id_of<R: ReadAt + Drop>(
+    alloc: Global,
+    settings: &Settings<'_>,
+    name: FullNameRef<'_>,
+    records: &mut Records<'_, R>,
+) -> Result<Option<ObjectId>, Error>
+    requires { IsReady records.now }
+    ensures found { (kind : Kind) (rs : List Record) → AreAsked kind None records.old rs →
+        IfOk result (λ id. id ≡ packed_id ((setting_of settings.now).key (full_ref_bytes name.entry)) rs) }
+    ensures sound { (kind : Kind) (rs : List Record) → AreAsked kind None records.old rs →
+        IfErr result IsIoOrMemory }
+    ensures refused { AreHonest records.old → (kind : Kind) (packed : Option Content) →
+        IfErr result (IsPackedRefusal kind packed) }
+    ensures counted { (before now : ℕ) →
+        IfErr result (IsCountedWith (AreHonest records.old) (HasReadFault R.faults) before now) }
+    ensures asked { (kind : Kind) (rs : List Record) → AreAsked kind None records.old rs →
+        AreAsked kind None records.new rs }
+    ensures honest { AreHonest records.old → AreHonest records.new }
+    ensures ready { IsReady records.new }
+{
+    if settings.is_own_key(name) {
+        return id_at(records, name);
+    }
+    match settings.key_name(alloc, name)? {
+        Some(key) => id_at(records, key.as_ref()),
+        None => Ok(None),
+    }
+}
+
+/// The ids of the records of all edits, once `packed-refs` is open.
+fn ids_of<R: ReadAt + Drop>(
+    alloc: Global,
+    settings: &Settings<'_>,
+    edits: &[RefEdit],
+    records: &mut Records<'_, R>,
+) -> Result<Vec<Option<ObjectId>>, Error>
+    requires { IsReady records.now }
+    ensures len { IfOk result (λ ids. vec_len ids ≡ length edits.now) }
+    ensures found { (kind : Kind) (rs : List Record) → AreAsked kind None records.old rs →
+        IfOk result (λ ids. ids.items ≡ ids_among (setting_of settings.now) rs edits.now) }
+    ensures sound { (kind : Kind) (rs : List Record) → AreAsked kind None records.old rs →
+        IfErr result IsIoOrMemory }
+    ensures refused { AreHonest records.old → (kind : Kind) (packed : Option Content) →
+        IfErr result (IsPackedRefusal kind packed) }
+    ensures counted { (before now : ℕ) →
+        IfErr result (IsCountedWith (AreHonest records.old) (HasReadFault R.faults) before now) }
+{
+    let mut ids = Vec::with_capacity(alloc, edits.len())?;
+    for edit in edits {
+        let id = id_of(alloc, settings, edit.name.as_ref(), records)?;
+        ids.push(id).map_err(AllocError::from)?;
+    }
+    Ok(ids)
+}
+
+/// Opens `packed-refs`, if there is one, and finds the ids of the records of all edits: one search for each edit whose reference
+/// has a key.
+pub fn find_ids<F: Files>(
+    alloc: Global,
+    files: &mut F,
+    settings: &Settings<'_>,
+    edits: &[RefEdit],
+) -> Result<Vec<Option<ObjectId>>, Error>
+    ensures len { IfOk result (λ ids. vec_len ids ≡ length edits.now) }
+    ensures found { F.honest → (rs : List Record) →
+        ArePackedRecords settings.now.kind (packed_refs_in settings.now (F.means files.old)) rs →
+        IfOk result (λ ids. ids.items ≡ ids_among (setting_of settings.now) rs edits.now) }
+    ensures sound { F.honest → (rs : List Record) →
+        ArePackedRecords settings.now.kind (packed_refs_in settings.now (F.means files.old)) rs →
+        IfErr result IsIoOrMemory }
+    ensures refused { F.honest → IfErr result (IsPackedRefusal settings.now.kind
+        ((F.means files.old).tree (setting_of settings.now).packed_path)) }
+    ensures counted { IfErr result (IsCountedWith F.honest (HasReadFault F.Reader.faults)
+        (F.faults files.old) (F.faults files.new)) }
+    ensures leaves { F.honest → Leaves (F.means files.old) (F.means files.new)
+        (Unchanged (F.means files.old).tree) }
+    ensures passes { F.honest → Passes (F.means files.old) (F.means files.new)
+        (Untouched (disk_of (F.means files.old))) }
+    ensures no_fewer { F.faults files.old ≤ F.faults files.new }
+{
+    let mut records = Records::Unopened;
+    match records.open(alloc, files, *settings) {
+        Ok(()) => ids_of(alloc, settings, edits, &mut records),
+        Err(error) => Err(refused(error)),
+    }
+}
