@@ -4,7 +4,7 @@ ghost use Rattle.gix_ref_transaction.specs.DirectUpdates.{AreDirectUpdates};
 use crate::made::{Id, bytes, full_name, object, store};
 use crate::power::pick_at;
 use crate::transactions::{Answer, Expect, answer_of, expected};
-use gix_ref_edits::transaction::{Change, EditError, LogChange, PreviousValue, RefEdit, RefLog};
+use gix_ref_edits::transaction::{Change, LogChange, PreviousValue, RefEdit, RefLog, SplitError};
 use gix_ref_memory::memory::Memory;
 use gix_ref_store::file::Store;
 use gix_ref_store::file::transaction::commit;
@@ -66,7 +66,7 @@ fn name_in(error: &Error) -> &[u8] {
         | Error::MustNotExist { full_name, .. }
         | Error::ReferenceOutOfDate { full_name, .. } => full_name.as_bstr().as_bytes(),
         Error::PreprocessingFailed {
-            source: EditError::DoubledName(full_name),
+            source: SplitError::DoubledName(full_name),
         } => full_name.as_bstr().as_bytes(),
         _ => b"",
     }

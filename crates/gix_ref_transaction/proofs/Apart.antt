@@ -1,5 +1,5 @@
 -- The locks of edits with safe names: none is at a place, at `packed-refs` or on the way to another one.
-use Rattle.std.proofs.Common.{◌≡◌, ◌⊎◌, ⊎_elim, ℕ, List, [], ◌∷◌, ◌++◌, Bool, true, false, refl, sym, ◌∙◌, ap, append_assoc, if◌then◌else◌, All, IsSome}
+use Rattle.std.proofs.Common.{◌≡◌, ⊎_elim, ℕ, List, [], ◌∷◌, ◌++◌, Bool, true, false, refl, sym, ◌∙◌, ap, append_assoc, if◌then◌else◌, All}
 use Rattle.std.specs.Prelude.{bytes_eq, is_none, ◌&&◌, ◌==◌}
 use Rattle.std.proofs.lemmas.Bool.{eqb-true}
 use Rattle.std.proofs.lemmas.List.Elements.{All-nil, All-cons}
@@ -15,9 +15,9 @@ use Rattle.gix_ref_theory.proofs.PlaceLaws.{laws_hold}
 use Rattle.gix_ref_transaction.specs.OwnLocks.{is_in}
 use Rattle.gix_ref_transaction.specs.Causes.{AllValid, LocksAreApart, locks_of}
 use Rattle.gix_ref_transaction.specs.DirectUpdates.{AreDirectUpdates}
-use Rattle.gix_ref_edits.specs.RefEdits.{name_of, new_of, AreUpdates}
+use Rattle.gix_ref_edits.specs.RefEdits.{name_of, AreUpdates}
 use Rattle.gix_ref_edits.specs.declared.transaction.RefEdit.{RefEdit}
-use Rattle.gix_ref_transaction.proofs.Adds.{false_is_true, is_false, same_path, in_one, any_cases}
+use Rattle.gix_ref_transaction.proofs.Adds.{false_is_true, is_false, in_one, any_cases}
 
 -- a path goes on behind each of its fronts with a slash
 front_after : (seen xs q : Path) → is_in (fronts_after seen xs) q ≡ true → (rest : List ℕ) × (seen ++ xs ≡ below q rest)

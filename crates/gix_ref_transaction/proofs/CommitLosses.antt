@@ -1,16 +1,15 @@
 -- What a loss of power leaves inside of a commit of updates, and what it leaves settled.
-use Rattle.std.proofs.Common.{◌≡◌, ◌≢◌, inl, inr, ⊎_elim, ℕ, ◌≤◌, List, [], ◌∷◌, length, Bool, true, false, Option, Some, None, IsSome, refl, sym, ◌∙◌, ap, subst, if◌then◌else◌}
+use Rattle.std.proofs.Common.{◌≡◌, ◌≢◌, ⊎_elim, ℕ, List, [], ◌∷◌, Bool, true, false, Option, Some, None, refl, sym, ◌∙◌, ap, subst, if◌then◌else◌}
 use Rattle.std.specs.Prelude.{bytes_eq}
 use Rattle.gix_ref_hash.specs.declared.hash.Kind.{Kind}
 use Rattle.gix_ref_name.specs.declared.namespace.Namespace.{Namespace}
 use Rattle.gix_ref_base.specs.Layout.{IsLayout}
 use Rattle.gix_ref_files.specs.Tree.{Tree, Path}
-use Rattle.gix_ref_files.specs.Tree.Content.{File}
 use Rattle.gix_ref_files.specs.Disk.{Disk, Lost}
 use Rattle.gix_ref_files.specs.Files.{Meaning, disk_of, Passes, Loses}
 use Rattle.gix_ref_files.specs.Lock.{lock_of}
 use Rattle.gix_ref_files.specs.Settled.{AllStay, IsAllSettled, IsSettledAt, IsWhole, Sync, climb}
-use Rattle.gix_ref_files.specs.DiskSteps.{Synced, IsReachedBy, IsSyncedAfter}
+use Rattle.gix_ref_files.specs.DiskSteps.{Synced, IsReachedBy}
 use Rattle.gix_ref_files.proofs.Moments.{losses, passes_starts, passes_weaken, passes_joins}
 use Rattle.gix_ref_files.proofs.Runs.{none_reached}
 use Rattle.gix_ref_files.proofs.Settling.{stands_settled}
@@ -28,8 +27,7 @@ use Rattle.gix_ref_theory.specs.OnRealTrees.{view_of, file_of, IsCommitRun}
 use Rattle.gix_ref_theory.specs.Plan.{plan}
 use Rattle.gix_ref_theory.specs.Readings.{Store}
 use Rattle.gix_ref_theory.specs.Roots.{roots}
-use Rattle.gix_ref_theory.specs.Views.{View, Write, changed_at, IsOwnLock}
-use Rattle.gix_ref_theory.proofs.LockDisks.{as_before}
+use Rattle.gix_ref_theory.specs.Views.{View, Write, IsOwnLock}
 use Rattle.gix_ref_theory.proofs.LoneUpdates as lone
 use Rattle.gix_ref_theory.proofs.LoneUpdates.{HaveTexts, plan_is, puts_for}
 use Rattle.gix_ref_theory.proofs.LossMain.{every_loss_among}
@@ -38,11 +36,11 @@ use Rattle.gix_ref_theory.proofs.PlaceLaws.{laws_hold}
 use Rattle.gix_ref_theory.proofs.Roots.{places_settle}
 use Rattle.gix_ref_theory.proofs.RunLosses.{run_passes}
 use Rattle.gix_ref_transaction.specs.OwnLocks.{is_in, OnlyRemoves}
-use Rattle.gix_ref_transaction.specs.Causes.{found, locks_of}
+use Rattle.gix_ref_transaction.specs.Causes.{locks_of}
 use Rattle.gix_ref_transaction.specs.CommitRenames.{renames_of, synced_renames_of}
 use Rattle.gix_ref_transaction.specs.CommittedEdits.{planned}
 use Rattle.gix_ref_transaction.specs.PrepareSteps.{AreWholeLocks, lock_paths, places_of}
-use Rattle.gix_ref_edits.specs.RefEdits.{name_of, AreUpdates}
+use Rattle.gix_ref_edits.specs.RefEdits.{AreUpdates}
 use Rattle.gix_ref_edits.specs.declared.transaction.RefEdit.{RefEdit}
 use Rattle.gix_ref_transaction.specs.declared.paths.Paths.{Paths}
 use Rattle.gix_ref_transaction.proofs.Adds.{false_is_true, any_cases, in_one}

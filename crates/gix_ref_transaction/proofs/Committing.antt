@@ -1,5 +1,5 @@
 -- What `prepare` has seen to of an update: its new target is written so that it is read back.
-use Rattle.std.proofs.Common.{◌≡◌, Bool, Option, Some, IsSome, refl, subst}
+use Rattle.std.proofs.Common.{◌≡◌, Bool, Some, IsSome, refl, subst}
 use Rattle.gix_ref_hash.specs.declared.hash.Kind.{Kind}
 use Rattle.gix_ref_hash.specs.declared.hash.ObjectId.{ObjectId}
 use Rattle.gix_ref_base.specs.PackedRecords.{id_read}

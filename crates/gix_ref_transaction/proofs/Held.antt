@@ -1,8 +1,7 @@
 -- A transaction as `prepare` gives it, edit by edit.
-use Rattle.std.proofs.Common.{◌≡◌, ◌≢◌, ◌⊎◌, inl, inr, ⊎_elim, ℕ, suc, ◌<◌, List, [], ◌∷◌, ◌++◌, Bool, true, false, not, ◌&&◌, Option, Some, None, IsSome, All, refl, sym, ◌∙◌, ap, subst, if◌then◌else◌, length, map, arith}
+use Rattle.std.proofs.Common.{◌≡◌, ◌≢◌, inl, inr, suc, List, [], ◌∷◌, ◌++◌, true, Some, None, IsSome, All, refl, sym, ◌∙◌, ap, subst, length, arith}
 use Rattle.std.specs.Prelude.{bytes_eq}
 use Rattle.std.proofs.lemmas.List.{map-append}
-use Rattle.gix_ref_base.specs.Targets.{TargetValue}
 use Rattle.gix_ref_hash.specs.declared.hash.Kind.{Kind}
 use Rattle.gix_ref_files.specs.Tree.{Tree, Path}
 use Rattle.gix_ref_files.specs.Tree.Content.{File}
@@ -20,7 +19,7 @@ use Rattle.gix_ref_transaction.specs.PrepareSteps.{HoldTexts, are_written, effec
 use Rattle.gix_ref_edits.specs.RefEdits.{name_of, new_of, AreUpdates}
 use Rattle.gix_ref_edits.specs.declared.transaction.RefEdit.{RefEdit}
 use Rattle.gix_ref_transaction.specs.declared.paths.Paths.{Paths}
-use Rattle.gix_ref_transaction.proofs.Adds.{clash, any_left, any_right, in_here, is_same_path}
+use Rattle.gix_ref_transaction.proofs.Adds.{clash, any_left, any_right, in_here}
 
 -- A transaction as `prepare` gives it, from the tree `before` it to the tree T.
 pub record IsReady (s : Store) (kind : Kind) (before T : Tree) (given : List RefEdit) (paths : List Paths) : Type 0 where

@@ -13,5 +13,7 @@ pub mod Removing
 pub mod Renames
 pub mod Rounds
 pub mod SettledRuns
+pub mod SplitLemmas
+pub mod SplitValidity
 pub mod Taking
 pub mod Updates

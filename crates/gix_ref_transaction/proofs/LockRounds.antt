@@ -1,29 +1,25 @@
 -- One round of the loop that takes the locks, on the disk.
-use Rattle.std.proofs.Common.{◌≡◌, ◌≢◌, inl, inr, ⊎_elim, ℕ, ◌+◌, ◌<◌, List, [], ◌∷◌, ◌++◌, length, get_or, take, true, Option, None, Some, refl, sym, ap, subst}
+use Rattle.std.proofs.Common.{◌≡◌, ◌≢◌, inl, inr, ⊎_elim, ℕ, ◌+◌, ◌<◌, List, [], ◌∷◌, ◌++◌, length, get_or, take, true, None, refl, sym, ap, subst}
 use Rattle.std.specs.Prelude.{bytes_eq}
 use Rattle.std.proofs.lemmas.List.{map-append}
 use Rattle.gix_ref_hash.specs.declared.hash.Kind.{Kind}
-use Rattle.gix_ref_base.specs.Targets.{TargetValue}
-use Rattle.gix_ref_files.specs.Tree.{Tree, Path, is_file}
-use Rattle.gix_ref_files.specs.Tree.Content.{File}
+use Rattle.gix_ref_files.specs.Tree.{Path, is_file}
 use Rattle.gix_ref_files.specs.Disk.{Disk}
-use Rattle.gix_ref_files.specs.DiskCalls.{WritingOn}
 use Rattle.gix_ref_files.specs.Files.{Meaning, disk_of, Leaves, Passes}
 use Rattle.gix_ref_files.specs.Lock.{lock_of, LockingOn}
 use Rattle.gix_ref_files.specs.Settled.{IsWhole}
 use Rattle.gix_ref_files.proofs.Moments.{passes_weaken, passes_joins}
 use Rattle.gix_ref_theory.specs.OnDisks.{IsAsBefore}
-use Rattle.gix_ref_theory.specs.OnRealTrees.{view_of}
 use Rattle.gix_ref_theory.specs.Readings.{Store}
 use Rattle.gix_ref_theory.specs.Views.{IsOwnLock}
 use Rattle.gix_ref_theory.proofs.LockDisks.{locking_as_before, writing_as_before, whole_locking, whole_writing}
 use Rattle.gix_ref_transaction.specs.OwnLocks.{is_in, AddsLocks}
-use Rattle.gix_ref_transaction.specs.Causes.{found, LocksAreApart, locks_of}
+use Rattle.gix_ref_transaction.specs.Causes.{LocksAreApart, locks_of}
 use Rattle.gix_ref_transaction.specs.PrepareSteps.{places_of, IsNewLock, FillingOn, IsSomeWhole, AreWholeLocks}
 use Rattle.gix_ref_edits.specs.RefEdits.{name_of}
 use Rattle.gix_ref_edits.specs.declared.transaction.RefEdit.{RefEdit}
 use Rattle.gix_ref_transaction.proofs.Adds.{clash, any_cases, in_one}
-use Rattle.gix_ref_transaction.proofs.Rounds.{more, within, same_as_first}
+use Rattle.gix_ref_transaction.proofs.Rounds.{more, within}
 use Rattle.gix_ref_transaction.proofs.Taking.{Held}
 
 -- a lock of the edits is the transaction's

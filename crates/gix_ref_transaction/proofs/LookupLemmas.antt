@@ -12,11 +12,11 @@ use Rattle.gix_ref_base.specs.Targets.{TargetValue, target_value, stripped_targe
 use Rattle.gix_ref_base.specs.Targets.TargetValue.{object_id, symbolic_name}
 use Rattle.gix_ref_base.specs.Layout.{Layout}
 use Rattle.gix_ref_theory.specs.ConcreteStore.{store_of, loose_text}
-use Rattle.gix_ref_theory.specs.Edits.{Change, Effect, effect_of_change, has_already}
+use Rattle.gix_ref_theory.specs.Edits.{Effect, effect_of_change, has_already}
 use Rattle.gix_ref_theory.specs.Edits.Change.{Update}
 use Rattle.gix_ref_theory.specs.Edits.Effect.{Writes, Keeps}
 use Rattle.gix_ref_theory.specs.Edits.Mode.{DeletionsOnly}
-use Rattle.gix_ref_theory.specs.Readings.{Store, Reading, reading, reading_by, reading_of_loose, reading_of_record, reading_of_id, records_in, as_read}
+use Rattle.gix_ref_theory.specs.Readings.{Store, reading, reading_by, reading_of_loose, reading_of_record, reading_of_id, records_in, as_read}
 use Rattle.gix_ref_theory.specs.Readings.Reading.{Is, Fault, Absent}
 use Rattle.gix_ref_theory.specs.Views.{View}
 use Rattle.gix_ref_lookup.specs.StoreLayout.{git_options}

@@ -8,12 +8,11 @@ use Rattle.gix_ref_files.specs.Tree.{Content, Tree}
 use Rattle.gix_ref_packed.proofs.RecordsOfText.{records_computed}
 use Rattle.gix_ref_packed.specs.declared.packed.buffer.open.Error.{Error as OpenError}
 use Rattle.gix_ref_packed.specs.declared.packed.buffer.open.Error.TheVariants.{Iter, HeaderParsing, Io as unread, Memory as open_memory}
-use Rattle.gix_ref_packed.specs.declared.packed.find.Error.TheVariants as finds
 use Rattle.gix_ref_base.specs.Layout.{Layout}
 use Rattle.gix_ref_theory.specs.ConcreteStore.{store_of}
 use Rattle.gix_ref_lookup.specs.StoreLayout.{git_options}
-use Rattle.gix_ref_theory.specs.Readings.{Store, Reading, reading_by, reading_of_record, reading_of_id, records_in}
-use Rattle.gix_ref_theory.specs.Readings.Reading.{Is, Fault, Absent}
+use Rattle.gix_ref_theory.specs.Readings.{Store, reading_by, reading_of_record, reading_of_id, records_in}
+use Rattle.gix_ref_theory.specs.Readings.Reading.{Absent}
 use Rattle.gix_ref_lookup.specs.Lookups.{IsNotPacked, ArePackedRecords}
 use Rattle.gix_ref_lookup.specs.declared.find.error.Error.{Error as LookupError}
 use Rattle.gix_ref_lookup.specs.declared.find.error.Error.TheVariants.{RefnameValidation, ReadFileContents, ReferenceCreation, PackedRef, PackedOpen, Memory}

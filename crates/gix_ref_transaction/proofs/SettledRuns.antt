@@ -1,6 +1,6 @@
 -- The renames of a transaction leave all settled, whatever `packed-refs` holds: each lock is whole, and each place is settled before the
 -- next rename.
-use Rattle.std.proofs.Common.{◌≡◌, ◌≢◌, inl, inr, ⊎_elim, ℕ, suc, List, [], ◌∷◌, ◌++◌, length, Bool, true, false, Option, Some, None, All, refl, sym, ◌∙◌, ap, subst, if◌then◌else◌, arith}
+use Rattle.std.proofs.Common.{◌≡◌, ◌≢◌, ⊎_elim, ℕ, suc, List, [], ◌∷◌, ◌++◌, length, Bool, true, false, Option, Some, None, All, refl, sym, ◌∙◌, ap, subst, if◌then◌else◌, arith}
 use Rattle.std.specs.Prelude.{bytes_eq}
 use Rattle.std.proofs.lemmas.List.{map-append}
 use Rattle.gix_ref_hash.specs.declared.hash.Kind.{Kind}
@@ -11,7 +11,7 @@ use Rattle.gix_ref_files.specs.Files.{Meaning, disk_of}
 use Rattle.gix_ref_files.specs.Lock.{lock_of}
 use Rattle.gix_ref_files.specs.Settled.{AllStay, IsAllSettled, Sync, climb}
 use Rattle.gix_ref_files.specs.Steps.Step.{Rename}
-use Rattle.gix_ref_files.specs.DiskSteps.{Synced, IsSyncedAfter}
+use Rattle.gix_ref_files.specs.DiskSteps.{IsSyncedAfter}
 use Rattle.gix_ref_files.specs.DiskSteps.Synced.{With}
 use Rattle.gix_ref_lookup.specs.StoreLayout.{folders_of, git_options, root_in}
 use Rattle.gix_ref_lookup.specs.declared.folders.Dirs.{Dirs}
@@ -19,7 +19,6 @@ use Rattle.gix_ref_lookup.proofs.Laying.{folders_laid, folders_have_bytes}
 use Rattle.gix_ref_theory.specs.ConcreteStore.{store_of}
 use Rattle.gix_ref_theory.specs.OnDisks as disk
 use Rattle.gix_ref_theory.specs.OnDisks.{IsSpokenOf}
-use Rattle.gix_ref_theory.specs.OnRealTrees.{view_of}
 use Rattle.gix_ref_theory.specs.Readings.{Store, HasLaws}
 use Rattle.gix_ref_theory.specs.Roots.{roots}
 use Rattle.gix_ref_theory.specs.Views.{View, Write, changed_at, IsOwnLock}
@@ -30,7 +29,7 @@ use Rattle.gix_ref_theory.proofs.OnDisks as runs
 use Rattle.gix_ref_theory.proofs.PlaceLaws.{laws_hold}
 use Rattle.gix_ref_theory.proofs.Roots.{places_settle}
 use Rattle.gix_ref_transaction.specs.OwnLocks.{is_in, OnlyRemoves}
-use Rattle.gix_ref_transaction.specs.Causes.{IsLockable, locks_of}
+use Rattle.gix_ref_transaction.specs.Causes.{locks_of}
 use Rattle.gix_ref_transaction.specs.CommitRenames.{synced_renames_of}
 use Rattle.gix_ref_transaction.specs.PrepareSteps.{AreLockable, AreWholeLocks, lock_paths, place_paths, places_of}
 use Rattle.gix_ref_edits.specs.RefEdits.{name_of}

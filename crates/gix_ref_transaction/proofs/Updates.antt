@@ -1,31 +1,26 @@
 -- What a commit of updates leaves, over what `prepare` gave.
-use Rattle.std.proofs.Common.{◌≡◌, ◌≢◌, ◌⊎◌, inl, inr, ⊎_elim, ℕ, zero, suc, ◌<◌, ◌≤◌, List, [], ◌∷◌, ◌++◌, Bool, true, false, not, ◌&&◌, Option, Some, None, IsSome, refl, sym, ◌∙◌, ap, subst, if◌then◌else◌, length, get_or, arith, append_assoc}
-use Rattle.std.specs.Prelude.{bytes_eq, nat_lt, ◌||◌}
-use Rattle.std.proofs.lemmas.Bool.{ltb-true}
-use Rattle.std.proofs.lemmas.List.{append-nil, length-map}
-use Rattle.std.proofs.Math.Nat.{eq-or-lt_of_le}
-use Rattle.gix_ref_hash.specs.Bytes.{components}
+use Rattle.std.proofs.Common.{◌≡◌, ◌≢◌, inl, inr, ⊎_elim, ℕ, zero, suc, List, [], ◌∷◌, ◌++◌, Bool, true, false, Some, None, refl, sym, ◌∙◌, ap, subst, if◌then◌else◌, length, arith, append_assoc}
+use Rattle.std.specs.Prelude.{bytes_eq}
+use Rattle.std.proofs.lemmas.List.{append-nil}
 use Rattle.gix_ref_hash.specs.declared.hash.Kind.{Kind}
 use Rattle.gix_ref_base.specs.Layout.{Layout, IsLayout}
 use Rattle.gix_ref_base.specs.PackedRecords.{id_read}
 use Rattle.gix_ref_base.specs.Targets.{TargetValue}
 use Rattle.gix_ref_base.specs.Targets.TargetValue.{object_id}
 use Rattle.gix_ref_hash.specs.declared.hash.ObjectId.{ObjectId}
-use Rattle.gix_ref_files.specs.Tree.{Tree, Path, is_file, put, moved}
-use Rattle.gix_ref_files.specs.Files.{Meaning, Leaves}
+use Rattle.gix_ref_files.specs.Tree.{Tree, Path, is_file, moved}
+use Rattle.gix_ref_files.specs.Files.{Meaning}
 use Rattle.gix_ref_files.specs.Lock.{lock_of}
 use Rattle.gix_ref_files.specs.Settled.{climb}
 use Rattle.gix_ref_files.specs.Steps.{Step, IsAfter, IsLeftBy}
 use Rattle.gix_ref_files.specs.Steps.Step.{Rename}
-use Rattle.gix_ref_files.specs.DiskSteps.{Synced}
 use Rattle.gix_ref_files.specs.DiskSteps.Synced.{With}
-use Rattle.gix_ref_files.proofs.Between.{none_begun, all_done}
-use Rattle.gix_ref_files.proofs.Moments.{weaken, joins}
-use Rattle.gix_ref_files.proofs.Puts.{put_at, put_other, moved_other}
+use Rattle.gix_ref_files.proofs.Between.{none_begun}
+use Rattle.gix_ref_files.proofs.Puts.{moved_other}
 use Rattle.gix_ref_lookup.specs.StoreLayout.{git_options, root_in}
 use Rattle.gix_ref_lookup.specs.declared.folders.Dirs.{Dirs}
 use Rattle.gix_ref_theory.specs.Between.{AreEdits, IsEdit}
-use Rattle.gix_ref_theory.specs.ConcreteStore.{store_of, below_folders, loose_text, written_id}
+use Rattle.gix_ref_theory.specs.ConcreteStore.{store_of, written_id}
 use Rattle.gix_ref_theory.specs.Edits.{Edit, Effect}
 use Rattle.gix_ref_theory.specs.Edits.Change.{Update}
 use Rattle.gix_ref_theory.specs.Edits.Effect.{Writes, Removes, Keeps}
@@ -44,15 +39,15 @@ use Rattle.gix_ref_theory.proofs.PlaceLaws.{laws_hold}
 use Rattle.gix_ref_theory.proofs.Plans.{edit_behind, edit_in_front}
 use Rattle.gix_ref_theory.proofs.Trees as trees
 use Rattle.gix_ref_transaction.specs.OwnLocks.{is_in, RemovesLocks}
-use Rattle.gix_ref_transaction.specs.Causes.{found, IsFullTarget, IsOfKind, IsWholeTarget, locks_of}
+use Rattle.gix_ref_transaction.specs.Causes.{IsFullTarget, IsOfKind, IsWholeTarget, locks_of}
 use Rattle.gix_ref_transaction.specs.CarriedEdits.{change_of, edit_of}
-use Rattle.gix_ref_transaction.specs.CommitRenames.{renames_of, first_renames, rename_at, synced_renames_of, first_synced_renames, synced_rename_at, lock_at, place_at, stays_at, is_written_at, IsCutAt}
+use Rattle.gix_ref_transaction.specs.CommitRenames.{renames_of, first_renames, rename_at, synced_renames_of, first_synced_renames, synced_rename_at}
 use Rattle.gix_ref_transaction.specs.CommittedEdits.{planned, AreCommitted, IsOldOrNew}
-use Rattle.gix_ref_transaction.specs.PrepareSteps.{effect_on, is_written, lock_text, lock_paths, place_paths, places_of}
-use Rattle.gix_ref_edits.specs.RefEdits.{name_of, new_of, expected_of, matched, mode_of, is_of_reference, AreUpdates}
+use Rattle.gix_ref_transaction.specs.PrepareSteps.{effect_on, is_written, lock_text, lock_paths, places_of}
+use Rattle.gix_ref_edits.specs.RefEdits.{name_of, new_of, AreUpdates}
 use Rattle.gix_ref_edits.specs.declared.transaction.RefEdit.{RefEdit}
 use Rattle.gix_ref_transaction.specs.declared.paths.Paths.{Paths}
-use Rattle.gix_ref_transaction.proofs.Adds.{clash, false_is_true, either_way, any_cases, any_right, in_one, in_here, in_at, is_false, same_path, is_same_path, same_view}
+use Rattle.gix_ref_transaction.proofs.Adds.{clash, false_is_true, any_cases, any_right, in_one, in_here, is_false, same_view}
 use Rattle.gix_ref_transaction.proofs.Apart.{references}
 use Rattle.gix_ref_transaction.proofs.Committing.{update_is, reads_back, id_reads_as_written}
 use Rattle.gix_ref_transaction.proofs.LookupLemmas.{effect_alike}

@@ -24,7 +24,7 @@ use Rattle.gix_ref_base.specs.Locations.{is_safe}
 use Rattle.gix_ref_transaction.specs.OwnLocks.{is_in}
 use Rattle.gix_ref_transaction.specs.First.{AllPass, FirstFault}
 use Rattle.gix_ref_edits.specs.DoubledNames.{NoneDoubled, IsLeastDoubled}
-use Rattle.gix_ref_edits.specs.declared.transaction.ext.error.EditError.TheVariants.{DoubledName}
+use Rattle.gix_ref_edits.specs.declared.transaction.ext.error.SplitError.TheVariants.{DoubledName}
 use Rattle.gix_ref_edits.specs.RefEdits.{name_of, new_of, expected_of, previous_of, Expects}
 use Rattle.gix_ref_edits.specs.declared.transaction.PreviousValue.{PreviousValue}
 use Rattle.gix_ref_edits.specs.declared.transaction.PreviousValue.TheVariants.{MustExist, MustNotExist as must_not_exist, MustExistAndMatch}
@@ -97,6 +97,17 @@ IsWholeTarget other = Unit {0}
 -- both ids of an edit, the new and the expected one
 abbrev pub HasKind : Kind → RefEdit → Type 0
 HasKind kind edit = IsOfKind kind (new_of edit.change) × IsOfKind kind (previous_of (expected_of edit.change))
+
+-- a name that may be edited: it is safe, and its place is not prohibited
+pub record IsWellNamed (s : Store) (name : List ℕ) : Type 0 where
+  pub safe : is_safe name ≡ true
+  pub allowed : s.is_prohibited (s.place name) ≡ false
+
+-- the first of these that does not hold
+abbrev pub IsMisnamed : Store → List ℕ → Error → Type 0
+IsMisnamed s name UnsafeName = is_safe name ≡ false
+IsMisnamed s name DeviceName = (is_safe name ≡ true) × (s.is_prohibited (s.place name) ≡ true)
+IsMisnamed s name other = ⊥
 
 pub record IsValidEdit (s : Store) (kind : Kind) (edit : RefEdit) : Type 0 where
   pub safe : is_safe (name_of edit) ≡ true

@@ -7,3 +7,5 @@ pub mod First
 pub mod OwnLocks
 pub mod PackedCauses
 pub mod PrepareSteps
+pub mod Splits
+pub mod internal

@@ -6,6 +6,7 @@ mod expect;
 pub mod hold;
 pub mod lock;
 pub mod records;
+pub mod split;
 pub mod take;
 
 pub use error::Error;

@@ -4,7 +4,7 @@ ghost use Rattle.std.specs.Option.{option_map};
 ghost use Rattle.gix_ref_hash.specs.Ids.{id_kind, IsWhole};
 ghost use Rattle.gix_ref_name.specs.Names.{full_ref_bytes};
 ghost use Rattle.gix_ref_base.specs.Targets.{target_ref_value};
-ghost use Rattle.gix_ref_transaction.specs.Causes.{IsValidEdit, IsInvalidEdit, AllValid, IsFirstInvalid, IsFullTarget, IsOfKind, IsWholeTarget, HasKind, IsNotIo, IsDoubling, names_of};
+ghost use Rattle.gix_ref_transaction.specs.Causes.{IsValidEdit, IsInvalidEdit, IsWellNamed, IsMisnamed, AllValid, IsFirstInvalid, IsFullTarget, IsOfKind, IsWholeTarget, HasKind, IsNotIo, IsDoubling, names_of};
 ghost use Rattle.gix_ref_transaction.specs.PrepareSteps.{setting_of};
 ghost use Rattle.gix_ref_edits.specs.DoubledNames.{NoneDoubled};
 ghost use Rattle.gix_ref_base.specs.Locations.{is_safe};
@@ -13,7 +13,7 @@ ghost use Rattle.gix_ref_edits.specs.RefEdits.{name_of, new_of};
 use crate::prepare::Error;
 use gix_ref_base::layout::location_of;
 use gix_ref_base::target::TargetRef;
-use gix_ref_edits::transaction::{EditError, RefEdit, RefEditsExt};
+use gix_ref_edits::transaction::{EditError, RefEdit, RefEditsExt, SplitError};
 use gix_ref_hash::hash::{Kind, ObjectId};
 use gix_ref_lookup::settings::Settings;
 use gix_ref_name::name::FullNameRef;
@@ -79,18 +79,35 @@ fn is_prohibited(
     Ok(settings.is_prohibited(&place))
 }
 
+/// Whether references may have the name: it is safe, and its place is not prohibited. Takes memory only where the store
+/// prohibits names.
+pub fn check_name(
+    alloc: Global,
+    settings: &Settings<'_>,
+    name: FullNameRef<'_>,
+) -> Result<(), Error>
+    ensures named { OnOk result (IsWellNamed (setting_of settings.now) (full_ref_bytes
+        name.entry)) }
+    ensures refused { IfErr result (λ error. (error ≡ Error.Memory)
+        ⊎ IsMisnamed (setting_of settings.now) (full_ref_bytes name.entry) error) }
+    ensures inside { IfErr result IsNotIo }
+{
+    if !is_safe_name(name) {
+        return Err(Error::UnsafeName);
+    }
+    if is_prohibited(alloc, settings, name)? {
+        return Err(Error::DeviceName);
+    }
+    Ok(())
+}
+
 fn check_edit(alloc: Global, settings: &Settings<'_>, edit: &RefEdit) -> Result<(), Error>
     ensures sound { OnOk result (IsValidEdit (setting_of settings.now) settings.now.kind edit.now) }
     ensures refused { IfErr result (λ error. (error ≡ Error.Memory)
         ⊎ IsInvalidEdit (setting_of settings.now) settings.now.kind edit.now error) }
     ensures inside { IfErr result IsNotIo }
 {
-    if !is_safe_name(edit.name.as_ref()) {
-        return Err(Error::UnsafeName);
-    }
-    if is_prohibited(alloc, settings, edit.name.as_ref())? {
-        return Err(Error::DeviceName);
-    }
+    check_name(alloc, settings, edit.name.as_ref())?;
     if !is_full_target(edit.change.new_value()) {
         return Err(Error::TargetNotFull);
     }
@@ -124,7 +141,7 @@ pub fn check_names(alloc: Global, edits: &Vec<RefEdit>) -> Result<(), Error>
     match edits.assure_one_name_has_one_edit(alloc) {
         Ok(()) => Ok(()),
         Err(EditError::DoubledName(name)) => Err(Error::PreprocessingFailed {
-            source: EditError::DoubledName(name),
+            source: SplitError::DoubledName(name),
         }),
         Err(EditError::Memory) => Err(Error::Memory),
     }

@@ -1,10 +1,11 @@
 //! Why a transaction is not prepared.
 use gix_ref_base::target::Target;
-use gix_ref_edits::transaction::EditError;
+use gix_ref_edits::transaction::SplitError;
 use gix_ref_files::files::FileError;
 use gix_ref_name::name::FullName;
 use gix_ref_packed::packed;
 use std::alloc::AllocError;
+use std::convert::Infallible;
 use thiserror::Error;
 
 /// The causes of a refusal, in the order in which `prepare` reports them: the first four of each edit by itself, then a name
@@ -24,10 +25,11 @@ pub enum Error {
     /// An id of an edit, new or expected, is not of the store's kind.
     #[error("an id of an edit is of another kind than those of the store")]
     OtherHashKind,
-    /// More than one edit has a name: `source` is `DoubledName` with the least such name.
+    /// The list of edits is refused: `source` is `TooManySplits` where symbolic references lead on for more than four steps, or
+    /// `DoubledName` with the least name that more than one edit has. It is neither `Find` nor `Memory`.
     #[error("{source}")]
     PreprocessingFailed {
-        source: EditError,
+        source: SplitError<Infallible>,
     },
     /// `packed-refs` could not be opened or read, or it is malformed where it is read as a whole.
     #[error("packed-refs could not be opened: {0}")]

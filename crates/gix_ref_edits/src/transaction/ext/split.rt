@@ -33,6 +33,25 @@ impl Change {
 }
 
 impl RefEdit {
+    /// Splits the edit of a symbolic reference that leads to this name: what is left is the edit of the reference's log
+    /// alone, and the child, the edit of the reference of that name, is returned, which follows in turn. After an error the
+    /// edit is as before.
+    pub fn split_to(&mut self, referent: FullName) -> Result<RefEdit, AllocError>
+        ensures parent { OnOk result (edit_value self.new ≡ looked_up (edit_value self.old)
+            (Some (full_bytes referent))) }
+        ensures child { IfOk result (λ child. edit_value child ≡ child_of (edit_value self.old)
+            (full_bytes referent)) }
+        ensures unchanged { OnErr result (self.new ≡ self.old) }
+    {
+        let change = self.change.split_off()?;
+        self.deref = false;
+        Ok(RefEdit {
+            change,
+            name: referent,
+            deref: true,
+        })
+    }
+
     /// Looks up the edit's reference, where the edit follows it, and splits the edit where it is symbolic: the child is
     /// returned. Afterwards the edit follows no more.
     pub(crate) fn follow<E, F>(&mut self, find: &mut F) -> Result<Option<RefEdit>, SplitError<E>>
@@ -49,14 +68,7 @@ impl RefEdit {
         }
         self.deref = false;
         match find(self.name.as_ref().as_partial_name()) {
-            Ok(Some(Target::Symbolic(referent))) => {
-                let change = self.change.split_off()?;
-                Ok(Some(RefEdit {
-                    change,
-                    name: referent,
-                    deref: true,
-                }))
-            }
+            Ok(Some(Target::Symbolic(referent))) => Ok(Some(self.split_to(referent)?)),
             Ok(Some(Target::Object(_))) => Ok(None),
             Ok(None) => Ok(None),
             Err(e) => Err(SplitError::Find(e)),

@@ -2,10 +2,9 @@ use Rattle.std.proofs.Common.{◌≡◌, ◌≤◌, ◌<◌, ◌+◌, ◌⊎◌,
 use Rattle.std.specs.Prelude.{nat_lt}
 use Rattle.std.specs.declared.alloc.Global.{Global}
 use Rattle.std.specs.Vec.{vec_capacity}
-use Rattle.gix_ref_files.specs.Files.{disk_of, Leaves, Passes, HasRisen}
-use Rattle.gix_ref_files.specs.DiskCalls.{RemovingFileOn}
-use Rattle.gix_ref_files.specs.Tree.{Path, is_file}
-use Rattle.gix_ref_transaction.specs.OwnLocks.{paths_of, RemovesLocks, is_in}
+use Rattle.gix_ref_files.specs.Files.{HasRisen}
+use Rattle.gix_ref_files.specs.Tree.{Path}
+use Rattle.gix_ref_transaction.specs.OwnLocks.{paths_of, is_in}
 use Rattle.gix_ref_transaction.proofs.Adds.{clash}
 use Rattle.gix_ref_transaction.specs.CommitRenames.{lock_at, is_written_at}
 use Rattle.gix_ref_transaction.specs.PrepareSteps.{lock_paths}

@@ -1,4 +1,4 @@
-use Rattle.std.proofs.Common.{◌≡◌, [], false, subst, sym, arith}
+use Rattle.std.proofs.Common.{◌≡◌, false, subst, sym, arith}
 use Rattle.gix_ref_files.specs.Tree.{Path, is_file}
 use Rattle.gix_ref_transaction.specs.OwnLocks.{paths_of, is_in}
 use Rattle.gix_ref_transaction.proofs.Renames.{lock_found, none_renamed}

@@ -1,7 +1,7 @@
-use Rattle.std.proofs.Common.{◌≡◌, List, inl, inr, IfOk, IfErr, OnOk, ap, sym, ◌∙◌, subst, arith, [], ◌⊎◌}
-use Rattle.gix_ref_files.specs.Tree.{Tree, Path}
+use Rattle.std.proofs.Common.{◌≡◌, inl, inr, IfOk, OnOk, ap, sym, ◌∙◌, subst, []}
+use Rattle.gix_ref_files.specs.Tree.{Tree}
 use Rattle.gix_ref_files.specs.Disk.{Disk}
-use Rattle.gix_ref_files.specs.Files.{disk_of, Leaves, Passes, HasRisen}
+use Rattle.gix_ref_files.specs.Files.{disk_of, Leaves, Passes}
 use Rattle.gix_ref_files.specs.Settled.{AllStay}
 use Rattle.gix_ref_files.proofs.Moments.{weaken, joins, passes_weaken, passes_joins}
 use Rattle.gix_ref_lookup.specs.StoreLayout.{folders_of}
@@ -9,9 +9,8 @@ use Rattle.gix_ref_theory.specs.OnDisks.{IsAsBefore}
 use Rattle.gix_ref_theory.specs.OnRealTrees.{view_of}
 use Rattle.gix_ref_theory.proofs.LockDisks.{as_before}
 use Rattle.gix_ref_transaction.specs.OwnLocks.{paths_of, AddsLocks}
-use Rattle.gix_ref_transaction.specs.Causes.{AllValid, IsFirstCause, IsIoOrMemory, NoCause, locks_of}
+use Rattle.gix_ref_transaction.specs.Causes.{IsFirstCause, NoCause, locks_of}
 use Rattle.gix_ref_transaction.specs.PrepareSteps.{setting_of, are_written, flags_of, targets_of, old_targets, packed_ids, places_of, AreLockable, HoldTexts}
-use Rattle.gix_ref_transaction.specs.declared.prepare.hold.Taken.{Taken}
 use Rattle.gix_ref_transaction.specs.declared.prepare.hold.Untaken.{Untaken}
 use Rattle.gix_ref_transaction.proofs.PackedLemmas.{asked_ids, counted_later, if_err, not_packed, rises_on}
 use Rattle.gix_ref_transaction.proofs.prepare.hold.find_and_hold.Goals as goal

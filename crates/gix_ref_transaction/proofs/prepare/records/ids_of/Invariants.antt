@@ -1,4 +1,4 @@
-use Rattle.std.proofs.Common.{◌≡◌, ℕ, List, None, take, vec_len}
+use Rattle.std.proofs.Common.{◌≡◌, List, None, take, vec_len}
 use Rattle.gix_ref_hash.specs.declared.hash.Kind.{Kind}
 use Rattle.gix_ref_base.specs.PackedRecords.{Record}
 use Rattle.gix_ref_lookup.specs.Lookups.{AreAsked, AreHonest, IsReady}

@@ -1,0 +1,211 @@
+-- Splits: where a loose file leads, and rounds over lists of edits.
+use Rattle.std.proofs.Common.{◌≡◌, ◌<◌, ◌+◌, ◌-◌, ℕ, zero, suc, List, [], ◌∷◌, ◌++◌, Option, Bool, true, All, refl, sym, ap, ◌∙◌, subst, length, take, drop, get_or, map, arith, add-one, append-nil, append_assoc}
+use Rattle.std.proofs.Math.ListN.{set}
+use Rattle.std.proofs.lemmas.List.{map-append, length-map, length-take-le, take-map, take_more_set, take-append-drop, get_or-drop}
+use Rattle.std.proofs.lemmas.List.Elements.{All-nil, All-append}
+use Rattle.std.specs.Option.{option_map}
+use Rattle.gix_ref_hash.specs.declared.hash.Kind.{Kind}
+use Rattle.gix_ref_name.specs.Names.{full_bytes}
+use Rattle.gix_ref_name.specs.declared.name.FullName.{FullName}
+use Rattle.gix_ref_base.specs.Layout.{Layout}
+use Rattle.gix_ref_base.specs.Targets.{TargetValue, target_value, stripped_target}
+use Rattle.gix_ref_base.specs.Targets.TargetValue.{object_id, symbolic_name}
+use Rattle.gix_ref_files.specs.Calls.{Unchanged}
+use Rattle.gix_ref_files.specs.DiskCalls.{Untouched}
+use Rattle.gix_ref_files.specs.Files.{Meaning, disk_of, Leaves, Passes}
+use Rattle.gix_ref_files.proofs.Moments.{joins, passes_joins, passes_starts, starts}
+use Rattle.gix_ref_theory.specs.ConcreteStore.{store_of}
+use Rattle.gix_ref_theory.specs.Readings.{Store, as_read}
+use Rattle.gix_ref_lookup.specs.StoreLayout.{git_options}
+use Rattle.gix_ref_lookup.specs.LooseFiles.{IsDecoded}
+use Rattle.gix_ref_lookup.specs.declared.find.loose.Loose.{Loose}
+use Rattle.gix_ref_lookup.specs.declared.find.loose.Loose.TheVariants as loose_files
+use Rattle.gix_ref_lookup.proofs.LooseLemmas.{held_is, refused_none}
+use Rattle.gix_ref_edits.specs.EditValues.{EditValue, edit_value}
+use Rattle.gix_ref_edits.specs.RefEdits.{name_of}
+use Rattle.gix_ref_edits.specs.SplitLists.{looked_up, child_list, referent, after_round, children, level, first_levels}
+use Rattle.gix_ref_edits.specs.declared.transaction.RefEdit.{RefEdit}
+use Rattle.gix_ref_edits.proofs.Joining.{after_round-append}
+use Rattle.gix_ref_transaction.specs.Causes.{decoded, IsMisnamed}
+use Rattle.gix_ref_transaction.specs.Splits.{name_in, symbolic_in, values_of, CanFollow, IsFirstMisnamed, OnlyReads}
+use Rattle.gix_ref_transaction.specs.internal.SplitRounds.{name_by, led_to, led_by, after_by, children_by}
+use Rattle.gix_ref_transaction.specs.declared.prepare.error.Error.{Error}
+use Rattle.gix_ref_transaction.proofs.Firsts.{next_of, seen_of}
+
+-- where a loose file leads
+module _ (f : Layout) (kind : Kind) (prohibits : Bool) where
+  abbrev git : Store
+  git = store_of f (git_options kind prohibits)
+
+  same_target : (target : TargetValue) → stripped_target f.namespace target ≡ as_read git target
+  same_target (object_id id) = refl
+  same_target (symbolic_name n) = refl
+
+  pub leads_is : (loose : Loose) (file : Option (List ℕ)) → IsDecoded kind file loose → name_by f.namespace loose ≡ name_in git (decoded git file)
+  leads_is loose_files.Absent file told = sym (ap (λ b. name_in git (decoded git b)) told)
+  leads_is (loose_files.Holds target) file told =
+      ap symbolic_in (same_target (target_value target)) ∙ ap (name_in git) (sym (ap (decoded git) told.1 ∙ held_is kind told.0 (target_value target) told.2))
+  leads_is (loose_files.Undecodable error) file told =
+      sym (ap (name_in git) (ap (decoded git) told.1 ∙ refused_none kind told.0 error told.2 told.3))
+
+-- no call
+pub reads_none : {F : Type 0} (honest : Type 0) (means : F → Meaning) (faults : F → ℕ) (a : F) → OnlyReads honest means faults a a
+reads_none honest means faults a = record {
+  leaves = λ h. starts (means a) (Unchanged (means a).tree) refl;
+  passes = λ h. passes_starts (means a) (Untouched (disk_of (means a))) refl;
+  no_fewer = omega arith;
+}
+
+-- a call that only reads, and then another one
+pub reads_more : {F : Type 0} (honest : Type 0) (means : F → Meaning) (faults : F → ℕ) (a b d : F) → OnlyReads honest means faults a b → OnlyReads honest means faults b d → OnlyReads honest means faults a d
+reads_more honest means faults a b d first next = record {
+  leaves = λ h. joins (first.leaves h) (subst (λ T. Leaves (means b) (means d) (Unchanged T)) (first.leaves h).tree (next.leaves h));
+  passes = λ h. passes_joins (first.passes h) (subst (λ D. Passes (means b) (means d) (Untouched D)) (first.passes h).disk (next.passes h));
+  no_fewer = omega (arith, first.no_fewer, next.no_fewer);
+}
+
+-- The edits of a list up to a place, and one more.
+
+read_of : {X : Type 0} (xs ys : List X) (i : ℕ) (x : X) → drop i xs ≡ drop i ys → x ≡ get_or xs i x → x ≡ get_or ys i x
+read_of xs ys i x same is =
+    let at : (zs : List _) → get_or (drop i zs) 0 x ≡ get_or zs i x = λ zs. get_or-drop i zs 0 x ∙ ap (λ n. get_or zs n x) (omega arith) in
+    is ∙ sym (at xs) ∙ ap (λ zs. get_or zs 0 x) same ∙ at ys
+
+pub values_more : (xs : List RefEdit) (i : ℕ) (x : RefEdit) → i < length xs → x ≡ get_or xs i x → values_of (take (i + 1) xs) ≡ values_of (take i xs) ++ edit_value x ∷ []
+values_more xs i x lt is = ap values_of (seen_of xs i x lt is) ∙ map-append edit_value (take i xs) (x ∷ [])
+
+-- the first that may not be looked up
+pub first_misnamed : (s : Store) (xs : List RefEdit) (i : ℕ) (x : RefEdit) (error : Error) → i < length xs → x ≡ get_or xs i x → All (CanFollow s) (values_of (take i xs)) → x.deref ≡ true →
+    IsMisnamed s (name_of x) error → IsFirstMisnamed s (values_of xs) error
+first_misnamed s xs i x error lt is before follows fault = record {
+  before = values_of (take i xs);
+  edit = edit_value x;
+  after = values_of (drop (i + 1) xs);
+  parts = ap values_of (sym (take-append-drop i xs)) ∙ map-append edit_value (take i xs) (drop i xs) ∙ ap (λ (l : List RefEdit). values_of (take i xs) ++ values_of l) (sym (next_of xs i x lt is));
+  can_follow = before;
+  follows = follows;
+  fault = fault;
+}
+
+-- one more that leads there
+pub led_more : (find : List ℕ → Option (List ℕ)) (names : List (Option FullName)) (name : Option FullName) (edits : List EditValue) (edit : EditValue) →
+    led_to names ≡ led_by find edits → option_map full_bytes name ≡ referent find edit.name edit.deref → led_to (names ++ name ∷ []) ≡ led_by find (edits ++ edit ∷ [])
+led_more find names name edits edit before here =
+    map-append (λ (n : Option FullName). option_map full_bytes n) names (name ∷ [])
+    ∙ (ap (λ (l : List (Option (List ℕ))). l ++ option_map full_bytes name ∷ []) before
+    ∙ (ap (λ (n : Option (List ℕ)). led_by find edits ++ n ∷ []) here ∙ sym (map-append (λ (e : EditValue). referent find e.name e.deref) edits (edit ∷ []))))
+
+-- a round over one edit more
+after_by-more : (edits : List EditValue) (led : List (Option (List ℕ))) (edit : EditValue) (name : Option (List ℕ)) → length edits ≡ length led → after_by (edits ++ edit ∷ []) (led ++ name ∷ []) ≡ after_by edits led ++ looked_up edit name ∷ []
+after_by-more [] [] edit name len = refl
+after_by-more [] (n ∷ led) edit name len = absurd (omega (arith, len))
+after_by-more (e ∷ edits) [] edit name len = absurd (omega (arith, len))
+after_by-more (e ∷ edits) (n ∷ led) edit name len = ap (λ (l : List EditValue). looked_up e n ∷ l) (after_by-more edits led edit name (omega (arith, len)))
+
+children_by-more : (edits : List EditValue) (led : List (Option (List ℕ))) (edit : EditValue) (name : Option (List ℕ)) → length edits ≡ length led → children_by (edits ++ edit ∷ []) (led ++ name ∷ []) ≡ children_by edits led ++ child_list edit name
+children_by-more [] [] edit name len = append-nil (child_list edit name)
+children_by-more [] (n ∷ led) edit name len = absurd (omega (arith, len))
+children_by-more (e ∷ edits) [] edit name len = absurd (omega (arith, len))
+children_by-more (e ∷ edits) (n ∷ led) edit name len =
+    ap (λ (l : List EditValue). child_list e n ++ l) (children_by-more edits led edit name (omega (arith, len))) ∙ sym (append_assoc (child_list e n) (children_by edits led) (child_list edit name))
+
+module _ (start now : List RefEdit) (names left : List (Option FullName)) (i : ℕ) (x y : RefEdit) (name : Option FullName) (lt : i < length start) (lt' : i < length now) (named : i < length names)
+    (same : drop i now ≡ drop i start) (same' : drop i left ≡ drop i names) (is : x ≡ get_or now i x) (is' : name ≡ get_or left i name) where
+  seen : values_of (take (i + 1) start) ≡ values_of (take i start) ++ edit_value x ∷ []
+  seen = values_more start i x lt (read_of now start i x same is)
+
+  names_seen : take (i + 1) (led_to names) ≡ take i (led_to names) ++ option_map full_bytes name ∷ []
+  names_seen =
+      let f : Option FullName → Option (List ℕ) = λ n. option_map full_bytes n in
+      take-map f (i + 1) names ∙ (ap (map f) (seen_of names i name named (read_of left names i name same' is'))
+      ∙ (map-append f (take i names) (name ∷ []) ∙ ap (λ (l : List (Option (List ℕ))). l ++ f name ∷ []) (sym (take-map f i names))))
+
+  as_many : length (values_of (take i start)) ≡ length (take i (led_to names))
+  as_many =
+      let f : Option FullName → Option (List ℕ) = λ n. option_map full_bytes n in
+      length-map (take i start) edit_value ∙ (length-take-le i start (omega (arith, lt)) ∙ sym (length-take-le i (led_to names) (omega (arith, named, length-map names f))))
+
+  pub after_more : edit_value y ≡ looked_up (edit_value x) (option_map full_bytes name) → values_of (take i now) ≡ after_by (values_of (take i start)) (take i (led_to names)) →
+      values_of (take (i + 1) (set now i y)) ≡ after_by (values_of (take (i + 1) start)) (take (i + 1) (led_to names))
+  after_more here before =
+      ap values_of (take_more_set now i y lt') ∙ (map-append edit_value (take i now) (y ∷ [])
+      ∙ (ap (λ (l : List EditValue). l ++ edit_value y ∷ []) before ∙ (ap (λ (v : EditValue). after_by (values_of (take i start)) (take i (led_to names)) ++ v ∷ []) here
+      ∙ (sym (after_by-more (values_of (take i start)) (take i (led_to names)) (edit_value x) (option_map full_bytes name) as_many)
+      ∙ (ap (λ (l : List EditValue). after_by l (take i (led_to names) ++ option_map full_bytes name ∷ [])) (sym seen)
+      ∙ ap (λ (l : List (Option (List ℕ))). after_by (values_of (take (i + 1) start)) l) (sym names_seen))))))
+
+  pub children_more : (kids child : List EditValue) → child ≡ child_list (edit_value x) (option_map full_bytes name) → kids ≡ children_by (values_of (take i start)) (take i (led_to names)) →
+      kids ++ child ≡ children_by (values_of (take (i + 1) start)) (take (i + 1) (led_to names))
+  children_more kids child here before =
+      ap (λ (l : List EditValue). l ++ child) before ∙ (ap (λ (l : List EditValue). children_by (values_of (take i start)) (take i (led_to names)) ++ l) here
+      ∙ (sym (children_by-more (values_of (take i start)) (take i (led_to names)) (edit_value x) (option_map full_bytes name) as_many)
+      ∙ (ap (λ (l : List EditValue). children_by l (take i (led_to names) ++ option_map full_bytes name ∷ [])) (sym seen)
+      ∙ ap (λ (l : List (Option (List ℕ))). children_by (values_of (take (i + 1) start)) l) (sym names_seen))))
+
+-- Where each leads by a finder, a round is one over that finder.
+module _ (find : List ℕ → Option (List ℕ)) where
+  pub after_by_is : (edits : List EditValue) → after_by edits (led_by find edits) ≡ after_round find edits
+  unfolding after_round
+  after_by_is [] = refl
+  after_by_is (edit ∷ edits) = ap (λ (l : List EditValue). looked_up edit (referent find edit.name edit.deref) ∷ l) (after_by_is edits)
+
+  pub children_by_is : (edits : List EditValue) → children_by edits (led_by find edits) ≡ children find edits
+  unfolding children
+  children_by_is [] = refl
+  children_by_is (edit ∷ edits) = ap (λ (l : List EditValue). child_list edit (referent find edit.name edit.deref) ++ l) (children_by_is edits)
+
+  -- n rounds, and one more
+  pub done_none : (edits : List EditValue) → [] ≡ after_round find (first_levels find edits 0)
+  unfolding after_round first_levels
+  done_none edits = refl
+
+  pub level_none : (edits : List EditValue) → edits ≡ level find edits 0
+  unfolding level
+  level_none edits = refl
+
+  pub can_none : (P : EditValue → Type 0) (edits : List EditValue) → All P (first_levels find edits 0)
+  unfolding first_levels
+  can_none P edits = All-nil P
+
+  pub done_more : (edits : List EditValue) (n : ℕ) (done back after : List EditValue) → done ≡ after_round find (first_levels find edits n) → back ≡ level find edits n → after ≡ after_round find back →
+      done ++ after ≡ after_round find (first_levels find edits (n + 1))
+  unfolding first_levels
+  done_more edits n done back after first is changed =
+      ap (λ (l : List EditValue). l ++ after) first ∙ (ap (λ (l : List EditValue). after_round find (first_levels find edits n) ++ l) (changed ∙ ap (after_round find) is)
+      ∙ (sym (after_round-append find (first_levels find edits n) (level find edits n)) ∙ ap (λ m. after_round find (first_levels find edits m)) (sym (add-one n))))
+
+  pub level_more : (edits : List EditValue) (n : ℕ) (back kids : List EditValue) → back ≡ level find edits n → kids ≡ children find back → kids ≡ level find edits (n + 1)
+  unfolding level
+  level_more edits n back kids is split = split ∙ (ap (children find) is ∙ ap (level find edits) (sym (add-one n)))
+
+  pub can_more : (P : EditValue → Type 0) (edits : List EditValue) (n : ℕ) (back : List EditValue) → back ≡ level find edits n → All P (first_levels find edits n) → All P back → All P (first_levels find edits (n + 1))
+  unfolding first_levels
+  can_more P edits n back is first here =
+      subst (λ m. All P (first_levels find edits m)) (sym (add-one n)) (All-append P (first_levels find edits n) (level find edits n) first (subst (All P) is here))
+
+  -- more levels go on behind the first ones
+  levels_on : (edits : List EditValue) (n m total : ℕ) → total ≡ m + n → (rest : List EditValue) × (first_levels find edits total ≡ first_levels find edits n ++ rest)
+  unfolding first_levels
+  levels_on edits n zero total is = ([], ap (first_levels find edits) {x = total} {y = n} (omega (arith, is)) ∙ sym (append-nil (first_levels find edits n)))
+  levels_on edits n (suc m) zero is = absurd (omega (arith, is))
+  levels_on edits n (suc m) (suc total) is =
+      let before = levels_on edits n m total (omega (arith, is)) in
+      (before.0 ++ level find edits total, ap (λ (l : List EditValue). l ++ level find edits total) before.1 ∙ append_assoc (first_levels find edits n) before.0 (level find edits total))
+
+  pub misnamed_on : (s : Store) (edits : List EditValue) (n m : ℕ) (back : List EditValue) (error : Error) → n < m → back ≡ level find edits n → All (CanFollow s) (first_levels find edits n) →
+      IsFirstMisnamed s back error → IsFirstMisnamed s (first_levels find edits m) error
+  unfolding first_levels
+  misnamed_on s edits n m back error lt is first fault =
+      let on = levels_on edits (suc n) (m - suc n) m (omega (arith, lt)) in
+      let front = first_levels find edits n in
+      record {
+        before = front ++ fault.before;
+        edit = fault.edit;
+        after = fault.after ++ on.0;
+        parts = on.1 ∙ (ap (λ (l : List EditValue). (front ++ l) ++ on.0) (sym is ∙ fault.parts)
+            ∙ (append_assoc front (fault.before ++ fault.edit ∷ fault.after) on.0 ∙ (ap (λ (l : List EditValue). front ++ l) (append_assoc fault.before (fault.edit ∷ fault.after) on.0)
+            ∙ sym (append_assoc front fault.before (fault.edit ∷ fault.after ++ on.0)))));
+        can_follow = All-append (CanFollow s) front fault.before first fault.can_follow;
+        follows = fault.follows;
+        fault = fault.fault;
+      }

@@ -1,0 +1,68 @@
+-- Splits of a transaction's edits, by what the loose files of a store lead to, and why they are refused.
+use Rattle.std.specs.Prelude.{◌≡◌, ◌≤◌, ℕ, List, [], ◌∷◌, ◌++◌, true, Option, Some, None, map, All}
+use Rattle.gix_ref_base.specs.Targets.{TargetValue}
+use Rattle.gix_ref_base.specs.Targets.TargetValue.{object_id, symbolic_name}
+use Rattle.gix_ref_files.specs.Calls.{Unchanged}
+use Rattle.gix_ref_files.specs.DiskCalls.{Untouched}
+use Rattle.gix_ref_files.specs.Files.{Meaning, disk_of, Leaves, Passes}
+use Rattle.gix_ref_theory.specs.Readings.{Store, as_read}
+use Rattle.gix_ref_theory.specs.Views.{View}
+use Rattle.gix_ref_edits.specs.EditValues.{EditValue, edit_value}
+use Rattle.gix_ref_edits.specs.SplitLists.{IsSplitList, first_levels, level}
+use Rattle.gix_ref_edits.specs.declared.transaction.RefEdit.{RefEdit}
+use Rattle.gix_ref_edits.specs.declared.transaction.ext.error.SplitError.TheVariants.{TooManySplits}
+use Rattle.gix_ref_transaction.specs.Causes.{decoded, IsMisnamed, IsWellNamed}
+use Rattle.gix_ref_transaction.specs.declared.prepare.error.Error.{Error}
+use Rattle.gix_ref_transaction.specs.declared.prepare.error.Error.TheVariants.{PreprocessingFailed}
+
+-- the name that a target is
+abbrev pub symbolic_in : TargetValue → Option (List ℕ)
+symbolic_in (object_id id) = None
+symbolic_in (symbolic_name name) = Some name
+
+-- the name that the target of a loose file is, without the namespace
+abbrev pub name_in : Store → Option TargetValue → Option (List ℕ)
+name_in s None = None
+name_in s (Some target) = symbolic_in (as_read s target)
+
+-- Where the reference of a name leads: to the symbolic target of its loose file. A record names an object.
+abbrev pub leads_to : Store → View → List ℕ → Option (List ℕ)
+leads_to s view name = name_in s (decoded s (view (s.place name)))
+
+-- edits as values
+abbrev pub values_of : List RefEdit → List EditValue
+values_of edits = map edit_value edits
+
+-- What becomes of edits where some follow symbolic references: their split list.
+abbrev pub AreSplit : Store → View → (given split : List RefEdit) → Type 0
+AreSplit s view given split = IsSplitList (leads_to s view) (values_of given) (values_of split)
+
+-- the edits of the rounds: those that are given, and the children of the first four rounds
+abbrev pub all_rounds : Store → View → List RefEdit → List EditValue
+all_rounds s view given = first_levels (leads_to s view) (values_of given) 5
+
+-- an edit that is looked up may be: one that follows has a name for edits
+abbrev pub CanFollow : Store → EditValue → Type 0
+CanFollow s edit = edit.deref ≡ true → IsWellNamed s edit.name
+
+-- the error is that of the first of these edits that is looked up and may not be
+pub record IsFirstMisnamed (s : Store) (edits : List EditValue) (error : Error) : Type 0 where
+  pub before : List EditValue
+  pub edit : EditValue
+  pub after : List EditValue
+  pub parts : edits ≡ before ++ edit ∷ after
+  pub can_follow : All (CanFollow s) before
+  pub follows : edit.deref ≡ true
+  pub fault : IsMisnamed s edit.name error
+
+-- a fifth round finds children, where all may be looked up
+abbrev pub IsTooLong : Store → View → List RefEdit → Error → Type 0
+IsTooLong s view given (PreprocessingFailed (TooManySplits rounds)) =
+    (rounds ≡ 5) × All (CanFollow s) (all_rounds s view given) × (level (leads_to s view) (values_of given) 5 ≡ [] → ⊥)
+IsTooLong s view given other = ⊥
+
+-- A call that only reads files.
+pub record OnlyReads {F : Type 0} (honest : Type 0) (means : F → Meaning) (faults : F → ℕ) (before now : F) : Type 0 where
+  pub leaves : honest → Leaves (means before) (means now) (Unchanged (means before).tree)
+  pub passes : honest → Passes (means before) (means now) (Untouched (disk_of (means before)))
+  pub no_fewer : faults before ≤ faults now

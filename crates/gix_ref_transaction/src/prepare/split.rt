@@ -1,0 +1,227 @@
+//! The splits of edits that follow symbolic references.
+ghost use Rattle.std.specs.Prelude.{◌≡◌, ◌⊎◌, [], true, OnOk, IfOk, IfErr, All, length, vec_len};
+ghost use Rattle.std.specs.Option.{option_map};
+ghost use Rattle.gix_ref_name.specs.Names.{full_bytes, full_ref_bytes};
+ghost use Rattle.gix_ref_base.specs.Targets.{target_value};
+ghost use Rattle.gix_ref_theory.specs.OnRealTrees.{view_of};
+ghost use Rattle.gix_ref_lookup.specs.StoreLayout.{namespace_text};
+ghost use Rattle.gix_ref_edits.specs.EditValues.{edit_value};
+ghost use Rattle.gix_ref_edits.specs.RefEdits.{name_of, AreUpdates};
+ghost use Rattle.gix_ref_edits.specs.SplitLists.{child_list, looked_up, referent};
+ghost use Rattle.gix_ref_transaction.specs.Causes.{AllValid, IsCounted, IsIoOrMemory, IsMisnamed, IsWellNamed};
+ghost use Rattle.gix_ref_transaction.specs.PrepareSteps.{setting_of};
+ghost use Rattle.gix_ref_transaction.specs.Splits.{symbolic_in, leads_to, values_of, all_rounds, AreSplit, CanFollow, IsFirstMisnamed, IsTooLong, OnlyReads};
+ghost use Rattle.gix_ref_transaction.specs.internal.SplitRounds.{name_by, led_to, led_by, after_by, children_by, child_values, IsRoundBy, IsRoundOver};
+
+use crate::prepare::Error;
+use crate::prepare::check::check_name;
+use gix_ref_base::target::Target;
+use gix_ref_edits::transaction::{RefEdit, SplitError};
+use gix_ref_files::files::Files;
+use gix_ref_lookup::find::loose::{Loose, loose_at};
+use gix_ref_lookup::find::strip;
+use gix_ref_lookup::settings::Settings;
+use gix_ref_name::name::{FullName, FullNameRef};
+use gix_ref_name::namespace::Namespace;
+use std::alloc::{AllocError, Global};
+
+/// The name of a symbolic target.
+fn symbolic(target: Target) -> Option<FullName>
+    ensures { option_map full_bytes result ≡ symbolic_in (target_value target) }
+{
+    match target {
+        Target::Symbolic(name) => Some(name),
+        Target::Object(_) => None,
+    }
+}
+
+/// The name that a loose file leads to, without the namespace.
+fn referent_in(loose: Loose, namespace: &Option<Namespace>) -> Option<FullName>
+    ensures { option_map full_bytes result ≡ name_by (namespace_text namespace.now) loose }
+{
+    match loose {
+        Loose::Holds(mut target) => {
+            strip(&mut target, namespace);
+            symbolic(target)
+        }
+        Loose::Absent => None,
+        Loose::Undecodable(_) => None,
+    }
+}
+
+/// Where the reference of a name leads, if it is symbolic: one call of files.
+fn referent_of<F: Files>(
+    alloc: Global,
+    files: &mut F,
+    settings: &Settings<'_>,
+    name: FullNameRef<'_>,
+) -> Result<Option<FullName>, Error>
+    ensures led { F.honest → IfOk result (λ name'. option_map full_bytes name' ≡ leads_to
+        (setting_of settings.now) (view_of (F.means files.old).tree) (full_ref_bytes name.entry)) }
+    ensures outside { IfErr result IsIoOrMemory }
+    ensures reads { OnlyReads F.honest F.means F.faults files.old files.new }
+    ensures counted { IfErr result (IsCounted (F.faults files.old) (F.faults files.new)) }
+{
+    let place = settings.place(alloc, name)?;
+    let loose = loose_at(alloc, files, &place, settings.kind)?;
+    Ok(referent_in(loose, settings.namespace))
+}
+
+/// Where an edit leads that follows symbolic references, once its name is checked.
+fn follow<F: Files>(
+    alloc: Global,
+    files: &mut F,
+    settings: &Settings<'_>,
+    edit: &RefEdit,
+) -> Result<Option<FullName>, Error>
+    ensures led { F.honest → IfOk result (λ name. option_map full_bytes name ≡ referent
+        (leads_to (setting_of settings.now) (view_of (F.means files.old).tree)) (name_of edit.now)
+        edit.now.deref) }
+    ensures can_follow { OnOk result (CanFollow (setting_of settings.now) (edit_value edit.now)) }
+    ensures refused { IfErr result (λ error. IsIoOrMemory error
+        ⊎ (edit.now.deref ≡ true) × IsMisnamed (setting_of settings.now) (name_of edit.now) error) }
+    ensures reads { OnlyReads F.honest F.means F.faults files.old files.new }
+    ensures counted { IfErr result (IsCounted (F.faults files.old) (F.faults files.new)) }
+{
+    if !edit.deref {
+        return Ok(None);
+    }
+    check_name(alloc, settings, edit.name.as_ref())?;
+    referent_of(alloc, files, settings, edit.name.as_ref())
+}
+
+/// Where each edit leads: one call of files for each that follows.
+fn follow_all<F: Files>(
+    alloc: Global,
+    files: &mut F,
+    settings: &Settings<'_>,
+    edits: &[RefEdit],
+) -> Result<Vec<Option<FullName>>, Error>
+    ensures len { IfOk result (λ names. vec_len names ≡ length edits.now) }
+    ensures led { F.honest → IfOk result (λ names. led_to names.items ≡ led_by
+        (leads_to (setting_of settings.now) (view_of (F.means files.old).tree))
+        (values_of edits.now)) }
+    ensures can_follow { OnOk result (All (CanFollow (setting_of settings.now)) (values_of
+        edits.now)) }
+    ensures refused { IfErr result (λ error. IsIoOrMemory error
+        ⊎ IsFirstMisnamed (setting_of settings.now) (values_of edits.now) error) }
+    ensures reads { OnlyReads F.honest F.means F.faults files.old files.new }
+    ensures counted { IfErr result (IsCounted (F.faults files.old) (F.faults files.new)) }
+{
+    let mut names = Vec::with_capacity(alloc, edits.len())?;
+    for edit in edits {
+        let name = follow(alloc, files, settings, edit)?;
+        names.push(name).map_err(AllocError::from)?;
+    }
+    Ok(names)
+}
+
+/// Splits an edit that leads to a name; the child is returned. The edit follows no more.
+fn split_edit(edit: &mut RefEdit, name: Option<FullName>) -> Result<Option<RefEdit>, AllocError>
+    ensures after { OnOk result (edit_value edit.new ≡ looked_up (edit_value edit.old)
+        (option_map full_bytes name)) }
+    ensures child { IfOk result (λ child. child_values child ≡ child_list (edit_value edit.old)
+        (option_map full_bytes name)) }
+{
+    match name {
+        Some(name) => {
+            let child = edit.split_to(name)?;
+            Ok(Some(child))
+        }
+        None => {
+            edit.deref = false;
+            Ok(None)
+        }
+    }
+}
+
+/// Splits each edit that leads to a name; the children are returned.
+fn split_all(
+    alloc: Global,
+    edits: &mut Vec<RefEdit>,
+    mut names: Vec<Option<FullName>>,
+) -> Result<Vec<RefEdit>, AllocError>
+    requires { vec_len names ≡ vec_len edits.old }
+    ensures after { OnOk result (values_of edits.new.items ≡ after_by (values_of edits.old.items)
+        (led_to names.items)) }
+    ensures children { IfOk result (λ kids. values_of kids.items ≡ children_by (values_of edits.old.items)
+        (led_to names.items)) }
+{
+    let mut children = Vec::new(alloc);
+    for i in 0..edits.len() {
+        let name = names[i].take();
+        match split_edit(&mut edits[i], name)? {
+            Some(child) => children.push(child)?,
+            None => {}
+        }
+    }
+    Ok(children)
+}
+
+/// One round: looks up each edit that follows, and splits those of symbolic references. The children are returned.
+fn split_round<F: Files>(
+    alloc: Global,
+    files: &mut F,
+    settings: &Settings<'_>,
+    edits: &mut Vec<RefEdit>,
+) -> Result<Vec<RefEdit>, Error>
+    ensures round { F.honest → IfOk result (λ kids. IsRoundOver
+        (leads_to (setting_of settings.now) (view_of (F.means files.old).tree))
+        (values_of edits.old.items) (values_of edits.new.items) (values_of kids.items)) }
+    ensures by { IfOk result (λ kids. IsRoundBy (values_of edits.old.items)
+        (values_of edits.new.items) (values_of kids.items)) }
+    ensures can_follow { OnOk result (All (CanFollow (setting_of settings.now)) (values_of
+        edits.old.items)) }
+    ensures refused { IfErr result (λ error. IsIoOrMemory error
+        ⊎ IsFirstMisnamed (setting_of settings.now) (values_of edits.old.items) error) }
+    ensures reads { OnlyReads F.honest F.means F.faults files.old files.new }
+    ensures counted { IfErr result (IsCounted (F.faults files.old) (F.faults files.new)) }
+{
+    let names = follow_all(alloc, files, settings, edits)?;
+    let children = split_all(alloc, edits, names)?;
+    Ok(children)
+}
+
+/// How many rounds there are: children of the last one are too many.
+const ROUNDS: usize = 5;
+
+/// The split list of edits (`extend_with_splits_of_symbolic_refs` over the files of the store): an edit that follows
+/// symbolic references is looked up, and where its reference is symbolic it becomes an edit of the log alone, followed by the
+/// edit of the reference that it leads to. Each name is checked before it is looked up.
+pub fn split_edits<F: Files>(
+    alloc: Global,
+    files: &mut F,
+    settings: &Settings<'_>,
+    edits: Vec<RefEdit>,
+) -> Result<Vec<RefEdit>, Error>
+    ensures split { F.honest → IfOk result (λ split. AreSplit (setting_of settings.now)
+        (view_of (F.means files.old).tree) edits.items split.items) }
+    ensures can_follow { F.honest → OnOk result (All (CanFollow (setting_of settings.now))
+        (all_rounds (setting_of settings.now) (view_of (F.means files.old).tree) edits.items)) }
+    ensures valid { AllValid (setting_of settings.now) settings.now.kind [] edits.items →
+        IfOk result (λ split. AllValid (setting_of settings.now) settings.now.kind []
+        split.items) }
+    ensures updates { AreUpdates edits.items → IfOk result (λ split. AreUpdates split.items) }
+    ensures refused { F.honest → IfErr result (λ error. IsIoOrMemory error
+        ⊎ IsFirstMisnamed (setting_of settings.now) (all_rounds (setting_of settings.now)
+        (view_of (F.means files.old).tree) edits.items) error
+        ⊎ IsTooLong (setting_of settings.now) (view_of (F.means files.old).tree) edits.items
+        error) }
+    ensures reads { OnlyReads F.honest F.means F.faults files.old files.new }
+    ensures counted { IfErr result (IsCounted (F.faults files.old) (F.faults files.new)) }
+{
+    let mut done = Vec::with_capacity(alloc, edits.len())?;
+    let mut level = edits;
+    for _round in 0..ROUNDS {
+        let children = split_round(alloc, files, settings, &mut level)?;
+        done.append(&mut level)?;
+        level = children;
+    }
+    if level.is_empty() {
+        Ok(done)
+    } else {
+        Err(Error::PreprocessingFailed {
+            source: SplitError::TooManySplits { rounds: ROUNDS },
+        })
+    }
+}
