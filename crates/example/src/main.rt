@@ -2,7 +2,7 @@
 #![tactic(auto)]
 
 ghost use Rattle.std.specs.Prelude.{IfOk};
-ghost use Rattle.gix_ref_transaction.specs.DirectUpdates.{AreDirectUpdates};
+ghost use Rattle.gix_ref_edits.specs.RefEdits.{AreUpdates};
 
 use anyhow::{Context, Result, bail};
 use gix_ref::file::Store;
@@ -16,7 +16,7 @@ use std::alloc::Global;
 
 /// One update: this name gets this id, if there is no other value before.
 fn update(alloc: Global, name: FullName, id: ObjectId) -> Result<Vec<RefEdit>>
-    ensures { IfOk result (λ edits. AreDirectUpdates edits.items) }
+    ensures { IfOk result (λ edits. AreUpdates edits.items) }
 {
     let change = Change::Update {
         log: LogChange::new_in(alloc),

@@ -1,19 +1,18 @@
 -- The line of a record that is lent.
-use Rattle.std.proofs.Common.{◌≡◌, arith, ℕ, ◌+◌, List, ◌++◌, append_assoc, length, length-append, refl, sym, ◌∙◌, ap, Some, Ok}
+use Rattle.std.proofs.Common.{◌≡◌, arith, ℕ, ◌+◌, List, ◌++◌, append_assoc, length, length-append, refl, ◌∙◌, ap, Some}
 use Rattle.std.specs.Prelude.{◌<◌, ◌^◌, codes, Vec}
 use Rattle.std.specs.declared.alloc.Global.{Global}
 use Rattle.hex.specs.Hex.{encode_lower}
 use denote.RawPtr.{null_ptr}
 use Rattle.gix_ref_hash.specs.Ids.{ReadsId, id_bytes}
 use Rattle.gix_ref_hash.specs.declared.hash.ObjectId.{ObjectId}
-use Rattle.gix_ref_name.specs.Names.{full_bytes, full_ref_bytes}
+use Rattle.gix_ref_name.specs.Names.{full_ref_bytes}
 use Rattle.gix_ref_name.specs.declared.name.FullName.{FullName}
 use Rattle.gix_ref_name.specs.declared.name.FullNameRef.{FullNameRef}
 use Rattle.gix_ref_base.specs.declared.target.Target.TheVariants.{Object}
 use Rattle.gix_ref_theory.specs.Readings.{reading_of_id}
 use Rattle.gix_ref_theory.specs.Lookups.{peeled_of}
 use Rattle.gix_ref_lookup.proofs.Answering.{digits_read}
-use Rattle.gix_ref_records.specs.declared.raw.Reference.{Reference}
 use Rattle.gix_ref_listing.specs.OwnRecords.{own_of}
 use Rattle.gix_ref_listing.specs.declared.own_records.OwnRecord.{OwnRecord}
 use Rattle.gix_ref_program.specs.ListPrinting.{PushesRecord}

@@ -1,5 +1,5 @@
 -- A listing that is printed, item by item.
-use Rattle.std.proofs.Common.{◌≡◌, arith, ℕ, List, [], ◌∷◌, ◌++◌, Bool, true, false, Option, Some, None, Result, Ok, Err, refl, sym, ◌∙◌, ap, subst, append-nil}
+use Rattle.std.proofs.Common.{◌≡◌, arith, ℕ, List, [], ◌∷◌, ◌++◌, Bool, true, false, Option, Some, None, Result, refl, sym, ◌∙◌, ap, subst, append-nil}
 use Rattle.std.specs.Prelude.{◌≤◌, if◌then◌else◌}
 use Rattle.std.specs.Option.{option_map}
 use Rattle.std.specs.Result.{is_err}
@@ -13,7 +13,6 @@ use Rattle.gix_ref_listing.specs.declared.error.Error.{Error}
 use Rattle.gix_ref_store.specs.Store.{files_of}
 use Rattle.gix_ref_store.specs.Lookup.{LooksUp}
 use Rattle.gix_ref_store.specs.Listings.{NextItem, count_in, store_of}
-use Rattle.gix_ref_store.specs.declared.file.store.Store.{Store}
 use Rattle.gix_ref_store.specs.declared.file.iter.LooseThenPacked.{LooseThenPacked}
 use Rattle.gix_ref_store.specs.declared.file.iter.Remaining.{Remaining}
 use Rattle.gix_ref_program.specs.ListPrinting.{item_text, list_text, next_text, PrintsAll, PrintsNext}

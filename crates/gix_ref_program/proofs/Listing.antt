@@ -1,13 +1,10 @@
 -- What is printed of a listing, put together.
-use Rattle.std.proofs.Common.{◌≡◌, ◌⊎◌, inl, inr, ⊎_elim, arith, ℕ, List, [], ◌∷◌, Bool, true, false, Option, Some, None, Result, Ok, Err, refl, sym, ◌∙◌, ap, subst}
-use Rattle.std.specs.Prelude.{◌≤◌, ◌^◌, IfOk}
+use Rattle.std.proofs.Common.{◌≡◌, ◌⊎◌, inl, inr, ⊎_elim, arith, ℕ, List, [], ◌∷◌, true, false, Option, Some, None, Result, Ok, Err, refl, sym, ◌∙◌, ap, subst}
+use Rattle.std.specs.Prelude.{◌≤◌, IfOk}
 use denote.Ref.{Bor}
-use Rattle.std.specs.List.{AllByRecursion}
 use Rattle.std.specs.Option.{option_copied}
-use Rattle.std.specs.Io.KnownBytes.{Appends}
 use Rattle.gix_ref_base.specs.PackedRecords.{Record}
-use Rattle.gix_ref_files.specs.Files.{Meaning, Leaves, HasRisen}
-use Rattle.gix_ref_files.specs.Calls.{Unchanged}
+use Rattle.gix_ref_files.specs.Files.{Meaning, HasRisen}
 use Rattle.gix_ref_files.specs.declared.files.ReadAt.{Ghosts}
 use Rattle.gix_ref_theory.specs.OnRealTrees.{view_of}
 use Rattle.gix_ref_theory.specs.Views.{View}
@@ -20,16 +17,16 @@ use Rattle.gix_ref_listing.specs.CleanPrefixes.{IsTaken, IsRefused}
 use Rattle.gix_ref_listing.specs.Items.{IsItem}
 use Rattle.gix_ref_listing.specs.Listings.{Listed as ListedName}
 use Rattle.gix_ref_listing.specs.Listings.Listed.{Walked, InPacked}
-use Rattle.gix_ref_listing.specs.WholeListings.{IsListing, IsName, HoldsFor, key_in}
+use Rattle.gix_ref_listing.specs.WholeListings.{HoldsFor, key_in}
 use Rattle.gix_ref_listing.specs.declared.found.Found.TheVariants.{File, Unlisted}
 use Rattle.gix_ref_listing.specs.declared.error.Error.{Error}
 use Rattle.gix_ref_listing.specs.declared.error.Error.TheVariants.{Traversal, ReadFileContents, ReferenceCreation, PackedReference, Memory}
 use Rattle.gix_ref_listing.specs.declared.prefix.Error.{Error as PrefixError}
 use Rattle.gix_ref_listing.specs.declared.prefix.Error.TheVariants as no_list
 use Rattle.gix_ref_listing.proofs.FolderWalks.{unchanged_on}
-use Rattle.gix_ref_store.specs.Store.{files_of, IsSameStore}
+use Rattle.gix_ref_store.specs.Store.{files_of}
 use Rattle.gix_ref_store.specs.Lookup.{LooksUp, AreRecordsIn, settings_of, view_in}
-use Rattle.gix_ref_store.specs.Listings.{NextItem, Lists, AreFirst, AreHeldFor, IsReadFor, count_in, store_of}
+use Rattle.gix_ref_store.specs.Listings.{Lists, AreFirst, AreHeldFor, IsReadFor, count_in, store_of}
 use Rattle.gix_ref_store.proofs.ListingRuns.{same_settings}
 use Rattle.gix_ref_store.specs.declared.file.store.Store.{Store}
 use Rattle.gix_ref_store.specs.declared.file.iter.LooseThenPacked.{LooseThenPacked}

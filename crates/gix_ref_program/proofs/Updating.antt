@@ -5,12 +5,14 @@ use Rattle.gix_ref_base.specs.Targets.{TargetValue}
 use Rattle.gix_ref_files.specs.Tree.{Tree, Path, file_of}
 use Rattle.gix_ref_files.specs.Files.{Meaning, Leaves, Loses, HasRisen}
 use Rattle.gix_ref_files.proofs.Moments.{weaken, joins}
-use Rattle.gix_ref_transaction.specs.OwnLocks.{is_in, paths_of}
+use Rattle.gix_ref_transaction.specs.OwnLocks.{AddsLocks, is_in, paths_of}
 use Rattle.gix_ref_transaction.specs.Causes.{names_of}
 use Rattle.gix_ref_transaction.specs.CommittedEdits.{AreCommitted}
 use Rattle.gix_ref_store.specs.CommitResult.{CommitsFrom, EveryStopFrom, EveryLossFrom, SettlesFrom, FailsFor, left_of}
 use Rattle.gix_ref_transaction.specs.DirectUpdates.{AreDirectUpdates}
-use Rattle.gix_ref_store.specs.Prepared.{PreparesFrom, HasGoodRecords, RefusesFrom, LosesNothing, IsAtRest, tree_of, disk_in, locks_in, places_in}
+use Rattle.gix_ref_transaction.specs.Splits.{AreDirect}
+use Rattle.gix_ref_transaction.proofs.Apart.{updates_are}
+use Rattle.gix_ref_store.specs.Prepared.{PreparesFrom, PreparesGiven, HasGoodRecords, RefusesFrom, LosesNothing, IsAtRest, tree_of, disk_in, locks_in, places_in}
 use Rattle.gix_ref_store.specs.Store.{files_of, folders, meaning_of}
 use Rattle.gix_ref_transaction.specs.CarriedEdits.{AreCarried}
 use Rattle.gix_ref_edits.specs.RefEdits.{name_of}
@@ -69,16 +71,33 @@ loses_joins first second = record {
   keeps = λ t T le lost. second.keeps t T (omega (arith, le, first.later)) (first.keeps t T le lost);
 }
 
-pub refused_loses : {F : Type 0} (means : F → Meaning) (old new : Store F) (edits : List RefEdit) → LosesNothing means old new edits → Loses (means (files_of old)) (means (files_of new)) (IsLossOf means old edits)
-refused_loses means old new edits lost = loses_weaken lost.loses (λ T kept. inl kept)
+-- none of them follows
+pub follow_none : (edits : List RefEdit) → AreDirectUpdates edits → AreDirect edits
+follow_none edits direct k d lt = (direct k d lt).1
 
 -- a preparation that was refused
-module _ {F : Type 0} (honest : Type 0) (means : F → Meaning) (faults : F → ℕ) (old new : Store F) (edits : List RefEdit) (error : Cause) (left : List Path) (read : Type 0) (from : RefusesFrom honest read means faults old new edits error left) where
+module _ {F : Type 0} (honest : Type 0) (means : F → Meaning) (faults : F → ℕ) (old new : Store F) (edits : List RefEdit) (error : Cause) (left : List Path) (read : Type 0) (direct : AreDirectUpdates edits) (from : RefusesFrom honest read means faults old new edits error left) where
   pub refused_named : AreNamed honest means faults old new edits left
-  refused_named = record { ours = from.ours; named = from.named }
+  refused_named = record {
+    ours = subst (λ (tried : List RefEdit). (q : Path) → is_in left q ≡ true → is_in (locks_in old tried) q ≡ true) (from.direct (follow_none edits direct)) from.ours;
+    named = from.named;
+  }
 
   pub refused_stops : honest → Leaves (means (files_of old)) (means (files_of new)) (IsStopOf (HasGoodRecords means old) (meaning_of old) edits (tree_of means old))
-  refused_stops h = weaken (from.leaves h) (λ T adds. inl adds)
+  refused_stops h =
+      weaken (subst (λ (tried : List RefEdit). Leaves (means (files_of old)) (means (files_of new)) (AddsLocks (locks_in old tried) (locks_in old tried) (tree_of means old)))
+      (from.direct (follow_none edits direct)) (from.leaves h)) (λ T adds. inl adds)
+
+  pub refused_loses : honest → Loses (means (files_of old)) (means (files_of new)) (IsLossOf means old edits)
+  refused_loses h =
+      let lost = subst (λ (tried : List RefEdit). LosesNothing means old new tried) (from.direct (follow_none edits direct)) (from.lost h) in
+      loses_weaken lost.loses (λ T kept. inl kept)
+
+-- edits of which none follows are prepared as they are given
+pub direct_prepared : {F : Type 0} (honest : Type 0) (means : F → Meaning) (faults : F → ℕ) (old new : Store F) (edits after : List RefEdit) (paths : List Paths) → AreDirectUpdates edits →
+    PreparesGiven honest means faults old new edits after paths → PreparesFrom honest means faults old new edits after paths
+direct_prepared honest means faults old new edits after paths direct given =
+    subst (λ (split : List RefEdit). PreparesFrom honest means faults old new split after paths) (given.splits.direct (follow_none edits direct)) given.prepared
 
 -- one that was committed, or whose commit failed
 module _ {F : Type 0} (honest : Type 0) (means : F → Meaning) (faults : F → ℕ) (old mid new : Store F) (edits carried : List RefEdit) (paths : List Paths) (direct : AreDirectUpdates edits) (from : PreparesFrom honest means faults old mid edits carried paths) where
@@ -86,7 +105,7 @@ module _ {F : Type 0} (honest : Type 0) (means : F → Meaning) (faults : F → 
       IfOk answer (λ d. CommitsFrom honest means faults mid new carried paths (paths_of d.locks_left.items)) → honest → HasGoodRecords means old → error ≡ None →
       AreCommitted (meaning_of old) edits (tree_of means old) left (tree_of means new)
   done (Ok d) error left told same commits h good none =
-      subst (λ l. AreCommitted (meaning_of old) edits (tree_of means old) l (tree_of means new)) (sym same) (commits old edits direct from h good)
+      subst (λ l. AreCommitted (meaning_of old) edits (tree_of means old) l (tree_of means new)) (sym same) (commits old edits (updates_are edits direct) from h good)
   done (Err f) error left told same commits h good none = cc
     where
       no : Some (Commit f.error) ≡ None
@@ -112,10 +131,10 @@ module _ {F : Type 0} (honest : Type 0) (means : F → Meaning) (faults : F → 
   pub loses : honest → HasGoodRecords means old → IsAtRest means old → EveryLossFrom honest means faults mid new carried paths → Loses (means (files_of old)) (means (files_of new)) (IsLossOf means old edits)
   loses h good at_rest losses =
       let started = rest_kept (places_in old edits) (roots (folders old)) (disk_in means old) (disk_in means mid) at_rest.0 ((from.lost h).keeps (roots (folders old)) at_rest.1).disk in
-      loses_joins (loses_weaken (from.lost h).loses (λ T kept. inl kept)) (loses_weaken (losses old edits direct from h good at_rest).loses (λ T well. inr (disk_in means mid, started.0, well)))
+      loses_joins (loses_weaken (from.lost h).loses (λ T kept. inl kept)) (loses_weaken (losses old edits (updates_are edits direct) from h good at_rest).loses (λ T well. inr (disk_in means mid, started.0, well)))
 
   pub settles : (answer : Result Done Failed) (error : Option UpdateError) → error ≡ error_of answer → OnOk answer (SettlesFrom honest means faults mid new carried paths) → honest → error ≡ None → IsAtRest means old → IsAtRest means new
-  settles (Ok d) error is settled h none at_rest = settled old edits direct from h at_rest
+  settles (Ok d) error is settled h none at_rest = settled old edits (updates_are edits direct) from h at_rest
   settles (Err f) error is settled h none at_rest = cc
     where
       no : Some (Commit f.error) ≡ None
@@ -127,15 +146,15 @@ module _ {F : Type 0} (honest : Type 0) (means : F → Meaning) (faults : F → 
   told read (Ok d) error left is same fails ends = subst (λ r. IfSome r (λ u. IsUpdateError honest means faults read old new edits u left)) (sym is) tt
   told read (Err f) error left is same fails ends =
       subst (λ r. IfSome r (λ u. IsUpdateError honest means faults read old new edits u left)) (sym is)
-      (subst (λ l. IsUpdateError honest means faults read old new edits (Commit f.error) l) (sym same) (failed f.error fails, (ends old edits direct from).gone))
+      (subst (λ l. IsUpdateError honest means faults read old new edits (Commit f.error) l) (sym same) (failed f.error fails, (ends old edits (updates_are edits direct) from).gone))
 
   pub stops : (left : List Path) → EveryStopFrom honest means faults mid new carried paths left → honest →
       Leaves (means (files_of old)) (means (files_of new)) (IsStopOf (HasGoodRecords means old) (meaning_of old) edits (tree_of means old))
-  stops left ends h = joins (weaken (from.held.leaves h) (λ T adds. inl adds)) (weaken ((ends old edits direct from).leaves h) (λ T well. inr well))
+  stops left ends h = joins (weaken (from.held.leaves h) (λ T adds. inl adds)) (weaken ((ends old edits (updates_are edits direct) from).leaves h) (λ T well. inr well))
 
   pub named : (left all : List Path) → left ≡ all → (all ≡ []) ⊎ HasRisen (faults (files_of mid)) (faults (files_of new)) → EveryStopFrom honest means faults mid new carried paths all →
       AreNamed honest means faults old new edits left
   named left all same counted ends = subst (AreNamed honest means faults old new edits) (sym same) (record {
-    ours = (ends old edits direct from).ours;
+    ours = (ends old edits (updates_are edits direct) from).ours;
     named = ⊎_elim (λ none. inl none) (λ rose. inr (rose_before _ _ _ from.held.no_fewer rose)) counted;
   })

@@ -1,5 +1,5 @@
 -- A commit from the store before its `prepare`, from what its renames and the release of its locks leave.
-use Rattle.std.proofs.Common.{◌≡◌, ◌⊎◌, inl, inr, ⊎_elim, ℕ, ◌<◌, ◌≤◌, List, [], true, false, Option, Some, None, All, not, ◌&&◌, refl, sym, ◌∙◌, ap, subst, length, get_or, arith}
+use Rattle.std.proofs.Common.{◌≡◌, inl, inr, ⊎_elim, ℕ, ◌<◌, ◌≤◌, List, [], true, false, Option, Some, None, All, not, ◌&&◌, refl, sym, ◌∙◌, ap, subst, length, get_or, arith}
 use Rattle.std.specs.Prelude.{nat_lt}
 use Rattle.gix_ref_transaction.specs.declared.commit.renames.Why.{Why}
 use Rattle.gix_ref_transaction.specs.declared.commit.renames.Why.TheVariants.{Fault, Folder, Memory as out_of_memory}
@@ -16,24 +16,22 @@ use Rattle.gix_ref_transaction.specs.OwnLocks.{is_in, RemovesLocks, OnlyRemoves}
 use Rattle.gix_ref_transaction.specs.CommitRenames.{written_flags, renames_of, rename_at, synced_renames_of, lock_at, stays_at, place_at, IsCutAt, IsFolderInPlace, IsRaised}
 use Rattle.gix_ref_transaction.specs.CommittedEdits.{AreCommitted, IsOldOrNew, SaysWhy}
 use Rattle.gix_ref_store.specs.CommitResult.{EveryStopIsOldOrNew, EveryLossIsOldOrNew, FailsFor, EndsAtEdit}
-use Rattle.gix_ref_transaction.specs.Causes.{names_of}
-use Rattle.gix_ref_transaction.specs.DirectUpdates.{AreDirectUpdates}
 use Rattle.gix_ref_store.specs.Prepared.{PreparesFrom, HasGoodRecords, tree_of, disk_in, places_in, IsAtRest}
 use Rattle.gix_ref_store.specs.Store.{files_of, folders, kind_of, meaning_of}
-use Rattle.gix_ref_transaction.specs.PrepareSteps.{lock_paths, place_paths}
+use Rattle.gix_ref_transaction.specs.PrepareSteps.{lock_paths}
 use Rattle.gix_ref_edits.specs.declared.transaction.RefEdit.{RefEdit}
 use Rattle.gix_ref_store.specs.declared.file.store.Store.{Store}
 use Rattle.gix_ref_transaction.specs.declared.paths.Paths.{Paths}
 use Rattle.gix_ref_transaction.specs.declared.commit.error.Error.{Error}
 use Rattle.gix_ref_transaction.specs.declared.commit.error.Error.TheVariants.{LockCommit, FolderInPlace, Memory}
-use Rattle.gix_ref_transaction.proofs.Adds.{clash, in_at}
-use Rattle.gix_ref_transaction.proofs.Apart.{references, updates_are}
+use Rattle.gix_ref_transaction.proofs.Adds.{clash}
+use Rattle.gix_ref_transaction.proofs.Apart.{references}
 use Rattle.gix_ref_transaction.proofs.Held.{IsReady}
 use Rattle.gix_ref_transaction.proofs.Updates.{begins, commits, left_then, stopped}
 use Rattle.gix_ref_transaction.proofs.Released.{gone}
 use Rattle.gix_ref_transaction.proofs.SettledRuns.{settles}
 use Rattle.gix_ref_theory.proofs.PlaceLaws.{laws_hold}
-use Rattle.gix_ref_edits.specs.RefEdits.{name_of}
+use Rattle.gix_ref_edits.specs.RefEdits.{name_of, AreUpdates}
 use Rattle.gix_ref_transaction.proofs.CommitLosses as losses
 use Rattle.gix_ref_transaction.proofs.CommitLosses.{rest_kept}
 use Rattle.gix_ref_lookup.specs.StoreLayout.{folders_of, git_options}
@@ -42,7 +40,7 @@ use Rattle.gix_ref_base.specs.Layout.{Layout}
 use Rattle.gix_ref_theory.specs.Roots.{roots}
 use Rattle.gix_ref_lookup.proofs.Laying.{folders_laid}
 
-module _ {F : Type 0} (honest : Type 0) (means : F → Meaning) (faults : F → ℕ) (old start new : Store F) (given carried : List RefEdit) (paths : List Paths) (direct : AreDirectUpdates given) (from : PreparesFrom honest means faults old start given carried paths) where
+module _ {F : Type 0} (honest : Type 0) (means : F → Meaning) (faults : F → ℕ) (old start new : Store F) (given carried : List RefEdit) (paths : List Paths) (updates : AreUpdates given) (from : PreparesFrom honest means faults old start given carried paths) where
   abbrev before : Tree
   before = tree_of means old
 
@@ -75,21 +73,21 @@ module _ {F : Type 0} (honest : Type 0) (means : F → Meaning) (faults : F → 
         subst (λ (l : Path). is_in left l ≡ false → is_file (now.tree l) ≡ false) (ap (λ locks. get_or locks k []) same) (released h k (omega (arith, lt, all)) (subst (λ fs. not (nat_lt k done && get_or fs k false) ≡ true) (sym flags) stays))
 
     at_stop : honest → HasGoodRecords means old → (T : Tree) → IsLeftBy (renames_of paths) first.tree T → IsOldOrNew (meaning_of old) given before T
-    at_stop h good T cut = stopped (folders old) (kind_of old) old.prohibit_windows_device_names (folders_laid old.dirs old.namespace) before first given paths (updates_are given direct) (ready h good) T cut
+    at_stop h good T cut = stopped (folders old) (kind_of old) old.prohibit_windows_device_names (folders_laid old.dirs old.namespace) before first given paths updates (ready h good) T cut
 
     pub well : EveryStopIsOldOrNew honest means faults old start new given left
     well = record {
-      began = λ h good. begins (folders old) (kind_of old) old.prohibit_windows_device_names (folders_laid old.dirs old.namespace) before first given paths (updates_are given direct) (ready h good);
+      began = λ h good. begins (folders old) (kind_of old) old.prohibit_windows_device_names (folders_laid old.dirs old.namespace) before first given paths updates (ready h good);
       leaves = λ h.
           joins (weaken (renames h) (λ T cut good. at_stop h good T cut))
           (weaken (releases h) (λ T removes good.
-          left_then (folders old) (kind_of old) old.prohibit_windows_device_names (folders_laid old.dirs old.namespace) before first given paths (updates_are given direct) (ready h good) mid.tree T (at_stop h good mid.tree (renames h).tree) removes));
+          left_then (folders old) (kind_of old) old.prohibit_windows_device_names (folders_laid old.dirs old.namespace) before first given paths updates (ready h good) mid.tree T (at_stop h good mid.tree (renames h).tree) removes));
       gone = λ h. gone (meaning_of old) (laws_hold (folders old) (git_options (kind_of old) old.prohibit_windows_device_names) (folders_laid old.dirs old.namespace)) given paths are_references from.places from.locks first.tree mid.tree now.tree left done within (how h) (releases h).tree (locks_gone h);
       ours = λ q h. subst (λ locks. is_in locks q ≡ true) (same ∙ from.locks) (ours q h);
     }
 
     pub committed : (h : honest) → HasGoodRecords means old → IsAfter (renames_of paths) first.tree mid.tree → AreCommitted (meaning_of old) given before left now.tree
-    committed h good after = commits (folders old) (kind_of old) old.prohibit_windows_device_names (folders_laid old.dirs old.namespace) before first given paths (updates_are given direct) (ready h good) mid.tree now.tree left after (releases h).tree (well.gone h)
+    committed h good after = commits (folders old) (kind_of old) old.prohibit_windows_device_names (folders_laid old.dirs old.namespace) before first given paths updates (ready h good) mid.tree now.tree left after (releases h).tree (well.gone h)
 
   -- what losses of power leave on the way, and what a commit that succeeds leaves settled
   module _ (mid : Meaning) (rest : List Paths) (same : lock_paths rest ≡ lock_paths paths) (h : honest) (at_rest : IsAtRest means old) (release : OnlyRemoves (lock_paths rest) mid now) where
@@ -101,8 +99,8 @@ module _ {F : Type 0} (honest : Type 0) (means : F → Meaning) (faults : F → 
 
     pub lost : HasGoodRecords means old → Passes first mid (IsReachedBy (synced_renames_of start.dirs paths) (disk_of first)) → EveryLossIsOldOrNew honest means faults old start new given
     lost good passes = record {
-      began = losses.begins old.dirs old.namespace (kind_of old) old.prohibit_windows_device_names before first given paths (updates_are given direct) (ready h good) (from.whole h) started.0 started.1;
-      loses = losses.ends old.dirs old.namespace (kind_of old) old.prohibit_windows_device_names before first given paths (updates_are given direct) (ready h good) (from.whole h) started.0 started.1 mid now
+      began = losses.begins old.dirs old.namespace (kind_of old) old.prohibit_windows_device_names before first given paths updates (ready h good) (from.whole h) started.0 started.1;
+      loses = losses.ends old.dirs old.namespace (kind_of old) old.prohibit_windows_device_names before first given paths updates (ready h good) (from.whole h) started.0 started.1 mid now
           (subst (λ (dirs : Dirs). Passes first mid (IsReachedBy (synced_renames_of dirs paths) (disk_of first))) from.held.same.dirs passes) releases_alone;
     }
 

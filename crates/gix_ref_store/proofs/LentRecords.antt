@@ -1,5 +1,5 @@
 -- A record that is lent in the place of an item.
-use Rattle.std.proofs.Common.{◌≡◌, ℕ, arith, refl, sym, ap, subst, Option, Some, None, Result, Ok}
+use Rattle.std.proofs.Common.{◌≡◌, ℕ, arith, refl, sym, ap, subst, Option, Some, None, Ok}
 use Rattle.std.specs.Prelude.{IfSome}
 use denote.Ref.{MutBor}
 use Rattle.gix_ref_files.specs.Files.{Meaning}
@@ -9,13 +9,12 @@ use Rattle.gix_ref_listing.specs.Items.{IsRecordItem}
 use Rattle.gix_ref_listing.specs.Listings.Listed.{InPacked}
 use Rattle.gix_ref_listing.specs.OwnRecords.{own_of}
 use Rattle.gix_ref_listing.specs.Steps.{GivesNext, GivesRecord}
-use Rattle.gix_ref_listing.specs.declared.error.Error.{Error}
 use Rattle.gix_ref_listing.specs.declared.merge.Merge.{Merge}
 use Rattle.gix_ref_listing.specs.declared.own_records.OwnRecord.{OwnRecord}
 use Rattle.gix_ref_lookup.specs.declared.settings.Settings.{Settings}
 use Rattle.gix_ref_store.specs.Store as stores
 use Rattle.gix_ref_store.specs.Lookup.{settings_of}
-use Rattle.gix_ref_store.specs.Listings.{NextItem, LendsNext}
+use Rattle.gix_ref_store.specs.Listings.{LendsNext}
 use Rattle.gix_ref_store.specs.declared.file.store.Store.{Store}
 use Rattle.gix_ref_store.specs.declared.file.iter.LooseThenPacked.{LooseThenPacked}
 use Rattle.gix_ref_store.specs.declared.file.iter.Remaining.{Remaining}

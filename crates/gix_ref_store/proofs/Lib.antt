@@ -5,3 +5,4 @@ pub mod LooseAnswers
 pub mod Platforms
 pub mod PreparedLosses
 pub mod Refusals
+pub mod SplitRuns

@@ -1,8 +1,6 @@
 -- What a loss of power leaves inside of a `prepare`, and inside of a `rollback`.
-use Rattle.std.proofs.Common.{◌≡◌, ℕ, List, [], true}
-use Rattle.gix_ref_files.specs.Tree.{Path}
-use Rattle.gix_ref_files.specs.Disk.{Disk}
-use Rattle.gix_ref_files.specs.Files.{Meaning, disk_of, Passes}
+use Rattle.std.proofs.Common.{List, []}
+use Rattle.gix_ref_files.specs.Files.{Meaning}
 use Rattle.gix_ref_files.proofs.Moments.{passes_starts, passes_weaken}
 use Rattle.gix_ref_theory.proofs.LockDisks.{as_before}
 use Rattle.gix_ref_theory.proofs.RunLosses.{within_loses}

@@ -10,7 +10,7 @@ use Rattle.gix_ref_theory.specs.Losses.{IsLostWell}
 use Rattle.gix_ref_transaction.specs.Causes.{names_of}
 use Rattle.gix_ref_theory.specs.Edits.Mode.{DeletionsOnly}
 use Rattle.gix_ref_transaction.specs.CommittedEdits.{planned, AreCommitted, IsOldOrNew}
-use Rattle.gix_ref_transaction.specs.DirectUpdates.{AreDirectUpdates}
+use Rattle.gix_ref_edits.specs.RefEdits.{AreUpdates}
 use Rattle.gix_ref_store.specs.Prepared.{PreparesFrom, HasGoodRecords, tree_of, disk_in, IsAtRest, locks_in, places_in}
 use Rattle.gix_ref_store.specs.Store.{files_of, meaning_of}
 use Rattle.gix_ref_transaction.specs.PrepareSteps.{lock_paths}
@@ -20,7 +20,6 @@ use Rattle.gix_ref_store.specs.declared.file.store.Store.{Store}
 use Rattle.gix_ref_store.specs.declared.file.transaction.Done.{Done}
 use Rattle.gix_ref_store.specs.declared.file.transaction.PackedRefs.{PackedRefs}
 use Rattle.gix_ref_store.specs.declared.file.transaction.Failed.{Failed}
-use Rattle.gix_ref_transaction.specs.declared.commit.renames.Why.{Why}
 use Rattle.gix_ref_transaction.specs.declared.paths.Paths.{Paths}
 use Rattle.gix_ref_transaction.specs.declared.commit.error.Error.{Error}
 use Rattle.gix_ref_transaction.specs.declared.commit.error.Error.TheVariants.{LockCommit, FolderInPlace, Memory}
@@ -48,13 +47,13 @@ module _ {F : Type 0} (honest : Type 0) (means : F → Meaning) (faults : F → 
   -- and so for every store and all updates from which `prepare` gave these edits and paths
   abbrev pub EveryStopFrom : (start new : Store F) → List RefEdit → List Paths → List Path → Type 0
   EveryStopFrom start new edits paths left =
-      (old : Store F) (given : List RefEdit) → AreDirectUpdates given → PreparesFrom honest means faults old start given edits paths →
+      (old : Store F) (given : List RefEdit) → AreUpdates given → PreparesFrom honest means faults old start given edits paths →
       EveryStopIsOldOrNew old start new given left
 
   -- a commit that succeeds: the edits are committed
   abbrev pub CommitsFrom : (start new : Store F) → List RefEdit → List Paths → List Path → Type 0
   CommitsFrom start new edits paths left =
-      (old : Store F) (given : List RefEdit) → AreDirectUpdates given → PreparesFrom honest means faults old start given edits paths → honest → HasGoodRecords means old →
+      (old : Store F) (given : List RefEdit) → AreUpdates given → PreparesFrom honest means faults old start given edits paths → honest → HasGoodRecords means old →
       AreCommitted (meaning_of old) given (tree_of means old) left (tree_of means new)
 
   -- Where a commit ended early: at an edit whose reference is written. The renames of the edits before it are done, its own is perhaps
@@ -85,11 +84,11 @@ module _ {F : Type 0} (honest : Type 0) (means : F → Meaning) (faults : F → 
 
   abbrev pub EveryLossFrom : (start new : Store F) → List RefEdit → List Paths → Type 0
   EveryLossFrom start new edits paths =
-      (old : Store F) (given : List RefEdit) → AreDirectUpdates given → PreparesFrom honest means faults old start given edits paths → honest → HasGoodRecords means old → IsAtRest means old →
+      (old : Store F) (given : List RefEdit) → AreUpdates given → PreparesFrom honest means faults old start given edits paths → honest → HasGoodRecords means old → IsAtRest means old →
       EveryLossIsOldOrNew old start new given
 
   -- a commit that succeeds leaves all at rest: a later loss of power leaves what it did
   abbrev pub SettlesFrom : (start new : Store F) → List RefEdit → List Paths → Type 0
   SettlesFrom start new edits paths =
-      (old : Store F) (given : List RefEdit) → AreDirectUpdates given → PreparesFrom honest means faults old start given edits paths → honest → IsAtRest means old →
+      (old : Store F) (given : List RefEdit) → AreUpdates given → PreparesFrom honest means faults old start given edits paths → honest → IsAtRest means old →
       IsAtRest means new

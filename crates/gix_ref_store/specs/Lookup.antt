@@ -17,7 +17,7 @@ use Rattle.gix_ref_packed.specs.declared.packed.buffer.open.Error.{Error as Open
 use Rattle.gix_ref_records.specs.declared.raw.Reference.{Reference}
 use Rattle.gix_ref_theory.specs.Views.{View}
 use Rattle.gix_ref_theory.specs.OnRealTrees.{view_of}
-use Rattle.gix_ref_lookup.specs.Lookups.{Answers, ArePackedRecords, AreAsked, AreHonest, IsSound, IsHitOf, FailsAmong, lookup_of, asked_names, name_asked, AreStillAsked}
+use Rattle.gix_ref_lookup.specs.Lookups.{Answers, ArePackedRecords, AreAsked, IsSound, IsHitOf, FailsAmong, lookup_of, asked_names, name_asked, AreStillAsked}
 use Rattle.gix_ref_lookup.specs.declared.loose.Reference.{Reference as Loose}
 use Rattle.gix_ref_lookup.specs.declared.settings.Settings.{Settings}
 use Rattle.gix_ref_lookup.specs.declared.find.records.Records.{Records}

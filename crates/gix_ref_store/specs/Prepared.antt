@@ -1,5 +1,5 @@
 -- What `prepare` returns and leaves.
-use Rattle.std.specs.Prelude.{◌≡◌, ◌≤◌, ◌⊎◌, ℕ, List, [], true, false, Option}
+use Rattle.std.specs.Prelude.{◌≡◌, ◌≤◌, ◌⊎◌, ℕ, List, [], true, false, Option, All}
 use Rattle.gix_ref_base.specs.Targets.{TargetValue}
 use Rattle.gix_ref_files.specs.Tree.{Tree, Path, is_file}
 use Rattle.gix_ref_files.specs.Disk.{Disk}
@@ -9,11 +9,14 @@ use Rattle.gix_ref_theory.specs.OnDisks.{IsSpokenOf, IsAsBefore}
 use Rattle.gix_ref_theory.specs.OnRealTrees.{view_of}
 use Rattle.gix_ref_theory.specs.Roots.{roots}
 use Rattle.gix_ref_transaction.specs.OwnLocks.{is_in, AddsLocks, RemovesLocks, OnlyRemoves}
-use Rattle.gix_ref_transaction.specs.Causes.{AllValid, Refuses, IsAccepted, IsCountedWith, IsPackedRefusal, IsPackedWell, locks_of}
+use Rattle.gix_ref_transaction.specs.Causes.{AllValid, IsAccepted, IsCountedWith, IsDoubling, IsFirstCause, IsIoOrMemory, IsPackedRefusal, IsPackedWell, locks_of, names_of}
 use Rattle.gix_ref_transaction.specs.CommitRenames.{written_flags}
 use Rattle.gix_ref_store.specs.Store.{files_of, kind_of, folders, meaning_of, IsSameStore}
 use Rattle.gix_ref_transaction.specs.PrepareSteps.{AreLockable, AreWholeLocks, are_written, HoldTexts, old_targets, lock_paths, place_paths, places_of}
 use Rattle.gix_ref_transaction.specs.CarriedEdits.{AreCarried}
+use Rattle.gix_ref_transaction.specs.Splits.{all_rounds, AreDirect, AreSplit, CanFollow, Refuses}
+use Rattle.gix_ref_edits.specs.DoubledNames.{NoneDoubled}
+use Rattle.gix_ref_edits.specs.RefEdits.{AreUpdates}
 use Rattle.gix_ref_edits.specs.declared.transaction.RefEdit.{RefEdit}
 use Rattle.gix_ref_store.specs.declared.file.store.Store.{Store}
 use Rattle.gix_ref_transaction.specs.declared.paths.Paths.{Paths}
@@ -62,14 +65,31 @@ module _ {F : Type 0} (honest read : Type 0) (means : F → Meaning) (faults : F
   -- A refusal. Where `packed-refs` is well formed, its error is the first cause that applies; `Packed` is returned for a `packed-refs` that is
   -- refused; a fault of files came with a rise of their count, or a read by a reader failed; all is as before but for the locks that are
   -- named, and folders that lead to locks; those that are named are locks of the edits, and one is named only where a fault came.
-  pub record RefusesFrom (old new : Store F) (edits : List RefEdit) (error : Error) (left : List Path) : Type 0 where
-    pub cause : honest → HasGoodRecords means old → Refuses (meaning_of old) (kind_of old) (tree_of means old) edits error
+  pub record RefusesFrom (old new : Store F) (given : List RefEdit) (error : Error) (left : List Path) : Type 0 where
+    -- the edits whose locks are tried: those of the split list, or as they are given, where there is none
+    pub tried : List RefEdit
+    pub split : honest → AreSplit (meaning_of old) (view_of (tree_of means old)) given tried ⊎ (tried ≡ given)
+    pub direct : AreDirect given → tried ≡ given
+    pub cause : honest → HasGoodRecords means old → Refuses (meaning_of old) (kind_of old) (tree_of means old) given error
     pub opened : honest → IsPackedRefusal (kind_of old) (tree_of means old (meaning_of old).packed_path) error
     pub counted : IsCountedWith honest read (faults (files_of old)) (faults (files_of new)) error
-    pub as_before : honest → AddsLocks left (locks_in old edits) (tree_of means old) (tree_of means new)
-    pub ours : (q : Path) → is_in left q ≡ true → is_in (locks_in old edits) q ≡ true
+    pub as_before : honest → AddsLocks left (locks_in old tried) (tree_of means old) (tree_of means new)
+    pub ours : (q : Path) → is_in left q ≡ true → is_in (locks_in old tried) q ≡ true
     pub named : (left ≡ []) ⊎ HasRisen (faults (files_of old)) (faults (files_of new))
-    pub leaves : honest → Leaves (means (files_of old)) (means (files_of new)) (AddsLocks (locks_in old edits) (locks_in old edits) (tree_of means old))
+    pub leaves : honest → Leaves (means (files_of old)) (means (files_of new)) (AddsLocks (locks_in old tried) (locks_in old tried) (tree_of means old))
+    pub lost : honest → LosesNothing means old new tried
+    pub same : IsSameStore old new
+
+  -- A refusal of a split list: its locks could not be taken, or a name is doubled.
+  pub record RefusesSplit (old new : Store F) (split : List RefEdit) (error : Error) (left : List Path) : Type 0 where
+    pub cause : honest → HasGoodRecords means old → IsIoOrMemory error
+        ⊎ (IsDoubling split error ⊎ (NoneDoubled (names_of split) × IsFirstCause (meaning_of old) (kind_of old) (tree_of means old) [] split error))
+    pub opened : honest → IsPackedRefusal (kind_of old) (tree_of means old (meaning_of old).packed_path) error
+    pub counted : IsCountedWith honest read (faults (files_of old)) (faults (files_of new)) error
+    pub as_before : honest → AddsLocks left (locks_in old split) (tree_of means old) (tree_of means new)
+    pub ours : (q : Path) → is_in left q ≡ true → is_in (locks_in old split) q ≡ true
+    pub named : (left ≡ []) ⊎ HasRisen (faults (files_of old)) (faults (files_of new))
+    pub leaves : honest → Leaves (means (files_of old)) (means (files_of new)) (AddsLocks (locks_in old split) (locks_in old split) (tree_of means old))
     pub same : IsSameStore old new
 
 module _ {F : Type 0} (honest : Type 0) (means : F → Meaning) (faults : F → ℕ) where
@@ -86,7 +106,7 @@ module _ {F : Type 0} (honest : Type 0) (means : F → Meaning) (faults : F → 
     pub no_fewer : faults (files_of old) ≤ faults (files_of new)
     pub same : IsSameStore old new
 
-  -- A transaction that is prepared: its locks are held, its edits carry what was found, and its paths are those of the edits.
+  -- A transaction whose split list is prepared: its locks are held, its edits carry what was found, and its paths are those of the edits.
   pub record PreparesFrom (old new : Store F) (edits after : List RefEdit) (paths : List Paths) : Type 0 where
     pub was : List (Option TargetValue)
     pub held : HoldsFrom old new edits was
@@ -98,6 +118,21 @@ module _ {F : Type 0} (honest : Type 0) (means : F → Meaning) (faults : F → 
     pub locks : lock_paths paths ≡ locks_of (meaning_of old) edits
     -- those locks are to be renamed whose reference is written
     pub writes : honest → HasGoodRecords means old → written_flags paths ≡ are_written (meaning_of old) (view_of (tree_of means old)) edits
+
+  -- What becomes of the edits that are given: their split list, in which each that was looked up may be, and which is theirs where none
+  -- follows.
+  pub record SplitsFrom (old : Store F) (given split : List RefEdit) : Type 0 where
+    pub is : honest → AreSplit (meaning_of old) (view_of (tree_of means old)) given split
+    pub can_follow : honest → All (CanFollow (meaning_of old)) (all_rounds (meaning_of old) (view_of (tree_of means old)) given)
+    pub valid : AllValid (meaning_of old) (kind_of old) [] given
+    pub updates : AreUpdates split
+    pub direct : AreDirect given → split ≡ given
+
+  -- A transaction that is prepared from given edits: their split list is.
+  pub record PreparesGiven (old new : Store F) (given after : List RefEdit) (paths : List Paths) : Type 0 where
+    pub split : List RefEdit
+    pub splits : SplitsFrom old given split
+    pub prepared : PreparesFrom old new split after paths
 
   -- A transaction that is given up: of its locks only those stay that are named, and one is named only where a fault came.
   pub record RollsBackFrom (old new : Store F) (locks left : List Path) : Type 0 where

@@ -36,4 +36,6 @@ mod slow;
 #[cfg(test)]
 mod slow_listings;
 #[cfg(test)]
+mod splits;
+#[cfg(test)]
 mod transactions;

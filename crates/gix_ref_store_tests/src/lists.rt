@@ -1,5 +1,5 @@
 //! Transactions of several updates: the causes against them in their order, and what stops, faults and losses of power leave.
-ghost use Rattle.gix_ref_transaction.specs.DirectUpdates.{AreDirectUpdates};
+ghost use Rattle.gix_ref_edits.specs.RefEdits.{AreUpdates};
 
 use crate::made::{Id, bytes, full_name, object, store};
 use crate::power::pick_at;
@@ -23,7 +23,7 @@ const TWO: &[u8] = b"2222222222222222222222222222222222222222\n";
 
 /// The updates of these rows.
 fn updates(rt: &impl Abort, alloc: Global, rows: &[Row]) -> Vec<RefEdit>
-    ensures { AreDirectUpdates result.items }
+    ensures { AreUpdates result.items }
 {
     let mut edits = Vec::with_capacity(alloc, rows.len()).expect(rt, "memory");
     for (name, expect, new) in rows {
@@ -79,7 +79,7 @@ fn prepared(
     edits: Vec<RefEdit>,
     name: &str,
 ) -> (Answer, bool)
-    requires { AreDirectUpdates edits.items }
+    requires { AreUpdates edits.items }
 {
     match store.transaction().prepare(alloc, edits) {
         Err(refused) => (
@@ -119,7 +119,7 @@ fn committed(
     edits: Vec<RefEdit>,
     told: &str,
 ) -> (Outcome, bool)
-    requires { AreDirectUpdates edits.items }
+    requires { AreUpdates edits.items }
 {
     store.write_reflog = WriteReflog::Disable;
     match store.transaction().prepare(alloc, edits) {

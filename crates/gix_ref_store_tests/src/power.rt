@@ -1,6 +1,6 @@
 //! One update that is stopped at each of its file calls, or fails in it, and then loses power: the reference reads as before or as
 //! edited, and once the update is done it stays.
-ghost use Rattle.gix_ref_transaction.specs.DirectUpdates.{AreDirectUpdates};
+ghost use Rattle.gix_ref_edits.specs.RefEdits.{AreUpdates};
 
 use crate::made::{Id, object, store};
 use crate::transactions::update;
@@ -66,7 +66,7 @@ fn answer_of(error: &commit::Error) -> Answer {
 
 /// Prepares an update and commits it.
 fn outcome(alloc: Global, store: &mut Store<Memory>, edits: Vec<RefEdit>) -> Answer
-    requires { AreDirectUpdates edits.items }
+    requires { AreUpdates edits.items }
 {
     store.write_reflog = WriteReflog::Disable;
     match store.transaction().prepare(alloc, edits) {

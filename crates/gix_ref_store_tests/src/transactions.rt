@@ -1,5 +1,5 @@
 //! One update, prepared and then committed or rolled back: each cause, the files after it, and the values handed back.
-ghost use Rattle.gix_ref_transaction.specs.DirectUpdates.{AreDirectUpdates};
+ghost use Rattle.gix_ref_edits.specs.RefEdits.{AreUpdates};
 
 use crate::made::{Id, digits, files, full_name, object, partial, store};
 use gix_ref_base::target::Target;
@@ -92,7 +92,21 @@ pub fn update(
     expected: PreviousValue,
     new: Target,
 ) -> Vec<RefEdit>
-    ensures { AreDirectUpdates result.items }
+    ensures { AreUpdates result.items }
+{
+    update_by(rt, alloc, name, expected, new, false)
+}
+
+/// One update of a name, which follows symbolic references or not.
+pub fn update_by(
+    rt: &impl Abort,
+    alloc: Global,
+    name: &str,
+    expected: PreviousValue,
+    new: Target,
+    deref: bool,
+) -> Vec<RefEdit>
+    ensures { AreUpdates result.items }
 {
     let edit = RefEdit {
         change: Change::Update {
@@ -101,7 +115,7 @@ pub fn update(
             new,
         },
         name: full_name(rt, alloc, name),
-        deref: false,
+        deref,
     };
     let mut edits = Vec::with_capacity(alloc, 1).expect(rt, "memory");
     edits.push(edit).expect(rt, "room");
@@ -110,7 +124,7 @@ pub fn update(
 
 /// Prepares an update and rolls it back. Answers what `prepare` did, with the files.
 pub fn prepared(alloc: Global, mut store: Store<Memory>, edits: Vec<RefEdit>) -> (Answer, Memory)
-    requires { AreDirectUpdates edits.items }
+    requires { AreUpdates edits.items }
 {
     let answer = match store.transaction().prepare(alloc, edits) {
         Err(refused) => answer_of(&refused.error),
@@ -395,7 +409,7 @@ pub fn committed(
     store: &mut Store<Memory>,
     edits: Vec<RefEdit>,
 ) -> Result<Vec<RefEdit>, commit::Error>
-    requires { AreDirectUpdates edits.items }
+    requires { AreUpdates edits.items }
 {
     store.write_reflog = WriteReflog::Disable;
     match store.transaction().prepare(alloc, edits) {

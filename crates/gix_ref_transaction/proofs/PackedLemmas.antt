@@ -1,5 +1,5 @@
 -- Faults of `packed-refs` as `prepare` reports them, and the ids of records.
-use Rattle.std.proofs.Common.{◌≡◌, ◌≤◌, ◌⊎◌, inl, inr, arith, ℕ, List, Bool, Option, Some, None, Result, Ok, Err, IfErr, refl, sym, ap, ◌∙◌}
+use Rattle.std.proofs.Common.{◌≡◌, ◌≤◌, ◌⊎◌, inl, inr, ⊎_elim, arith, ℕ, List, Bool, Option, Some, None, Result, Ok, Err, IfErr, refl, sym, ap, ◌∙◌}
 use Rattle.gix_ref_hash.specs.declared.hash.Kind.{Kind}
 use Rattle.gix_ref_hash.specs.declared.hash.ObjectId.{ObjectId}
 use Rattle.gix_ref_base.specs.PackedRecords.{Record, record_named, id_read}
@@ -143,3 +143,23 @@ counted_later honest read a b d (MustExist name expected) le told = tt
 counted_later honest read a b d (MustNotExist name actual new) le told = tt
 counted_later honest read a b d (ReferenceOutOfDate name expected actual) le told = tt
 counted_later honest read a b d NoMemory le told = tt
+
+-- a count with reads of `packed-refs`, from an earlier moment
+pub counted_on : (honest read : Type 0) (a b d : ℕ) (error : Error) → a ≤ b → IsCountedWith honest read b d error → IsCountedWith honest read a d error
+counted_on honest read a b d (Packed (unread error)) le told = λ h. (⊎_elim (λ risen. inl (rise_before a b d le risen)) (λ failed. inr failed) (told h).0, (told h).1)
+counted_on honest read a b d (Packed HeaderParsing) le told = tt
+counted_on honest read a b d (Packed (Iter line)) le told = tt
+counted_on honest read a b d (Packed open_memory) le told = tt
+counted_on honest read a b d (PackedFind error) le told = tt
+counted_on honest read a b d (Io error) le told = (rise_before a b d le told.0, told.1)
+counted_on honest read a b d UnsafeName le told = tt
+counted_on honest read a b d DeviceName le told = tt
+counted_on honest read a b d TargetNotFull le told = tt
+counted_on honest read a b d OtherHashKind le told = tt
+counted_on honest read a b d (PreprocessingFailed source) le told = tt
+counted_on honest read a b d (PathCollision name) le told = tt
+counted_on honest read a b d (LockAcquire name) le told = tt
+counted_on honest read a b d (MustExist name expected) le told = tt
+counted_on honest read a b d (MustNotExist name actual new) le told = tt
+counted_on honest read a b d (ReferenceOutOfDate name expected actual) le told = tt
+counted_on honest read a b d NoMemory le told = tt

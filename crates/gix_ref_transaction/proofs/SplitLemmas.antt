@@ -1,8 +1,8 @@
 -- Splits: where a loose file leads, and rounds over lists of edits.
-use Rattle.std.proofs.Common.{◌≡◌, ◌<◌, ◌+◌, ◌-◌, ℕ, zero, suc, List, [], ◌∷◌, ◌++◌, Option, Bool, true, All, refl, sym, ap, ◌∙◌, subst, length, take, drop, get_or, map, arith, add-one, append-nil, append_assoc}
+use Rattle.std.proofs.Common.{◌≡◌, ◌<◌, ◌+◌, ◌-◌, ℕ, zero, suc, List, [], ◌∷◌, ◌++◌, Option, Bool, true, false, All, refl, sym, ap, ◌∙◌, subst, length, take, drop, get_or, map, arith, add-one, append-nil, append_assoc}
 use Rattle.std.proofs.Math.ListN.{set}
 use Rattle.std.proofs.lemmas.List.{map-append, length-map, length-take-le, take-map, take_more_set, take-append-drop, get_or-drop}
-use Rattle.std.proofs.lemmas.List.Elements.{All-nil, All-append}
+use Rattle.std.proofs.lemmas.List.Elements.{All-nil, All-cons, All-head, All-tail, All-append}
 use Rattle.std.specs.Option.{option_map}
 use Rattle.gix_ref_hash.specs.declared.hash.Kind.{Kind}
 use Rattle.gix_ref_name.specs.Names.{full_bytes}
@@ -23,11 +23,11 @@ use Rattle.gix_ref_lookup.specs.declared.find.loose.Loose.TheVariants as loose_f
 use Rattle.gix_ref_lookup.proofs.LooseLemmas.{held_is, refused_none}
 use Rattle.gix_ref_edits.specs.EditValues.{EditValue, edit_value}
 use Rattle.gix_ref_edits.specs.RefEdits.{name_of}
-use Rattle.gix_ref_edits.specs.SplitLists.{looked_up, child_list, referent, after_round, children, level, first_levels}
+use Rattle.gix_ref_edits.specs.SplitLists.{looked_up, child_list, referent, after_round, children, level, first_levels, IsSplitList}
 use Rattle.gix_ref_edits.specs.declared.transaction.RefEdit.{RefEdit}
 use Rattle.gix_ref_edits.proofs.Joining.{after_round-append}
 use Rattle.gix_ref_transaction.specs.Causes.{decoded, IsMisnamed}
-use Rattle.gix_ref_transaction.specs.Splits.{name_in, symbolic_in, values_of, CanFollow, IsFirstMisnamed, OnlyReads}
+use Rattle.gix_ref_transaction.specs.Splits.{name_in, symbolic_in, values_of, AreDirect, CanFollow, IsFirstMisnamed, OnlyReads}
 use Rattle.gix_ref_transaction.specs.internal.SplitRounds.{name_by, led_to, led_by, after_by, children_by}
 use Rattle.gix_ref_transaction.specs.declared.prepare.error.Error.{Error}
 use Rattle.gix_ref_transaction.proofs.Firsts.{next_of, seen_of}
@@ -209,3 +209,50 @@ module _ (find : List ℕ → Option (List ℕ)) where
         follows = fault.follows;
         fault = fault.fault;
       }
+
+-- Where no edit follows, the split list is the list itself.
+module _ (find : List ℕ → Option (List ℕ)) (s : Store) where
+  stays : (edit : EditValue) → edit.deref ≡ false → looked_up edit (referent find edit.name edit.deref) ≡ edit
+  stays edit off = ap (λ b. looked_up edit (referent find edit.name b)) off ∙ ap (λ b. record { name = edit.name; change = edit.change; deref = b }) (sym off)
+
+  all_stay : (edits : List EditValue) → All (λ (e : EditValue). e.deref ≡ false) edits → after_round find edits ≡ edits
+  unfolding after_round
+  all_stay [] off = refl
+  all_stay (edit ∷ edits) off =
+      let Off : EditValue → Type 0 = λ e. e.deref ≡ false in
+      ap (λ (e : EditValue). e ∷ after_round find edits) (stays edit (All-head Off edit edits off)) ∙ ap (λ (l : List EditValue). edit ∷ l) (all_stay edits (All-tail Off edit edits off))
+
+  no_children : (edits : List EditValue) → All (λ (e : EditValue). e.deref ≡ false) edits → children find edits ≡ []
+  unfolding children
+  no_children [] off = refl
+  no_children (edit ∷ edits) off =
+      let Off : EditValue → Type 0 = λ e. e.deref ≡ false in
+      ap (λ b. child_list edit (referent find edit.name b) ++ children find edits) (All-head Off edit edits off) ∙ no_children edits (All-tail Off edit edits off)
+
+  levels_none : (edits : List EditValue) → All (λ (e : EditValue). e.deref ≡ false) edits → (k : ℕ) → level find edits (suc k) ≡ []
+  unfolding level children
+  levels_none edits off zero = no_children edits off
+  levels_none edits off (suc k) = ap (children find) (levels_none edits off k)
+
+  first_alone : (edits : List EditValue) → All (λ (e : EditValue). e.deref ≡ false) edits → (k : ℕ) → first_levels find edits (suc k) ≡ edits
+  unfolding first_levels level
+  first_alone edits off zero = refl
+  first_alone edits off (suc k) = ap (λ (l : List EditValue). l ++ level find edits (suc k)) (first_alone edits off k) ∙ (ap (λ (l : List EditValue). edits ++ l) (levels_none edits off k) ∙ append-nil edits)
+
+  pub direct_split : (edits : List EditValue) → All (λ (e : EditValue). e.deref ≡ false) edits → IsSplitList find edits edits
+  direct_split edits off = record {
+    ends = levels_none edits off 4;
+    levels = sym (ap (after_round find) (first_alone edits off 4) ∙ all_stay edits off);
+  }
+
+  pub direct_can : (edits : List EditValue) → All (λ (e : EditValue). e.deref ≡ false) edits → All (CanFollow s) (first_levels find edits 5)
+  direct_can edits off = subst (All (CanFollow s)) (sym (first_alone edits off 4)) (λ k d lt follows. absurd (off_on (off k d lt) follows))
+    where
+      off_on : {b : Bool} → b ≡ false → b ≡ true → ⊥
+      off_on h e = cc
+
+pub direct_values : (edits : List RefEdit) → AreDirect edits → All (λ (e : EditValue). e.deref ≡ false) (values_of edits)
+direct_values [] off = All-nil (λ (e : EditValue). e.deref ≡ false)
+direct_values (edit ∷ edits) off =
+    let Off : RefEdit → Type 0 = λ (e : RefEdit). e.deref ≡ false in
+    All-cons (λ (e : EditValue). e.deref ≡ false) (edit_value edit) (values_of edits) (All-head Off edit edits off) (direct_values edits (All-tail Off edit edits off))

@@ -234,13 +234,6 @@ NoCause s kind T seen edits = AllPass (Passes s kind T) (IsFault s kind T) seen 
 abbrev pub IsFirstCause : Store → Kind → Tree → List RefEdit → List RefEdit → Error → Type 0
 IsFirstCause s kind T seen edits error = FirstFault (Passes s kind T) (IsFault s kind T) seen edits error
 
--- The first cause: each edit by itself; then a name of two edits; then, edit by edit, its lock and what it expects.
-abbrev pub Refuses : Store → Kind → Tree → List RefEdit → Error → Type 0
-Refuses s kind T edits error =
-    IsIoOrMemory error
-    ⊎ (IsFirstInvalid s kind [] edits error
-    ⊎ (AllValid s kind [] edits × (IsDoubling edits error ⊎ (NoneDoubled (names_of edits) × IsFirstCause s kind T [] edits error))))
-
 -- no cause applies
 pub record IsAccepted (s : Store) (kind : Kind) (T : Tree) (edits : List RefEdit) : Type 0 where
   pub sound : AllValid s kind [] edits

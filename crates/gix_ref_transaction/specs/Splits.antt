@@ -1,17 +1,21 @@
 -- Splits of a transaction's edits, by what the loose files of a store lead to, and why they are refused.
-use Rattle.std.specs.Prelude.{◌≡◌, ◌≤◌, ℕ, List, [], ◌∷◌, ◌++◌, true, Option, Some, None, map, All}
+use Rattle.std.specs.Prelude.{◌≡◌, ◌⊎◌, ◌≤◌, ℕ, List, [], ◌∷◌, ◌++◌, true, false, Option, Some, None, map, All}
+use Rattle.gix_ref_hash.specs.declared.hash.Kind.{Kind}
 use Rattle.gix_ref_base.specs.Targets.{TargetValue}
 use Rattle.gix_ref_base.specs.Targets.TargetValue.{object_id, symbolic_name}
 use Rattle.gix_ref_files.specs.Calls.{Unchanged}
 use Rattle.gix_ref_files.specs.DiskCalls.{Untouched}
 use Rattle.gix_ref_files.specs.Files.{Meaning, disk_of, Leaves, Passes}
+use Rattle.gix_ref_files.specs.Tree.{Tree}
+use Rattle.gix_ref_theory.specs.OnRealTrees.{view_of}
 use Rattle.gix_ref_theory.specs.Readings.{Store, as_read}
 use Rattle.gix_ref_theory.specs.Views.{View}
 use Rattle.gix_ref_edits.specs.EditValues.{EditValue, edit_value}
 use Rattle.gix_ref_edits.specs.SplitLists.{IsSplitList, first_levels, level}
 use Rattle.gix_ref_edits.specs.declared.transaction.RefEdit.{RefEdit}
 use Rattle.gix_ref_edits.specs.declared.transaction.ext.error.SplitError.TheVariants.{TooManySplits}
-use Rattle.gix_ref_transaction.specs.Causes.{decoded, IsMisnamed, IsWellNamed}
+use Rattle.gix_ref_edits.specs.DoubledNames.{NoneDoubled}
+use Rattle.gix_ref_transaction.specs.Causes.{decoded, names_of, AllValid, IsDoubling, IsFirstCause, IsFirstInvalid, IsIoOrMemory, IsMisnamed, IsWellNamed}
 use Rattle.gix_ref_transaction.specs.declared.prepare.error.Error.{Error}
 use Rattle.gix_ref_transaction.specs.declared.prepare.error.Error.TheVariants.{PreprocessingFailed}
 
@@ -66,3 +70,23 @@ pub record OnlyReads {F : Type 0} (honest : Type 0) (means : F → Meaning) (fau
   pub leaves : honest → Leaves (means before) (means now) (Unchanged (means before).tree)
   pub passes : honest → Passes (means before) (means now) (Untouched (disk_of (means before)))
   pub no_fewer : faults before ≤ faults now
+
+-- no edit follows a symbolic reference
+abbrev pub AreDirect : List RefEdit → Type 0
+AreDirect edits = All (λ (edit : RefEdit). edit.deref ≡ false) edits
+
+-- The first cause before the split list is there: each edit as it is given; then the name of each edit that is looked up, and the rounds.
+abbrev pub IsSplitCause : Store → Kind → Tree → List RefEdit → Error → Type 0
+IsSplitCause s kind T given error =
+    IsIoOrMemory error
+    ⊎ (IsFirstInvalid s kind [] given error
+    ⊎ (AllValid s kind [] given × (IsFirstMisnamed s (all_rounds s (view_of T) given) error ⊎ IsTooLong s (view_of T) given error)))
+
+-- The first cause: each edit as it is given; then the splits, with the name of each edit that is looked up; then a name of two edits of
+-- the split list; then, edit by edit, its lock and what it expects.
+abbrev pub Refuses : Store → Kind → Tree → List RefEdit → Error → Type 0
+Refuses s kind T given error =
+    IsSplitCause s kind T given error
+    ⊎ (AllValid s kind [] given × All (CanFollow s) (all_rounds s (view_of T) given)
+    × ((split : List RefEdit) × AreSplit s (view_of T) given split
+    × (IsDoubling split error ⊎ (NoneDoubled (names_of split) × IsFirstCause s kind T [] split error))))

@@ -5,8 +5,8 @@ ghost use Rattle.std.specs.Borrow.{sem, RestsIfErr};
 ghost use Rattle.gix_ref_files.specs.Files.{HasRisen};
 ghost use Rattle.gix_ref_packed.specs.OpenFiles.{HasReadFault};
 ghost use Rattle.gix_ref_transaction.specs.OwnLocks.{paths_of};
-ghost use Rattle.gix_ref_transaction.specs.DirectUpdates.{AreDirectUpdates};
-ghost use Rattle.gix_ref_store.specs.Prepared.{RefusesFrom, LosesNothing, PreparesFrom, RollsBackFrom};
+ghost use Rattle.gix_ref_edits.specs.RefEdits.{AreUpdates};
+ghost use Rattle.gix_ref_store.specs.Prepared.{RefusesFrom, PreparesGiven, RollsBackFrom};
 
 pub mod commit;
 pub mod prepare;
@@ -158,31 +158,32 @@ impl<'s, F: Files> Transaction<'s, F> {
     ghost use Rattle.gix_ref_store.specs.contracts.file.store.Store.{the_row};
     ghost use Rattle.gix_ref_store.specs.PreparedFields.{prepared_edits, prepared_mode, prepared_paths};
 
-    /// Checks the edits, and takes their locks with their whole texts (`prepare` of `git update-ref --stdin`). For now
-    /// each edit is an update of an object or a symbolic target that follows no symbolic reference, and no log line is
-    /// written.
+    /// Checks the edits, splits those that follow symbolic references, and takes the locks of all with their whole texts
+    /// (`prepare` of `git update-ref --stdin`). The edits of a prepared transaction are those of the split list: an edit of a
+    /// symbolic reference is of its log alone, and the reference that it leads to has an edit. For now each edit is an update of
+    /// an object or a symbolic target, and no log line is written.
     ///
     /// `Refused` has the first cause that applies, in the order of `prepare::Error`; then all is as before but for
-    /// the locks that it names, and folders on the way to locks. Reads one file for each edit, and makes one; `packed-refs` is
+    /// the locks that it names, and folders on the way to locks. Reads one file for each edit, and makes one, and reads one more for
+    /// each that follows; `packed-refs` is
     /// opened once, and searched once for each edit whose reference can be in it; the names of the edits are sorted.
     pub fn prepare(self, alloc: Global, edits: Vec<RefEdit>) -> Result<Prepared<'s, F>, Refused>
-        requires { AreDirectUpdates edits.items }
+        requires { AreUpdates edits.items }
         ensures* rests { sem 𝓛 (RestsIfErr (the_row F.row) self.entry.store
             (λ p. p.store.ghost_name) result
             (λ n. IfErr result (λ r. RefusesFrom F.honest (HasReadFault F.Reader.faults)
             F.means F.faults self.entry.store.now n
             edits.items r.error (paths_of r.locks_left.items)
-            × (F.honest → LosesNothing F.means self.entry.store.now n edits.items)
             × (r.packed_refs ≡ self.entry.packed_refs)))) }
         ensures same_reference { IfOk result
             (λ p. p.store.ghost_name ≡ self.entry.store.ghost_name) }
-        ensures prepared { IfOk result (λ p. PreparesFrom F.honest F.means F.faults
+        ensures prepared { IfOk result (λ p. PreparesGiven F.honest F.means F.faults
             self.entry.store.now p.store.now edits.items (prepared_edits p.plan)
             (prepared_paths p.plan)) }
         ensures packed_refs { IfOk result (λ p. prepared_mode p.plan ≡ self.entry.packed_refs) }
     {
         let Transaction { store, packed_refs } = self;
-        match store.begin(alloc, &edits) {
+        match store.begin(alloc, edits) {
             Err(untaken) => {
                 let Untaken { error, locks_left } = untaken;
                 Err(Refused {
@@ -191,7 +192,7 @@ impl<'s, F: Files> Transaction<'s, F> {
                     locks_left,
                 })
             }
-            Ok(taken) => {
+            Ok((edits, taken)) => {
                 let Taken { found, paths, left } = taken;
                 let paths = note_writes(paths, &found);
                 let edits = carry_edits(edits, found);

@@ -1,5 +1,5 @@
 //! The splits of edits that follow symbolic references.
-ghost use Rattle.std.specs.Prelude.{◌≡◌, ◌⊎◌, [], true, OnOk, IfOk, IfErr, All, length, vec_len};
+ghost use Rattle.std.specs.Prelude.{◌≡◌, ◌⊎◌, [], true, OnOk, IfOk, IfErr, MatchBool, All, length, vec_len};
 ghost use Rattle.std.specs.Option.{option_map};
 ghost use Rattle.gix_ref_name.specs.Names.{full_bytes, full_ref_bytes};
 ghost use Rattle.gix_ref_base.specs.Targets.{target_value};
@@ -10,7 +10,7 @@ ghost use Rattle.gix_ref_edits.specs.RefEdits.{name_of, AreUpdates};
 ghost use Rattle.gix_ref_edits.specs.SplitLists.{child_list, looked_up, referent};
 ghost use Rattle.gix_ref_transaction.specs.Causes.{AllValid, IsCounted, IsIoOrMemory, IsMisnamed, IsWellNamed};
 ghost use Rattle.gix_ref_transaction.specs.PrepareSteps.{setting_of};
-ghost use Rattle.gix_ref_transaction.specs.Splits.{symbolic_in, leads_to, values_of, all_rounds, AreSplit, CanFollow, IsFirstMisnamed, IsTooLong, OnlyReads};
+ghost use Rattle.gix_ref_transaction.specs.Splits.{symbolic_in, leads_to, values_of, all_rounds, AreDirect, AreSplit, CanFollow, IsFirstMisnamed, IsTooLong, OnlyReads};
 ghost use Rattle.gix_ref_transaction.specs.internal.SplitRounds.{name_by, led_to, led_by, after_by, children_by, child_values, IsRoundBy, IsRoundOver};
 
 use crate::prepare::Error;
@@ -185,10 +185,8 @@ fn split_round<F: Files>(
 /// How many rounds there are: children of the last one are too many.
 const ROUNDS: usize = 5;
 
-/// The split list of edits (`extend_with_splits_of_symbolic_refs` over the files of the store): an edit that follows
-/// symbolic references is looked up, and where its reference is symbolic it becomes an edit of the log alone, followed by the
-/// edit of the reference that it leads to. Each name is checked before it is looked up.
-pub fn split_edits<F: Files>(
+/// The split list of edits, in rounds.
+fn split_in_rounds<F: Files>(
     alloc: Global,
     files: &mut F,
     settings: &Settings<'_>,
@@ -224,4 +222,43 @@ pub fn split_edits<F: Files>(
             source: SplitError::TooManySplits { rounds: ROUNDS },
         })
     }
+}
+
+/// Whether no edit follows symbolic references.
+fn none_follow(edits: &[RefEdit]) -> bool
+    ensures { MatchBool result (AreDirect edits.now) (AreDirect edits.now → ⊥) }
+{
+    edits.iter().all(|edit| !edit.deref)
+}
+
+/// The split list of edits (`extend_with_splits_of_symbolic_refs` over the files of the store): an edit that follows
+/// symbolic references is looked up, and where its reference is symbolic it becomes an edit of the log alone, followed by the
+/// edit of the reference that it leads to. Each name is checked before it is looked up.
+pub fn split_edits<F: Files>(
+    alloc: Global,
+    files: &mut F,
+    settings: &Settings<'_>,
+    edits: Vec<RefEdit>,
+) -> Result<Vec<RefEdit>, Error>
+    ensures split { F.honest → IfOk result (λ split. AreSplit (setting_of settings.now)
+        (view_of (F.means files.old).tree) edits.items split.items) }
+    ensures can_follow { F.honest → OnOk result (All (CanFollow (setting_of settings.now))
+        (all_rounds (setting_of settings.now) (view_of (F.means files.old).tree) edits.items)) }
+    ensures valid { AllValid (setting_of settings.now) settings.now.kind [] edits.items →
+        IfOk result (λ split. AllValid (setting_of settings.now) settings.now.kind []
+        split.items) }
+    ensures updates { AreUpdates edits.items → IfOk result (λ split. AreUpdates split.items) }
+    ensures refused { F.honest → IfErr result (λ error. IsIoOrMemory error
+        ⊎ IsFirstMisnamed (setting_of settings.now) (all_rounds (setting_of settings.now)
+        (view_of (F.means files.old).tree) edits.items) error
+        ⊎ IsTooLong (setting_of settings.now) (view_of (F.means files.old).tree) edits.items
+        error) }
+    ensures reads { OnlyReads F.honest F.means F.faults files.old files.new }
+    ensures counted { IfErr result (IsCounted (F.faults files.old) (F.faults files.new)) }
+    ensures direct { AreDirect edits.items → IfOk result (λ split. split.items ≡ edits.items) }
+{
+    if none_follow(&edits) {
+        return Ok(edits);
+    }
+    split_in_rounds(alloc, files, settings, edits)
 }

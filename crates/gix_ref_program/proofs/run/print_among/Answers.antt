@@ -1,4 +1,4 @@
-use Rattle.std.proofs.Common.{◌≡◌, ◌∙◌, refl, sym, subst}
+use Rattle.std.proofs.Common.{◌∙◌, refl, sym, subst}
 use Rattle.gix_ref_store.specs.Listings.{AreHeldFor, store_of}
 use Rattle.gix_ref_store.specs.Lookup.{LooksUp}
 use Rattle.gix_ref_store.specs.declared.file.store.Store.{Store}

@@ -1,10 +1,7 @@
-use Rattle.std.proofs.Common.{◌≡◌, ◌∙◌, List, ℕ, Option, Some, None, refl, sym, ap, subst}
+use Rattle.std.proofs.Common.{◌≡◌, ◌∙◌, List, ℕ, sym, ap, subst}
 use Rattle.std.specs.Option.{option_map}
-use denote.Ref.{Bor}
-use Rattle.gix_ref_base.specs.PackedRecords.{Record}
-use Rattle.gix_ref_store.specs.Lookup.{AreRecordsIn}
 use Rattle.gix_ref_store.specs.Listings.{AreHeldFor}
-use Rattle.gix_ref_program.specs.Runs.{ListRan, ListRanAmong, IsNoListing, Prints, prefix_asked}
+use Rattle.gix_ref_program.specs.Runs.{ListRan, ListRanAmong, Prints, prefix_asked}
 use Rattle.gix_ref_program.specs.Runs.Ran.{Said}
 use Rattle.gix_ref_program.specs.declared.outcome.Outcome.{Outcome}
 use Rattle.gix_ref_program.proofs.Listing.{listed_from, read_for}

@@ -1,4 +1,4 @@
-use Rattle.std.proofs.Common.{Bool, List, ◌⊎◌, ◌≡◌, IfOk, IfErr, IfSome, subst}
+use Rattle.std.proofs.Common.{Bool, ◌⊎◌, ◌≡◌, IfOk, IfErr, IfSome, subst}
 use Rattle.gix_ref_name.specs.Names.{partial_ref_bytes}
 use Rattle.gix_ref_lookup.specs.Lookups.{Answers, IsHitOf, FailsAmong, lookup_of, asked_names, name_asked}
 use Rattle.gix_ref_lookup.specs.declared.find.error.Error.TheVariants.{Memory}

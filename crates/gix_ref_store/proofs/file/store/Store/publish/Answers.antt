@@ -1,6 +1,6 @@
 use Rattle.std.proofs.Common.{◌≡◌, ℕ, List, refl, sym, ◌∙◌, ap, subst, arith}
 use Rattle.gix_ref_files.specs.Files.{disk_of}
-use Rattle.gix_ref_files.specs.Steps.{IsLeftBy, steps_of, count_ended}
+use Rattle.gix_ref_files.specs.Steps.{IsLeftBy, count_ended}
 use Rattle.gix_ref_files.specs.declared.steps.Cause.{Cause}
 use Rattle.gix_ref_files.specs.declared.steps.Cause.TheVariants.{File, Unexpected, Asked}
 use Rattle.gix_ref_files.specs.declared.steps.Planned.{Planned}

@@ -1,13 +1,11 @@
-use Rattle.std.proofs.Common.{◌≡◌, ◌<◌, ◌≤◌, ◌∙◌, true, [], length, refl, sym, ap, subst, arith, vec_len}
-use Rattle.std.proofs.lemmas.List.{length-map}
-use Rattle.gix_ref_files.specs.Tree.{Tree, Path, is_folder}
-use Rattle.gix_ref_transaction.specs.OwnLocks.{is_in, paths_of, RemovesLocks}
+use Rattle.std.proofs.Common.{◌≡◌, ◌<◌, ◌≤◌, ◌∙◌, length, refl, sym, ap, subst, arith, vec_len}
+use Rattle.gix_ref_files.specs.Tree.{Tree}
+use Rattle.gix_ref_transaction.specs.OwnLocks.{paths_of, RemovesLocks}
 use Rattle.gix_ref_store.specs.declared.file.store.Store.{Store}
 use Rattle.gix_ref_transaction.specs.declared.commit.renames.Why.TheVariants.{Folder, Memory}
 use Rattle.gix_ref_transaction.specs.CommitRenames.{place_at, IsCutAt, IsFolderInPlace}
-use Rattle.gix_ref_transaction.specs.PrepareSteps.{lock_paths, place_paths}
+use Rattle.gix_ref_transaction.specs.PrepareSteps.{lock_paths}
 use Rattle.gix_ref_store.specs.Store.{with_files}
-use Rattle.gix_ref_transaction.proofs.Adds.{in_at}
 use Rattle.gix_ref_store.proofs.Commits.{well, committed, lost, settled, cut_behind, folder_stays, fails, raised_on}
 use Rattle.gix_ref_store.proofs.file.transaction.Prepared+F.commit.Goals as goal
 

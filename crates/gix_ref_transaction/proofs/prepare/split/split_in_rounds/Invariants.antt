@@ -6,7 +6,7 @@ use Rattle.gix_ref_transaction.specs.Causes.{AllValid}
 use Rattle.gix_ref_transaction.specs.PrepareSteps.{setting_of}
 use Rattle.gix_ref_transaction.specs.Splits.{leads_to, values_of, CanFollow, OnlyReads}
 use Rattle.gix_ref_transaction.specs.internal.SplitRounds.{IsValidValue, IsSoundValue, IsUpdateValue}
-use Rattle.gix_ref_transaction.proofs.prepare.split.split_edits.Given as goal
+use Rattle.gix_ref_transaction.proofs.prepare.split.split_in_rounds.Given as goal
 
 -- so many levels had their rounds, and the next one is yet to have its own
 abbrev pub invariant-loop-round : goal.invariant-loop-round
