@@ -56,6 +56,16 @@ fn made(rt: &impl Abort, alloc: Global, texts: Texts<'_>) -> Memory {
     memory
 }
 
+/// Each of these files but one is as it was.
+fn stay(rt: &impl Abort, memory: &Memory, texts: Texts<'_>, but: &str) {
+    for (path, text) in texts {
+        assert!(rt;
+            *path == but || memory.get(path.as_bytes()) == Some(*text),
+            "{path} stays"
+        );
+    }
+}
+
 #[test]
 fn what_follows_is_prepared(rt: HostRuntime) {
     let alloc = rt.alloc();
@@ -102,9 +112,7 @@ fn what_follows_is_prepared(rt: HostRuntime) {
         );
         let (answer, memory) = prepared(alloc, first, edits);
         assert_eq!(rt; answer, want, "{name} {expect:?}");
-        for (path, text) in texts {
-            assert!(rt; memory.get(path.as_bytes()) == Some(*text), "{path} stays");
-        }
+        stay(&rt, &memory, texts, "");
     }
 }
 
@@ -151,13 +159,6 @@ fn the_reference_that_is_led_to_is_written(rt: HostRuntime) {
         }
         let memory = store.into_files();
         assert!(rt; memory.get(path.as_bytes()) == Some(TWO), "{path}");
-        for (other, text) in texts {
-            if *other != path {
-                assert!(rt;
-                    memory.get(other.as_bytes()) == Some(*text),
-                    "{other} stays"
-                );
-            }
-        }
+        stay(&rt, &memory, texts, path);
     }
 }
