@@ -1,8 +1,5 @@
-//! Sets the branch `main` of the repository in `git`, which must not exist or be there already, and shows it.
+//! Sets the branch `main` of the repository in the folder `git`, which must not exist yet or have this value already, and shows it.
 #![tactic(auto)]
-
-ghost use Rattle.std.specs.Prelude.{IfOk};
-ghost use Rattle.gix_ref_edits.specs.RefEdits.{AreUpdates};
 
 use anyhow::{Context, Result, bail};
 use gix_ref::file::Store;
@@ -15,9 +12,7 @@ use gix_ref::transaction::{Change, LogChange, PreviousValue, RefEdit};
 use std::alloc::Global;
 
 /// One update: this name gets this id, if there is no other value before.
-fn update(alloc: Global, name: FullName, id: ObjectId) -> Result<Vec<RefEdit>>
-    ensures { IfOk result (λ edits. AreUpdates edits.items) }
-{
+fn update(alloc: Global, name: FullName, id: ObjectId) -> Result<Vec<RefEdit>> {
     let change = Change::Update {
         log: LogChange::new_in(alloc),
         expected: PreviousValue::MustNotExist,

@@ -69,7 +69,7 @@ fn location_in<'a>(category: Category<'a>, name: &'a [u8], short: &'a [u8]) -> L
 }
 
 /// The location of a safe name: one that begins with `refs/` or has a category. `None` for any other name, such as
-/// `logs/HEAD`.
+/// `logs/HEAD`. As the worktree rules of gix-ref's `file::Store` (`git worktree`, "REFS").
 pub fn location_of(name: FullNameRef<'_>) -> Option<Location<'_>>
     ensures { MatchOption result (is_safe (full_ref_bytes name.entry) ≡ false)
         (λ at. (is_safe (full_ref_bytes name.entry) ≡ true)
@@ -118,7 +118,7 @@ fn is_shared(name: &[u8]) -> bool
     }
 }
 
-/// The location of any name: one that is not safe is shared, under the same name.
+/// The location of any name: one that is not safe is shared, under the same name. As `location_of` for safe names.
 pub fn location_or_common(name: FullNameRef<'_>) -> Location<'_>
     ensures { (f : Layout) → paths_at f (full_ref_bytes name.entry)
         ≡ paths_of f (location_value result) }
@@ -133,7 +133,12 @@ pub fn location_or_common(name: FullNameRef<'_>) -> Location<'_>
 }
 
 /// The name under which `packed-refs` may have a record of this one, outside of any namespace; `None` where each
-/// worktree has its own reference.
+/// worktree has its own reference. As gix-ref's `packed::Buffer::try_find` finds it.
+///
+/// ```text
+/// packed_key(FullNameRef::try_from("worktrees/a/refs/heads/x")?) // Some(b"refs/heads/x")
+/// packed_key(FullNameRef::try_from("HEAD")?)                     // None
+/// ```
 pub fn packed_key(name: FullNameRef<'_>) -> Option<&[u8]>
     ensures { option_map (λ key. key.now) result ≡ key_outside (full_ref_bytes name.entry) }
 {
@@ -221,6 +226,7 @@ impl<'a> RefLayout<'a> {
     ghost use Rattle.gix_ref_base.specs.RefLayout.{layout_of, location_value};
 
     /// The path of the loose file of a name (`gitrepository-layout`). The error says that there was no memory for it.
+    /// As gix-ref's private `file::Store::reference_path`.
     ///
     /// ```text
     /// let layout = RefLayout { git_dir: b"/r", common_dir: b"/r", namespace: b"" };
@@ -233,7 +239,8 @@ impl<'a> RefLayout<'a> {
         self.loose_in(alloc, location_or_common(name))
     }
 
-    /// The path of the log of a name (`git reflog`). The error says that there was no memory for it.
+    /// The path of the log of a name (`git reflog`). The error says that there was no memory for it. As gix-ref's
+    /// private `file::Store::reflog_path`.
     ///
     /// ```text
     /// layout.log(alloc, FullNameRef::try_from("HEAD")?)? // /r/logs/HEAD
@@ -246,7 +253,8 @@ impl<'a> RefLayout<'a> {
     }
 
     /// The name under which `packed-refs` may have a record of this one, with the namespace in front; `None` where each
-    /// worktree has its own reference. The error says that there was no memory for it.
+    /// worktree has its own reference. The error says that there was no memory for it. As the function `packed_key`, in
+    /// a namespace.
     pub fn packed_key(
         self,
         alloc: Global,
@@ -260,6 +268,7 @@ impl<'a> RefLayout<'a> {
     }
 
     /// Whether `packed-refs` is asked for a name as it is. Where this is false, the record may still have the same name.
+    /// As `packed_key` of the name, compared with it.
     pub fn is_own_key(self, name: FullNameRef<'_>) -> bool
         ensures { OnTrue result ((paths_at (layout_of self.entry) (full_ref_bytes name.entry)).key
             ≡ Some (full_ref_bytes name.entry)) }

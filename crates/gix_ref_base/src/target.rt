@@ -11,7 +11,7 @@ use gix_ref_name::namespace::Namespace;
 use std::alloc::{AllocError, Global};
 use std::fmt;
 
-/// The kinds of targets.
+/// The kinds of targets. As gix-ref's `Kind`.
 #[derive(Clone, Copy, Debug, PartialEq, Eq, PartialOrd, Ord, Hash)]
 pub enum Kind {
     /// The id of an object.
@@ -20,7 +20,12 @@ pub enum Kind {
     Symbolic,
 }
 
-/// An object's id, or the name of another reference.
+/// An object's id, or the name of another reference. As gix-ref's `Target`.
+///
+/// ```text
+/// let branch = FullNameRef::try_from("refs/heads/main")?.to_owned(alloc)?;
+/// let target = Target::Symbolic(branch); // the target of `HEAD` on the branch `main`
+/// ```
 #[derive(Debug, PartialEq, Eq, PartialOrd, Ord, Hash, Drop)]
 pub enum Target {
     /// The reference points to this object.
@@ -29,7 +34,7 @@ pub enum Target {
     Symbolic(FullName),
 }
 
-/// A lent target.
+/// A lent target. As gix-ref's `TargetRef`.
 #[derive(Clone, Copy, Debug, PartialEq, Eq, PartialOrd, Ord, Hash)]
 pub enum TargetRef<'a> {
     /// The reference points to this object.
@@ -39,7 +44,7 @@ pub enum TargetRef<'a> {
 }
 
 impl Target {
-    /// Whether the target is an object or a name.
+    /// Whether the target is an object or a name. As gix-ref's `Target::kind`.
     pub fn kind(&self) -> Kind
         ensures { result ≡ target_kind (target_value self.now) }
     {
@@ -49,7 +54,7 @@ impl Target {
         }
     }
 
-    /// Whether the target is an object whose id is all zeros.
+    /// Whether the target is an object whose id is all zeros. As gix-ref's `Target::is_null`.
     pub fn is_null(&self) -> bool
         ensures { IsTrue result ↔ IsNullTarget (target_value self.now) }
     {
@@ -60,7 +65,8 @@ impl Target {
     }
 
     /// Takes the namespace off a symbolic target. The name stays where it does not begin with the namespace, and where
-    /// the rest is not a valid partial name (`git help gitnamespaces`).
+    /// the rest is not a valid partial name (`git help gitnamespaces`). As gix-ref's `Reference::strip_namespace` does
+    /// with the target.
     pub fn strip_namespace(&mut self, namespace: &Namespace)
         ensures { target_value self.new
             ≡ stripped_target (namespace_bytes namespace.now) (target_value self.old) }
@@ -71,7 +77,7 @@ impl Target {
         }
     }
 
-    /// The same target, lent.
+    /// The same target, lent. As gix-ref's `Target::to_ref`.
     pub fn to_ref(&self) -> TargetRef<'_>
         ensures { target_ref_value result ≡ target_value self.now }
     {
@@ -81,7 +87,7 @@ impl Target {
         }
     }
 
-    /// The id, or `None` of a symbolic target.
+    /// The id, or `None` of a symbolic target. As gix-ref's `Target::try_id`.
     ///
     /// ```text
     /// if let Some(id) = reference.target.try_id() {
@@ -97,7 +103,7 @@ impl Target {
         }
     }
 
-    /// The id. The caller sees to it that the target is an object.
+    /// The id. The caller sees to it that the target is an object. As gix-ref's `Target::id`, which panics for a name.
     pub fn id(&self) -> ObjectId
         requires { target_kind (target_value self.now) ≡ Kind.Object }
         ensures { target_value self.now ≡ object_id result }
@@ -108,7 +114,8 @@ impl Target {
         }
     }
 
-    /// The id, in place of the target. The caller sees to it that the target is an object.
+    /// The id of an owned target. The caller sees to it that the target is an object. As gix-ref's
+    /// `Target::into_id`, which panics for a name.
     pub fn into_id(self) -> ObjectId
         requires { target_kind (target_value self) ≡ Kind.Object }
         ensures { target_value self ≡ object_id result }
@@ -119,7 +126,7 @@ impl Target {
         }
     }
 
-    /// The id, in place of the target; the error hands a symbolic target back.
+    /// The id of an owned target; the error hands a symbolic target back. As gix-ref's `Target::try_into_id`.
     pub fn try_into_id(self) -> Result<ObjectId, Target>
         ensures { MatchResult result (λ id. target_value self ≡ object_id id)
             (λ target. (target ≡ self) × (target_id (target_value self) ≡ None)) }
@@ -130,7 +137,7 @@ impl Target {
         }
     }
 
-    /// The name, or `None` of an object.
+    /// The name, or `None` of an object. As gix-ref's `Target::try_name`.
     pub fn try_name(&self) -> Option<FullNameRef<'_>>
         ensures { MatchOption result (target_kind (target_value self.now) ≡ Kind.Object)
             (λ name. target_value self.now ≡ symbolic_name (full_ref_bytes name)) }
@@ -141,7 +148,8 @@ impl Target {
         }
     }
 
-    /// Whether a lent target is the same: an equal id, or a name of the same bytes.
+    /// Whether a lent target is the same: an equal id, or a name of the same bytes. As `==` of a `Target` and a
+    /// `TargetRef` in gix-ref.
     ///
     /// ```text
     /// let expected = Target::Object(id);
@@ -157,7 +165,7 @@ impl Target {
 }
 
 impl<'a> TargetRef<'a> {
-    /// Whether the target is an object or a name.
+    /// Whether the target is an object or a name. As gix-ref's `TargetRef::kind`.
     pub fn kind(self) -> Kind
         ensures { result ≡ target_kind (target_ref_value self.entry) }
     {
@@ -167,7 +175,7 @@ impl<'a> TargetRef<'a> {
         }
     }
 
-    /// The id, or `None` of a symbolic target.
+    /// The id, or `None` of a symbolic target. As gix-ref's `TargetRef::try_id`.
     pub fn try_id(self) -> Option<ObjectId>
         ensures { result ≡ target_id (target_ref_value self.entry) }
     {
@@ -177,7 +185,8 @@ impl<'a> TargetRef<'a> {
         }
     }
 
-    /// The id. The caller sees to it that the target is an object.
+    /// The id. The caller sees to it that the target is an object. As gix-ref's `TargetRef::id`, which panics for a
+    /// name.
     pub fn id(self) -> ObjectId
         requires { target_kind (target_ref_value self) ≡ Kind.Object }
         ensures { target_ref_value self.entry ≡ object_id result }
@@ -188,7 +197,7 @@ impl<'a> TargetRef<'a> {
         }
     }
 
-    /// The name, or `None` of an object.
+    /// The name, or `None` of an object. As gix-ref's `TargetRef::try_name`.
     pub fn try_name(self) -> Option<FullNameRef<'a>>
         ensures { MatchOption result (target_kind (target_ref_value self.entry) ≡ Kind.Object)
             (λ name. target_ref_value self.entry ≡ symbolic_name (full_ref_bytes name)) }
@@ -199,7 +208,7 @@ impl<'a> TargetRef<'a> {
         }
     }
 
-    /// An owned copy; the error says that there was no memory for it.
+    /// An owned copy; the error says that there was no memory for it. As gix-ref's `TargetRef::into_owned`.
     pub fn into_owned(self, alloc: Global) -> Result<Target, AllocError>
         ensures { IfOk result (λ target. target_value target ≡ target_ref_value self.entry) }
     {

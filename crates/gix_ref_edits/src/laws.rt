@@ -78,8 +78,8 @@ pub fn order_edits(a: &RefEdit, b: &RefEdit) -> Ordering
     a.cmp(b)
 }
 
-/// An edit that follows a chain of four symbolic references has a split list, of five edits, and over a chain of five
-/// there is none; an edit that does not follow is its whole split list.
+/// An edit that follows a chain of four symbolic references has a split list of five edits, and one that follows a chain of
+/// five has no split list; an edit that does not follow is its whole split list.
 pub fn splits_of_chains()
     ensures four { ChainOfFourSplits }
     ensures five { ChainOfFiveIsTooLong }

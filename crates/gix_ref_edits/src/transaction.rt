@@ -11,7 +11,7 @@ pub mod ext;
 
 pub use ext::{EditEntry, EditError, RefEditsExt, SplitError};
 
-/// What an edit is of.
+/// What an edit is of. As gix-ref's `transaction::RefLog`.
 #[derive(Clone, Copy, Debug, PartialEq, Eq, PartialOrd, Ord, Hash)]
 pub enum RefLog {
     /// Of the reference and its log.
@@ -20,7 +20,7 @@ pub enum RefLog {
     Only,
 }
 
-/// How the log of an update changes.
+/// How the log of an update changes. As gix-ref's `transaction::LogChange`.
 #[derive(Debug, PartialEq, Eq, PartialOrd, Ord, Hash, Drop)]
 pub struct LogChange {
     /// Whether the reference changes, or its log alone.
@@ -32,7 +32,13 @@ pub struct LogChange {
 }
 
 impl LogChange {
-    /// `AndReference`, no log made by force, an empty message. Takes no memory.
+    /// `AndReference`, no log made by force, an empty message. Takes no memory. As `Default` of gix-ref's
+    /// `transaction::LogChange`.
+    ///
+    /// ```text
+    /// let mut log = LogChange::new_in(alloc);
+    /// log.message = b"branch: Created from HEAD".to_vec(alloc)?;
+    /// ```
     pub fn new_in(alloc: Global) -> LogChange
         ensures mode { result.mode ≡ RefLog.AndReference }
         ensures forced { result.force_create_reflog ≡ false }
@@ -46,7 +52,14 @@ impl LogChange {
     }
 }
 
-/// What an edit expects of the reference before it.
+/// What an edit expects of the reference before it. As gix-ref's `transaction::PreviousValue` (`git update-ref`,
+/// OLDVALUE).
+///
+/// ```text
+/// PreviousValue::MustExistAndMatch(Target::Object(old)) // `git update-ref NAME NEW OLD`
+/// PreviousValue::MustNotExist                           // the null id as OLD
+/// PreviousValue::Any                                    // no OLD
+/// ```
 #[derive(Debug, PartialEq, Eq, PartialOrd, Ord, Hash, Drop)]
 pub enum PreviousValue {
     /// Anything.
@@ -61,7 +74,7 @@ pub enum PreviousValue {
     ExistingMustMatch(Target),
 }
 
-/// What an edit does.
+/// What an edit does. As gix-ref's `transaction::Change`.
 #[derive(Debug, PartialEq, Eq, PartialOrd, Ord, Hash, Drop)]
 pub enum Change {
     /// Gives the reference a new target, or makes it.
@@ -83,7 +96,7 @@ pub enum Change {
 }
 
 impl Change {
-    /// The new target of an update; `None` of a deletion.
+    /// The new target of an update; `None` of a deletion. As gix-ref's `transaction::Change::new_value`.
     pub fn new_value(&self) -> Option<TargetRef<'_>>
         ensures { MatchOption result (new_of self.now ≡ None)
             (λ target. new_of self.now ≡ Some (target_ref_value target)) }
@@ -94,7 +107,7 @@ impl Change {
         }
     }
 
-    /// The target that the edit expects to find, if it names one.
+    /// The target that the edit expects to find, if it names one. As gix-ref's `transaction::Change::previous_value`.
     pub fn previous_value(&self) -> Option<TargetRef<'_>>
         ensures { MatchOption result (previous_of (expected_of self.now) ≡ None)
             (λ target. previous_of (expected_of self.now) ≡ Some (target_ref_value target)) }
@@ -106,7 +119,7 @@ impl Change {
         }
     }
 
-    /// What the edit expects.
+    /// What the edit expects. Not in gix-ref.
     pub fn expectation(&self) -> &PreviousValue
         ensures { result.now ≡ expected_of self.now }
     {
@@ -117,7 +130,19 @@ impl Change {
     }
 }
 
-/// An edit of a reference.
+/// An edit of a reference. As gix-ref's `transaction::RefEdit` (`git update-ref`).
+///
+/// ```text
+/// let edit = RefEdit {
+///     change: Change::Update {
+///         log: LogChange::new_in(alloc),
+///         expected: PreviousValue::MustNotExist,
+///         new: Target::Object(id),
+///     },
+///     name: FullNameRef::try_from("refs/heads/main")?.to_owned(alloc)?,
+///     deref: false,
+/// };
+/// ```
 #[derive(Debug, PartialEq, Eq, PartialOrd, Ord, Hash, Drop)]
 pub struct RefEdit {
     /// What it does.

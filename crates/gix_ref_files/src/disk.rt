@@ -11,7 +11,7 @@ use std::os::unix::fs::FileExt;
 use std::{fs, io};
 
 /// The disk. A path is one of the system's, so a relative one begins at the working folder. Symbolic links are
-/// followed, but a listing leaves them out, as it does all that is neither a file nor a folder.
+/// followed, but a listing leaves them out, as it does all that is neither a file nor a folder. As `std::fs`.
 ///
 /// A FIFO, a socket or a device is never opened: it counts as nothing, and as `Standing` for `create_new`. So no call
 /// waits for another program. What a path names is asked before it is opened; another program that puts a FIFO there
@@ -23,7 +23,7 @@ pub struct Disk {
     syncs: bool,
 }
 
-/// A file of the disk that is open for reading.
+/// A file of the disk that is open for reading. As `File`.
 #[derive(Drop)]
 pub struct DiskReader {
     file: File,
@@ -56,7 +56,12 @@ fn text_of<'p>(faults: &mut u64, path: &'p [u8]) -> Result<&'p str, FileError>
 }
 
 impl Disk {
-    /// The disk of the process, with no fault counted.
+    /// The disk of the process, with no fault counted. Its calls are those of `std::fs`.
+    ///
+    /// ```text
+    /// let files = Disk::new(rt.clone()?);
+    /// let store = Store::at(files, b".git".to_vec(alloc)?, Kind::Sha1)?;
+    /// ```
     pub fn new(rt: HostRuntime) -> Self {
         Disk {
             rt,
@@ -68,7 +73,11 @@ impl Disk {
     /// The disk of the process, whose `sync_file` and `sync_folder` return true without a system call, as Git does by
     /// default for loose references. After a loss of power a reference that was updated may then be missing or hold any
     /// bytes, and a deletion may show before an update: nothing that is said of losses of power is promised. What is said of
-    /// stops of the process stays.
+    /// stops of the process stays. As Git with `core.fsync=none`.
+    ///
+    /// ```text
+    /// let files = Disk::without_syncs(rt.clone()?); // for tests, and for repositories that can be fetched again
+    /// ```
     pub fn without_syncs(rt: HostRuntime) -> Self {
         Disk {
             rt,

@@ -14,7 +14,7 @@ use std::alloc::Global;
 use std::io::ErrorKind;
 use thiserror::Error;
 
-/// Why a call of files failed.
+/// Why a call of files failed. As `io::Error`.
 #[derive(Clone, Copy, Debug, PartialEq, Eq, Error)]
 pub enum FileError {
     /// The device failed, or it cannot do what was asked. Counted.
@@ -28,7 +28,7 @@ pub enum FileError {
     Memory,
 }
 
-/// What is at a path.
+/// What is at a path. As `fs::FileType`.
 #[derive(Clone, Copy, Debug, PartialEq, Eq)]
 pub enum Node {
     /// A file.
@@ -41,7 +41,7 @@ pub enum Node {
     Blocked,
 }
 
-/// The results of `create_new`.
+/// The results of `create_new`. As the results of `File::create_new`.
 #[derive(Clone, Copy, Debug, PartialEq, Eq)]
 pub enum Create {
     /// An empty file was made.
@@ -52,7 +52,7 @@ pub enum Create {
     Blocked,
 }
 
-/// The results of `rename`.
+/// The results of `rename`. As the results of `fs::rename`.
 #[derive(Clone, Copy, Debug, PartialEq, Eq)]
 pub enum Rename {
     /// The file was moved.
@@ -61,7 +61,7 @@ pub enum Rename {
     FolderStands,
 }
 
-/// A file or a folder in a listing.
+/// A file or a folder in a listing. As `fs::DirEntry`.
 #[derive(Debug, Drop)]
 pub struct Entry {
     /// Its name in the folder: at least one byte, and no slash.
@@ -70,7 +70,7 @@ pub struct Entry {
     pub is_folder: bool,
 }
 
-/// A file that is open for reading at any place.
+/// A file that is open for reading at any place. As `FileExt` of `std::os::unix::fs`.
 pub trait ReadAt {
     ghost use Rattle.std.specs.Prelude.{List};
     ghost use Rattle.gix_ref_files.specs.Files.{count_after};
@@ -88,7 +88,7 @@ pub trait ReadAt {
     /// How many faults this reader met.
     ghost faults: { Self → ℕ };
 
-    /// The number of bytes, known since the file was opened.
+    /// The number of bytes, known since the file was opened. As `Metadata::len`.
     fn len(&self) -> u64
         ensures size { result ≡ size self.now }
         ensures bytes { honest → result ≡ length (bytes self.now) };
@@ -103,11 +103,18 @@ pub trait ReadAt {
         ensures memory { IsErrOf result FileError.Memory → ⊥ };
 }
 
-/// A small file system.
+/// A small file system. As the functions of `std::fs`.
 ///
 /// A call that takes an allocator returns `Memory` where a growth was refused; no other call does. A `Device` fault
 /// comes where the device fails, and where the tree allows no other result, as for a file to be made in a folder
 /// that is not there. It and `NotUtf8` count one fault.
+///
+/// ```text
+/// match files.read(alloc, b".git/HEAD", &mut buf)? {
+///     Node::File => println!(rt; "{}", buf.as_slice().as_bstr())?,
+///     Node::Folder | Node::Nothing | Node::Blocked => println!(rt; "no file")?,
+/// }
+/// ```
 pub trait Files {
     ghost use Rattle.std.specs.Prelude.{◌≤◌};
     ghost use Rattle.gix_ref_files.specs.Tree.{Tree, IsShaped, node_at, bytes_of, is_file, is_folder};
@@ -128,7 +135,11 @@ pub trait Files {
     /// How many faults there were.
     ghost faults: { Self → ℕ };
 
-    /// Returns what is at a path.
+    /// Returns what is at a path. As `fs::metadata`.
+    ///
+    /// ```text
+    /// files.kind(b".git/refs/heads")? // Node::Folder
+    /// ```
     fn kind(&mut self, path: &[u8]) -> Result<Node, FileError>
         ensures answer { honest →
             IfOk result (λ node. node ≡ node_at (means self.old).tree path.now) }
@@ -139,7 +150,7 @@ pub trait Files {
         ensures count { faults self.new ≡ count_after result (faults self.old) }
         ensures memory { IsErrOf result FileError.Memory → ⊥ };
 
-    /// Returns what is at a path, and where it is a file puts its bytes into the buffer in place of what was there
+    /// Returns what is at a path, and where it is a file replaces the content of the buffer with its bytes
     /// (`fs::read`). With every other result, and after an error, the buffer is empty.
     fn read(&mut self, alloc: Global, path: &[u8], buf: &mut Vec<u8>) -> Result<Node, FileError>
         ensures answer { honest →
@@ -208,7 +219,8 @@ pub trait Files {
         ensures count { faults self.new ≡ count_after result (faults self.old) }
         ensures memory { IsErrOf result FileError.Memory → ⊥ };
 
-    /// Adds bytes to the end of a file; false where there is no file. A fault leaves any beginning of them there.
+    /// Adds bytes to the end of a file; false where there is no file. A fault leaves any beginning of them there. As
+    /// `Write::write_all` to a file that is open for appending.
     fn append(&mut self, path: &[u8], bytes: &[u8]) -> Result<bool, FileError>
         ensures answer { honest →
             IfOk result (Appends (means self.old).tree path.now bytes.now (means self.new).tree) }

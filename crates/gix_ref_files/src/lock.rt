@@ -3,22 +3,23 @@
 ghost use Rattle.std.specs.Prelude.{◌≡◌, ◌≤◌, IfOk, IfErr, OnOk, OnErr, IsErrOf, length};
 ghost use Rattle.gix_ref_files.specs.Tree.{fronts};
 ghost use Rattle.gix_ref_files.specs.Files.{disk_of, Leaves, Adds, Passes, count_after};
-ghost use Rattle.gix_ref_files.specs.DiskCalls.{after_write, WritingOn, RenamingOn, after_removal, RemovingFileOn};
-ghost use Rattle.gix_ref_files.specs.Calls.{Appends, Appending, Renaming, RemovesFile, RemovingFile};
+ghost use Rattle.gix_ref_files.specs.DiskCalls.{after_create, CreatingOn, after_write, WritingOn, RenamingOn, after_removal, RemovingFileOn};
+ghost use Rattle.gix_ref_files.specs.Calls.{Creates, Creating, Appends, Appending, Renaming, RemovesFile, RemovingFile};
 ghost use Rattle.gix_ref_files.specs.Lock.{lock_of, Readies, Readying, after_readying, ReadyingOn, MakesLock, after_locking, LockingOn, Acquires, Acquiring, after_acquire, Commits, after_commit, count_unspent, folders_up_to};
 
 use crate::files::{Create, FileError, Files, Rename};
 use std::alloc::{AllocError, Global};
 use std::marker::Model;
 
-/// A lock that is held. A contract sees it as the path of its place. It must be spent by `commit` or `remove`.
-#[derive(Debug)]
-pub struct Lock {
+/// The file of a lock, held or not: the path of its place, and that of the file, with `.lock` after it. A contract sees it as the
+/// place. It is made before the lock is taken, so that to take it, to write to it and to remove it takes no memory.
+#[derive(Debug, Drop)]
+pub struct LockFile {
     place: Vec<u8>,
     lock: Vec<u8>,
 }
 
-impl Model for Lock {
+impl Model for LockFile {
     ghost use Rattle.std.specs.Prelude.{ℕ, List, ◌≡◌, ◌++◌, codes};
 
     ghost Value = { List ℕ };
@@ -26,6 +27,22 @@ impl Model for Lock {
     ghost view = { λ a. a.place.items };
 
     ghost invariant = { λ a. a.lock.items ≡ a.place.items ++ codes ".lock" };
+}
+
+/// A lock that is held. A contract sees it as the path of its place. It must be spent by `commit` or `remove`.
+#[derive(Debug)]
+pub struct Lock {
+    file: LockFile,
+}
+
+impl Model for Lock {
+    ghost use Rattle.std.specs.Prelude.{ℕ, List, ⊤};
+
+    ghost Value = { List ℕ };
+
+    ghost view = { λ a. a.file };
+
+    ghost invariant = { λ a. ⊤ };
 }
 
 /// The results of `Lock::acquire`.
@@ -91,20 +108,102 @@ fn ready<F: Files>(files: &mut F, path: &[u8]) -> Result<bool, FileError>
     files.make_folders(&path[..end])
 }
 
-/// A path, and that of its lock.
-fn names(alloc: Global, path: &[u8]) -> Result<(Vec<u8>, Vec<u8>), AllocError>
-    ensures place { IfOk result (λ names. names.0.items ≡ path.now) }
-    ensures lock { IfOk result (λ names. names.1.items ≡ lock_of path.now) }
-{
-    let place = path.to_vec(alloc)?;
-    let mut lock = path.to_vec(alloc)?;
-    lock.extend_from_slice(b".lock")?;
-    Ok((place, lock))
+impl LockFile {
+    /// The file of the lock of a place. Nothing is done on disk.
+    pub fn at(place: Vec<u8>) -> Result<LockFile, AllocError>
+        ensures { IfOk result (λ file. file ≡ place.items) }
+    {
+        let mut lock = place.clone()?;
+        lock.extend_from_slice(b".lock")?;
+        Ok(LockFile { place, lock })
+    }
+
+    /// The path of the place.
+    pub fn place(&self) -> &[u8]
+        ensures { result.now ≡ self.now }
+    {
+        &self.place
+    }
+
+    /// The path of the file of the lock.
+    pub fn path(&self) -> &[u8]
+        ensures { result.now ≡ lock_of self.now }
+    {
+        &self.lock
+    }
+
+    /// The path of the place, and that of the file of the lock. Takes no memory.
+    pub fn into_parts(self) -> (Vec<u8>, Vec<u8>)
+        ensures place { result.0.items ≡ self }
+        ensures path { result.1.items ≡ lock_of self }
+    {
+        (self.place, self.lock)
+    }
+
+    /// Takes the lock: makes the folders that lead to the place, and then the file. An error leaves no lock; folders may have
+    /// been made. The caller sees to the removal of the lock.
+    pub fn take<F: Files>(&self, files: &mut F) -> Result<Create, FileError>
+        ensures answer { F.honest →
+            IfOk result (MakesLock (F.means files.old).tree self.now (F.means files.new).tree) }
+        ensures failed { F.honest →
+            OnErr result (Readying (F.means files.old).tree self.now (F.means files.new).tree) }
+        ensures leaves { F.honest → Leaves (F.means files.old) (F.means files.new)
+            (Acquiring (F.means files.old).tree self.now) }
+        ensures disk { F.honest → IfOk result (λ create. disk_of (F.means files.new)
+            ≡ after_locking (disk_of (F.means files.old)) self.now create) }
+        ensures passes { F.honest → Passes (F.means files.old) (F.means files.new)
+            (LockingOn (disk_of (F.means files.old)) self.now) }
+        ensures count { F.faults files.new ≡ count_after result (F.faults files.old) }
+        ensures memory { IsErrOf result FileError.Memory → ⊥ }
+    {
+        make_lock(files, &self.place, &self.lock)
+    }
+
+    /// Makes the file alone, for a caller who knows that folders lead to the place (`File::create_new`).
+    pub fn create<F: Files>(&self, files: &mut F) -> Result<Create, FileError>
+        ensures answer { F.honest → IfOk result (Creates (F.means files.old).tree
+            (lock_of self.now) (F.means files.new).tree) }
+        ensures failed { F.honest → OnErr result ((F.means files.new).tree
+            ≡ (F.means files.old).tree) }
+        ensures leaves { F.honest → Leaves (F.means files.old) (F.means files.new)
+            (Creating (F.means files.old).tree (lock_of self.now)) }
+        ensures disk { F.honest → IfOk result (λ create. disk_of (F.means files.new)
+            ≡ after_create (disk_of (F.means files.old)) (lock_of self.now) create) }
+        ensures passes { F.honest → Passes (F.means files.old) (F.means files.new)
+            (CreatingOn (disk_of (F.means files.old)) (lock_of self.now)) }
+        ensures count { F.faults files.new ≡ count_after result (F.faults files.old) }
+        ensures memory { IsErrOf result FileError.Memory → ⊥ }
+    {
+        files.create_new(&self.lock)
+    }
+
+    /// Adds bytes to the file of the lock and syncs it, so that a loss of power leaves them all once the lock is renamed;
+    /// false where it does not exist. A fault leaves any beginning of them there.
+    pub fn write<F: Files>(&self, files: &mut F, bytes: &[u8]) -> Result<bool, FileError>
+        ensures answer { F.honest →
+            IfOk result (Appends (F.means files.old).tree (lock_of self.now) bytes.now
+            (F.means files.new).tree) }
+        ensures leaves { F.honest → Leaves (F.means files.old) (F.means files.new)
+            (Appending (F.means files.old).tree (lock_of self.now) bytes.now) }
+        ensures adds { F.honest →
+            OnOk result (Adds (F.means files.old) (F.means files.new)
+            (Appending (F.means files.old).tree (lock_of self.now) bytes.now)) }
+        ensures disk { F.honest → IfOk result (λ there. disk_of (F.means files.new)
+            ≡ after_write (disk_of (F.means files.old)) (lock_of self.now) bytes.now there) }
+        ensures passes { F.honest → Passes (F.means files.old) (F.means files.new)
+            (WritingOn (disk_of (F.means files.old)) (lock_of self.now) bytes.now) }
+        ensures count { F.faults files.new ≡ count_after result (F.faults files.old) }
+        ensures memory { IsErrOf result FileError.Memory → ⊥ }
+    {
+        if !files.append(&self.lock, bytes)? {
+            return Ok(false);
+        }
+        files.sync_file(&self.lock)
+    }
 }
 
-/// Makes the folders that lead to a path, and the file of its lock: `Lock::acquire` for a caller who has the lock's path
-/// already, and who sees to the lock's removal. An error leaves no lock.
-pub fn make_lock<F: Files>(files: &mut F, path: &[u8], lock: &[u8]) -> Result<Create, FileError>
+/// Makes the folders that lead to a path, and the file of its lock. An error leaves no lock.
+fn make_lock<F: Files>(files: &mut F, path: &[u8], lock: &[u8]) -> Result<Create, FileError>
     requires { lock.now ≡ lock_of path.now }
     ensures answer { F.honest →
         IfOk result (MakesLock (F.means files.old).tree path.now (F.means files.new).tree) }
@@ -125,28 +224,11 @@ pub fn make_lock<F: Files>(files: &mut F, path: &[u8], lock: &[u8]) -> Result<Cr
     files.create_new(lock)
 }
 
-/// Adds bytes to the file of a lock and syncs it: `Lock::write` for a caller who has the lock's path. False where it does not
-/// exist.
-pub fn write_lock<F: Files>(files: &mut F, lock: &[u8], bytes: &[u8]) -> Result<bool, FileError>
-    ensures answer { F.honest →
-        IfOk result (Appends (F.means files.old).tree lock.now bytes.now
-        (F.means files.new).tree) }
-    ensures leaves { F.honest → Leaves (F.means files.old) (F.means files.new)
-        (Appending (F.means files.old).tree lock.now bytes.now) }
-    ensures adds { F.honest →
-        OnOk result (Adds (F.means files.old) (F.means files.new)
-        (Appending (F.means files.old).tree lock.now bytes.now)) }
-    ensures disk { F.honest → IfOk result (λ there. disk_of (F.means files.new)
-        ≡ after_write (disk_of (F.means files.old)) lock.now bytes.now there) }
-    ensures passes { F.honest → Passes (F.means files.old) (F.means files.new)
-        (WritingOn (disk_of (F.means files.old)) lock.now bytes.now) }
-    ensures count { F.faults files.new ≡ count_after result (F.faults files.old) }
-    ensures memory { IsErrOf result FileError.Memory → ⊥ }
+/// The file of the lock of a path that is lent.
+fn file_at(alloc: Global, path: &[u8]) -> Result<LockFile, AllocError>
+    ensures { IfOk result (λ file. file ≡ path.now) }
 {
-    if !files.append(lock, bytes)? {
-        return Ok(false);
-    }
-    files.sync_file(lock)
+    LockFile::at(path.to_vec(alloc)?)
 }
 
 impl Lock {
@@ -184,11 +266,11 @@ impl Lock {
         ensures count { F.faults files.new ≡ count_after result (F.faults files.old) }
         ensures memory { IsErrOf result FileError.Memory → files.new ≡ files.old }
     {
-        let Ok((place, lock)) = names(alloc, path) else {
+        let Ok(file) = file_at(alloc, path) else {
             return Err(FileError::Memory);
         };
-        match make_lock(files, path, &lock)? {
-            Create::Made => Ok(Acquire::Held(Lock { place, lock })),
+        match file.take(files)? {
+            Create::Made => Ok(Acquire::Held(Lock { file })),
             Create::Standing => Ok(Acquire::Standing),
             Create::Blocked => Ok(Acquire::Blocked),
         }
@@ -212,7 +294,7 @@ impl Lock {
         ensures count { F.faults files.new ≡ count_after result (F.faults files.old) }
         ensures memory { IsErrOf result FileError.Memory → ⊥ }
     {
-        write_lock(files, &self.lock, bytes)
+        self.file.write(files, bytes)
     }
 
     /// Renames the file of the lock to the place. A fault gives the lock back; its file is where it was, or at
@@ -230,9 +312,9 @@ impl Lock {
         ensures count { F.faults files.new ≡ count_unspent result (F.faults files.old) }
         ensures memory { IfErr result (λ unspent. unspent.error ≡ FileError.Memory → ⊥) }
     {
-        match files.rename(&self.lock, &self.place) {
+        match files.rename(self.file.path(), self.file.place()) {
             Ok(Rename::Moved) => {
-                let Lock { place: _, lock: _ } = self;
+                let Lock { file: _ } = self;
                 Ok(Commit::Moved)
             }
             Ok(Rename::FolderStands) => Ok(Commit::FolderStands(self)),
@@ -256,9 +338,9 @@ impl Lock {
         ensures count { F.faults files.new ≡ count_unspent result (F.faults files.old) }
         ensures memory { IfErr result (λ unspent. unspent.error ≡ FileError.Memory → ⊥) }
     {
-        match files.remove_file(&self.lock) {
+        match files.remove_file(self.file.path()) {
             Ok(removed) => {
-                let Lock { place: _, lock: _ } = self;
+                let Lock { file: _ } = self;
                 Ok(removed)
             }
             Err(error) => Err(Unspent { error, lock: self }),
@@ -269,7 +351,7 @@ impl Lock {
     pub fn into_path(self) -> Vec<u8>
         ensures { result.items ≡ lock_of self }
     {
-        let Lock { place: _, lock } = self;
-        lock
+        let Lock { file } = self;
+        file.into_parts().1
     }
 }

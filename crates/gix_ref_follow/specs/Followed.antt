@@ -59,7 +59,7 @@ RefusesStep find reached at (Cycle path) = (next : At) × IsStep find at next ×
 RefusesStep find reached at (DepthLimitExceeded steps) = ⊥
 RefusesStep find reached at Memory = Unit {0}
 
--- The result of a following that began at the one reference and stands at the other: how the following ends, and there; or, on a
+-- The result of a following that began at the one reference and is now at the other: how the following ends, and there; or, on a
 -- fault or want of memory, a reference on its way.
 abbrev pub Follows : Finds → (start now : At) → Result ObjectId Error → Type 0
 Follows find start now (Ok id) = following find start ≡ Reached now id

@@ -49,7 +49,7 @@ by_known find meaning start None = by_ending meaning (following find start)
 abbrev pub peeling : Finds → (ObjectId → Stored) → At → Peeling
 peeling find meaning start = by_known find meaning start start.peeled
 
--- The result of a peeling that began at the one reference and stands at the other.
+-- The result of a peeling that began at the one reference and is now at the other.
 abbrev pub Peels : Finds → (ObjectId → Stored) → (start now : At) → Result ObjectId Error → Type 0
 Peels find meaning start now (Ok id) = peeling find meaning start ≡ Done now id
 Peels find meaning start now (Err (FollowToObject error)) = (start.peeled ≡ None) × Follows find start now (Err error)

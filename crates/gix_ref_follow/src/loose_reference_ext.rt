@@ -10,11 +10,12 @@ impl Sealed for Reference {}
 
 /// The reflog of a loose reference in a store.
 pub trait LooseReferenceExt: Sealed {
-    /// Whether the reference has a reflog. As `Store::reflog_exists`.
+    /// Whether the reference has a reflog. As `Store::reflog_exists`, and as gix-ref's
+    /// `file::loose::Reference::log_exists`.
     fn log_exists<F: Files>(&self, alloc: Global, store: &mut Store<F>) -> Result<bool, log::Error>;
 
     /// The lines of its reflog, oldest first, from the buffer, into which the whole log is read; `None` where it has none. As
-    /// `Store::reflog_iter`.
+    /// `Store::reflog_iter`. As gix-ref's `file::loose::Reference::log_iter`.
     fn log_iter<'b, F: Files>(
         &self,
         alloc: Global,
@@ -23,7 +24,8 @@ pub trait LooseReferenceExt: Sealed {
     ) -> Result<Option<Forward<'b>>, log::Error>;
 
     /// The lines of its reflog, newest first, through the buffer, whose length in bytes is the limit of a line and its line
-    /// feed; `None` where it has none. As `Store::reflog_iter_rev`.
+    /// feed; `None` where it has none. As `Store::reflog_iter_rev`, and as gix-ref's
+    /// `file::loose::Reference::log_iter_rev`.
     fn log_iter_rev<'b, F: Files>(
         &self,
         alloc: Global,

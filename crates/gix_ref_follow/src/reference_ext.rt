@@ -16,20 +16,32 @@ use std::alloc::Global;
 impl Sealed for Reference {}
 
 /// What a reference does in a store: its reflog, the reference that a symbolic target names, and the object that it leads to.
+/// As gix-ref's `file::ReferenceExt`.
 pub trait ReferenceExt: Sealed {
-    /// The reflog of the reference, to be read with `all` or `rev`. It takes no memory, and looks at no file.
+    /// The reflog of the reference, to be read with `all` or `rev`. It takes no memory, and looks at no file. As
+    /// gix-ref's `ReferenceExt::log_iter` (`git reflog`).
+    ///
+    /// ```text
+    /// let mut platform = reference.log_iter(alloc, &mut store);
+    /// if let Some(lines) = platform.all(alloc)? {
+    ///     for line in lines {
+    ///         println!(rt; "{}", line?.new_oid())?; // the oldest first
+    ///     }
+    /// }
+    /// ```
     fn log_iter<'a, 's, F: Files>(
         &'a self,
         alloc: Global,
         store: &'s mut Store<F>,
     ) -> log::Platform<'a, 's, F>;
 
-    /// Whether the reference has a reflog (`git reflog exists`). As `Store::reflog_exists`.
+    /// Whether the reference has a reflog (`git reflog exists`). As `Store::reflog_exists`, and as gix-ref's
+    /// `ReferenceExt::log_exists`.
     fn log_exists<F: Files>(&self, alloc: Global, store: &mut Store<F>) -> Result<bool, log::Error>;
 
-    /// Follows the reference to an object, and goes behind the tags of that (`git rev-parse <ref>^{}`): at most four symbolic
+    /// Follows the reference to an object, and peels the tags there (`git rev-parse <ref>^{}`): at most four symbolic
     /// references, and at most 1,000 tags. The reference then points to the object that is returned, and `peeled` is that. A
-    /// reference with `peeled` returns it at once.
+    /// reference with `peeled` returns it at once. As gix-ref's `ReferenceExt::peel_to_id`.
     ///
     /// `packed-refs` is opened once, where a symbolic target without a loose file asks for it.
     ///
@@ -49,7 +61,7 @@ pub trait ReferenceExt: Sealed {
         objects: &T,
     ) -> Result<ObjectId, to_id::Error>;
 
-    /// As `peel_to_id`.
+    /// As `peel_to_id`, and as gix-ref's `ReferenceExt::peel_to_id_in_place`.
     fn peel_to_id_in_place<F: Files, T: Find>(
         &mut self,
         alloc: Global,
@@ -57,7 +69,8 @@ pub trait ReferenceExt: Sealed {
         objects: &T,
     ) -> Result<ObjectId, to_id::Error>;
 
-    /// As `peel_to_id`, where the records of this buffer are asked in place of those of the file; none where it is `None`.
+    /// As `peel_to_id`, among the records of this buffer and not those of the file; among loose files alone where it is `None`.
+    /// As gix-ref's `ReferenceExt::peel_to_id_packed`.
     fn peel_to_id_packed<F: Files, T: Find>(
         &mut self,
         alloc: Global,
@@ -66,7 +79,7 @@ pub trait ReferenceExt: Sealed {
         packed: Option<&Buffer>,
     ) -> Result<ObjectId, to_id::Error>;
 
-    /// As `peel_to_id_packed`.
+    /// As `peel_to_id_packed`, and as gix-ref's `ReferenceExt::peel_to_id_in_place_packed`.
     fn peel_to_id_in_place_packed<F: Files, T: Find>(
         &mut self,
         alloc: Global,
@@ -75,13 +88,20 @@ pub trait ReferenceExt: Sealed {
         packed: Option<&Buffer>,
     ) -> Result<ObjectId, to_id::Error>;
 
-    /// Follows the reference to an object, over at most four symbolic references (`git symbolic-ref`), where the records of
-    /// this buffer are asked in place of those of `packed-refs`; none where it is `None`. The reference then is the one that
-    /// points to the object.
+    /// Follows the reference to an object, over at most four symbolic references (`git symbolic-ref`), among the records of this
+    /// buffer and not those of `packed-refs`; among loose files alone where it is `None`. The reference then is the one that
+    /// points to the object. As gix-ref's `ReferenceExt::follow_to_object_packed`.
     ///
     /// `Follow` where a target is not found, or its lookup fails; `Cycle` where a step leads to a name that an earlier one
     /// reached, with the path of the reference that leads there; `DepthLimitExceeded` where a fifth step was taken; `Memory`.
     /// The reference then is the last one that was reached.
+    ///
+    /// ```text
+    /// let packed = store.open_packed_buffer(alloc)?;
+    /// let mut head = store.find(alloc, PartialNameRef::try_from("HEAD")?)?;
+    /// let commit = head.follow_to_object_packed(alloc, &mut store, packed.as_ref())?;
+    /// println!(rt; "{} {}", commit, head.name)?; // the branch that `HEAD` leads to
+    /// ```
     fn follow_to_object_packed<F: Files>(
         &mut self,
         alloc: Global,
@@ -89,7 +109,7 @@ pub trait ReferenceExt: Sealed {
         packed: Option<&Buffer>,
     ) -> Result<ObjectId, to_object::Error>;
 
-    /// As `follow_to_object_packed`.
+    /// As `follow_to_object_packed`, and as gix-ref's `ReferenceExt::follow_to_object_in_place_packed`.
     fn follow_to_object_in_place_packed<F: Files>(
         &mut self,
         alloc: Global,
@@ -97,7 +117,8 @@ pub trait ReferenceExt: Sealed {
         packed: Option<&Buffer>,
     ) -> Result<ObjectId, to_object::Error>;
 
-    /// The reference that a symbolic target names, by `Store::find`; `None` where the target is an object.
+    /// The reference that a symbolic target names, by `Store::find`; `None` where the target is an object. As gix-ref's
+    /// `ReferenceExt::follow`.
     ///
     /// ```text
     /// if let Some(next) = head.follow(alloc, &mut store) {
@@ -110,8 +131,8 @@ pub trait ReferenceExt: Sealed {
         store: &mut Store<F>,
     ) -> Option<Result<Reference, existing::Error>>;
 
-    /// As `follow`, by `Store::find_packed`: the records of this buffer are asked in place of those of `packed-refs`; none
-    /// where it is `None`.
+    /// As `follow`, by `Store::find_packed`: among the records of this buffer and not those of `packed-refs`; among loose files
+    /// alone where it is `None`. As gix-ref's `ReferenceExt::follow_packed`.
     fn follow_packed<F: Files>(
         &self,
         alloc: Global,

@@ -40,7 +40,7 @@ fn refused(error: PeelError, name: &FullName) -> Error
     }
 }
 
-/// Goes behind the tags of the object of a reference, which then points to the object there.
+/// Peels the tags of the object of a reference, which then points to the object behind them.
 fn peel_tags<T: Find>(
     reference: &mut Reference,
     alloc: Global,

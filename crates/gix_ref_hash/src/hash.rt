@@ -14,7 +14,7 @@ mod digits;
 
 use digits::{digits_of_sha1, sha1_of_digits};
 
-/// The hash functions whose ids are known (`git init --object-format`).
+/// The hash functions whose ids are known (`git init --object-format`). As gix-hash's `Kind`.
 #[derive(Clone, Copy, Debug, PartialEq, Eq, PartialOrd, Ord, Hash)]
 pub enum Kind {
     /// SHA-1: 20 bytes, 40 hex digits.
@@ -23,7 +23,14 @@ pub enum Kind {
     Sha256,
 }
 
-/// The id of an object. Ids are ordered by their kind and then by their bytes.
+/// The id of an object. Ids are ordered by their kind and then by their bytes. As gix-hash's `ObjectId`.
+///
+/// ```text
+/// let id = ObjectId::from_hex(b"1111111111111111111111111111111111111111");
+/// if let Some(id) = id {
+///     println!(rt; "{id}")?; // the forty digits
+/// }
+/// ```
 #[derive(Clone, Copy, Debug, PartialEq, Eq, PartialOrd, Ord, Hash)]
 pub enum ObjectId {
     /// The 20 bytes of a SHA-1.
@@ -41,7 +48,7 @@ fn as_read(bytes: &[u8]) -> &[u8]
 }
 
 impl Kind {
-    /// The number of bytes of an id: 20 or 32.
+    /// The number of bytes of an id: 20 or 32. As gix-hash's `Kind::len_in_bytes`.
     pub fn len_in_bytes(self) -> usize
         ensures { result ≡ kind_len self }
     {
@@ -51,14 +58,18 @@ impl Kind {
         }
     }
 
-    /// The number of hex digits of an id: 40 or 64.
+    /// The number of hex digits of an id: 40 or 64. As gix-hash's `Kind::len_in_hex`.
     pub fn len_in_hex(self) -> usize
         ensures { result ≡ 2 * kind_len self }
     {
         2 * self.len_in_bytes()
     }
 
-    /// The id of this kind whose bytes are all zero.
+    /// The id of this kind whose bytes are all zero. As gix-hash's `Kind::null`.
+    ///
+    /// ```text
+    /// let none = Kind::Sha1.null(); // forty zeros, which `git update-ref` takes as the old value of a new reference
+    /// ```
     pub fn null(self) -> ObjectId
         ensures { result ≡ null_id self }
     {
@@ -70,7 +81,8 @@ impl Kind {
 }
 
 impl ObjectId {
-    /// Reads an id from exactly 40 or 64 hex digits, of either case; `None` for any other text.
+    /// Reads an id from exactly 40 or 64 hex digits, of either case; `None` for any other text. As gix-hash's
+    /// `ObjectId::from_hex`, whose error is `None` here.
     ///
     /// ```text
     /// ObjectId::from_hex(b"1111111111111111111111111111111111111111") // an id of 20 bytes
@@ -92,14 +104,14 @@ impl ObjectId {
         }
     }
 
-    /// The id of the kind whose bytes are all zero.
+    /// The id of the kind whose bytes are all zero. As gix-hash's `ObjectId::null`.
     pub fn null(kind: Kind) -> ObjectId
         ensures { result ≡ null_id kind }
     {
         kind.null()
     }
 
-    /// The hash function of the id.
+    /// The hash function of the id. As gix-hash's `ObjectId::kind`.
     pub fn kind(&self) -> Kind
         ensures { result ≡ id_kind self.now }
     {
@@ -109,7 +121,12 @@ impl ObjectId {
         }
     }
 
-    /// The bytes of the id, 20 or 32 of them.
+    /// The bytes of the id, 20 or 32 of them. As gix-hash's `ObjectId::as_bytes`.
+    ///
+    /// ```text
+    /// let id = Kind::Sha1.null();
+    /// let bytes = id.as_bytes(); // twenty bytes 0
+    /// ```
     pub fn as_bytes(&self) -> &[u8]
         ensures bytes { result.now ≡ id_bytes self.now }
         ensures len { length result.now ≡ kind_len (id_kind self.now) }
@@ -122,7 +139,7 @@ impl ObjectId {
     }
 
     /// Adds the 40 or 64 hex digits of the id to the text, in lower case. The error reports that the text could not grow, and
-    /// leaves it as it was.
+    /// leaves it as it was. As `write!` of the id into a text.
     pub fn push_hex(&self, text: &mut Vec<u8>) -> Result<(), AllocError>
         ensures added { OnOk result (text.new.items ≡ text.old.items ++ encode_lower
             (id_bytes self.now)) }
@@ -138,7 +155,7 @@ impl ObjectId {
         }
     }
 
-    /// Whether the id is the null id of its kind.
+    /// Whether the id is the null id of its kind. As gix-hash's `ObjectId::is_null`.
     pub fn is_null(&self) -> bool
         ensures { IsTrue result ↔ (self.now ≡ null_id (id_kind self.now)) }
     {
@@ -171,7 +188,8 @@ pub fn digits_of_ids()
         → IsHexOf (id_kind id) text × IsWhole id }
 {}
 
-/// The id of which these are the hex digits, 40 or 64 of them, of either case.
+/// The id of which these are the hex digits, 40 or 64 of them, of either case. As `ObjectId::from_hex` of a text that
+/// is known to be one.
 #[inline(always)]
 pub fn id_of_digits(digits: &[u8]) -> ObjectId
     requires { IsIdText digits.now }
@@ -183,7 +201,7 @@ pub fn id_of_digits(digits: &[u8]) -> ObjectId
     }
 }
 
-/// Whether a byte is a hex digit, of either case.
+/// Whether a byte is a hex digit, of either case. As `u8::is_ascii_hexdigit`.
 pub fn is_hex(byte: u8) -> bool
     ensures { result ≡ is_hex_digit byte }
 {
@@ -231,7 +249,12 @@ fn id_of_kind(text: &[u8], kind: Kind) -> Option<(&[u8], &[u8])>
 }
 
 /// Takes the hex digits of an id of the kind from the front of the input. `None` leaves the input, where it does not
-/// begin with that many digits.
+/// begin with that many digits. As gix-ref's private `hex_hash`.
+///
+/// ```text
+/// let mut text = b"1111111111111111111111111111111111111111 refs/heads/a".as_slice();
+/// let digits = hex_hash(&mut text, Kind::Sha1); // the 40 digits; the text is ` refs/heads/a`
+/// ```
 pub fn hex_hash<'a>(input: &mut &'a [u8], kind: Kind) -> Option<&'a [u8]>
     ensures taken { IfSome result (λ digits. IsHexOf kind digits.now
         × (input.old.now ≡ digits.now ++ input.new.now)) }
@@ -268,7 +291,7 @@ fn any_id(text: &[u8]) -> Option<(&[u8], &[u8])>
 }
 
 /// Takes the hex digits of an id of any kind from the front of the input: the run of hex digits, cut at 64, which
-/// must be 40 or 64 digits long. `None` leaves the input.
+/// must be 40 or 64 digits long. `None` leaves the input. As gix-ref's private `hex_hash_any`.
 ///
 /// ```text
 /// let mut text = b"1111111111111111111111111111111111111111 refs/heads/a".as_slice();
@@ -287,7 +310,7 @@ pub fn hex_hash_any<'a>(input: &mut &'a [u8]) -> Option<&'a [u8]>
 }
 
 /// Takes a newline, LF or CR and LF, from the front of the input. `None`, and the input as it was, if it does
-/// not begin with one.
+/// not begin with one. As gix-ref's private `newline`.
 ///
 /// ```text
 /// let mut text = b"\r\nnext".as_slice();

@@ -12,7 +12,7 @@ use Rattle.gix_ref_lookup.specs.declared.settings.Settings.{Settings}
 use Rattle.gix_ref_listing.specs.Walks.{FoundEntry}
 use Rattle.gix_ref_listing.specs.declared.found.Found.TheVariants.{File, Unlisted}
 
--- what stands before the names in a folder of a store: the folder, a slash and the namespace
+-- what comes before the names in a folder of a store: the folder, a slash and the namespace
 abbrev pub front_in : Settings → (folder : List ℕ) → List ℕ
 front_in settings folder = below folder (namespace_text settings.namespace.now)
 

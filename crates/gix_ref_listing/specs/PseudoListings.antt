@@ -26,7 +26,7 @@ abbrev pub is_kept : FoundEntry → Bool
 is_kept (key, File name path) = is_pseudo key.items
 is_kept (key, Unlisted path error) = true
 
--- what stands before such names: the git folder and a slash, and in a namespace its folder there
+-- what comes before such names: the git folder and a slash, and in a namespace its folder there
 abbrev pub git_front : Settings → List ℕ
 git_front settings = front_in settings (folders_of settings.dirs.now settings.namespace.now).git
 

@@ -12,7 +12,7 @@ use Rattle.gix_ref_listing.specs.declared.found.Found.{Found}
 use Rattle.gix_ref_listing.specs.declared.found.Found.TheVariants.{File, Unlisted}
 use Rattle.gix_ref_listing.specs.declared.walk.Root.{Root}
 
--- what stands before each name in its path: a path and a slash
+-- what comes before each name in its path: a path and a slash
 abbrev pub IsRootPath : List ℕ → Type 0
 IsRootPath path = (front : List ℕ) × (front ≢ []) × (path ≡ front ++ 47 ∷ [])
 
@@ -86,7 +86,7 @@ IsFolderPath folder = (folder ≡ []) ⊎ IsInnerPath folder
 abbrev pub IsBelow : List (Vec ℕ Global) → List ℕ → Type 0
 IsBelow folders name = Among (λ folder. BeginsWith name folder.items) folders
 
--- An entry of a folder was taken: a file is found, where it is the file of a name; and a folder is to be walked, where names
+-- An entry of a folder was looked at: a file is found, where it is the file of a name; and a folder is to be walked, where names
 -- may be in it.
 pub record IsTaken (root : Root) (folder : List ℕ) (found : List FoundEntry) (next : List (Vec ℕ Global)) (entry : ListedEntry) : Type 0 where
   pub file : entry.is_folder ≡ false → IsListedName root (folder ++ entry.name.items) → Among (Holds (folder ++ entry.name.items)) found

@@ -128,8 +128,8 @@ pub fn next_item<F: Files>(
     take_item(alloc, files, settings, merge)
 }
 
-/// The next of a listing, lent, where it is a record of `packed-refs`. `None`, and nothing is taken, where it is anything else,
-/// and where none is left. Takes no memory.
+/// The next of a listing, lent, where it is a record of `packed-refs`. `None` where it is anything else, which then stays the
+/// next, and at the end. Takes no memory.
 pub fn next_record<'p>(settings: Settings<'_>, merge: &mut Merge<'p>) -> Option<OwnRecord<'p>>
     ensures gives { IfSome result (GivesRecord (plain settings.entry) merge.old merge.new) }
     ensures none { IfNone result ((listed : List Listed) →

@@ -12,7 +12,7 @@ use std::cmp::Ordering;
 pub enum Taken<'p> {
     /// What a walk found.
     Walked(Found),
-    /// A record of `packed-refs`, or a line that is none.
+    /// A record of `packed-refs`, or a line that is no record.
     Packed(Result<OwnRecord<'p>, Error<'p>>),
 }
 
@@ -76,8 +76,8 @@ impl<'p> Merge<'p> {
         }
     }
 
-    /// The next of the listing, where it is a record of `packed-refs`. `None`, and nothing is taken, where it is anything else,
-    /// and where none is left.
+    /// The next of the listing, where it is a record of `packed-refs`. `None` where it is anything else, which then stays the
+    /// next, and at the end.
     pub fn take_record(&mut self, settings: Settings<'_>) -> Option<OwnRecord<'p>>
         ensures takes { IfSome result (λ own. (owns : List Own) →
             AreAhead settings.entry self.old.packed owns →

@@ -158,8 +158,8 @@ impl<'p> OwnRecords<'p> {
         Some(first)
     }
 
-    /// The next one, where it is a record. `None`, and nothing is taken, where it is a line that is no record, and where none
-    /// is left.
+    /// The next one, where it is a record. `None` where it is a line that is no record, which then stays the next, and at the
+    /// end.
     pub fn take_record(&mut self, settings: Settings<'_>) -> Option<OwnRecord<'p>>
         ensures takes { IfSome result (λ own. (owns : List Own) →
             AreAhead settings.entry self.old owns →

@@ -29,7 +29,7 @@ pub(crate) fn text_of(namespace: &Option<Namespace>) -> &[u8]
     }
 }
 
-/// What stands before the names in a folder of the store in their paths: the folder, a slash and the namespace.
+/// What comes before the names in a folder of the store in their paths: the folder, a slash and the namespace.
 pub(crate) fn front_of(
     alloc: Global,
     folder: &[u8],

@@ -24,7 +24,7 @@ use std::alloc::{AllocError, Global};
 /// Where a walk looks for names.
 #[derive(Clone, Copy, Debug)]
 pub struct Root<'a> {
-    /// What stands before each name in its path: a folder of the store, a slash, and the namespace.
+    /// What comes before each name in its path: a folder of the store, a slash, and the namespace.
     pub path: &'a [u8],
     /// What the names begin with.
     pub prefix: &'a [u8],

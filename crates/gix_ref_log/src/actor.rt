@@ -15,7 +15,7 @@ mod stamp;
 use number::parse_short_decimal;
 use stamp::time_of;
 
-/// A moment, and the zone in which it was recorded.
+/// A moment, and the zone in which it was recorded. As gix-date's `Time`.
 #[derive(Clone, Copy, Debug, PartialEq, Eq, PartialOrd, Ord, Hash)]
 pub struct Time {
     /// Seconds since the beginning of 1970, in UTC.
@@ -24,7 +24,7 @@ pub struct Time {
     pub offset: i32,
 }
 
-/// Who made a change, and when.
+/// Who made a change, and when. As gix-actor's `Signature` (`git commit-tree`).
 #[derive(Debug, PartialEq, Eq, PartialOrd, Ord, Hash, Clone, Drop)]
 pub struct Signature {
     /// The name, as bytes.
@@ -35,7 +35,7 @@ pub struct Signature {
     pub time: Time,
 }
 
-/// A lent signature.
+/// A lent signature. As gix-actor's `SignatureRef`, with a `Time` in the place of text.
 #[derive(Clone, Copy, Debug, PartialEq, Eq, PartialOrd, Ord, Hash)]
 pub struct SignatureRef<'a> {
     /// The name, as bytes.
@@ -171,7 +171,7 @@ pub fn signatures_read_back()
 impl Signature {
     ghost use Rattle.gix_ref_log.specs.Signatures.{signature_who, signature_ref_who};
 
-    /// This signature, lent.
+    /// This signature, lent. As gix-actor's `Signature::to_ref`.
     pub fn to_ref(&self) -> SignatureRef<'_>
         ensures { signature_ref_who result ≡ signature_who self.now }
     {
@@ -189,7 +189,8 @@ impl<'a> SignatureRef<'a> {
     ghost use Rattle.gix_ref_log.specs.Signatures.{trimmed_who, signature_who, signature_ref_who};
 
     /// Reads a signature, `name <email> seconds +hhmm`: the name is all before the first `<`, less one space at its end,
-    /// and the email lies between that and the last `>`. `None` for any other text; nothing may follow.
+    /// and the email lies between that and the last `>`. `None` for any other text; nothing may follow. As gix-actor's
+    /// `SignatureRef::from_bytes`.
     ///
     /// ```text
     /// SignatureRef::decode(b"A U Thor <a@example.com> 1234567890 +0800")
@@ -244,7 +245,13 @@ impl<'a> SignatureRef<'a> {
         })
     }
 
-    /// The same signature without space, tab, LF, FF and CR at the ends of its name and email.
+    /// The same signature without space, tab, LF, FF and CR at the ends of its name and email. As gix-actor's
+    /// `SignatureRef::trim`.
+    ///
+    /// ```text
+    /// let committer = SignatureRef { name: b" A U Thor ", email: b"a@example.com", time };
+    /// committer.trim().name // `A U Thor`
+    /// ```
     pub fn trim(self) -> SignatureRef<'a>
         ensures { signature_ref_who result ≡ trimmed_who (signature_ref_who self.entry) }
     {
@@ -256,7 +263,7 @@ impl<'a> SignatureRef<'a> {
     }
 
     /// Whether the signature can be written: name and email hold no `<`, no `>` and no LF, and the offset is of whole
-    /// minutes and not past 99:59 either way.
+    /// minutes and not past 99:59 either way. As the checks of gix-actor's `SignatureRef::write_to`.
     pub fn is_writable(self) -> bool
         ensures { IsTrue result ↔ CanWrite (signature_ref_who self.entry) }
     {
@@ -289,7 +296,13 @@ impl<'a> SignatureRef<'a> {
     }
 
     /// Writes `name <email> seconds +hhmm`, as it is: nothing is trimmed. `SignatureUnwritable` comes before the first
-    /// byte; after `Io` the writer holds what it took before it failed.
+    /// byte; after `Io` the writer holds what it took before it failed. As gix-actor's `SignatureRef::write_to`.
+    ///
+    /// ```text
+    /// let time = Time { seconds: 1234567890, offset: 28800 };
+    /// let committer = SignatureRef { name: b"A U Thor", email: b"a@example.com", time };
+    /// committer.write_to(&mut out)?; // A U Thor <a@example.com> 1234567890 +0800
+    /// ```
     pub fn write_to<W: io::Write>(self, out: &mut W) -> Result<(), WriteError>
         ensures written { OnOk result (CanWrite (signature_ref_who self.entry)
             × Appends (W.contents out.old) (W.contents out.new)
@@ -307,7 +320,7 @@ impl<'a> SignatureRef<'a> {
         }
     }
 
-    /// An owned copy; the error says that there was no memory for it.
+    /// An owned copy; the error says that there was no memory for it. As gix-actor's `SignatureRef::to_owned`.
     #[inline(always)]
     pub fn to_owned(self, alloc: Global) -> Result<Signature, AllocError>
         ensures { IfOk result (λ owned. signature_who owned ≡ signature_ref_who self.entry) }

@@ -89,6 +89,11 @@ fn are_clean_parts(path: &[u8]) -> bool
 
 /// Whether a path is clean: not empty, no NUL, no empty component but for one leading slash, no component `.` or `..`,
 /// and no slash at its end.
+///
+/// ```text
+/// is_clean_path(b"/srv/a.git") // true
+/// is_clean_path(b"../a.git")   // false
+/// ```
 pub fn is_clean_path(path: &[u8]) -> bool
     ensures { result ≡ is_clean path.now }
 {

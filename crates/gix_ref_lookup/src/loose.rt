@@ -18,7 +18,7 @@ use gix_ref_name::name::{FullName, FullNameRef};
 use gix_ref_packed::raw;
 use std::alloc::{AllocError, Global};
 
-/// A loose reference: one in its own file.
+/// A loose reference: one in its own file. As gix-ref's `file::loose::Reference`.
 #[derive(Debug, PartialEq, Eq, PartialOrd, Ord, Hash, Drop)]
 pub struct Reference {
     /// Its full name.
@@ -30,10 +30,10 @@ pub struct Reference {
 impl Reference {
     /// The reference of a name by the bytes of its file. They are `ref: `, any further spaces and a full name, up to
     /// the first NUL, CR or LF (`git symbolic-ref`); or the 40 or 64 hex digits of an id of the kind that no hex digit
-    /// follows, whatever else does.
+    /// follows, whatever else does. As gix-ref's `file::loose::Reference::try_from_path`.
     ///
-    /// `Parse` where they are neither, with the bytes; `RefnameValidation` with the path that is no full name and the
-    /// first rule that it breaks; `Memory` where a copy found no memory. Each drops the name.
+    /// `Parse` where they are neither, with the bytes; `RefnameValidation` with the path that is not a full name and the
+    /// first rule that it breaks; `Memory` where there was no memory for a copy. Each drops the name.
     ///
     /// ```text
     /// let name = FullName::try_from(b"HEAD".to_vec(alloc)?)?;
@@ -54,14 +54,14 @@ impl Reference {
         Ok(Reference { name, target })
     }
 
-    /// Whether the reference points to an object or to another reference.
+    /// Whether the reference points to an object or to another reference. As gix-ref's `file::loose::Reference::kind`.
     pub fn kind(&self) -> target::Kind
         ensures { result ≡ target_kind (target_value self.now.target) }
     {
         self.target.kind()
     }
 
-    /// Whether these are the bytes of the name.
+    /// Whether these are the bytes of the name. As `==` of a reference and bytes in gix-ref.
     pub fn eq_bytes(&self, bytes: &[u8]) -> bool
         ensures { IsTrue result ↔ (full_bytes self.now.name ≡ bytes.now) }
     {
@@ -154,7 +154,12 @@ fn object_id(text: &[u8], kind: Kind) -> Option<ObjectId>
     }
 }
 
-/// The target that the bytes of a loose file hold.
+/// The target that the bytes of a loose file hold. As `Target::try_from` of a loose file in gix-ref, which is private
+/// there.
+///
+/// ```text
+/// decode(alloc, b"ref: refs/heads/main\n", Kind::Sha1)? // Target::Symbolic of `refs/heads/main`
+/// ```
 pub fn decode(alloc: Global, text: &[u8], kind: Kind) -> Result<Target, Error>
     ensures { MatchResult result (λ target. HoldsTarget kind text.now (target_value target))
         (CannotDecode kind text.now) }
@@ -186,7 +191,12 @@ fn object_text(alloc: Global, id: &ObjectId) -> Result<Vec<u8>, AllocError>
     Ok(text)
 }
 
-/// The text that a loose file of this target has. It decodes to the target.
+/// The text that a loose file of this target has. It decodes to the target. As `git update-ref` and `git symbolic-ref`
+/// write it.
+///
+/// ```text
+/// text_of(alloc, &Target::Object(id))? // forty digits and LF
+/// ```
 pub fn text_of(alloc: Global, target: &Target) -> Result<Vec<u8>, AllocError>
     ensures text { IfOk result (λ text. text.items ≡ loose_text (target_value target.now)) }
     ensures back { OnOk result ((kind : Kind) → IsWritable kind (target_value target.now) →

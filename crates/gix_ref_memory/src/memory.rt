@@ -27,7 +27,8 @@ use std::alloc::Global;
 use std::io::ErrorKind;
 use turns::{Plan, Turn, Turns};
 
-/// Files in memory. They are honest: they keep the contract of `Files` and claim to.
+/// Files in memory. They are honest: they keep the contract of `Files` and claim to. Not in gix-ref, whose tests use
+/// the disk.
 ///
 /// They start as an empty tree and keep every change and every sync since, so that the clock, and what a stop or a loss of
 /// power could have left, are functions of what they hold. A look-up costs time in proportion to the changes, a listing to their square: this is
@@ -52,6 +53,12 @@ impl Memory {
     ghost use Rattle.gix_ref_memory.specs.declared.memory.turns.Plan.TheVariants.{Runs, FailsAt, StopsAt};
 
     /// An empty tree, of which no call fails. The allocator is kept for the tree and its record.
+    ///
+    /// ```text
+    /// let mut files = Memory::new(alloc);
+    /// files.put(b"/r/refs/heads/main", b"1111111111111111111111111111111111111111\n")?;
+    /// let store = Store::at(files, b"/r".to_vec(alloc)?, Kind::Sha1)?;
+    /// ```
     pub fn new(alloc: Global) -> Self
         ensures tree { tree_of result ≡ no_tree }
         ensures calls { calls_of result ≡ 0 }
@@ -72,7 +79,8 @@ impl Memory {
 
     /// Puts a file with these bytes at a path, in place of a file that is there, and makes the folders that lead
     /// to it, all of it synced; false, and nothing changed, where a folder is at the path or a file in it. It is no call of files,
-    /// so it is not counted, and no plan has it fail. `Memory` where a growth was refused; then nothing has changed.
+    /// so it is not counted, and no plan has it fail. `Memory` where a growth was refused; then nothing has changed. As
+    /// `fs::write` after `fs::create_dir_all`.
     ///
     /// ```text
     /// let mut files = Memory::new(alloc);
@@ -96,7 +104,12 @@ impl Memory {
         }
     }
 
-    /// The bytes of the file at a path; `None` where there is no file.
+    /// The bytes of the file at a path; `None` where there is no file. As `fs::read`, lent.
+    ///
+    /// ```text
+    /// let files = store.into_files();
+    /// files.get(b"/r/HEAD") // Some(b"ref: refs/heads/main\n")
+    /// ```
     pub fn get(&self, path: &[u8]) -> Option<&[u8]>
         ensures found { IfSome result (λ bytes. tree_of self.now path.now ≡ Some (File bytes.now)) }
         ensures none { IfNone result (is_file (tree_of self.now path.now) ≡ false) }
@@ -130,6 +143,10 @@ impl Memory {
     /// append or the folders that lead to a path and the one there, also those that exist; any other call that changes
     /// the tree does all of it where n is not 0, and nothing where it is, and `create_new` and the syncs always nothing.
     /// This takes the place of an earlier plan.
+    ///
+    /// ```text
+    /// files.stop_at(3, 5); // the third call, an append, writes five bytes; then the process is dead
+    /// ```
     pub fn stop_at(&mut self, k: u64, n: usize)
         ensures plan { plan_of self.new ≡ StopsAt (min (calls_of self.old + k) (2 ^ 64 - 1)) n }
         ensures same { KeepsFiles self.old self.new }
@@ -172,6 +189,10 @@ impl Memory {
     }
 
     /// Has no call fail or stop any more, as after the process was started again. The tree stays.
+    ///
+    /// ```text
+    /// files.restart(); // and look at what the stop left
+    /// ```
     pub fn restart(&mut self)
         ensures plan { plan_of self.new ≡ Runs }
         ensures same { KeepsFiles self.old self.new }

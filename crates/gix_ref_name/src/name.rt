@@ -18,14 +18,25 @@ pub use category::Category;
 use category::category_of_bytes;
 pub use convert::shown_names;
 
-/// A lent full name. It always holds a valid partial name; one that was made from a text is a valid full name.
+/// A lent full name. It always holds a valid partial name; one that was made from a text is a valid full name. As
+/// gix-ref's `FullNameRef`.
+///
+/// ```text
+/// let name = FullNameRef::try_from("refs/heads/main")?;
+/// FullNameRef::try_from("refs/heads/a..b") // Error::RepeatedDot
+/// FullNameRef::try_from("main")            // Error::SomeLowercase: it is a partial name
+/// ```
 #[derive(Clone, Copy, Debug, PartialEq, Eq, PartialOrd, Ord, Hash)]
 pub struct FullNameRef<'a> {
     bytes: &'a [u8],
     pub ghost valid: { IsPartialName bytes.now },
 }
 
-/// A lent partial name.
+/// A lent partial name. As gix-ref's `PartialNameRef`.
+///
+/// ```text
+/// let name = PartialNameRef::try_from("main")?; // may mean refs/heads/main
+/// ```
 #[derive(Clone, Copy, Debug, PartialEq, Eq, PartialOrd, Ord, Hash)]
 pub struct PartialNameRef<'a> {
     bytes: &'a [u8],
@@ -33,14 +44,14 @@ pub struct PartialNameRef<'a> {
 }
 
 /// An owned full name. It always holds a valid partial name; one that was made from a text is a valid
-/// full name.
+/// full name. As gix-ref's `FullName`.
 #[derive(Debug, PartialEq, Eq, PartialOrd, Ord, Hash, Drop)]
 pub struct FullName {
     bytes: Vec<u8>,
     pub ghost valid: { IsPartialName bytes.items },
 }
 
-/// An owned partial name.
+/// An owned partial name. As gix-ref's `PartialName`.
 #[derive(Debug, PartialEq, Eq, PartialOrd, Ord, Hash, Drop)]
 pub struct PartialName {
     bytes: Vec<u8>,
@@ -55,14 +66,19 @@ impl<'a> FullNameRef<'a> {
     ghost use Rattle.gix_ref_name.specs.Categories.{HasCategory, NoCategory, SameCategory, begins_again, text_of};
     ghost use Rattle.gix_ref_name.specs.Names.{full_ref_bytes, partial_ref_bytes, full_bytes, IsLastComponent};
 
-    /// The same name as a partial one.
+    /// The same name as a partial one. As gix-ref's `FullNameRef::as_partial_name`.
+    ///
+    /// ```text
+    /// let found = store.find(alloc, name.as_partial_name())?;
+    /// ```
     pub fn as_partial_name(self) -> PartialNameRef<'a>
         ensures { partial_ref_bytes result ≡ full_ref_bytes self.entry }
     {
         PartialNameRef { bytes: self.bytes }
     }
 
-    /// The bytes of the name, as the relative path of the reference below the folder that it is in.
+    /// The bytes of the name, as the relative path of the reference below the folder that it is in. As gix-ref's
+    /// `FullNameRef::to_path`.
     pub fn to_path(self) -> &'a [u8]
         ensures bytes { result.now ≡ full_ref_bytes self.entry }
         ensures valid { IsPartialName result.now }
@@ -70,14 +86,20 @@ impl<'a> FullNameRef<'a> {
         self.bytes
     }
 
-    /// The bytes of the name, as text by convention.
+    /// The bytes of the name, as text by convention. As gix-ref's `FullNameRef::as_bstr`.
     pub fn as_bstr(self) -> BStr<'a>
         ensures { bstr_bytes result ≡ full_ref_bytes self.entry }
     {
         self.bytes.as_bstr()
     }
 
-    /// The short name of the name's category, or the name itself where it has none: `main` of `refs/heads/main`.
+    /// The short name of the name's category, or the name itself where it has none: `main` of `refs/heads/main`. As
+    /// gix-ref's `FullNameRef::shorten`.
+    ///
+    /// ```text
+    /// FullNameRef::try_from("refs/heads/main")?.shorten() // `main`
+    /// FullNameRef::try_from("refs/notes/x")?.shorten()    // `notes/x`
+    /// ```
     pub fn shorten(self) -> &'a [u8]
         ensures short { (c : _) (s : List ℕ) → HasCategory (full_ref_bytes self.entry) c s
             → result.now ≡ s }
@@ -90,7 +112,7 @@ impl<'a> FullNameRef<'a> {
         }
     }
 
-    /// The category of the name, or `None` where it has none.
+    /// The category of the name, or `None` where it has none. As gix-ref's `FullNameRef::category`.
     pub fn category(self) -> Option<Category<'a>>
         ensures found { IfSome result (λ c. (s : List ℕ)
             × HasCategory (full_ref_bytes self.entry) c s) }
@@ -104,7 +126,12 @@ impl<'a> FullNameRef<'a> {
         }
     }
 
-    /// The category of the name and its short name, or `None` where it has no category.
+    /// The category of the name and its short name, or `None` where it has no category. As gix-ref's
+    /// `FullNameRef::category_and_short_name`.
+    ///
+    /// ```text
+    /// FullNameRef::try_from("refs/tags/v1")?.category_and_short_name() // Some((Category::Tag, b"v1"))
+    /// ```
     pub fn category_and_short_name(self) -> Option<(Category<'a>, &'a [u8])>
         ensures found { IfSome result (λ p. HasCategory (full_ref_bytes self.entry) p.0 p.1.now) }
         ensures none { IfNone result (NoCategory (full_ref_bytes self.entry)) }
@@ -120,7 +147,8 @@ impl<'a> FullNameRef<'a> {
         category_of_bytes(self.bytes)
     }
 
-    /// The last component of the name, as `Path::file_name` gives it: `main` of `refs/heads/main`.
+    /// The last component of the name, as `Path::file_name` gives it: `main` of `refs/heads/main`. As gix-ref's
+    /// `FullNameRef::file_name`.
     ///
     /// ```text
     /// FullNameRef::try_from("refs/heads/feature/x")?.file_name() // `x`
@@ -134,8 +162,8 @@ impl<'a> FullNameRef<'a> {
         }
     }
 
-    /// The name with these bytes, as a listing has it: any valid partial name, though by itself it may be no full one, as
-    /// `config` is none. `None` for bytes that are no partial name. Takes no memory.
+    /// The name with these bytes, as a listing has it: any valid partial name, even where it is not a valid full name, as
+    /// `config`. `None` for bytes that are no partial name. Takes no memory. Not in gix-ref.
     pub fn from_path(path: &'a [u8]) -> Option<FullNameRef<'a>>
         ensures { MatchOption result (IsPartialName path.now → ⊥)
             (λ n. IsPartialName path.now × (full_ref_bytes n ≡ path.now)) }
@@ -147,7 +175,7 @@ impl<'a> FullNameRef<'a> {
     }
 
     /// The name inside of the namespace: what follows that. `None` where the name does not begin with it, and where the
-    /// rest is no valid partial name.
+    /// rest is no valid partial name. Not in gix-ref; see its `Reference::name_without_namespace`.
     pub fn without_namespace(self, namespace: &Namespace) -> Option<FullNameRef<'a>>
         ensures { MatchOption result
             ((rest : List ℕ) → IsPartialName rest
@@ -163,7 +191,11 @@ impl<'a> FullNameRef<'a> {
         }
     }
 
-    /// An owned copy; the error says that there was no memory for it.
+    /// An owned copy; the error says that there was no memory for it. As gix-ref's `FullNameRef::to_owned`.
+    ///
+    /// ```text
+    /// let name = FullNameRef::try_from("refs/heads/main")?.to_owned(alloc)?;
+    /// ```
     pub fn to_owned(self, alloc: Global) -> Result<FullName, AllocError>
         ensures { IfOk result (λ n. full_bytes n ≡ full_ref_bytes self.entry) }
     {
@@ -172,7 +204,7 @@ impl<'a> FullNameRef<'a> {
         })
     }
 
-    /// Whether these are the bytes of the name.
+    /// Whether these are the bytes of the name. As `==` of a name and bytes in gix-ref.
     pub fn eq_bytes(self, bytes: &[u8]) -> bool
         ensures { IsTrue result ↔ (full_ref_bytes self.entry ≡ bytes.now) }
     {
@@ -189,7 +221,7 @@ impl FullName {
     ghost use Rattle.gix_ref_name.specs.Names.{full_ref_bytes, full_bytes};
     ghost use Rattle.gix_ref_name.specs.Namespaces.{namespace_bytes, stripped};
 
-    /// The name, lent.
+    /// The name, lent. As gix-ref's `FullName::as_ref`.
     pub fn as_ref(&self) -> FullNameRef<'_>
         ensures { full_ref_bytes result ≡ full_bytes self.now }
     {
@@ -198,7 +230,8 @@ impl FullName {
         }
     }
 
-    /// The bytes of the name, as the relative path of the reference below the folder that it is in.
+    /// The bytes of the name, as the relative path of the reference below the folder that it is in. As gix-ref's
+    /// `FullName::to_path`.
     pub fn to_path(&self) -> &[u8]
         ensures bytes { result.now ≡ full_bytes self.now }
         ensures valid { IsPartialName result.now }
@@ -206,14 +239,14 @@ impl FullName {
         self.bytes.as_slice()
     }
 
-    /// The bytes of the name.
+    /// The bytes of the name. As gix-ref's `FullName::into_inner`.
     pub fn into_inner(self) -> Vec<u8>
         ensures { result.items ≡ full_bytes self }
     {
         self.bytes
     }
 
-    /// The bytes of the name, as text by convention.
+    /// The bytes of the name, as text by convention. As gix-ref's `FullName::as_bstr`.
     pub fn as_bstr(&self) -> BStr<'_>
         ensures { bstr_bytes result ≡ full_bytes self.now }
     {
@@ -221,7 +254,7 @@ impl FullName {
     }
 
     /// Puts the namespace in front of the name, unless the name begins with it. The error says that there was no
-    /// memory, and leaves the name.
+    /// memory, and leaves the name. As gix-ref's `FullName::prefix_namespace`.
     ///
     /// ```text
     /// let mut name = FullName::try_from(b"refs/heads/x".to_vec(alloc)?)?;
@@ -253,7 +286,7 @@ impl FullName {
     }
 
     /// Takes the namespace off the front of the name. It leaves a name that does not begin with it, and one whose rest
-    /// is no valid partial name.
+    /// is no valid partial name. As gix-ref's `FullName::strip_namespace`.
     pub fn strip_namespace(&mut self, namespace: &Namespace)
         ensures { full_bytes self.new ≡ stripped (namespace_bytes namespace.now)
             (full_bytes self.old) }
@@ -270,7 +303,8 @@ impl FullName {
         self.bytes.truncate(len);
     }
 
-    /// The short name of the name's category, or the name itself where it has none: `main` of `refs/heads/main`.
+    /// The short name of the name's category, or the name itself where it has none: `main` of `refs/heads/main`. As
+    /// gix-ref's `FullName::shorten`.
     pub fn shorten(&self) -> &[u8]
         ensures short { (c : _) (s : List ℕ) → HasCategory (full_bytes self.now) c s
             → result.now ≡ s }
@@ -279,7 +313,7 @@ impl FullName {
         self.as_ref().shorten()
     }
 
-    /// The category of the name, or `None` where it has none.
+    /// The category of the name, or `None` where it has none. As gix-ref's `FullName::category`.
     pub fn category(&self) -> Option<Category<'_>>
         ensures found { IfSome result (λ c. (s : List ℕ) × HasCategory (full_bytes self.now) c s) }
         ensures only { IfSome result (λ c. (d : _) (s : List ℕ)
@@ -289,7 +323,8 @@ impl FullName {
         self.as_ref().category()
     }
 
-    /// The category of the name and its short name, or `None` where it has no category.
+    /// The category of the name and its short name, or `None` where it has no category. As gix-ref's
+    /// `FullName::category_and_short_name`.
     pub fn category_and_short_name(&self) -> Option<(Category<'_>, &[u8])>
         ensures found { IfSome result (λ p. HasCategory (full_bytes self.now) p.0 p.1.now) }
         ensures none { IfNone result (NoCategory (full_bytes self.now)) }
@@ -301,7 +336,7 @@ impl FullName {
         self.as_ref().category_and_short_name()
     }
 
-    /// Whether these are the bytes of the name.
+    /// Whether these are the bytes of the name. As `==` of a name and bytes in gix-ref.
     pub fn eq_bytes(&self, bytes: &[u8]) -> bool
         ensures { IsTrue result ↔ (full_bytes self.now ≡ bytes.now) }
     {
@@ -314,7 +349,8 @@ impl<'a> PartialNameRef<'a> {
     ghost use Rattle.bstr.specs.BStr.{bstr_bytes};
     ghost use Rattle.gix_ref_name.specs.Names.{partial_ref_bytes, partial_bytes};
 
-    /// The bytes of the name, as a relative path that may be a part of one alone.
+    /// The bytes of the name, as a relative path that may be a part of one alone. As gix-ref's
+    /// `PartialNameRef::to_partial_path`.
     pub fn to_partial_path(self) -> &'a [u8]
         ensures bytes { result.now ≡ partial_ref_bytes self.entry }
         ensures valid { IsPartialName result.now }
@@ -322,14 +358,14 @@ impl<'a> PartialNameRef<'a> {
         self.bytes
     }
 
-    /// The bytes of the name, as text by convention.
+    /// The bytes of the name, as text by convention. As gix-ref's `PartialNameRef::as_bstr`.
     pub fn as_bstr(self) -> BStr<'a>
         ensures { bstr_bytes result ≡ partial_ref_bytes self.entry }
     {
         self.bytes.as_bstr()
     }
 
-    /// An owned copy; the error says that there was no memory for it.
+    /// An owned copy; the error says that there was no memory for it. As gix-ref's `PartialNameRef::to_owned`.
     pub fn to_owned(self, alloc: Global) -> Result<PartialName, AllocError>
         ensures { IfOk result (λ n. partial_bytes n ≡ partial_ref_bytes self.entry) }
     {
@@ -338,7 +374,7 @@ impl<'a> PartialNameRef<'a> {
         })
     }
 
-    /// Whether these are the bytes of the name.
+    /// Whether these are the bytes of the name. As `==` of a name and bytes in gix-ref.
     pub fn eq_bytes(self, bytes: &[u8]) -> bool
         ensures { IsTrue result ↔ (partial_ref_bytes self.entry ≡ bytes.now) }
     {
@@ -352,7 +388,7 @@ impl PartialName {
     ghost use Rattle.gix_ref_grammar.specs.NameGrammar.{partial_error};
     ghost use Rattle.gix_ref_name.specs.Names.{partial_ref_bytes, partial_bytes};
 
-    /// The name, lent.
+    /// The name, lent. As gix-ref's `PartialName::as_ref`.
     pub fn as_ref(&self) -> PartialNameRef<'_>
         ensures { partial_ref_bytes result ≡ partial_bytes self.now }
     {
@@ -362,7 +398,7 @@ impl PartialName {
     }
 
     /// The name, a slash and the component, checked as a partial name. The error is the first rule that this breaks,
-    /// or `Memory`; it drops the name.
+    /// or `Memory`; it drops the name. As gix-ref's `PartialName::join`.
     ///
     /// ```text
     /// let remote = PartialName::try_from(b"origin".to_vec(alloc)?)?;
@@ -379,7 +415,7 @@ impl PartialName {
         PartialName::try_from(bytes)
     }
 
-    /// Whether these are the bytes of the name.
+    /// Whether these are the bytes of the name. As `==` of a name and bytes in gix-ref.
     pub fn eq_bytes(&self, bytes: &[u8]) -> bool
         ensures { IsTrue result ↔ (partial_bytes self.now ≡ bytes.now) }
     {

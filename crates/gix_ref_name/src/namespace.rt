@@ -11,7 +11,7 @@ pub use expansion::expand;
 use std::alloc::{AllocError, Global};
 
 /// The text in front of the names of a namespace: it begins with `refs/namespaces/`, ends with a slash, and a valid
-/// name behind it makes a valid name.
+/// name behind it makes a valid name. As gix-ref's `Namespace`.
 #[derive(Debug, PartialEq, Eq, PartialOrd, Ord, Hash, Drop)]
 pub struct Namespace {
     bytes: Vec<u8>,
@@ -26,21 +26,21 @@ impl Namespace {
     ghost use Rattle.gix_ref_hash.specs.Bytes.{BeginsWith};
     ghost use Rattle.gix_ref_name.specs.Namespaces.{namespace_bytes};
 
-    /// The bytes of the namespace.
+    /// The bytes of the namespace. As gix-ref's `Namespace::into_bstring`.
     pub fn into_bstring(self) -> Vec<u8>
         ensures { result.items ≡ namespace_bytes self }
     {
         self.bytes
     }
 
-    /// The bytes of the namespace, as text by convention.
+    /// The bytes of the namespace, as text by convention. As gix-ref's `Namespace::as_bstr`.
     pub fn as_bstr(&self) -> BStr<'_>
         ensures { bstr_bytes result ≡ namespace_bytes self.now }
     {
         self.bytes.as_slice().as_bstr()
     }
 
-    /// The bytes of the namespace, as a relative path with a slash at its end.
+    /// The bytes of the namespace, as a relative path with a slash at its end. As gix-ref's `Namespace::to_path`.
     pub fn to_path(&self) -> &[u8]
         ensures bytes { result.now ≡ namespace_bytes self.now }
         ensures begins { BeginsWith result.now (codes "refs/namespaces/") }
@@ -51,7 +51,7 @@ impl Namespace {
     }
 
     /// The namespace and then the prefix, which is not checked; for listings below a prefix within the namespace. The
-    /// error says that there was no memory, and drops the namespace.
+    /// error says that there was no memory, and drops the namespace. As gix-ref's `Namespace::into_namespaced_prefix`.
     ///
     /// ```text
     /// let namespace = expand(alloc, PartialNameRef::try_from("foo")?)?;
@@ -65,7 +65,7 @@ impl Namespace {
         Ok(bytes)
     }
 
-    /// Whether these are the bytes of the namespace.
+    /// Whether these are the bytes of the namespace. As `==` of a namespace and bytes in gix-ref.
     pub fn eq_bytes(&self, bytes: &[u8]) -> bool
         ensures { IsTrue result ↔ (namespace_bytes self.now ≡ bytes.now) }
     {

@@ -6,7 +6,7 @@ ghost use Rattle.gix_ref_object.specs.Objects.Stored.{Absent};
 use gix_ref_hash::hash::{self, ObjectId};
 use thiserror::Error;
 
-/// The kinds of objects.
+/// The kinds of objects. As gix-object's `Kind`.
 #[derive(Clone, Copy, Debug, PartialEq, Eq)]
 pub enum Kind {
     /// A state of a project, its parents and a message.
@@ -19,7 +19,7 @@ pub enum Kind {
     Tag,
 }
 
-/// An object that was found.
+/// An object that was found. As gix-object's `Data`.
 #[derive(Clone, Copy, Debug)]
 pub struct Data<'b> {
     /// The kind of the object.
@@ -30,7 +30,7 @@ pub struct Data<'b> {
     pub object_hash: hash::Kind,
 }
 
-/// Why an object could not be looked for.
+/// Why an object could not be looked for. As gix-object's `find::Error`.
 #[derive(Clone, Copy, Debug, PartialEq, Eq, Error)]
 pub enum FindError {
     #[error("the object could not be read")]
@@ -40,7 +40,8 @@ pub enum FindError {
 }
 
 /// A finder of objects by their ids (`git cat-file`). For each id it has an object, nothing, or something that cannot
-/// be read. Where it claims so, its calls report just that; a finder that claims nothing may report anything.
+/// be read. Where it claims so, its calls report just that; a finder that claims nothing may report anything. As
+/// gix-object's `Find`.
 pub trait Find: Drop {
     /// What the finder has under each id.
     ghost meaning: { Self → ObjectId → Stored };
@@ -58,7 +59,12 @@ pub trait Find: Drop {
         ensures { claims self.now → Reports (meaning self.now id.now) result };
 }
 
-/// A finder that finds nothing.
+/// A finder that finds nothing. As gix-object's `find::Never`.
+///
+/// ```text
+/// // A packed tag has its peeled id in `packed-refs`, so no object is asked for.
+/// let commit = tag.peel_to_id(alloc, &mut store, &Never)?;
+/// ```
 #[derive(Clone, Copy, Debug)]
 pub struct Never;
 

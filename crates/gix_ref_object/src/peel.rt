@@ -35,7 +35,12 @@ fn id_of_hex(kind: hash::Kind, digits: &[u8]) -> Option<ObjectId>
 }
 
 /// The id that a tag names in its first line: `object `, the hex digits of an id of the kind, and LF (`git mktag`).
-/// `None` for bytes with another first line.
+/// `None` for bytes with another first line. As gix-object's `TagRefIter::target_id`.
+///
+/// ```text
+/// tag_target(Kind::Sha1, b"object 1111111111111111111111111111111111111111\ntype commit\n") // Some id
+/// tag_target(Kind::Sha1, b"tree 1111111111111111111111111111111111111111\n")                 // None
+/// ```
 pub fn tag_target(kind: hash::Kind, bytes: &[u8]) -> Option<ObjectId>
     ensures { result ≡ target_of kind bytes.now }
 {
@@ -74,7 +79,8 @@ fn next_of<T: Find>(
 }
 
 /// The object behind the tags that begin at this id: the id itself where its object is no tag (`git rev-parse ID^{}`).
-/// It follows 1,000 tags at the most, over one buffer, which grows to the largest object.
+/// It follows 1,000 tags at the most, over one buffer, which grows to the largest object. As the loop of gix-ref's
+/// `ReferenceExt::peel_to_id`.
 ///
 /// `NotFound` names an id that has no object, or whose object is a tag with another first line than `object `, the hex
 /// digits of an id of the same kind, and LF. `TagChainTooLong` is returned for more than 1,000 tags in a row, as for a

@@ -10,6 +10,8 @@ mod made;
 #[cfg(test)]
 mod many;
 #[cfg(test)]
+mod misordered;
+#[cfg(test)]
 mod opened;
 #[cfg(test)]
 mod prefixes;

@@ -11,8 +11,8 @@ use Rattle.gix_ref_grammar.specs.declared.name.error.Error as names
 use Rattle.gix_ref_grammar.specs.declared.name.error.Error.TheVariants as name
 use Rattle.gix_ref_transaction.specs.declared.prepare.error.Error as prepares
 use Rattle.gix_ref_transaction.specs.declared.prepare.error.Error.TheVariants as prepare
-use Rattle.gix_ref_transaction.specs.declared.commit.error.Error as commits
-use Rattle.gix_ref_transaction.specs.declared.commit.error.Error.TheVariants as commit
+use Rattle.gix_ref_commit.specs.declared.error.Error as commits
+use Rattle.gix_ref_commit.specs.declared.error.Error.TheVariants as commit
 use Rattle.gix_ref_lookup.specs.declared.find.error.Error as finds
 use Rattle.gix_ref_lookup.specs.declared.find.error.Error.TheVariants as find
 use Rattle.gix_ref_records.specs.declared.raw.Reference.{Reference}
@@ -49,13 +49,16 @@ name_word name.Memory = codes "Memory"
 abbrev pub prepare_word : prepares.Error → List ℕ
 prepare_word prepare.UnsafeName = codes "UnsafeName"
 prepare_word prepare.DeviceName = codes "DeviceName"
+prepare_word prepare.DeleteMustNotExist = codes "DeleteMustNotExist"
 prepare_word prepare.TargetNotFull = codes "TargetNotFull"
 prepare_word prepare.OtherHashKind = codes "OtherHashKind"
 prepare_word (prepare.PreprocessingFailed source) = codes "PreprocessingFailed"
+prepare_word prepare.PackedTransactionAcquire = codes "PackedTransactionAcquire"
 prepare_word (prepare.Packed error) = codes "Packed"
 prepare_word (prepare.PackedFind error) = codes "PackedFind"
 prepare_word (prepare.PathCollision name) = codes "PathCollision"
 prepare_word (prepare.LockAcquire name) = codes "LockAcquire"
+prepare_word (prepare.DeleteReferenceMustExist name) = codes "DeleteReferenceMustExist"
 prepare_word (prepare.MustExist name expected) = codes "MustExist"
 prepare_word (prepare.MustNotExist name actual new) = codes "MustNotExist"
 prepare_word (prepare.ReferenceOutOfDate name expected actual) = codes "ReferenceOutOfDate"
@@ -63,7 +66,10 @@ prepare_word (prepare.Io error) = codes "Io"
 prepare_word prepare.Memory = codes "Memory"
 
 abbrev pub commit_word : commits.Error → List ℕ
+commit_word (commit.PackedTransactionCommit error) = codes "PackedTransactionCommit"
 commit_word (commit.LockCommit source name) = codes "LockCommit"
+commit_word (commit.DeleteReference name source) = codes "DeleteReference"
+commit_word (commit.DeleteReflog name source) = codes "DeleteReflog"
 commit_word (commit.FolderInPlace path) = codes "FolderInPlace"
 commit_word commit.Memory = codes "Memory"
 

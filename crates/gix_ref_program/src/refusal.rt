@@ -58,13 +58,16 @@ fn prepare_variant(error: &prepare::Error) -> &'static str
     match error {
         prepare::Error::UnsafeName => "UnsafeName",
         prepare::Error::DeviceName => "DeviceName",
+        prepare::Error::DeleteMustNotExist => "DeleteMustNotExist",
         prepare::Error::TargetNotFull => "TargetNotFull",
         prepare::Error::OtherHashKind => "OtherHashKind",
         prepare::Error::PreprocessingFailed { .. } => "PreprocessingFailed",
+        prepare::Error::PackedTransactionAcquire => "PackedTransactionAcquire",
         prepare::Error::Packed(_) => "Packed",
         prepare::Error::PackedFind(_) => "PackedFind",
         prepare::Error::PathCollision { .. } => "PathCollision",
         prepare::Error::LockAcquire { .. } => "LockAcquire",
+        prepare::Error::DeleteReferenceMustExist { .. } => "DeleteReferenceMustExist",
         prepare::Error::MustExist { .. } => "MustExist",
         prepare::Error::MustNotExist { .. } => "MustNotExist",
         prepare::Error::ReferenceOutOfDate { .. } => "ReferenceOutOfDate",
@@ -78,7 +81,10 @@ fn commit_variant(error: &commit::Error) -> &'static str
     ensures { result.now ≡ commit_word error.now }
 {
     match error {
+        commit::Error::PackedTransactionCommit(_) => "PackedTransactionCommit",
         commit::Error::LockCommit { .. } => "LockCommit",
+        commit::Error::DeleteReference { .. } => "DeleteReference",
+        commit::Error::DeleteReflog { .. } => "DeleteReflog",
         commit::Error::FolderInPlace { .. } => "FolderInPlace",
         commit::Error::Memory => "Memory",
     }

@@ -40,8 +40,9 @@ pub struct UpdateReport {
 /// Prepares updates that follow no symbolic reference, and commits them in their order. The store writes no log line.
 ///
 /// The result says why they were not made: the first cause against them, or what stopped their commit. Each lock that could
-/// not be removed is named. Costs what `prepare` and `commit` do: six calls of files for a reference that changes, the sync of
-/// its lock, and one sync for each folder from that of its file up to the git folder.
+/// not be removed is named. Costs what `prepare` and `commit` do: three calls of files for `packed-refs` and its lock, or four where
+/// it exists; five for a reference that changes, the sync of its lock, and one sync for each folder from that of its file up to
+/// the git folder.
 /// (`git update-ref`)
 pub fn update<F: Files>(
     alloc: Global,

@@ -12,12 +12,19 @@ const SHOW: [&str; 3] = ["/r", "show", "refs/heads/a"];
 
 const NEW: &[u8] = b"1111111111111111111111111111111111111111 refs/heads/a\n";
 
-/// The call that renames the lock: before it the update looks for `packed-refs`, makes the folders of the lock and the lock, reads
+const PACKED: &str = "1111111111111111111111111111111111111111 refs/heads/b\n";
+
+const PACKED_LOCK: &str = "/r/packed-refs.lock";
+
+/// The call that opens `packed-refs`: before it the update looks for that file and for its lock.
+const OPEN: u64 = 3;
+
+/// The call that renames the lock: before it the update opens `packed-refs`, makes the folders of the lock and the lock, reads
 /// the reference, writes the text and syncs it.
-const RENAME: u64 = 7;
+const RENAME: u64 = 9;
 
 /// The number of calls of files that the update makes: after the rename it syncs `refs/heads`, `refs` and the git folder.
-const CALLS: u64 = 10;
+const CALLS: u64 = 12;
 
 /// After a restart: the reference is absent or new. The next update meets the lock where there is one; without it, it works.
 fn recovers(rt: &impl Abort, alloc: Global, mut memory: Memory) {
@@ -46,7 +53,7 @@ fn recovers(rt: &impl Abort, alloc: Global, mut memory: Memory) {
 }
 
 #[test]
-fn ten_calls_of_files(rt: HostRuntime) {
+fn twelve_calls_of_files(rt: HostRuntime) {
     let alloc = rt.alloc();
     let ran = run_words(&rt, alloc, with_file(&rt, alloc, "", ""), &UPDATE);
     assert_eq!(rt; ran.files.calls(), CALLS);
@@ -76,8 +83,8 @@ fn failed_at_each_call(rt: HostRuntime) {
         memory.fail_at(k);
         let ran = run_words(&rt, alloc, memory, &UPDATE);
         let want: &[u8] = match k {
-            1 => b"refused: Packed\n",
-            2..RENAME => b"refused: Io\n",
+            OPEN => b"refused: Packed\n",
+            1..RENAME => b"refused: Io\n",
             _ => b"refused: LockCommit\n",
         };
         assert!(rt; ran.output.as_slice() == want, "call {k}");
@@ -102,4 +109,32 @@ fn a_lock_that_stays_is_named(rt: HostRuntime) {
     assert!(rt; ran.output.as_slice() == want);
     assert_eq!(rt; ran.status, 1);
     recovers(&rt, alloc, ran.files);
+}
+
+#[test]
+fn the_lock_of_packed_refs(rt: HostRuntime) {
+    let alloc = rt.alloc();
+    let held = run_words(
+        &rt,
+        alloc,
+        with_file(&rt, alloc, "/r/packed-refs", PACKED),
+        &UPDATE,
+    );
+    assert_eq!(rt; held.status, 0);
+    assert!(rt;
+        held.files.get(PACKED_LOCK.as_bytes()).is_none(),
+        "released"
+    );
+    let refused = run_words(
+        &rt,
+        alloc,
+        with_file(&rt, alloc, PACKED_LOCK, "theirs"),
+        &UPDATE,
+    );
+    let want: &[u8] = b"refused: PackedTransactionAcquire\n";
+    assert!(rt; refused.output.as_slice() == want);
+    assert!(rt;
+        refused.files.get(PACKED_LOCK.as_bytes()) == Some(b"theirs".as_slice()),
+        "as it was"
+    );
 }

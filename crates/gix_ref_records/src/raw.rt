@@ -7,6 +7,10 @@ use gix_ref_name::namespace::Namespace;
 use std::alloc::{AllocError, Global};
 
 /// A reference that owns its name and its target, as `gix_ref::Reference` does.
+///
+/// ```text
+/// println!(rt; "{} {}", reference.target, reference.name)?; // as `git show-ref` prints it
+/// ```
 #[derive(Debug, PartialEq, Eq, PartialOrd, Ord, Hash, Drop)]
 pub struct Reference {
     /// The name of the reference in its store.
@@ -26,7 +30,12 @@ impl Reference {
     ghost use Rattle.gix_ref_records.specs.RawReference.{IsOfRecord};
     ghost use Rattle.gix_ref_base.specs.Targets.{stripped_target};
 
-    /// The reference of a record of `packed-refs`. The error reports that there was no memory for its name.
+    /// The reference of a record of `packed-refs`. The error reports that there was no memory for its name. As
+    /// gix-ref's `From<packed::Reference>` for `Reference`.
+    ///
+    /// ```text
+    /// let reference = Reference::from_packed(alloc, record)?; // owned: it outlives the buffer of the record
+    /// ```
     pub fn from_packed(
         alloc: Global,
         packed: packed::Reference<'_>,
@@ -40,7 +49,7 @@ impl Reference {
         })
     }
 
-    /// Whether the target is an object or a name.
+    /// Whether the target is an object or a name. As gix-ref's `Reference::kind`.
     pub fn kind(&self) -> Kind
         ensures { result ≡ target_kind (target_value self.now.target) }
     {
@@ -48,7 +57,7 @@ impl Reference {
     }
 
     /// The name inside of the namespace. `None` where the name does not begin with it, and where the rest is no valid
-    /// partial name.
+    /// partial name. As gix-ref's `Reference::name_without_namespace`.
     pub fn name_without_namespace(&self, namespace: &Namespace) -> Option<FullNameRef<'_>>
         ensures { MatchOption result
             ((rest : List ℕ) → IsPartialName rest
@@ -59,7 +68,7 @@ impl Reference {
     }
 
     /// Takes the namespace off the name, and off a symbolic target. Each keeps it where it does not begin with it, and
-    /// where the rest is no valid partial name.
+    /// where the rest is no valid partial name. As gix-ref's `Reference::strip_namespace`.
     pub fn strip_namespace(&mut self, namespace: &Namespace)
         ensures name { full_bytes self.new.name
             ≡ stripped (namespace_bytes namespace.now) (full_bytes self.old.name) }
@@ -71,7 +80,7 @@ impl Reference {
         self.target.strip_namespace(namespace);
     }
 
-    /// Whether these are the bytes of the name.
+    /// Whether these are the bytes of the name. As `==` of a reference and bytes in gix-ref.
     pub fn eq_bytes(&self, bytes: &[u8]) -> bool
         ensures { IsTrue result ↔ (full_bytes self.now.name ≡ bytes.now) }
     {

@@ -8,7 +8,7 @@ use thiserror::Error;
 /// The errors of reading the reflog of a name.
 #[derive(Clone, Copy, Debug, PartialEq, Eq, Error)]
 pub enum Error {
-    /// A text is no name: for callers who convert one first. No call here returns this.
+    /// A text is not a valid name: for callers who convert one first. No call here returns this.
     #[error("the name of a reference is not valid: {0}")]
     RefnameValidation(name::Error),
     /// The log could not be read.

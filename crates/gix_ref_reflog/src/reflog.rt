@@ -56,7 +56,7 @@ pub fn log_exists<F: Files>(
     }
 }
 
-/// Reads the reflog of a name into the buffer, in place of what was there; false where the name has none.
+/// Reads the reflog of a name into the buffer, whose old content is lost; false where the name has no reflog.
 pub fn read_log<F: Files>(
     alloc: Global,
     files: &mut F,

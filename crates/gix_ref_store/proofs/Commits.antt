@@ -1,148 +1,492 @@
--- A commit from the store before its `prepare`, from what its renames and the release of its locks leave.
-use Rattle.std.proofs.Common.{◌≡◌, inl, inr, ⊎_elim, ℕ, ◌<◌, ◌≤◌, List, [], true, false, Option, Some, None, All, not, ◌&&◌, refl, sym, ◌∙◌, ap, subst, length, get_or, arith}
-use Rattle.std.specs.Prelude.{nat_lt}
-use Rattle.gix_ref_transaction.specs.declared.commit.renames.Why.{Why}
-use Rattle.gix_ref_transaction.specs.declared.commit.renames.Why.TheVariants.{Fault, Folder, Memory as out_of_memory}
-use Rattle.gix_ref_files.specs.Tree.{Tree, Path, is_file, is_folder, Content}
-use Rattle.gix_ref_files.specs.Tree.Content.{File, Folder}
-use Rattle.gix_ref_files.specs.Files.{Meaning, disk_of, Leaves, Passes}
-use Rattle.gix_ref_files.specs.Settled.{AllStay, IsAllSettled}
-use Rattle.gix_ref_files.specs.DiskSteps.{IsReachedBy, IsSyncedAfter}
-use Rattle.gix_ref_files.specs.declared.files.FileError.TheVariants.{Memory as no_room}
-use Rattle.gix_ref_files.specs.Steps.{IsAfter, IsLeftBy}
-use Rattle.gix_ref_files.proofs.Between.{none_begun}
-use Rattle.gix_ref_files.proofs.Moments.{joins, weaken}
-use Rattle.gix_ref_transaction.specs.OwnLocks.{is_in, RemovesLocks, OnlyRemoves}
-use Rattle.gix_ref_transaction.specs.CommitRenames.{written_flags, renames_of, rename_at, synced_renames_of, lock_at, stays_at, place_at, IsCutAt, IsFolderInPlace, IsRaised}
-use Rattle.gix_ref_transaction.specs.CommittedEdits.{AreCommitted, IsOldOrNew, SaysWhy}
-use Rattle.gix_ref_store.specs.CommitResult.{EveryStopIsOldOrNew, EveryLossIsOldOrNew, FailsFor, EndsAtEdit}
-use Rattle.gix_ref_store.specs.Prepared.{PreparesFrom, HasGoodRecords, tree_of, disk_in, places_in, IsAtRest}
-use Rattle.gix_ref_store.specs.Store.{files_of, folders, kind_of, meaning_of}
-use Rattle.gix_ref_transaction.specs.PrepareSteps.{lock_paths}
-use Rattle.gix_ref_edits.specs.declared.transaction.RefEdit.{RefEdit}
-use Rattle.gix_ref_store.specs.declared.file.store.Store.{Store}
-use Rattle.gix_ref_transaction.specs.declared.paths.Paths.{Paths}
-use Rattle.gix_ref_transaction.specs.declared.commit.error.Error.{Error}
-use Rattle.gix_ref_transaction.specs.declared.commit.error.Error.TheVariants.{LockCommit, FolderInPlace, Memory}
-use Rattle.gix_ref_transaction.proofs.Adds.{clash}
-use Rattle.gix_ref_transaction.proofs.Apart.{references}
-use Rattle.gix_ref_transaction.proofs.Held.{IsReady}
-use Rattle.gix_ref_transaction.proofs.Updates.{begins, commits, left_then, stopped}
-use Rattle.gix_ref_transaction.proofs.Released.{gone}
-use Rattle.gix_ref_transaction.proofs.SettledRuns.{settles}
-use Rattle.gix_ref_theory.proofs.PlaceLaws.{laws_hold}
-use Rattle.gix_ref_edits.specs.RefEdits.{name_of, AreUpdates}
-use Rattle.gix_ref_transaction.proofs.CommitLosses as losses
-use Rattle.gix_ref_transaction.proofs.CommitLosses.{rest_kept}
-use Rattle.gix_ref_lookup.specs.StoreLayout.{folders_of, git_options}
-use Rattle.gix_ref_lookup.specs.declared.folders.Dirs.{Dirs}
+-- A commit from the store before its `prepare`, from what it decides, what its steps leave, and the release of its locks.
+use Rattle.std.proofs.Common.{◌≡◌, ◌≢◌, inl, inr, ⊎_elim, ◌⊎◌, ℕ, suc, ◌<◌, ◌≤◌, List, [], ◌∷◌, ◌++◌, Bool, true, false, not, ◌&&◌, Option, Some, None, All, map, refl, sym, ◌∙◌, ap, subst, length, arith}
+use Rattle.std.specs.Prelude.{bytes_eq, if◌then◌else◌, nat_lt}
+use Rattle.std.proofs.lemmas.Bool.{ltb-true}
+use Rattle.gix_ref_hash.specs.declared.hash.Kind.{Kind}
 use Rattle.gix_ref_base.specs.Layout.{Layout}
-use Rattle.gix_ref_theory.specs.Roots.{roots}
+use Rattle.gix_ref_base.specs.PackedRecords.{Record}
+use Rattle.gix_ref_files.specs.Disk.{Disk, Lost}
+use Rattle.gix_ref_files.specs.DiskSteps.{IsReachedBy, IsSyncedAfter}
+use Rattle.gix_ref_files.specs.Files.{Meaning, disk_of, Leaves, Passes}
+use Rattle.gix_ref_files.specs.Lock.{lock_of}
+use Rattle.gix_ref_files.specs.Settled.{AllStay, IsAllSettled}
+use Rattle.gix_ref_files.specs.Steps.{EndsBy, IsAfter, IsLeftBy}
+use Rattle.gix_ref_files.specs.Tree.{Tree, Path, Content, is_file, file_of, put}
+use Rattle.gix_ref_files.specs.Tree.Content.{File, Folder}
+use Rattle.gix_ref_files.proofs.Moments.{joins, losses, passes_joins, passes_starts, passes_weaken, weaken}
+use Rattle.gix_ref_files.proofs.Puts.{put_at, put_other}
+use Rattle.gix_ref_lookup.specs.StoreLayout.{folders_of, git_options}
+use Rattle.gix_ref_lookup.specs.Lookups.{ArePackedRecords}
+use Rattle.gix_ref_lookup.specs.declared.folders.Dirs.{Dirs}
 use Rattle.gix_ref_lookup.proofs.Laying.{folders_laid}
+use Rattle.gix_ref_name.specs.declared.namespace.Namespace.{Namespace}
+use Rattle.gix_ref_rewrite.specs.declared.outcome.Rewrite.{Rewrite}
+use Rattle.gix_ref_rewrite.specs.declared.outcome.Rewrite.TheVariants.{Unchanged, Removed, Text}
+use Rattle.gix_ref_theory.specs.Between.{AreEdits}
+use Rattle.gix_ref_theory.specs.ConcreteStore.{store_of}
+use Rattle.gix_ref_theory.specs.Edits as plan
+use Rattle.gix_ref_theory.specs.Edits.Mode.{DeletionsOnly}
+use Rattle.gix_ref_theory.specs.Losses.{IsLostWell}
+use Rattle.gix_ref_theory.specs.OnDisks.{IsAsBefore, IsSpokenOf, IsWithin}
+use Rattle.gix_ref_theory.specs.OnRealTrees.{view_of}
+use Rattle.gix_ref_theory.specs.Readings as readings
+use Rattle.gix_ref_theory.specs.Readings.{HasLaws, records_in}
+use Rattle.gix_ref_theory.specs.Roots.{roots}
+use Rattle.gix_ref_theory.specs.Views.{IsOwnLock, IsSameButLocks}
+use Rattle.gix_ref_theory.proofs.LockDisks.{as_before}
+use Rattle.gix_ref_theory.proofs.OnDisks.{own_is_lock}
+use Rattle.gix_ref_theory.proofs.PlaceLaws.{laws_hold}
+use Rattle.gix_ref_edits.specs.RefEdits.{name_of}
+use Rattle.gix_ref_edits.specs.declared.transaction.RefEdit.{RefEdit}
+use Rattle.gix_ref_transaction.specs.Causes.{locks_of}
+use Rattle.gix_ref_transaction.specs.CommitRenames.{is_written_at, lock_at, place_at, stays_at}
+use Rattle.gix_ref_transaction.specs.CommittedEdits.{planned, AreCommitted}
+use Rattle.gix_ref_transaction.specs.OwnLocks.{is_in, AddsLocks, IsOurs, OnlyLocks, OnlyRemoves, RemovesLocks}
+use Rattle.gix_ref_transaction.specs.PackedCauses.{ids_among}
+use Rattle.gix_ref_transaction.specs.PrepareSteps.{AreWholeLocks, HoldTexts, held_locks, ids_in, lock_paths, packed_ids, packed_locks, packed_places, updates, IsPackedPlace}
+use Rattle.gix_ref_transaction.specs.declared.edit.Edit.{Edit}
+use Rattle.gix_ref_transaction.proofs.Adds.{any_cases, any_left, any_right, clash, either_way, in_here, in_one, is_false, is_same_path, same_path, same_view}
+use Rattle.gix_ref_transaction.proofs.Apart.{references}
+use Rattle.gix_ref_transaction.proofs.CommitLosses.{rest_kept}
+use Rattle.gix_ref_transaction.proofs.LockRounds.{own_all}
+use Rattle.gix_ref_transaction.proofs.PackedLemmas.{records_are}
+use Rattle.gix_ref_transaction.proofs.PackedLocks.{taken_was_free}
+use Rattle.gix_ref_transaction.proofs.Removing.{locks_by_places}
+use Rattle.gix_ref_transaction.proofs.Renames.{lock_found}
+use Rattle.gix_ref_repack.specs.Repacks.{IsRepack}
+use Rattle.gix_ref_commit.specs.CommittedTrees.{IsOldOrNew}
+use Rattle.gix_ref_commit.specs.Decided.{FillsPacked, IsFilled}
+use Rattle.gix_ref_commit.specs.Entries.{Entry, bare, bare_steps, done_of, packed_done, planned_entries, renames_packed, steps_in}
+use Rattle.gix_ref_commit.specs.LogEffects.{AreLogsOf, all_but_logs}
+use Rattle.gix_ref_commit.specs.Unfinished.{EndsIn}
+use Rattle.gix_ref_commit.specs.declared.plan.About.TheVariants as about
+use Rattle.gix_ref_commit.specs.declared.run.Unfinished.{Unfinished}
+use Rattle.gix_ref_commit.specs.declared.run.Unfinished.TheVariants.{Memory as no_memory, Step as AtStep}
+use Rattle.gix_ref_commit.proofs.Alike.{are_same, effects_alike, ids_same, locks_alike, logs_same, places_alike, planned_same}
+use Rattle.gix_ref_commit.proofs.Carrying.{locks_apart}
+use Rattle.gix_ref_commit.proofs.Ends as ends
+use Rattle.gix_ref_commit.proofs.Endings.{lock_is}
+use Rattle.gix_ref_commit.proofs.Held.{IsReady, edits_apart}
+use Rattle.gix_ref_commit.proofs.Nothing as nothing
+use Rattle.gix_ref_commit.proofs.Placing.{IsLaid}
+use Rattle.gix_ref_commit.proofs.Renamed.{HasRename, packed_renamed_before, packed_renamed_in_all, renamed_before, renamed_in_all}
+use Rattle.gix_ref_commit.proofs.Runs.{IsText}
+use Rattle.gix_ref_store.specs.CommitResult.{EveryLossIsOldOrNew, EveryStopIsOldOrNew, RepacksFrom}
+use Rattle.gix_ref_store.specs.Prepared.{PreparesFrom, HasGoodRecords, tree_of, disk_in, locks_in, places_in, IsAtRest}
+use Rattle.gix_ref_store.specs.Store.{files_of, folders, kind_of, meaning_of, IsSameStore}
+use Rattle.gix_ref_store.specs.declared.file.store.Store.{Store}
 
-module _ {F : Type 0} (honest : Type 0) (means : F → Meaning) (faults : F → ℕ) (old start new : Store F) (given carried : List RefEdit) (paths : List Paths) (updates : AreUpdates given) (from : PreparesFrom honest means faults old start given carried paths) where
+-- a store with other files means the same
+pub same_meaning : {F : Type 0} (old new : Store F) → IsSameStore old new → meaning_of new ≡ meaning_of old
+same_meaning old new same =
+    ap (λ (d : Dirs). store_of (folders_of d new.namespace) (git_options (kind_of new) new.prohibit_windows_device_names)) same.dirs
+    ∙ (ap (λ (n : Option Namespace). store_of (folders_of old.dirs n) (git_options (kind_of new) new.prohibit_windows_device_names)) same.namespace
+    ∙ (ap (λ (k : Kind). store_of (folders old) (git_options k new.prohibit_windows_device_names)) same.of_kind
+    ∙ ap (λ (b : Bool). store_of (folders old) (git_options (kind_of old) b)) same.prohibits))
+
+-- more locks
+removes_wider : (xs ys : List Path) (S T : Tree) → ((q : Path) → is_in xs q ≡ true → is_in ys q ≡ true) → RemovesLocks xs S T → RemovesLocks ys S T
+removes_wider xs ys S T wider removes q = ⊎_elim (λ same. inl same) (λ gone. inr (wider q gone.0, gone.1, gone.2)) (removes q)
+
+only_wider : (xs ys : List Path) (old new : Meaning) → ((q : Path) → is_in xs q ≡ true → is_in ys q ≡ true) → OnlyRemoves xs old new → OnlyRemoves ys old new
+only_wider xs ys old new wider removes locked staying writes first own among = removes locked staying writes first (λ q within. own q (wider q within)) among
+
+-- of an optional lock, or none
+unless_within : (packed : Option Path) (renamed : Bool) (q : Path) → is_in (map lock_of (packed_places (if renamed then None else packed))) q ≡ true → is_in (map lock_of (packed_places packed)) q ≡ true
+unless_within packed true q within = clash within refl
+unless_within packed false q within = within
+
+-- a lock of `packed-refs` that is held is that of a path
+held_path : (packed : Option Path) (q : Path) → is_in (map lock_of (packed_places packed)) q ≡ true → (path : Path) × (packed ≡ Some path) × (lock_of path ≡ q)
+held_path None q within = clash within refl
+held_path (Some path) q within = (path, refl, in_one (lock_of path) q within)
+
+-- one more file, at a lock that was free
+put_adds : (lock : Path) (bytes : List ℕ) (S T : Tree) (mine : List Path) → is_in mine lock ≡ true → S lock ≡ None → AddsLocks mine mine S T → AddsLocks mine mine S (put T lock (Some (File bytes)))
+put_adds lock bytes S T mine own free adds q = either_way (bytes_eq lock q)
+    (λ same.
+    let e = same_path lock q same in
+    let there : put T lock (Some (File bytes)) q ≡ Some (File bytes) = subst (λ (p : Path). put T lock (Some (File bytes)) p ≡ Some (File bytes)) e (put_at T lock (Some (File bytes))) in
+    inr (subst (λ (p : Path). S p ≡ None) e free, subst (λ (n : Option Content). IsOurs mine mine q n) (sym there) (subst (λ (p : Path). is_in mine p ≡ true) e own)))
+    (λ other.
+    subst (λ (n : Option Content). (n ≡ S q) ⊎ ((S q ≡ None) × IsOurs mine mine q n)) (sym (put_other T lock q (Some (File bytes)) (λ is. clash (is_same_path lock q is) other))) (adds q))
+
+module _ {F : Type 0} (honest : Type 0) (means : F → Meaning) (faults : F → ℕ) (old start : Store F) (given : List RefEdit) (packed : Option Path) (held : List Edit) (from : PreparesFrom honest means faults old start given packed held) where
+  abbrev s : readings.Store
+  s = meaning_of old
+
   abbrev before : Tree
   before = tree_of means old
 
   abbrev first : Meaning
   first = means (files_of start)
 
-  abbrev now : Meaning
-  now = means (files_of new)
+  abbrev mine : List Path
+  mine = locks_in means old given
 
-  ready : honest → HasGoodRecords means old → IsReady (meaning_of old) (kind_of old) before first.tree given paths
-  ready h good = record {
-    accepted = from.held.accepted h good;
-    texts = from.held.texts h good;
-    adds = from.held.adds h;
-    flags = from.writes h good;
-    places = from.places;
-    locks = from.locks;
-  }
+  abbrev locked : List Path
+  locked = places_in means old given
 
-  are_references : All (λ (e : RefEdit). (meaning_of old).is_reference (name_of e) ≡ true) given
+  abbrev staying : List Path
+  staying = roots (folders old)
+
+  laws : HasLaws s
+  laws = laws_hold (folders old) (git_options (kind_of old) old.prohibit_windows_device_names) (folders_laid old.dirs old.namespace)
+
+  meaning_is : meaning_of start ≡ s
+  meaning_is = same_meaning old start from.held.same
+
+  are_references : All (λ (e : RefEdit). s.is_reference (name_of e) ≡ true) given
   are_references = references (folders old) (git_options (kind_of old) old.prohibit_windows_device_names) (folders_laid old.dirs old.namespace) (kind_of old) [] given from.held.valid
 
-  -- the renames began at `start` and left `mid`; then the locks of `rest`, which are those of `paths`, were released
-  module _ (mid : Meaning) (rest : List Paths) (left : List Path) (done total : ℕ) (same : lock_paths rest ≡ lock_paths paths) (flags : written_flags rest ≡ written_flags paths) (all : length paths ≤ total) (renames : honest → Leaves first mid (IsLeftBy (renames_of paths) first.tree)) (within : done ≤ length paths) (how : honest → IsCutAt paths done first.tree mid.tree) (release : honest → Leaves mid now (RemovesLocks (lock_paths rest) mid.tree)) (released : honest → (k : ℕ) → k < total → stays_at rest done k ≡ true → is_in left (lock_at rest k) ≡ false → is_file (now.tree (lock_at rest k)) ≡ false) (ours : (q : Path) → is_in left q ≡ true → is_in (lock_paths rest) q ≡ true) where
-    releases : honest → Leaves mid now (RemovesLocks (lock_paths paths) mid.tree)
-    releases h = subst (λ locks. Leaves mid now (RemovesLocks locks mid.tree)) same (release h)
+  pub edits_are : honest → HasGoodRecords means old → AreEdits s (planned given)
+  edits_are h good = edits_apart s (kind_of old) before first.tree [] given (from.held.accepted h good).no_cause are_references
 
-    locks_gone : (h : honest) (k : ℕ) → k < length paths → stays_at paths done k ≡ true → is_in left (lock_at paths k) ≡ false → is_file (now.tree (lock_at paths k)) ≡ false
-    locks_gone h k lt stays =
-        subst (λ (l : Path). is_in left l ≡ false → is_file (now.tree l) ≡ false) (ap (λ locks. get_or locks k []) same) (released h k (omega (arith, lt, all)) (subst (λ fs. not (nat_lt k done && get_or fs k false) ≡ true) (sym flags) stays))
+  pub planned_is : planned (updates held) ≡ planned given
+  planned_is = planned_same given (updates held) (are_same given from.was (updates held) from.carried)
 
-    at_stop : honest → HasGoodRecords means old → (T : Tree) → IsLeftBy (renames_of paths) first.tree T → IsOldOrNew (meaning_of old) given before T
-    at_stop h good T cut = stopped (folders old) (kind_of old) old.prohibit_windows_device_names (folders_laid old.dirs old.namespace) before first given paths updates (ready h good) T cut
+  own : (q : Path) → is_in mine q ≡ true → IsOwnLock locked q
+  own = own_all s before given
 
-    pub well : EveryStopIsOldOrNew honest means faults old start new given left
-    well = record {
-      began = λ h good. begins (folders old) (kind_of old) old.prohibit_windows_device_names (folders_laid old.dirs old.namespace) before first given paths updates (ready h good);
-      leaves = λ h.
-          joins (weaken (renames h) (λ T cut good. at_stop h good T cut))
-          (weaken (releases h) (λ T removes good.
-          left_then (folders old) (kind_of old) old.prohibit_windows_device_names (folders_laid old.dirs old.namespace) before first given paths updates (ready h good) mid.tree T (at_stop h good mid.tree (renames h).tree) removes));
-      gone = λ h. gone (meaning_of old) (laws_hold (folders old) (git_options (kind_of old) old.prohibit_windows_device_names) (folders_laid old.dirs old.namespace)) given paths are_references from.places from.locks first.tree mid.tree now.tree left done within (how h) (releases h).tree (locks_gone h);
-      ours = λ q h. subst (λ locks. is_in locks q ≡ true) (same ∙ from.locks) (ours q h);
-    }
+  -- nothing but own locks has changed so far
+  start_alike : honest → IsSameButLocks locked (view_of first.tree) (view_of before)
+  start_alike h path other = same_view file_of refl mine mine before first.tree path (from.held.adds h) (is_false (is_in mine path) (λ within. other (own path within)))
 
-    pub committed : (h : honest) → HasGoodRecords means old → IsAfter (renames_of paths) first.tree mid.tree → AreCommitted (meaning_of old) given before left now.tree
-    committed h good after = commits (folders old) (kind_of old) old.prohibit_windows_device_names (folders_laid old.dirs old.namespace) before first given paths updates (ready h good) mid.tree now.tree left after (releases h).tree (well.gone h)
+  less_alike : (T U : Tree) → RemovesLocks mine T U → IsSameButLocks locked (view_of U) (view_of T)
+  less_alike T U removes path other = ⊎_elim (λ same. ap file_of same) (λ gone. absurd (other (own path gone.0))) (removes path)
 
-  -- what losses of power leave on the way, and what a commit that succeeds leaves settled
-  module _ (mid : Meaning) (rest : List Paths) (same : lock_paths rest ≡ lock_paths paths) (h : honest) (at_rest : IsAtRest means old) (release : OnlyRemoves (lock_paths rest) mid now) where
-    started : IsAllSettled (disk_of first) × AllStay (disk_of first) (roots (folders old))
-    started = rest_kept (places_in old given) (roots (folders old)) (disk_in means old) (disk_of first) at_rest.0 ((from.lost h).keeps (roots (folders old)) at_rest.1).disk
+  packed_same : honest → view_of first.tree s.packed_path ≡ view_of before s.packed_path
+  packed_same h = start_alike h s.packed_path (λ mine'. let l = own_is_lock locked s.packed_path mine' in laws.packed_is_no_lock l.0 l.1)
 
-    releases_alone : OnlyRemoves (lock_paths paths) mid now
-    releases_alone = subst (λ locks. OnlyRemoves locks mid now) same release
+  -- the records of `packed-refs` are still there, and the edits have their ids
+  pub records_there : (h : honest) (good : HasGoodRecords means old) → ArePackedRecords (kind_of old) (view_of first.tree s.packed_path) good.0
+  records_there h good = subst (λ (p : Option (List ℕ)). ArePackedRecords (kind_of old) p good.0) (sym (packed_same h)) good.1
 
-    pub lost : HasGoodRecords means old → Passes first mid (IsReachedBy (synced_renames_of start.dirs paths) (disk_of first)) → EveryLossIsOldOrNew honest means faults old start new given
-    lost good passes = record {
-      began = losses.begins old.dirs old.namespace (kind_of old) old.prohibit_windows_device_names before first given paths updates (ready h good) (from.whole h) started.0 started.1;
-      loses = losses.ends old.dirs old.namespace (kind_of old) old.prohibit_windows_device_names before first given paths updates (ready h good) (from.whole h) started.0 started.1 mid now
-          (subst (λ (dirs : Dirs). Passes first mid (IsReachedBy (synced_renames_of dirs paths) (disk_of first))) from.held.same.dirs passes) releases_alone;
-    }
+  pub ids_are : (h : honest) (good : HasGoodRecords means old) → ids_in held ≡ ids_among s good.0 (updates held)
+  ids_are h good =
+      from.ids h good
+      ∙ (ap (λ (l : List Record). ids_among s l given) (records_are (folders old) (kind_of old) old.prohibit_windows_device_names (view_of before s.packed_path) good.0 good.1)
+      ∙ sym (ids_same s good.0 given (updates held) (are_same given from.was (updates held) from.carried)))
 
-    pub settled : IsSyncedAfter (synced_renames_of start.dirs paths) (disk_of first) (disk_of mid) → new.dirs ≡ start.dirs → new.namespace ≡ start.namespace → IsAtRest means new
-    settled done dirs_same namespace_same =
-        let end = settles old.dirs old.namespace (kind_of old) old.prohibit_windows_device_names before first given paths are_references (from.held.lockable h) from.places from.locks (from.whole h) started.0 started.1 mid now
-        (subst (λ (dirs : Dirs). IsSyncedAfter (synced_renames_of dirs paths) (disk_of first) (disk_of mid)) from.held.same.dirs done) releases_alone in
-        (end.0, subst (λ (f : Layout). AllStay (disk_of now) (roots f)) (sym (ap (λ (dirs : Dirs). folders_of dirs new.namespace) (dirs_same ∙ from.held.same.dirs) ∙ ap (folders_of old.dirs) (namespace_same ∙ from.held.same.namespace))) end.1)
+  -- and so it is said of the store with which the commit begins
+  pub start_edits : honest → HasGoodRecords means old → AreEdits (meaning_of start) (planned (updates held))
+  start_edits h good =
+      subst (λ (m : readings.Store). AreEdits m (planned (updates held))) (sym meaning_is) (subst (λ (l : List plan.Edit). AreEdits s l) (sym planned_is) (edits_are h good))
 
--- a run of all renames ended behind the last
-pub cut_behind : (paths : List Paths) (S T : Tree) → IsAfter (renames_of paths) S T → IsCutAt paths (length paths) S T
-cut_behind paths S T after = (T, after, none_begun (rename_at paths (length paths)) T)
+  pub start_records : (h : honest) (good : HasGoodRecords means old) → ArePackedRecords (kind_of start) (view_of first.tree (meaning_of start).packed_path) good.0
+  start_records h good =
+      subst (λ (k : Kind). ArePackedRecords k (view_of first.tree (meaning_of start).packed_path) good.0) (sym from.held.same.of_kind)
+      (subst (λ (m : readings.Store). ArePackedRecords (kind_of old) (view_of first.tree m.packed_path) good.0) (sym meaning_is) (records_there h good))
 
--- a folder stays where locks are removed
-pub folder_stays : (locks : List Path) (T U : Tree) (q : Path) → RemovesLocks locks T U → is_folder (T q) ≡ true → is_folder (U q) ≡ true
-folder_stays locks T U q removes folder = ⊎_elim (λ same. ap is_folder same ∙ folder) (λ gone. absurd (no_both (T q) gone.2 folder)) (removes q)
-  where
-    no_both : (node : Option Content) → is_file node ≡ true → is_folder node ≡ true → ⊥
-    no_both (Some (File bytes)) file folder = clash folder refl
-    no_both (Some Folder) file folder = clash file refl
-    no_both None file folder = clash file refl
+  -- the lock of `packed-refs` is one of the transaction's
+  packed_mine : honest → (q : Path) → is_in (map lock_of (packed_places packed)) q ≡ true → is_in mine q ≡ true
+  packed_mine h q within = any_left (λ r. bytes_eq r q) (packed_locks s before given) (locks_of s given)
+      (subst (λ ps. is_in (map lock_of ps) q ≡ true) (from.packed.due h) within)
 
--- why a commit failed
-pub fails : {F : Type 0} (honest : Type 0) (means : F → Meaning) (faults : F → ℕ) (start new : Store F) (edits : List RefEdit) (paths : List Paths) (at : ℕ) (place : Path) (why : Why) (error : Error) →
-    SaysWhy edits at place why error → ((why ≡ out_of_memory → ⊥) → EndsAtEdit honest means faults start new edits paths at) → ((why ≡ out_of_memory → ⊥) → place ≡ place_at paths at) →
-    (why ≡ Fault no_room → ⊥) → (honest → why ≡ Folder → IsFolderInPlace (tree_of means start) (tree_of means new) place) →
-    (why ≡ out_of_memory → honest → RemovesLocks (lock_paths paths) (tree_of means start) (tree_of means new)) →
-    IsRaised (faults (files_of start)) (faults (files_of new)) why → FailsFor honest means faults start new edits paths error
-fails honest means faults start new edits paths at place Folder (FolderInPlace path) tells ended is none folder nothing raised =
-    (at, ended (λ e. cc), tells ∙ is (λ e. cc), λ h. subst (IsFolderInPlace (tree_of means start) (tree_of means new)) (sym tells) (folder h refl))
-fails honest means faults start new edits paths at place (Fault fault) (LockCommit source name) tells ended is none folder nothing raised =
-    (raised, λ e. none (ap Fault (sym tells.0 ∙ e)), (at, ended (λ e. cc), tells.1))
-fails honest means faults start new edits paths at place out_of_memory Memory tells ended is none folder nothing raised = nothing refl
-fails honest means faults start new edits paths at place Folder (LockCommit source name) tells ended is none folder nothing raised = absurd tells
-fails honest means faults start new edits paths at place Folder Memory tells ended is none folder nothing raised = absurd tells
-fails honest means faults start new edits paths at place (Fault fault) (FolderInPlace path) tells ended is none folder nothing raised = absurd tells
-fails honest means faults start new edits paths at place (Fault fault) Memory tells ended is none folder nothing raised = absurd tells
-fails honest means faults start new edits paths at place out_of_memory (FolderInPlace path) tells ended is none folder nothing raised = absurd tells
-fails honest means faults start new edits paths at place out_of_memory (LockCommit source name) tells ended is none folder nothing raised = absurd tells
+  path_is : (path : Path) → packed ≡ Some path → path ≡ s.packed_path
+  path_is path some = place from.packed.place
+    where
+      inner : {x y : Path} → Some x ≡ Some y → x ≡ y
+      inner e = cc
 
-pub raised_on : (a b d : ℕ) (why : Why) → b ≤ d → IsRaised a b why → IsRaised a d why
-raised_on a b d out_of_memory le raised = tt
-raised_on a b d Folder le raised = tt
-raised_on a b d (Fault error) le (inl more) = inl (omega (arith, le, more))
-raised_on a b d (Fault error) le (inr full) = inr (omega (arith, le, full))
+      place : IsPackedPlace s packed → path ≡ s.packed_path
+      place (inl none) = absurd (differ (sym none ∙ some))
+        where
+          differ : None ≡ Some path → ⊥
+          differ e = cc
+      place (inr same) = inner (sym some ∙ same)
+
+  -- all locks that are held are those of the transaction
+  pub held_are : honest → held_locks packed held ≡ mine
+  held_are h =
+      ap (λ ps. map lock_of ps ++ lock_paths held) (from.packed.due h) ∙ ap (λ ls. packed_locks s before given ++ ls) (locks_by_places s given held from.places)
+
+  -- some text is in it
+  fills_alike : honest → (T : Tree) → FillsPacked packed first.tree T → IsSameButLocks locked (view_of T) (view_of first.tree)
+  fills_alike h T fills path other = by packed refl fills
+    where
+      by : (p : Option Path) → packed ≡ p → FillsPacked p first.tree T → view_of T path ≡ view_of first.tree path
+      by None is same = ap (λ (R : Tree). file_of (R path)) same
+      by (Some at) is (inl same) = ap (λ (R : Tree). file_of (R path)) same
+      by (Some at) is (inr (text, filled)) =
+          ap (λ (R : Tree). file_of (R path)) filled
+          ∙ ap file_of (put_other first.tree (lock_of at) path (Some (File text))
+          (λ same. other (subst (λ (q : Path). IsOwnLock locked q) same (own (lock_of at) (packed_mine h (lock_of at) (subst (λ (p : Option Path). is_in (map lock_of (packed_places p)) (lock_of at) ≡ true) (sym is) (in_here (lock_of at) (lock_of at) [] refl)))))))
+
+  old_or_new : honest → HasGoodRecords means old → (T : Tree) → IsSameButLocks locked (view_of T) (view_of before) → IsOldOrNew s given before T
+  old_or_new h good T alike = nothing.nothing_done s laws locked (planned given) (edits_are h good) before T alike
+
+  filled_well : honest → HasGoodRecords means old → (T : Tree) → FillsPacked packed first.tree T → IsOldOrNew s given before T
+  filled_well h good T fills = old_or_new h good T (λ path other. fills_alike h T fills path other ∙ start_alike h path other)
+
+  pub began : honest → HasGoodRecords means old → IsOldOrNew s given before first.tree
+  began h good = old_or_new h good first.tree (start_alike h)
+
+  -- what losses of power leave before the first write
+  pub lost_early : honest → HasGoodRecords means old → IsAllSettled (disk_of first) → (stay : List Path) (E : Disk) (T : Tree) → IsAsBefore locked stay (disk_of first) E → Lost E T →
+      IsLostWell s DeletionsOnly locked (planned given) (disk_of first) before T
+  lost_early h good settled stay E T among lost =
+      nothing.nothing_lost s laws locked (planned given) (edits_are h good) before (disk_of first) settled (λ path other. sym (start_alike h path other)) stay E T among lost
+
+  pub started : honest → IsAtRest means old → IsAllSettled (disk_of first) × AllStay (disk_of first) staying
+  started h at_rest = rest_kept locked staying (disk_in means old) (disk_of first) at_rest.0 ((from.lost h).keeps staying at_rest.1).disk
+
+  -- edits that are those that were held but for their logs
+  module _ (ran : List Edit) (alike : all_but_logs ran ≡ all_but_logs held) (new : Store F) (left : List Path) where
+    abbrev now : Meaning
+    now = means (files_of new)
+
+    locks_are : lock_paths ran ≡ locks_of s given
+    locks_are = locks_alike ran held alike ∙ locks_by_places s given held from.places
+
+    pub ran_mine : honest → (renamed : Bool) (q : Path) → is_in (held_locks (if renamed then None else packed) ran) q ≡ true → is_in mine q ≡ true
+    ran_mine h renamed q within = ⊎_elim
+        (λ p. packed_mine h q (unless_within packed renamed q p))
+        (λ e. any_right (λ r. bytes_eq r q) (packed_locks s before given) (locks_of s given) (subst (λ (l : List Path). is_in l q ≡ true) locks_are e))
+        (any_cases (λ r. bytes_eq r q) (map lock_of (packed_places (if renamed then None else packed))) (lock_paths ran) within)
+
+    possible : (renamed : Bool) (q : Path) → is_in (held_locks (if renamed then None else packed) ran) q ≡ true → is_in (lock_of s.packed_path ∷ locks_of s given) q ≡ true
+    possible renamed q within = ⊎_elim
+        (λ p. let at = held_path packed q (unless_within packed renamed q p) in
+        any_left (λ r. bytes_eq r q) (lock_of s.packed_path ∷ []) (locks_of s given) (in_here (lock_of s.packed_path) q [] (ap lock_of (sym (path_is at.0 at.1)) ∙ at.2)))
+        (λ e. any_right (λ r. bytes_eq r q) (lock_of s.packed_path ∷ []) (locks_of s given) (subst (λ (l : List Path). is_in l q ≡ true) locks_are e))
+        (any_cases (λ r. bytes_eq r q) (map lock_of (packed_places (if renamed then None else packed))) (lock_paths ran) within)
+
+    -- all locks are gone that are not named
+    gone_all : (U : Tree) (done : ℕ) (renamed : Bool) →
+        ((q : Path) → is_in (map lock_of (packed_places (if renamed then None else packed))) q ≡ true → is_in left q ≡ false → is_file (U q) ≡ false) →
+        (renamed ≡ true → (path : Path) → packed ≡ Some path → is_file (U (lock_of path)) ≡ false) →
+        ((k : ℕ) → k < length ran → stays_at ran done k ≡ true → is_in left (lock_at ran k) ≡ false → is_file (U (lock_at ran k)) ≡ false) →
+        ((k : ℕ) → k < length ran → k < done → is_written_at ran k ≡ true → is_file (U (lock_at ran k)) ≡ false) →
+        honest → (q : Path) → is_in mine q ≡ true → is_in left q ≡ false → is_file (U q) ≡ false
+    gone_all U done renamed packed_gone packed_done locks_gone done_gone h q within out = ⊎_elim
+        (λ p. by_packed renamed refl (subst (λ ps. is_in (map lock_of ps) q ≡ true) (sym (from.packed.due h)) p))
+        (λ e. let at = lock_found ran q (subst (λ (l : List Path). is_in l q ≡ true) (sym locks_are) e) in
+        subst (λ (r : Path). is_file (U r) ≡ false) at.2
+        (by_lock at.0 at.1 (subst (λ (r : Path). is_in left r ≡ false) (sym at.2) out) (nat_lt at.0 done) refl (is_written_at ran at.0) refl))
+        (any_cases (λ r. bytes_eq r q) (packed_locks s before given) (locks_of s given) within)
+      where
+        by_packed : (b : Bool) → renamed ≡ b → is_in (map lock_of (packed_places packed)) q ≡ true → is_file (U q) ≡ false
+        by_packed true is mine' =
+            let at = held_path packed q mine' in subst (λ (r : Path). is_file (U r) ≡ false) at.2 (packed_done is at.0 at.1)
+        by_packed false is mine' = packed_gone q (subst (λ (b : Bool). is_in (map lock_of (packed_places (if b then None else packed))) q ≡ true) (sym is) mine') out
+
+        by_lock : (k : ℕ) → k < length ran → is_in left (lock_at ran k) ≡ false → (early : Bool) → nat_lt k done ≡ early → (written : Bool) → is_written_at ran k ≡ written → is_file (U (lock_at ran k)) ≡ false
+        by_lock k lt out' true is true written = done_gone k lt (ltb-true k done is) written
+        by_lock k lt out' true is false written = locks_gone k lt (ap (λ b. not (b && is_written_at ran k)) is ∙ ap (λ b. not (true && b)) written) out'
+        by_lock k lt out' false is w written = locks_gone k lt (ap (λ b. not (b && is_written_at ran k)) is) out'
+
+    -- The commit ended before its first write, and its locks were released.
+    module _ (decided : Meaning) (fills : honest → Leaves first decided (FillsPacked packed first.tree)) (alone : honest → OnlyLocks (map lock_of (packed_places packed)) first decided) where
+      module _ (releases : honest → Leaves decided now (RemovesLocks (held_locks packed ran) decided.tree)) (only : honest → OnlyRemoves (held_locks packed ran) decided now)
+          (packed_gone : honest → (q : Path) → is_in (map lock_of (packed_places packed)) q ≡ true → is_in left q ≡ false → is_file (now.tree q) ≡ false)
+          (locks_gone : honest → (k : ℕ) → k < length ran → stays_at ran 0 k ≡ true → is_in left (lock_at ran k) ≡ false → is_file (now.tree (lock_at ran k)) ≡ false)
+          (ours : (q : Path) → is_in left q ≡ true → is_in (held_locks packed ran) q ≡ true) where
+        pub undecided_well : EveryStopIsOldOrNew honest means faults old start new given left
+        undecided_well = record {
+          began = λ h good. began h good;
+          leaves = λ h.
+              joins (weaken (fills h) (λ T filled good. filled_well h good T filled))
+              (weaken (releases h) (λ T less good.
+              old_or_new h good T (λ path other.
+              less_alike decided.tree T (removes_wider (held_locks packed ran) mine decided.tree T (ran_mine h false) less) path other
+              ∙ (fills_alike h decided.tree (fills h).tree path other ∙ start_alike h path other))));
+          gone = λ h. gone_all now.tree 0 false (packed_gone h) (λ yes. clash yes refl) (locks_gone h) (λ k lt early. absurd (omega (arith, early))) h;
+          ours = λ q named. possible false q (ours q named);
+        }
+
+        pub undecided_lost : (h : honest) → HasGoodRecords means old → IsAtRest means old → EveryLossIsOldOrNew honest means faults old start new given
+        undecided_lost h good at_rest =
+            let rest = started h at_rest in
+            let same = as_before locked staying (disk_of first) rest.1 in
+            let early = alone h locked staying (disk_of first) (λ q within. own q (packed_mine h q within)) same in
+            record {
+              began = λ T lost. lost_early h good rest.0 staying (disk_of first) T same lost;
+              loses = losses (IsLostWell s DeletionsOnly locked (planned given) (disk_of first) before) (λ E among T lost. lost_early h good rest.0 staying E T among lost)
+                  (passes_joins early (only h locked staying [] (disk_of first) (λ q within. own q (ran_mine h false q within)) early.disk));
+            }
+
+      -- All is decided.
+      module _ (logs : AreLogsOf (meaning_of start) (updates held) ran) (rewrite : Rewrite) (repacks : RepacksFrom honest means faults start packed held rewrite)
+          (filled : honest → IsFilled packed rewrite first.tree decided.tree) (wholes : honest → (locks : List Path) → AreWholeLocks (disk_of first) locks → AreWholeLocks (disk_of decided) locks) where
+        abbrev all_entries : List Entry
+        all_entries = planned_entries old.dirs ran packed rewrite
+
+        pub own_logs : AreLogsOf s given ran
+        own_logs = logs_same s given (updates held) ran (are_same given from.was (updates held) from.carried) (subst (λ (m : readings.Store). AreLogsOf m (updates held) ran) meaning_is logs)
+
+        laid : honest → IsLaid s (kind_of old) before (disk_of decided) given ran packed
+        laid h = record {
+          references = are_references;
+          lockable = from.held.lockable h;
+          places = places_alike ran held alike ∙ from.places;
+          logs = own_logs;
+          packed_place = from.packed.place;
+          packed_due = from.packed.due h;
+          whole = wholes h mine (from.whole h);
+        }
+
+        -- the lock of a place is as it was
+        same_lock : (h : honest) (n : List ℕ) → s.is_reference n ≡ true → decided.tree (lock_of (s.place n)) ≡ first.tree (lock_of (s.place n))
+        same_lock h n is = by packed refl rewrite (filled h)
+          where
+            by : (p : Option Path) → packed ≡ p → (r : Rewrite) → IsFilled p r first.tree decided.tree → decided.tree (lock_of (s.place n)) ≡ first.tree (lock_of (s.place n))
+            by None held' r same = ap (λ (T : Tree). T (lock_of (s.place n))) same
+            by (Some path) held' Unchanged same = ap (λ (T : Tree). T (lock_of (s.place n))) same
+            by (Some path) held' Removed same = ap (λ (T : Tree). T (lock_of (s.place n))) same
+            by (Some path) held' (Text text) same =
+                ap (λ (T : Tree). T (lock_of (s.place n))) same
+                ∙ put_other first.tree (lock_of path) (lock_of (s.place n)) (Some (File text.items))
+                (locks_apart path (s.place n) (λ e. laws.place_is_not_packed n is (sym e ∙ path_is path held')))
+
+        texts_same : (h : honest) (some : List RefEdit) → All (λ (e : RefEdit). s.is_reference (name_of e) ≡ true) some → HoldTexts s before first.tree some → HoldTexts s before decided.tree some
+        texts_same h [] are texts = tt
+        texts_same h (e ∷ some) are texts =
+            (same_lock h (name_of e) (are 0 e (omega arith)) ∙ texts.0, texts_same h some (λ k d lt. are (suc k) d (omega (arith, lt))) texts.1)
+
+        adds : (h : honest) → HasGoodRecords means old → AddsLocks mine mine before decided.tree
+        adds h good = by packed refl rewrite (filled h)
+          where
+            by : (p : Option Path) → packed ≡ p → (r : Rewrite) → IsFilled p r first.tree decided.tree → AddsLocks mine mine before decided.tree
+            by None held' r e = subst (AddsLocks mine mine before) (sym e) (from.held.adds h)
+            by (Some path) held' Unchanged e = subst (AddsLocks mine mine before) (sym e) (from.held.adds h)
+            by (Some path) held' Removed e = subst (AddsLocks mine mine before) (sym e) (from.held.adds h)
+            by (Some path) held' (Text text) e =
+                let within = subst (λ (p : Option Path). is_in (map lock_of (packed_places p)) (lock_of path) ≡ true) (sym held') (in_here (lock_of path) (lock_of path) [] refl) in
+                subst (AddsLocks mine mine before) (sym e)
+                (put_adds (lock_of path) text.items before first.tree mine (packed_mine h (lock_of path) within)
+                (taken_was_free s before given (from.held.accepted h good).unlocked (lock_of path) (subst (λ ps. is_in (map lock_of ps) (lock_of path) ≡ true) (from.packed.due h) within))
+                (from.held.adds h))
+
+        ready : (h : honest) → HasGoodRecords means old → IsReady s (kind_of old) before decided.tree given ran
+        ready h good = record {
+          accepted = from.held.accepted h good;
+          texts = texts_same h given are_references (from.held.texts h good);
+          adds = adds h good;
+          effects = effects_alike ran held alike ∙ from.effects h good;
+          places = places_alike ran held alike ∙ from.places;
+          logs = own_logs;
+        }
+
+        -- the new `packed-refs`, where it was well formed
+        repack : (h : honest) (good : HasGoodRecords means old) → packed ≢ None → IsRepack s (kind_of old) good.0 (planned given) rewrite
+        repack h good some =
+            subst (λ (l : List plan.Edit). IsRepack s (kind_of old) good.0 l rewrite) planned_is
+            (at (subst (λ (l : List plan.Edit). AreEdits s l) (sym planned_is) (edits_are h good)) good.0 (records_there h good) (ids_are h good) some)
+          where
+            Repacks : readings.Store → Kind → Type 0
+            Repacks m k =
+                AreEdits m (planned (updates held)) → (rs : List Record) → ArePackedRecords k (view_of first.tree m.packed_path) rs →
+                ids_in held ≡ ids_among m rs (updates held) → packed ≢ None → IsRepack m k rs (planned (updates held)) rewrite
+
+            at : Repacks s (kind_of old)
+            at = subst (Repacks s) from.held.same.of_kind (subst (λ (m : readings.Store). Repacks m (kind_of start)) meaning_is (repacks h))
+
+        text_held : (h : honest) (path : Path) (bytes : List ℕ) → packed ≡ Some path → IsText rewrite bytes → view_of decided.tree (lock_of path) ≡ Some bytes
+        text_held h path bytes some is = by rewrite is (subst (λ (p : Option Path). IsFilled p rewrite first.tree decided.tree) some (filled h))
+          where
+            by : (r : Rewrite) → IsText r bytes → IsFilled (Some path) r first.tree decided.tree → view_of decided.tree (lock_of path) ≡ Some bytes
+            by (Text text) same e = ap (λ (T : Tree). file_of (T (lock_of path))) e ∙ (ap file_of (put_at first.tree (lock_of path) (Some (File text.items))) ∙ ap Some same)
+            by Unchanged same e = absurd same
+            by Removed same e = absurd same
+
+        -- The steps ran on, to their end or not, and the locks that were not renamed were released.
+        module _ (mid : Meaning) (renamed : Bool) (runs : honest → Leaves decided mid (IsLeftBy (bare_steps all_entries) decided.tree))
+            (releases : honest → Leaves mid now (RemovesLocks (held_locks (if renamed then None else packed) ran) mid.tree)) where
+          pub removes : honest → RemovesLocks mine mid.tree now.tree
+          removes h = removes_wider (held_locks (if renamed then None else packed) ran) mine mid.tree now.tree (ran_mine h renamed) (releases h).tree
+
+          at_stop : (h : honest) → HasGoodRecords means old → (T : Tree) → IsLeftBy (bare_steps all_entries) decided.tree T → IsOldOrNew s given before T
+          at_stop h good T cut =
+              ends.stopped old.dirs old.namespace (kind_of old) old.prohibit_windows_device_names before (disk_of decided) given ran packed rewrite (laid h) (ready h good) good.0 good.1 (repack h good) (text_held h) T cut
+
+          pub ran_well : (done : ℕ) →
+              (honest → (q : Path) → is_in (map lock_of (packed_places (if renamed then None else packed))) q ≡ true → is_in left q ≡ false → is_file (now.tree q) ≡ false) →
+              (honest → renamed ≡ true → (path : Path) → packed ≡ Some path → is_file (now.tree (lock_of path)) ≡ false) →
+              (honest → (k : ℕ) → k < length ran → stays_at ran done k ≡ true → is_in left (lock_at ran k) ≡ false → is_file (now.tree (lock_at ran k)) ≡ false) →
+              (honest → (k : ℕ) → k < length ran → k < done → is_written_at ran k ≡ true → is_file (now.tree (lock_at ran k)) ≡ false) →
+              ((q : Path) → is_in left q ≡ true → is_in (held_locks (if renamed then None else packed) ran) q ≡ true) → EveryStopIsOldOrNew honest means faults old start new given left
+          ran_well done packed_gone packed_done locks_gone done_gone ours = record {
+            began = λ h good. began h good;
+            leaves = λ h.
+                joins (joins (weaken (fills h) (λ T filled good. filled_well h good T filled)) (weaken (runs h) (λ T cut good. at_stop h good T cut)))
+                (weaken (releases h) (λ T less good.
+                ends.left_then old.dirs old.namespace (kind_of old) old.prohibit_windows_device_names before (disk_of decided) given ran packed rewrite (laid h) (ready h good) good.0 good.1 (repack h good) (text_held h)
+                mid.tree T (at_stop h good mid.tree (runs h).tree) (removes_wider (held_locks (if renamed then None else packed) ran) mine mid.tree T (ran_mine h renamed) less)));
+            gone = λ h. gone_all now.tree done renamed (packed_gone h) (packed_done h) (locks_gone h) (done_gone h) h;
+            ours = λ q named. possible renamed q (ours q named);
+          }
+
+          -- locks that were renamed are gone after the whole run
+          pub whole_gone : (honest → IsAfter (bare_steps all_entries) decided.tree mid.tree) → honest → (k : ℕ) → k < length ran → is_written_at ran k ≡ true → is_file (now.tree (lock_at ran k)) ≡ false
+          whole_gone after h k lt written =
+              subst (λ (p : Path). is_file (now.tree p) ≡ false) (sym (lock_is ran k lt))
+              (ends.all_gone old.dirs old.namespace (kind_of old) old.prohibit_windows_device_names before (disk_of decided) given ran packed rewrite (laid h) (place_at ran k) mid.tree now.tree
+              (subst (λ (p : Path). HasRename p all_entries) (lock_is ran k lt) (renamed_in_all old.dirs (length ran) ran packed rewrite k written)) (after h) (removes h))
+
+          pub whole_packed_gone : (honest → IsAfter (bare_steps all_entries) decided.tree mid.tree) → honest → renames_packed rewrite ≡ true → (path : Path) → packed ≡ Some path → is_file (now.tree (lock_of path)) ≡ false
+          whole_packed_gone after h text path some =
+              ends.all_gone old.dirs old.namespace (kind_of old) old.prohibit_windows_device_names before (disk_of decided) given ran packed rewrite (laid h) path mid.tree now.tree
+              (packed_renamed_in_all old.dirs (length ran) ran packed rewrite path some text) (after h) (removes h)
+
+          -- and after one that ended at a step
+          pub cut_gone : (u : Unfinished) → EndsIn honest all_entries decided.tree mid.tree u → honest → (k : ℕ) → k < length ran → k < done_of (length ran) u → is_written_at ran k ≡ true → is_file (now.tree (lock_at ran k)) ≡ false
+          cut_gone no_memory e h k lt early written = absurd (omega (arith, early))
+          cut_gone (AtStep about cause) e h k lt early written =
+              let at = e.ended h in
+              subst (λ (p : Path). is_file (now.tree p) ≡ false) (sym (lock_is ran k lt))
+              (ends.cut_gone old.dirs old.namespace (kind_of old) old.prohibit_windows_device_names before (disk_of decided) given ran packed rewrite (laid h) (place_at ran k) e.before (e.step, about) e.rest cause at.0 mid.tree now.tree
+              e.cut (subst (λ (p : Path). HasRename p e.before) (lock_is ran k lt) (renamed_before old.dirs (length ran) ran packed rewrite e.before (e.step, about) e.rest e.cut k early written)) at.1 at.2 (removes h))
+
+          pub cut_packed_gone : (u : Unfinished) → EndsIn honest all_entries decided.tree mid.tree u → honest → packed_done rewrite u ≡ true → (path : Path) → packed ≡ Some path → is_file (now.tree (lock_of path)) ≡ false
+          cut_packed_gone (AtStep (about.Removal n) cause) e h text path some =
+              let at = e.ended h in
+              ends.cut_gone old.dirs old.namespace (kind_of old) old.prohibit_windows_device_names before (disk_of decided) given ran packed rewrite (laid h) path e.before (e.step, about.Removal n) e.rest cause at.0 mid.tree now.tree
+              e.cut (packed_renamed_before old.dirs (length ran) ran packed rewrite path some text e.before (e.step, about.Removal n) e.rest e.cut refl) at.1 at.2 (removes h)
+          cut_packed_gone no_memory e h text path some = clash text refl
+          cut_packed_gone (AtStep (about.Line n) cause) e h text path some = clash text refl
+          cut_packed_gone (AtStep (about.Rename n) cause) e h text path some = clash text refl
+          cut_packed_gone (AtStep (about.LogRemoval n) cause) e h text path some = clash text refl
+          cut_packed_gone (AtStep about.Packed cause) e h text path some = clash text refl
+
+          pub committed : (h : honest) → HasGoodRecords means old → IsAfter (bare_steps all_entries) decided.tree mid.tree →
+              ((q : Path) → is_in mine q ≡ true → is_in left q ≡ false → is_file (now.tree q) ≡ false) → AreCommitted s given before left now.tree
+          committed h good after gone =
+              ends.commits old.dirs old.namespace (kind_of old) old.prohibit_windows_device_names before (disk_of decided) given ran packed rewrite (laid h) (ready h good) good.0 good.1 (repack h good) (text_held h)
+              mid.tree now.tree left after (removes h) gone
+
+          -- losses of power
+          module _ (h : honest) (at_rest : IsAtRest means old) (only : OnlyRemoves (held_locks (if renamed then None else packed) ran) mid now) where
+            abbrev rest : IsAllSettled (disk_of first) × AllStay (disk_of first) staying
+            rest = started h at_rest
+
+            only_mine : OnlyRemoves mine mid now
+            only_mine = only_wider (held_locks (if renamed then None else packed) ran) mine mid now (ran_mine h renamed) only
+
+            early : Passes first decided (IsAsBefore locked staying (disk_of first))
+            early = alone h locked staying (disk_of first) (λ q within. own q (packed_mine h q within)) (as_before locked staying (disk_of first) rest.1)
+
+            settled_then : IsAllSettled (disk_of decided) × AllStay (disk_of decided) staying
+            settled_then = rest_kept locked staying (disk_of first) (disk_of decided) rest.0 early.disk
+
+            pub lost : HasGoodRecords means old → Passes decided mid (IsReachedBy (steps_in all_entries) (disk_of decided)) → EveryLossIsOldOrNew honest means faults old start new given
+            lost good passes = record {
+              began = λ T loss. lost_early h good rest.0 staying (disk_of first) T (as_before locked staying (disk_of first) rest.1) loss;
+              loses = losses (IsLostWell s DeletionsOnly locked (planned given) (disk_of first) before)
+                  (λ E among T loss. ⊎_elim
+                  (λ same. lost_early h good rest.0 staying E T same loss)
+                  (λ inside. nothing.lost_before s locked staying (planned given) (disk_of first) (disk_of decided) before T early.disk
+                  (ends.lost_well old.dirs old.namespace (kind_of old) old.prohibit_windows_device_names before (disk_of decided) given ran packed rewrite (laid h) (ready h good) good.0 good.1 (repack h good) (text_held h)
+                  settled_then.0 E T inside loss))
+                  among)
+                  (passes_joins (passes_weaken early (λ E same. inl same))
+                  (passes_weaken
+                  (ends.within_run old.dirs old.namespace (kind_of old) old.prohibit_windows_device_names before (disk_of decided) given ran packed rewrite (laid h) (ready h good) good.0 good.1 (repack h good) (text_held h)
+                  decided mid now refl settled_then.1 passes only_mine)
+                  (λ E inside. inr inside)));
+            }
+
+            pub settled : IsSyncedAfter (steps_in all_entries) (disk_of decided) (disk_of mid) → new.dirs ≡ start.dirs → new.namespace ≡ start.namespace → IsAtRest means new
+            settled done dirs_same namespace_same =
+                let end = ends.settles old.dirs old.namespace (kind_of old) old.prohibit_windows_device_names before (disk_of decided) given ran packed rewrite (laid h) mid now settled_then.0 settled_then.1 done only_mine in
+                (end.0, subst (λ (f : Layout). AllStay (disk_of now) (roots f)) (sym (ap (λ (dirs : Dirs). folders_of dirs new.namespace) (dirs_same ∙ from.held.same.dirs) ∙ ap (folders_of old.dirs) (namespace_same ∙ from.held.same.namespace))) end.1)

@@ -1,8 +1,11 @@
+pub mod CommitFailures
 pub mod Commits
 pub mod ListingRuns
 pub mod LentRecords
 pub mod LooseAnswers
 pub mod Platforms
 pub mod PreparedLosses
+pub mod Preparing
 pub mod Refusals
+pub mod Releasing
 pub mod SplitRuns

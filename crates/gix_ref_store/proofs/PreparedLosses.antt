@@ -14,9 +14,9 @@ module _ {F : Type 0} (means : F → Meaning) where
   pub kept_loses : (old new : Store F) (edits : List RefEdit) → KeepsAll means old new edits → LosesNothing means old new edits
   kept_loses old new edits keeps = record {
     keeps = keeps;
-    loses = within_loses (places_in old edits) [] (means (files_of old)) (means (files_of new)) (passes_weaken (keeps [] tt) (λ D among. among.0));
+    loses = within_loses (places_in means old edits) [] (means (files_of old)) (means (files_of new)) (passes_weaken (keeps [] tt) (λ D among. among.0));
   }
 
   -- nothing was done
   pub untouched_loses : (store : Store F) (edits : List RefEdit) → LosesNothing means store store edits
-  untouched_loses store edits = kept_loses store store edits (λ staying stays. passes_starts (means (files_of store)) _ (as_before (places_in store edits) staying (disk_in means store) stays))
+  untouched_loses store edits = kept_loses store store edits (λ staying stays. passes_starts (means (files_of store)) _ (as_before (places_in means store edits) staying (disk_in means store) stays))

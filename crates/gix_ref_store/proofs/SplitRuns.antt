@@ -1,5 +1,5 @@
 -- A `prepare` that first read files for its splits, from the store with which it began.
-use Rattle.std.proofs.Common.{◌≡◌, ◌⊎◌, inl, inr, ⊎_elim, ℕ, List, [], true, Option, All, refl, sym, ap, subst, arith, Result, Ok, Err, IfOk, IfErr, OnOk, Vec, Global}
+use Rattle.std.proofs.Common.{◌≡◌, ◌⊎◌, inl, inr, ⊎_elim, ℕ, List, [], true, Option, All, refl, sym, ◌∙◌, ap, subst, arith, Result, Ok, Err, IfOk, IfErr, OnOk, Vec, Global}
 use Rattle.gix_ref_base.specs.Targets.{TargetValue}
 use Rattle.gix_ref_files.specs.Disk.{Disk}
 use Rattle.gix_ref_files.specs.Tree.{Tree, Path}
@@ -12,13 +12,13 @@ use Rattle.gix_ref_theory.proofs.LockDisks.{as_before}
 use Rattle.gix_ref_edits.specs.DoubledNames.{NoneDoubled}
 use Rattle.gix_ref_edits.specs.RefEdits.{AreUpdates}
 use Rattle.gix_ref_edits.specs.declared.transaction.RefEdit.{RefEdit}
-use Rattle.gix_ref_transaction.specs.Causes.{AllValid, IsAccepted, IsCounted, IsDoubling, IsFirstCause, IsIoOrMemory, IsPackedRefusal, IsPackedWell, names_of}
+use Rattle.gix_ref_transaction.specs.Causes.{AllValid, IsAccepted, IsCounted, IsDoubling, IsIoOrMemory, IsLockCause, IsPackedRefusal, IsPackedWell, names_of, packed_taken}
 use Rattle.gix_ref_transaction.specs.OwnLocks.{AddsLocks, is_in}
-use Rattle.gix_ref_transaction.specs.PrepareSteps.{AreLockable, are_written, HoldTexts, old_targets}
+use Rattle.gix_ref_transaction.specs.PrepareSteps.{packed_ids, AreLockable, effects_on, HoldTexts, old_targets, own_locks, own_places}
 use Rattle.gix_ref_transaction.specs.Splits.{AreDirect, AreSplit, CanFollow, IsFirstMisnamed, IsSplitCause, IsTooLong, OnlyReads, all_rounds}
 use Rattle.gix_ref_transaction.specs.declared.prepare.error.Error.{Error}
 use Rattle.gix_ref_transaction.proofs.PackedLemmas.{counted_later, counted_on, not_packed, rises_on}
-use Rattle.gix_ref_store.specs.Prepared.{HasGoodRecords, HoldsFrom, KeepsAll, LosesNothing, RefusesFrom, RefusesSplit, SplitsFrom, disk_in, locks_in, places_in, tree_of}
+use Rattle.gix_ref_store.specs.Prepared.{HasGoodRecords, HoldsFrom, HoldsPacked, KeepsAll, LosesNothing, RefusesFrom, RefusesSplit, SplitsFrom, disk_in, locks_in, places_in, tree_of}
 use Rattle.gix_ref_store.specs.Store.{files_of, kind_of, meaning_of, with_files}
 use Rattle.gix_ref_store.specs.declared.file.store.Store.{Store}
 use Rattle.gix_ref_store.proofs.PreparedLosses.{kept_loses}
@@ -40,6 +40,12 @@ module _ {F : Type 0} (honest : Type 0) (means : F → Meaning) (faults : F → 
   good_mid : honest → HasGoodRecords means old → HasGoodRecords means mid
   good_mid h good = subst (λ (T : Tree). IsPackedWell (kind_of old) (view_of T (meaning_of old).packed_path)) (sym (same_tree h)) good
 
+  pub locks_same : honest → (edits : List RefEdit) → locks_in means mid edits ≡ locks_in means old edits
+  locks_same h edits = ap (λ (T : Tree). own_locks (meaning_of old) T edits) (same_tree h)
+
+  places_same : honest → (edits : List RefEdit) → places_in means mid edits ≡ places_in means old edits
+  places_same h edits = ap (λ (T : Tree). own_places (meaning_of old) T edits) (same_tree h)
+
   leaves_on : (h : honest) (new : Store F) (locks : List Path) → Leaves (means files) (means (files_of new)) (AddsLocks locks locks (tree_of means mid)) →
       Leaves (means (files_of old)) (means (files_of new)) (AddsLocks locks locks (tree_of means old))
   leaves_on h new locks later = joins
@@ -49,21 +55,25 @@ module _ {F : Type 0} (honest : Type 0) (means : F → Meaning) (faults : F → 
   keeps_on : (h : honest) (new : Store F) (edits : List RefEdit) → KeepsAll means mid new edits → KeepsAll means old new edits
   keeps_on h new edits keeps staying stays =
       let same : disk_in means mid ≡ disk_in means old = (reads.passes h).disk in
-      let places = places_in old edits in
+      let same_places : places_in means mid edits ≡ places_in means old edits = places_same h edits in
+      let places = places_in means old edits in
       passes_joins
       (passes_weaken (reads.passes h) (λ D is. subst (IsAsBefore places staying (disk_in means old)) (sym is) (as_before places staying (disk_in means old) stays)))
-      (subst (λ (D : Disk). Passes (means files) (means (files_of new)) (IsAsBefore places staying D)) same (keeps staying (subst (λ (D : Disk). AllStay D staying) (sym same) stays)))
+      (subst (λ (D : Disk). Passes (means files) (means (files_of new)) (IsAsBefore places staying D)) same (subst (λ (ps : List Path). Passes (means files) (means (files_of new)) (IsAsBefore ps staying (disk_in means mid))) same_places (keeps staying (subst (λ (D : Disk). AllStay D staying) (sym same) stays))))
 
   keeps_none : (h : honest) (edits : List RefEdit) → KeepsAll means old mid edits
   keeps_none h edits staying stays =
-      let places = places_in old edits in
+      let places = places_in means old edits in
       passes_weaken (reads.passes h) (λ D is. subst (IsAsBefore places staying (disk_in means old)) (sym is) (as_before places staying (disk_in means old) stays))
 
   pub loses_on : (h : honest) (new : Store F) (edits : List RefEdit) → LosesNothing means mid new edits → LosesNothing means old new edits
   loses_on h new edits loses = kept_loses means old new edits (keeps_on h new edits loses.keeps)
 
-  pub written_on : (h : honest) (edits : List RefEdit) → are_written (meaning_of old) (view_of (tree_of means mid)) edits ≡ are_written (meaning_of old) (view_of (tree_of means old)) edits
-  written_on h edits = ap (λ (T : Tree). are_written (meaning_of old) (view_of T) edits) (same_tree h)
+  pub effects_same : (h : honest) (edits : List RefEdit) → effects_on (meaning_of old) (view_of (tree_of means mid)) edits ≡ effects_on (meaning_of old) (view_of (tree_of means old)) edits
+  effects_same h edits = ap (λ (T : Tree). effects_on (meaning_of old) (view_of T) edits) (same_tree h)
+
+  pub ids_same : (h : honest) (edits : List RefEdit) → packed_ids (meaning_of old) (tree_of means mid) edits ≡ packed_ids (meaning_of old) (tree_of means old) edits
+  ids_same h edits = ap (λ (T : Tree). packed_ids (meaning_of old) T edits) (same_tree h)
 
   pub good_on : honest → HasGoodRecords means old → HasGoodRecords means mid
   good_on = good_mid
@@ -75,10 +85,17 @@ module _ {F : Type 0} (honest : Type 0) (means : F → Meaning) (faults : F → 
     texts = λ h good. subst (λ (T : Tree). HoldTexts (meaning_of old) T (tree_of means new) split) (same_tree h) (held.texts h (good_mid h good));
     valid = held.valid;
     lockable = λ h. subst (λ (T : Tree). AreLockable (meaning_of old) (kind_of old) T [] split) (same_tree h) (held.lockable h);
-    adds = λ h. subst (λ (T : Tree). AddsLocks (locks_in old split) (locks_in old split) T (tree_of means new)) (same_tree h) (held.adds h);
-    leaves = λ h. leaves_on h new (locks_in old split) (held.leaves h);
+    adds = λ h. subst (λ (T : Tree). AddsLocks (own_locks (meaning_of old) T split) (own_locks (meaning_of old) T split) T (tree_of means new)) (same_tree h) (held.adds h);
+    leaves = λ h. leaves_on h new (locks_in means old split) (subst (λ (l : List Path). Leaves (means files) (means (files_of new)) (AddsLocks l l (tree_of means mid))) (locks_same h split) (held.leaves h));
     no_fewer = omega (arith, reads.no_fewer, held.no_fewer);
     same = record { dirs = held.same.dirs; namespace = held.same.namespace; of_kind = held.same.of_kind; reflogs = held.same.reflogs; composes = held.same.composes; prohibits = held.same.prohibits };
+  }
+
+  pub packed_on : (new : Store F) (split : List RefEdit) (packed : Option Path) → HoldsPacked honest means faults mid new split packed → HoldsPacked honest means faults old new split packed
+  packed_on new split packed holds = record {
+    place = holds.place;
+    due = λ h. holds.due h ∙ ap (λ (T : Tree). packed_taken (meaning_of old) T split) (same_tree h);
+    empty = holds.empty;
   }
 
   -- a refusal of the split list is one of the edits that were given
@@ -95,16 +112,16 @@ module _ {F : Type 0} (honest : Type 0) (means : F → Meaning) (faults : F → 
           (
             split,
             splits.is h,
-            subst (λ (T : Tree). IsDoubling split error ⊎ (NoneDoubled (names_of split) × IsFirstCause (meaning_of old) (kind_of old) T [] split error)) (same_tree h) cause,
+            subst (λ (T : Tree). IsDoubling split error ⊎ (NoneDoubled (names_of split) × IsLockCause (meaning_of old) (kind_of old) T split error)) (same_tree h) cause,
           ),
         ))
         (refused.cause h (good_mid h good));
     opened = λ h. subst (λ (T : Tree). IsPackedRefusal (kind_of old) (T (meaning_of old).packed_path) error) (same_tree h) (refused.opened h);
     counted = counted_on honest read _ _ _ error reads.no_fewer refused.counted;
-    as_before = λ h. subst (λ (T : Tree). AddsLocks left (locks_in old split) T (tree_of means new)) (same_tree h) (refused.as_before h);
+    as_before = λ h. subst (λ (T : Tree). AddsLocks left (own_locks (meaning_of old) T split) T (tree_of means new)) (same_tree h) (refused.as_before h);
     ours = refused.ours;
     named = rises_on _ _ _ reads.no_fewer refused.named;
-    leaves = λ h. leaves_on h new (locks_in old split) (refused.leaves h);
+    leaves = λ h. leaves_on h new (locks_in means old split) (subst (λ (l : List Path). Leaves (means files) (means (files_of new)) (AddsLocks l l (tree_of means mid))) (locks_same h split) (refused.leaves h));
     lost = λ h. loses_on h new split (lost h);
     same = record { dirs = refused.same.dirs; namespace = refused.same.namespace; of_kind = refused.same.of_kind; reflogs = refused.same.reflogs; composes = refused.same.composes; prohibits = refused.same.prohibits };
   }
@@ -119,10 +136,10 @@ module _ {F : Type 0} (honest : Type 0) (means : F → Meaning) (faults : F → 
     cause = λ h good. inl (cause h);
     opened = λ h. (not_packed (kind_of old) (tree_of means old (meaning_of old).packed_path) _ _ error counted).0;
     counted = counted_later honest read _ _ _ error (omega arith) counted;
-    as_before = λ h. same_adds left (locks_in old given) (tree_of means old) (tree_of means mid) (same_tree h);
+    as_before = λ h. same_adds left (locks_in means old given) (tree_of means old) (tree_of means mid) (same_tree h);
     ours = λ q within. absurd (none_in q (subst (λ paths. is_in paths q ≡ true) none within));
     named = inl none;
-    leaves = λ h. weaken (reads.leaves h) (λ T same. same_adds (locks_in old given) (locks_in old given) (tree_of means old) T same);
+    leaves = λ h. weaken (reads.leaves h) (λ T same. same_adds (locks_in means old given) (locks_in means old given) (tree_of means old) T same);
     lost = λ h. kept_loses means old mid given (keeps_none h given);
     same = record { dirs = refl; namespace = refl; of_kind = refl; reflogs = refl; composes = refl; prohibits = refl };
   }
@@ -132,7 +149,7 @@ module _ {F : Type 0} (honest : Type 0) (means : F → Meaning) (faults : F → 
   pub splits_from : (r : Result (Vec RefEdit Global) Error) →
       (honest → IfOk r (λ split. AreSplit (meaning_of old) (view_of (tree_of means old)) given split.items)) →
       (honest → OnOk r (All (CanFollow (meaning_of old)) (all_rounds (meaning_of old) (view_of (tree_of means old)) given))) →
-      IfOk r (λ split. AreUpdates split.items) → (AreDirect given → IfOk r (λ split. split.items ≡ given)) → IfOk r (λ split. SplitsFrom honest means faults old given split.items)
+      (AreUpdates given → IfOk r (λ split. AreUpdates split.items)) → (AreDirect given → IfOk r (λ split. split.items ≡ given)) → IfOk r (λ split. SplitsFrom honest means faults old given split.items)
   splits_from (Ok split) is can updates direct = record { is = is; can_follow = can; valid = valid; updates = updates; direct = direct }
   splits_from (Err error) is can updates direct = tt
 

@@ -1,28 +1,47 @@
 -- What `commit` returns and leaves.
-use Rattle.std.specs.Prelude.{◌≡◌, ◌≢◌, ◌<◌, ℕ, List, true, false, get_or, length, [], Result, Ok, Err}
-use Rattle.gix_ref_name.specs.Names.{full_bytes}
-use Rattle.gix_ref_files.specs.Tree.{Tree, Path, is_file}
+use Rattle.std.specs.Prelude.{◌≡◌, ◌≢◌, ◌<◌, ◌⊎◌, ℕ, List, [], true, false, Option, None, Result, Ok, Err, map, length}
+use Rattle.gix_ref_base.specs.PackedRecords.{Record}
+use Rattle.gix_ref_files.specs.Tree.{Tree, Path, is_file, is_folder}
+use Rattle.gix_ref_files.specs.declared.files.FileError.{FileError}
 use Rattle.gix_ref_files.specs.declared.files.FileError.TheVariants.{Memory as no_memory}
+use Rattle.gix_ref_files.specs.declared.steps.Cause.{Cause}
+use Rattle.gix_ref_files.specs.declared.steps.Cause.TheVariants.{File, Unexpected}
 use Rattle.gix_ref_files.specs.Disk.{Lost}
 use Rattle.gix_ref_files.specs.Files.{Meaning, Leaves, Loses, HasRisen}
-use Rattle.gix_ref_transaction.specs.OwnLocks.{is_in, paths_of, RemovesLocks}
-use Rattle.gix_ref_theory.specs.Losses.{IsLostWell}
-use Rattle.gix_ref_transaction.specs.Causes.{names_of}
+use Rattle.gix_ref_files.specs.Lock.{lock_of}
+use Rattle.gix_ref_lookup.specs.Lookups.{ArePackedRecords}
+use Rattle.gix_ref_rewrite.specs.declared.outcome.Rewrite.{Rewrite}
+use Rattle.gix_ref_theory.specs.Between.{AreEdits}
 use Rattle.gix_ref_theory.specs.Edits.Mode.{DeletionsOnly}
-use Rattle.gix_ref_transaction.specs.CommittedEdits.{planned, AreCommitted, IsOldOrNew}
-use Rattle.gix_ref_edits.specs.RefEdits.{AreUpdates}
-use Rattle.gix_ref_store.specs.Prepared.{PreparesFrom, HasGoodRecords, tree_of, disk_in, IsAtRest, locks_in, places_in}
-use Rattle.gix_ref_store.specs.Store.{files_of, meaning_of}
-use Rattle.gix_ref_transaction.specs.PrepareSteps.{lock_paths}
-use Rattle.gix_ref_transaction.specs.CommitRenames.{is_written_at, place_at, IsCutAt, IsFolderInPlace}
+use Rattle.gix_ref_theory.specs.Losses.{IsLostWell}
+use Rattle.gix_ref_theory.specs.OnRealTrees.{view_of}
 use Rattle.gix_ref_edits.specs.declared.transaction.RefEdit.{RefEdit}
+use Rattle.gix_ref_transaction.specs.CommitRenames.{place_at}
+use Rattle.gix_ref_transaction.specs.CommittedEdits.{planned, AreCommitted}
+use Rattle.gix_ref_transaction.specs.OwnLocks.{is_in, paths_of, RemovesLocks}
+use Rattle.gix_ref_transaction.specs.PackedCauses.{ids_among}
+use Rattle.gix_ref_transaction.specs.PrepareSteps.{AreEmpty, held_locks, ids_in, packed_places, possible_locks, updates, IsPackedPlace}
+use Rattle.gix_ref_transaction.specs.declared.edit.Edit.{Edit}
+use Rattle.gix_ref_repack.specs.Refusals.{IsBadLine}
+use Rattle.gix_ref_repack.specs.Repacks.{IsRepack}
+use Rattle.gix_ref_repack.specs.declared.error.Error.{Error as RepackError}
+use Rattle.gix_ref_repack.specs.declared.error.Error.TheVariants as repack
+use Rattle.gix_ref_commit.specs.CommittedTrees.{IsOldOrNew}
+use Rattle.gix_ref_commit.specs.Decided.{IsFilled}
+use Rattle.gix_ref_commit.specs.Entries.{planned_entries}
+use Rattle.gix_ref_commit.specs.Failures.{IsNameAt}
+use Rattle.gix_ref_commit.specs.LogEffects.{AreLogsOf, all_but_logs}
+use Rattle.gix_ref_commit.specs.Unfinished.{EndsAtStep}
+use Rattle.gix_ref_commit.specs.declared.error.Error.{Error}
+use Rattle.gix_ref_commit.specs.declared.error.Error.TheVariants.{PackedTransactionCommit, LockCommit, DeleteReference, DeleteReflog, FolderInPlace, Memory}
+use Rattle.gix_ref_commit.specs.declared.plan.About.{About}
+use Rattle.gix_ref_commit.specs.declared.plan.About.TheVariants.{Line, Rename, LogRemoval, Packed, Removal}
+use Rattle.gix_ref_store.specs.Prepared.{PreparesFrom, HasGoodRecords, tree_of, disk_in, IsAtRest, locks_in, places_in}
+use Rattle.gix_ref_store.specs.Store.{files_of, kind_of, meaning_of}
 use Rattle.gix_ref_store.specs.declared.file.store.Store.{Store}
 use Rattle.gix_ref_store.specs.declared.file.transaction.Done.{Done}
 use Rattle.gix_ref_store.specs.declared.file.transaction.PackedRefs.{PackedRefs}
 use Rattle.gix_ref_store.specs.declared.file.transaction.Failed.{Failed}
-use Rattle.gix_ref_transaction.specs.declared.paths.Paths.{Paths}
-use Rattle.gix_ref_transaction.specs.declared.commit.error.Error.{Error}
-use Rattle.gix_ref_transaction.specs.declared.commit.error.Error.TheVariants.{LockCommit, FolderInPlace, Memory}
 
 -- the locks that the result of a commit names
 abbrev pub left_of : Result Done Failed → List Path
@@ -34,61 +53,117 @@ abbrev pub mode_of : Result Done Failed → PackedRefs
 mode_of (Ok done) = done.packed_refs
 mode_of (Err failed) = failed.packed_refs
 
+-- `packed-refs` has a line that is no record
+abbrev pub IsOfBadLine : Error → Type 0
+IsOfBadLine (PackedTransactionCommit (repack.Iteration line)) = Unit {0}
+IsOfBadLine other = ⊥
+
+-- nothing but these locks has changed
+abbrev pub ChangesLocks : List Path → (before T : Tree) → Type 0
+ChangesLocks locks before T = (q : Path) → is_in locks q ≡ false → T q ≡ before q
+
 module _ {F : Type 0} (honest : Type 0) (means : F → Meaning) (faults : F → ℕ) where
-  -- A commit, from the store `start` with these edits and paths of a `prepare` that began with the store `old`: where `packed-refs` was well
+  -- A commit, from the store `start` with these edits of a `prepare` that began with the store `old`: where `packed-refs` was well
   -- formed, every stop leaves each reference as before or as edited; of the locks only those stay that are named, and one is named only where a fault came.
   pub record EveryStopIsOldOrNew (old start new : Store F) (given : List RefEdit) (left : List Path) : Type 0 where
     -- the tree with which it begins, which a stop before its first change leaves
     pub began : honest → HasGoodRecords means old → IsOldOrNew (meaning_of old) given (tree_of means old) (tree_of means start)
     pub leaves : honest → Leaves (means (files_of start)) (means (files_of new)) (λ T. HasGoodRecords means old → IsOldOrNew (meaning_of old) given (tree_of means old) T)
-    pub gone : honest → (q : Path) → is_in (locks_in old given) q ≡ true → is_in left q ≡ false → is_file (tree_of means new q) ≡ false
-    pub ours : (q : Path) → is_in left q ≡ true → is_in (locks_in old given) q ≡ true
+    pub gone : honest → (q : Path) → is_in (locks_in means old given) q ≡ true → is_in left q ≡ false → is_file (tree_of means new q) ≡ false
+    pub ours : (q : Path) → is_in left q ≡ true → is_in (possible_locks (meaning_of old) given) q ≡ true
 
-  -- and so for every store and all updates from which `prepare` gave these edits and paths
-  abbrev pub EveryStopFrom : (start new : Store F) → List RefEdit → List Paths → List Path → Type 0
-  EveryStopFrom start new edits paths left =
-      (old : Store F) (given : List RefEdit) → AreUpdates given → PreparesFrom honest means faults old start given edits paths →
+  -- and so for every store and all edits from which `prepare` gave these
+  abbrev pub EveryStopFrom : (start new : Store F) → Option Path → List Edit → List Path → Type 0
+  EveryStopFrom start new packed held left =
+      (old : Store F) (given : List RefEdit) → PreparesFrom honest means faults old start given packed held →
       EveryStopIsOldOrNew old start new given left
 
   -- a commit that succeeds: the edits are committed
-  abbrev pub CommitsFrom : (start new : Store F) → List RefEdit → List Paths → List Path → Type 0
-  CommitsFrom start new edits paths left =
-      (old : Store F) (given : List RefEdit) → AreUpdates given → PreparesFrom honest means faults old start given edits paths → honest → HasGoodRecords means old →
+  abbrev pub CommitsFrom : (start new : Store F) → Option Path → List Edit → List Path → Type 0
+  CommitsFrom start new packed held left =
+      (old : Store F) (given : List RefEdit) → PreparesFrom honest means faults old start given packed held → honest → HasGoodRecords means old →
       AreCommitted (meaning_of old) given (tree_of means old) left (tree_of means new)
 
-  -- Where a commit ended early: at an edit whose reference is written. The renames of the edits before it are done, its own is perhaps
-  -- done, and none of a later one is begun; then locks were removed.
-  pub record EndsAtEdit (start new : Store F) (edits : List RefEdit) (paths : List Paths) (at : ℕ) : Type 0 where
-    pub within : at < length edits
-    pub written : is_written_at paths at ≡ true
-    pub cut : honest → (mid : Tree) × IsCutAt paths at (tree_of means start) mid × RemovesLocks (lock_paths paths) mid (tree_of means new)
+  -- the new `packed-refs`, where its lock is held and it was well formed, is that without the records of deleted references
+  abbrev pub RepacksFrom : Store F → Option Path → List Edit → Rewrite → Type 0
+  RepacksFrom start packed held rewrite =
+      honest → AreEdits (meaning_of start) (planned (updates held)) → (rs : List Record) →
+      ArePackedRecords (kind_of start) (view_of (tree_of means start) (meaning_of start).packed_path) rs →
+      ids_in held ≡ ids_among (meaning_of start) rs (updates held) → packed ≢ None →
+      IsRepack (meaning_of start) (kind_of start) rs (planned (updates held)) rewrite
 
-  -- Why a commit failed, with these edits and paths: the rename of the edit at which it ended failed, only where a fault came, and its
-  -- source is no want of memory; or a folder is at the place of that edit, and was there as the commit began; or a want of memory, and
-  -- then only locks were removed.
-  abbrev pub FailsFor : (start new : Store F) → List RefEdit → List Paths → Error → Type 0
-  FailsFor start new edits paths (LockCommit source name) =
-      HasRisen (faults (files_of start)) (faults (files_of new)) × (source ≢ no_memory)
-      × ((at : ℕ) × EndsAtEdit start new edits paths at × (full_bytes name ≡ get_or (names_of edits) at []))
-  FailsFor start new edits paths (FolderInPlace path) =
-      (at : ℕ) × EndsAtEdit start new edits paths at × (path.items ≡ place_at paths at)
-      × (honest → IsFolderInPlace (tree_of means start) (tree_of means new) path.items)
-  FailsFor start new edits paths Memory = honest → RemovesLocks (lock_paths paths) (tree_of means start) (tree_of means new)
+  -- the lock of `packed-refs` is empty, where it is held
+  abbrev pub IsPackedEmpty : Store F → Option Path → Type 0
+  IsPackedEmpty start packed = AreEmpty (tree_of means start) (map lock_of (packed_places packed))
 
-  -- Every loss of power inside a commit, from the store `start` with these edits and paths of a `prepare` that began with the store `old`,
+  -- Where a commit ended early: at the step about this, for this cause. All logs and `packed-refs` were decided before, the new text of
+  -- `packed-refs` is in its lock, the steps before that one are done, and none after it is begun; then locks were removed.
+  pub record StopsAt (start new : Store F) (packed : Option Path) (held : List Edit) (about : About) (cause : Cause) : Type 0 where
+    pub ran : List Edit
+    pub alike : all_but_logs ran ≡ all_but_logs held
+    pub logs : AreLogsOf (meaning_of start) (updates held) ran
+    pub rewrite : Rewrite
+    pub repacked : RepacksFrom start packed held rewrite
+    pub filled : Tree
+    pub fills : honest → IsPackedEmpty start packed → IsFilled packed rewrite (tree_of means start) filled
+    pub mid : Tree
+    pub stops : EndsAtStep honest (planned_entries start.dirs ran packed rewrite) filled mid about cause
+    pub removes : honest → RemovesLocks (held_locks packed held) mid (tree_of means new)
+
+  -- nothing but the transaction's locks has changed
+  abbrev pub OnlyItsLocks : (start new : Store F) → Option Path → List Edit → Type 0
+  OnlyItsLocks start new packed held = honest → IsPackedEmpty start packed → ChangesLocks (held_locks packed held) (tree_of means start) (tree_of means new)
+
+  -- a call of files failed, for another reason than a want of memory
+  abbrev pub IsFault : (start new : Store F) → FileError → Type 0
+  IsFault start new fault = HasRisen (faults (files_of start)) (faults (files_of new)) × (fault ≢ no_memory)
+
+  -- a call of files failed at the step about the edit of this name
+  abbrev pub FailsAt : (start new : Store F) → Option Path → List Edit → (ℕ → About) → FileError → (ℕ → Type 0) → Type 0
+  FailsAt start new packed held about fault is_named =
+      IsFault start new fault × ((at : ℕ) × (at < length held) × is_named at × StopsAt start new packed held (about at) (File fault))
+
+  -- Where a folder is in the place of a reference, or of `packed-refs`.
+  abbrev pub MeetsFolder : (start new : Store F) → Option Path → List Edit → Path → Type 0
+  MeetsFolder start new packed held path =
+      ((at : ℕ) × (at < length held) × (path ≡ place_at held at) × (is_folder (tree_of means new path) ≡ true) × StopsAt start new packed held (Rename at) Unexpected)
+      ⊎ ((path ≡ (meaning_of start).packed_path) × (IsPackedPlace (meaning_of start) packed → is_folder (tree_of means new path) ≡ true)
+      × StopsAt start new packed held Packed Unexpected)
+
+  -- Why a commit failed, with these edits. A fault of a call of files came with a rise of their count and is no want of memory, and the
+  -- error says at which edit; a folder is in the place where the commit ended; `packed-refs` was refused or memory was, and then nothing but locks
+  -- has changed.
+  abbrev pub FailsFor : (start new : Store F) → Option Path → List Edit → Error → Type 0
+  FailsFor start new packed held (LockCommit source name) = FailsAt start new packed held Rename source (λ at. IsNameAt (updates held) at name)
+  FailsFor start new packed held (DeleteReflog name source) = FailsAt start new packed held LogRemoval source (λ at. IsNameAt (updates held) at name)
+  FailsFor start new packed held (DeleteReference name err) = FailsAt start new packed held Removal err (λ at. IsNameAt (updates held) at name)
+  FailsFor start new packed held (PackedTransactionCommit (repack.Io fault)) =
+      IsFault start new fault × (OnlyItsLocks start new packed held ⊎ StopsAt start new packed held Packed (File fault))
+  FailsFor start new packed held (PackedTransactionCommit (repack.Iteration line)) =
+      (honest → IsBadLine (kind_of start) (tree_of means start (meaning_of start).packed_path) line) × OnlyItsLocks start new packed held
+  FailsFor start new packed held (PackedTransactionCommit other) = ⊥
+  FailsFor start new packed held (FolderInPlace path) = honest → MeetsFolder start new packed held path.items
+  FailsFor start new packed held Memory = OnlyItsLocks start new packed held
+
+  -- where `packed-refs` was well formed, none of its lines is the cause
+  abbrev pub NoBadLineFrom : (start : Store F) → Option Path → List Edit → Error → Type 0
+  NoBadLineFrom start packed held error =
+      (old : Store F) (given : List RefEdit) → PreparesFrom honest means faults old start given packed held → honest → HasGoodRecords means old → IsOfBadLine error → ⊥
+
+  -- Every loss of power inside a commit, from the store `start` with these edits of a `prepare` that began with the store `old`,
   -- where all was at rest: each reference reads as before or as edited, and all else is as it was, but for locks.
   pub record EveryLossIsOldOrNew (old start new : Store F) (given : List RefEdit) : Type 0 where
     -- on the disk with which it begins
-    pub began : (T : Tree) → Lost (disk_in means start) T → IsLostWell (meaning_of old) DeletionsOnly (places_in old given) (planned given) (disk_in means start) (tree_of means old) T
-    pub loses : Loses (means (files_of start)) (means (files_of new)) (IsLostWell (meaning_of old) DeletionsOnly (places_in old given) (planned given) (disk_in means start) (tree_of means old))
+    pub began : (T : Tree) → Lost (disk_in means start) T → IsLostWell (meaning_of old) DeletionsOnly (places_in means old given) (planned given) (disk_in means start) (tree_of means old) T
+    pub loses : Loses (means (files_of start)) (means (files_of new)) (IsLostWell (meaning_of old) DeletionsOnly (places_in means old given) (planned given) (disk_in means start) (tree_of means old))
 
-  abbrev pub EveryLossFrom : (start new : Store F) → List RefEdit → List Paths → Type 0
-  EveryLossFrom start new edits paths =
-      (old : Store F) (given : List RefEdit) → AreUpdates given → PreparesFrom honest means faults old start given edits paths → honest → HasGoodRecords means old → IsAtRest means old →
+  abbrev pub EveryLossFrom : (start new : Store F) → Option Path → List Edit → Type 0
+  EveryLossFrom start new packed held =
+      (old : Store F) (given : List RefEdit) → PreparesFrom honest means faults old start given packed held → honest → HasGoodRecords means old → IsAtRest means old →
       EveryLossIsOldOrNew old start new given
 
   -- a commit that succeeds leaves all at rest: a later loss of power leaves what it did
-  abbrev pub SettlesFrom : (start new : Store F) → List RefEdit → List Paths → Type 0
-  SettlesFrom start new edits paths =
-      (old : Store F) (given : List RefEdit) → AreUpdates given → PreparesFrom honest means faults old start given edits paths → honest → IsAtRest means old →
+  abbrev pub SettlesFrom : (start new : Store F) → Option Path → List Edit → Type 0
+  SettlesFrom start new packed held =
+      (old : Store F) (given : List RefEdit) → PreparesFrom honest means faults old start given packed held → honest → IsAtRest means old →
       IsAtRest means new

@@ -1,4 +1,5 @@
 pub mod CommitResult
+pub mod Decisions
 pub mod Listings
 pub mod Lookup
 pub mod Options

@@ -1,25 +1,28 @@
 -- What `prepare` returns and leaves.
-use Rattle.std.specs.Prelude.{◌≡◌, ◌≤◌, ◌⊎◌, ℕ, List, [], true, false, Option, All}
+use Rattle.std.specs.Prelude.{◌≡◌, ◌≤◌, ◌<◌, ◌+◌, ◌⊎◌, ℕ, List, [], true, false, Option, All, map, Vec, vec_len}
+use Rattle.std.specs.Vec.{vec_capacity}
+use Rattle.std.specs.declared.alloc.Global.{Global}
 use Rattle.gix_ref_base.specs.Targets.{TargetValue}
 use Rattle.gix_ref_files.specs.Tree.{Tree, Path, is_file}
 use Rattle.gix_ref_files.specs.Disk.{Disk}
 use Rattle.gix_ref_files.specs.Files.{Meaning, disk_of, Leaves, Passes, Loses, HasRisen}
+use Rattle.gix_ref_files.specs.Lock.{lock_of}
 use Rattle.gix_ref_files.specs.Settled.{AllStay, IsAllSettled}
 use Rattle.gix_ref_theory.specs.OnDisks.{IsSpokenOf, IsAsBefore}
 use Rattle.gix_ref_theory.specs.OnRealTrees.{view_of}
 use Rattle.gix_ref_theory.specs.Roots.{roots}
 use Rattle.gix_ref_transaction.specs.OwnLocks.{is_in, AddsLocks, RemovesLocks, OnlyRemoves}
-use Rattle.gix_ref_transaction.specs.Causes.{AllValid, IsAccepted, IsCountedWith, IsDoubling, IsFirstCause, IsIoOrMemory, IsPackedRefusal, IsPackedWell, locks_of, names_of}
-use Rattle.gix_ref_transaction.specs.CommitRenames.{written_flags}
+use Rattle.gix_ref_transaction.specs.Causes.{AllValid, IsAccepted, IsCountedWith, IsDoubling, IsIoOrMemory, IsLockCause, IsPackedRefusal, IsPackedWell, names_of, packed_taken}
 use Rattle.gix_ref_store.specs.Store.{files_of, kind_of, folders, meaning_of, IsSameStore}
-use Rattle.gix_ref_transaction.specs.PrepareSteps.{AreLockable, AreWholeLocks, are_written, HoldTexts, old_targets, lock_paths, place_paths, places_of}
+use Rattle.gix_ref_transaction.specs.PrepareSteps.{AreEmpty, AreLockable, AreWholeLocks, effects_of, effects_on, HoldTexts, ids_in, packed_ids, IsPackedPlace, old_targets, own_locks, own_places, packed_places, place_paths, places_of, possible_locks, updates}
 use Rattle.gix_ref_transaction.specs.CarriedEdits.{AreCarried}
 use Rattle.gix_ref_transaction.specs.Splits.{all_rounds, AreDirect, AreSplit, CanFollow, Refuses}
 use Rattle.gix_ref_edits.specs.DoubledNames.{NoneDoubled}
 use Rattle.gix_ref_edits.specs.RefEdits.{AreUpdates}
 use Rattle.gix_ref_edits.specs.declared.transaction.RefEdit.{RefEdit}
 use Rattle.gix_ref_store.specs.declared.file.store.Store.{Store}
-use Rattle.gix_ref_transaction.specs.declared.paths.Paths.{Paths}
+use Rattle.gix_ref_transaction.specs.declared.edit.Edit.{Edit}
+use Rattle.gix_ref_transaction.specs.declared.release.Remains.{Remains}
 use Rattle.gix_ref_transaction.specs.declared.prepare.error.Error.{Error}
 
 module _ {F : Type 0} (means : F → Meaning) where
@@ -31,6 +34,13 @@ module _ {F : Type 0} (means : F → Meaning) where
   abbrev pub disk_in : Store F → Disk
   disk_in store = disk_of (means (files_of store))
 
+  -- the locks of a transaction that begins with a store, and their places
+  abbrev pub locks_in : Store F → List RefEdit → List Path
+  locks_in store edits = own_locks (meaning_of store) (tree_of store) edits
+
+  abbrev pub places_in : Store F → List RefEdit → List Path
+  places_in store edits = own_places (meaning_of store) (tree_of store) edits
+
   -- its `packed-refs` is well formed, or there is none
   abbrev pub HasGoodRecords : Store F → Type 0
   HasGoodRecords store = IsPackedWell (kind_of store) (view_of (tree_of store) (meaning_of store).packed_path)
@@ -40,26 +50,24 @@ module _ {F : Type 0} (means : F → Meaning) where
   abbrev pub IsAtRest : Store F → Type 0
   IsAtRest store = IsAllSettled (disk_in store) × AllStay (disk_in store) (roots (folders store))
 
-  -- from the store `old` to `new`, every disk that is found is as that of `old` but for locks of these edits
+  -- from the store `old` to `new`, every disk that is found is as that of `old` but for locks of a transaction of these edits
   abbrev pub KeepsAll : (old new : Store F) → List RefEdit → Type 0
   KeepsAll old new edits =
       (staying : List Path) → AllStay (disk_in old) staying →
-      Passes (means (files_of old)) (means (files_of new)) (IsAsBefore (places_of (meaning_of old) edits) staying (disk_in old))
+      Passes (means (files_of old)) (means (files_of new)) (IsAsBefore (places_in old edits) staying (disk_in old))
 
   -- Every loss of power meanwhile leaves each file that was settled, but for these locks; and all stays as settled as it was.
   pub record LosesNothing (old new : Store F) (edits : List RefEdit) : Type 0 where
     pub keeps : KeepsAll old new edits
     pub loses : Loses (means (files_of old)) (means (files_of new))
-        (λ T. (q : Path) → IsSpokenOf (places_of (meaning_of old) edits) (disk_in old) q → view_of T q ≡ view_of (tree_of old) q)
+        (λ T. (q : Path) → IsSpokenOf (places_in old edits) (disk_in old) q → view_of T q ≡ view_of (tree_of old) q)
 
-module _ {F : Type 0} where
-  -- the locks of edits in a store
-  abbrev pub locks_in : Store F → List RefEdit → List Path
-  locks_in store edits = locks_of (meaning_of store) edits
-
-  -- and their places
-  abbrev pub places_in : Store F → List RefEdit → List Path
-  places_in store edits = places_of (meaning_of store) edits
+-- There is room for what remains of these edits and of the lock of `packed-refs`, and nothing is in it yet.
+pub record HasRoom (held : Vec Edit Global) (remains : Remains) : Type 0 where
+  pub locks : vec_len held + vec_len remains.left < vec_capacity remains.left
+  pub edits : vec_len held ≤ vec_capacity remains.edits
+  pub no_edits : remains.edits.items ≡ []
+  pub no_locks : remains.left.items ≡ []
 
 module _ {F : Type 0} (honest read : Type 0) (means : F → Meaning) (faults : F → ℕ) where
   -- A refusal. Where `packed-refs` is well formed, its error is the first cause that applies; `Packed` is returned for a `packed-refs` that is
@@ -73,23 +81,23 @@ module _ {F : Type 0} (honest read : Type 0) (means : F → Meaning) (faults : F
     pub cause : honest → HasGoodRecords means old → Refuses (meaning_of old) (kind_of old) (tree_of means old) given error
     pub opened : honest → IsPackedRefusal (kind_of old) (tree_of means old (meaning_of old).packed_path) error
     pub counted : IsCountedWith honest read (faults (files_of old)) (faults (files_of new)) error
-    pub as_before : honest → AddsLocks left (locks_in old tried) (tree_of means old) (tree_of means new)
-    pub ours : (q : Path) → is_in left q ≡ true → is_in (locks_in old tried) q ≡ true
+    pub as_before : honest → AddsLocks left (locks_in means old tried) (tree_of means old) (tree_of means new)
+    pub ours : (q : Path) → is_in left q ≡ true → is_in (possible_locks (meaning_of old) tried) q ≡ true
     pub named : (left ≡ []) ⊎ HasRisen (faults (files_of old)) (faults (files_of new))
-    pub leaves : honest → Leaves (means (files_of old)) (means (files_of new)) (AddsLocks (locks_in old tried) (locks_in old tried) (tree_of means old))
+    pub leaves : honest → Leaves (means (files_of old)) (means (files_of new)) (AddsLocks (locks_in means old tried) (locks_in means old tried) (tree_of means old))
     pub lost : honest → LosesNothing means old new tried
     pub same : IsSameStore old new
 
   -- A refusal of a split list: its locks could not be taken, or a name is doubled.
   pub record RefusesSplit (old new : Store F) (split : List RefEdit) (error : Error) (left : List Path) : Type 0 where
     pub cause : honest → HasGoodRecords means old → IsIoOrMemory error
-        ⊎ (IsDoubling split error ⊎ (NoneDoubled (names_of split) × IsFirstCause (meaning_of old) (kind_of old) (tree_of means old) [] split error))
+        ⊎ (IsDoubling split error ⊎ (NoneDoubled (names_of split) × IsLockCause (meaning_of old) (kind_of old) (tree_of means old) split error))
     pub opened : honest → IsPackedRefusal (kind_of old) (tree_of means old (meaning_of old).packed_path) error
     pub counted : IsCountedWith honest read (faults (files_of old)) (faults (files_of new)) error
-    pub as_before : honest → AddsLocks left (locks_in old split) (tree_of means old) (tree_of means new)
-    pub ours : (q : Path) → is_in left q ≡ true → is_in (locks_in old split) q ≡ true
+    pub as_before : honest → AddsLocks left (locks_in means old split) (tree_of means old) (tree_of means new)
+    pub ours : (q : Path) → is_in left q ≡ true → is_in (possible_locks (meaning_of old) split) q ≡ true
     pub named : (left ≡ []) ⊎ HasRisen (faults (files_of old)) (faults (files_of new))
-    pub leaves : honest → Leaves (means (files_of old)) (means (files_of new)) (AddsLocks (locks_in old split) (locks_in old split) (tree_of means old))
+    pub leaves : honest → Leaves (means (files_of old)) (means (files_of new)) (AddsLocks (locks_in means old split) (locks_in means old split) (tree_of means old))
     pub same : IsSameStore old new
 
 module _ {F : Type 0} (honest : Type 0) (means : F → Meaning) (faults : F → ℕ) where
@@ -101,23 +109,32 @@ module _ {F : Type 0} (honest : Type 0) (means : F → Meaning) (faults : F → 
     pub texts : honest → HasGoodRecords means old → HoldTexts (meaning_of old) (tree_of means old) (tree_of means new) edits
     pub valid : AllValid (meaning_of old) (kind_of old) [] edits
     pub lockable : honest → AreLockable (meaning_of old) (kind_of old) (tree_of means old) [] edits
-    pub adds : honest → AddsLocks (locks_in old edits) (locks_in old edits) (tree_of means old) (tree_of means new)
-    pub leaves : honest → Leaves (means (files_of old)) (means (files_of new)) (AddsLocks (locks_in old edits) (locks_in old edits) (tree_of means old))
+    pub adds : honest → AddsLocks (locks_in means old edits) (locks_in means old edits) (tree_of means old) (tree_of means new)
+    pub leaves : honest → Leaves (means (files_of old)) (means (files_of new)) (AddsLocks (locks_in means old edits) (locks_in means old edits) (tree_of means old))
     pub no_fewer : faults (files_of old) ≤ faults (files_of new)
     pub same : IsSameStore old new
 
-  -- A transaction whose split list is prepared: its locks are held, its edits carry what was found, and its paths are those of the edits.
-  pub record PreparesFrom (old new : Store F) (edits after : List RefEdit) (paths : List Paths) : Type 0 where
+  -- The lock of `packed-refs` is held where it is due, and is empty.
+  pub record HoldsPacked (old new : Store F) (edits : List RefEdit) (packed_place : Option Path) : Type 0 where
+    pub place : IsPackedPlace (meaning_of old) packed_place
+    pub due : honest → packed_places packed_place ≡ packed_taken (meaning_of old) (tree_of means old) edits
+    pub empty : honest → AreEmpty (tree_of means new) (map lock_of (packed_places packed_place))
+
+  -- A transaction whose split list is prepared: its locks are held, that of `packed-refs` too; its edits carry what was found, and are
+  -- those of the list, with their places.
+  pub record PreparesFrom (old new : Store F) (edits : List RefEdit) (packed_place : Option Path) (after : List Edit) : Type 0 where
     pub was : List (Option TargetValue)
     pub held : HoldsFrom old new edits was
     pub lost : honest → LosesNothing means old new edits
     -- each lock is whole: a loss of power once it is renamed leaves all of its text
-    pub whole : honest → AreWholeLocks (disk_in means new) (locks_in old edits)
-    pub carried : AreCarried edits was after
-    pub places : place_paths paths ≡ places_of (meaning_of old) edits
-    pub locks : lock_paths paths ≡ locks_of (meaning_of old) edits
-    -- those locks are to be renamed whose reference is written
-    pub writes : honest → HasGoodRecords means old → written_flags paths ≡ are_written (meaning_of old) (view_of (tree_of means old)) edits
+    pub whole : honest → AreWholeLocks (disk_in means new) (locks_in means old edits)
+    pub carried : AreCarried edits was (updates after)
+    pub places : place_paths after ≡ places_of (meaning_of old) edits
+    pub packed : HoldsPacked old new edits packed_place
+    -- what becomes of each loose file is decided by the files before
+    pub effects : honest → HasGoodRecords means old → effects_of after ≡ effects_on (meaning_of old) (view_of (tree_of means old)) edits
+    -- and the ids of their records are those of the files before
+    pub ids : honest → HasGoodRecords means old → ids_in after ≡ packed_ids (meaning_of old) (tree_of means old) edits
 
   -- What becomes of the edits that are given: their split list, in which each that was looked up may be, and which is theirs where none
   -- follows.
@@ -125,14 +142,14 @@ module _ {F : Type 0} (honest : Type 0) (means : F → Meaning) (faults : F → 
     pub is : honest → AreSplit (meaning_of old) (view_of (tree_of means old)) given split
     pub can_follow : honest → All (CanFollow (meaning_of old)) (all_rounds (meaning_of old) (view_of (tree_of means old)) given)
     pub valid : AllValid (meaning_of old) (kind_of old) [] given
-    pub updates : AreUpdates split
+    pub updates : AreUpdates given → AreUpdates split
     pub direct : AreDirect given → split ≡ given
 
   -- A transaction that is prepared from given edits: their split list is.
-  pub record PreparesGiven (old new : Store F) (given after : List RefEdit) (paths : List Paths) : Type 0 where
+  pub record PreparesGiven (old new : Store F) (given : List RefEdit) (packed : Option Path) (after : List Edit) : Type 0 where
     pub split : List RefEdit
     pub splits : SplitsFrom old given split
-    pub prepared : PreparesFrom old new split after paths
+    pub prepared : PreparesFrom old new split packed after
 
   -- A transaction that is given up: of its locks only those stay that are named, and one is named only where a fault came.
   pub record RollsBackFrom (old new : Store F) (locks left : List Path) : Type 0 where

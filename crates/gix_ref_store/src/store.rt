@@ -1,5 +1,5 @@
 //! The options of a store.
-/// When log lines are written for updates (`core.logAllRefUpdates` of `git config`).
+/// When log lines are written for updates (`core.logAllRefUpdates` of `git config`). As gix-ref's `store::WriteReflog`.
 #[derive(Clone, Copy, Debug, PartialEq, Eq, PartialOrd, Ord, Hash)]
 pub enum WriteReflog {
     /// For every reference, also where it had no log.
@@ -22,7 +22,7 @@ impl Default for WriteReflog {
     }
 }
 
-/// The options of a store.
+/// The options of a store. As gix-ref's `store::init::Options`.
 #[derive(Clone, Copy, Debug)]
 pub struct Options {
     /// When log lines are written.

@@ -6,6 +6,8 @@ mod buffers;
 #[cfg(test)]
 mod composed;
 #[cfg(test)]
+mod deletions;
+#[cfg(test)]
 mod edits;
 #[cfg(test)]
 mod find;

@@ -1,5 +1,4 @@
 //! Transactions of several updates: the causes against them in their order, and what stops, faults and losses of power leave.
-ghost use Rattle.gix_ref_edits.specs.RefEdits.{AreUpdates};
 
 use crate::made::{Id, bytes, full_name, object, store};
 use crate::power::pick_at;
@@ -22,9 +21,7 @@ const ONE: &[u8] = b"1111111111111111111111111111111111111111\n";
 const TWO: &[u8] = b"2222222222222222222222222222222222222222\n";
 
 /// The updates of these rows.
-fn updates(rt: &impl Abort, alloc: Global, rows: &[Row]) -> Vec<RefEdit>
-    ensures { AreUpdates result.items }
-{
+fn updates(rt: &impl Abort, alloc: Global, rows: &[Row]) -> Vec<RefEdit> {
     let mut edits = Vec::with_capacity(alloc, rows.len()).expect(rt, "memory");
     for (name, expect, new) in rows {
         let edit = RefEdit {
@@ -78,9 +75,7 @@ fn prepared(
     store: &mut Store<Memory>,
     edits: Vec<RefEdit>,
     name: &str,
-) -> (Answer, bool)
-    requires { AreUpdates edits.items }
-{
+) -> (Answer, bool) {
     match store.transaction().prepare(alloc, edits) {
         Err(refused) => (
             answer_of(&refused.error),
@@ -96,6 +91,9 @@ enum Outcome {
     Done,
     Refused,
     LockCommit,
+    DeleteReflog,
+    PackedRefs,
+    DeleteReference,
     FolderInPlace,
     Memory,
 }
@@ -105,6 +103,15 @@ fn failure_of(error: &commit::Error) -> (Outcome, &[u8]) {
     match error {
         commit::Error::LockCommit { full_name, .. } => (
             Outcome::LockCommit,
+            full_name.as_bstr().as_bytes(),
+        ),
+        commit::Error::DeleteReflog { full_name, .. } => (
+            Outcome::DeleteReflog,
+            full_name.as_bstr().as_bytes(),
+        ),
+        commit::Error::PackedTransactionCommit(_) => (Outcome::PackedRefs, b""),
+        commit::Error::DeleteReference { full_name, .. } => (
+            Outcome::DeleteReference,
             full_name.as_bstr().as_bytes(),
         ),
         commit::Error::FolderInPlace { path } => (Outcome::FolderInPlace, path),
@@ -118,9 +125,7 @@ fn committed(
     store: &mut Store<Memory>,
     edits: Vec<RefEdit>,
     told: &str,
-) -> (Outcome, bool)
-    requires { AreUpdates edits.items }
-{
+) -> (Outcome, bool) {
     store.write_reflog = WriteReflog::Disable;
     match store.transaction().prepare(alloc, edits) {
         Err(_) => (Outcome::Refused, true),
@@ -326,9 +331,11 @@ const EDITS: [(&str, &[u8], bool); 4] = [
     ("refs/heads/a", b"/r/refs/heads/a", true),
 ];
 
-/// The calls of files that they make: the opening of `packed-refs`, five for each before the commit, then the rename and the syncs
-/// up to the git folder.
-const CALLS: u64 = 21 + 4 + 4 + 2 + 4;
+/// The calls of files before the commit: `packed-refs`, the path of its lock, the opening of `packed-refs`, and five for each edit.
+const PREPARING: u64 = 23;
+
+/// All calls of files that they make: in the commit, the rename of each and the syncs up to the git folder.
+const CALLS: u64 = PREPARING + 4 + 4 + 2 + 4;
 
 /// How a run ends.
 #[derive(Clone, Copy, Debug, PartialEq, Eq)]
@@ -400,7 +407,10 @@ fn a_stop_and_a_loss_show_the_first_updates(rt: HostRuntime) {
                 let (outcome, memory) = run_and_lose(&rt, alloc, End::Stops(k, n), pick_at(row));
                 assert!(rt; outcome != Outcome::Done, "call {k}");
                 let shown = shown(&rt, &memory);
-                assert!(rt; shown == 0 || k > 21, "call {k}, {n} parts, loss {row}");
+                assert!(rt;
+                    shown == 0 || k > PREPARING,
+                    "call {k}, {n} parts, loss {row}"
+                );
             }
         }
     }
@@ -409,10 +419,10 @@ fn a_stop_and_a_loss_show_the_first_updates(rt: HostRuntime) {
 /// The name of the edit whose rename, or a sync after it, is the call of this number.
 fn edit_of_call(call: u64) -> &'static str {
     match call {
-        0..=21 => "",
-        22..=25 => "refs/heads/b",
-        26..=29 => "refs/tags/t",
-        30 | 31 => "HEAD",
+        0..=23 => "",
+        24..=27 => "refs/heads/b",
+        28..=31 => "refs/tags/t",
+        32 | 33 => "HEAD",
         _ => "refs/heads/a",
     }
 }
@@ -423,7 +433,7 @@ fn a_fault_leaves_the_first_updates(rt: HostRuntime) {
     for k in 1..CALLS + 1 {
         let name = edit_of_call(k);
         let (outcome, reported, memory) = run_with(&rt, alloc, End::Fails(k), name);
-        let want = if k > 21 {
+        let want = if k > PREPARING {
             Outcome::LockCommit
         } else {
             Outcome::Refused
@@ -431,7 +441,7 @@ fn a_fault_leaves_the_first_updates(rt: HostRuntime) {
         assert_eq!(rt; outcome, want, "call {k}");
         assert!(rt; reported, "call {k} is of {name}");
         let shown = shown(&rt, &memory);
-        assert!(rt; shown == 0 || k > 20, "call {k}");
+        assert!(rt; shown == 0 || k > PREPARING, "call {k}");
         for (name, place, _) in EDITS {
             let mut lock = place.to_vec(alloc).expect(&rt, "memory");
             lock.extend_from_slice(b".lock").expect(&rt, "memory");

@@ -1,6 +1,5 @@
 //! One update that is stopped at each of its file calls, or fails in it, and then loses power: the reference reads as before or as
 //! edited, and once the update is done it stays.
-ghost use Rattle.gix_ref_edits.specs.RefEdits.{AreUpdates};
 
 use crate::made::{Id, object, store};
 use crate::transactions::update;
@@ -20,9 +19,12 @@ const ONE: &[u8] = b"1111111111111111111111111111111111111111\n";
 
 const TWO: &[u8] = b"2222222222222222222222222222222222222222\n";
 
-/// What an update makes: the opening of `packed-refs`, folders, lock, text, its sync, and after a read the rename and the syncs of `refs/heads`, `refs` and the
-/// git folder.
-const CALLS: u64 = 10;
+/// The calls of files before the commit: `packed-refs`, the path of its lock, the opening of `packed-refs`, folders, the lock, a read,
+/// the text and its sync.
+const PREPARING: u64 = 8;
+
+/// All calls of files of an update: in the commit, the rename and the syncs of `refs/heads`, `refs` and the git folder.
+const CALLS: u64 = PREPARING + 4;
 
 /// How a call ends.
 #[derive(Clone, Copy, Debug, PartialEq, Eq)]
@@ -60,14 +62,16 @@ fn repository(rt: &impl Abort, alloc: Global, has_branch: bool) -> Memory {
 fn answer_of(error: &commit::Error) -> Answer {
     match error {
         commit::Error::LockCommit { .. } => Answer::LockCommit,
-        commit::Error::FolderInPlace { .. } | commit::Error::Memory => Answer::Other,
+        commit::Error::PackedTransactionCommit(_)
+        | commit::Error::DeleteReflog { .. }
+        | commit::Error::DeleteReference { .. }
+        | commit::Error::FolderInPlace { .. }
+        | commit::Error::Memory => Answer::Other,
     }
 }
 
 /// Prepares an update and commits it.
-fn outcome(alloc: Global, store: &mut Store<Memory>, edits: Vec<RefEdit>) -> Answer
-    requires { AreUpdates edits.items }
-{
+fn outcome(alloc: Global, store: &mut Store<Memory>, edits: Vec<RefEdit>) -> Answer {
     store.write_reflog = WriteReflog::Disable;
     match store.transaction().prepare(alloc, edits) {
         Err(_) => Answer::Refused,
@@ -155,7 +159,7 @@ fn a_fault_and_a_loss_leave_the_old_or_the_new(rt: HostRuntime) {
     for k in 1..(CALLS + 1) {
         for row in 0..9u64 {
             let (answer, memory) = after_loss(&rt, alloc, true, End::Fails(k), pick_at(row));
-            let want = if k < 7 {
+            let want = if k <= PREPARING {
                 Answer::Refused
             } else {
                 Answer::LockCommit

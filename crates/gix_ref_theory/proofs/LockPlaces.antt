@@ -1,14 +1,14 @@
 -- No lock lies below another one: by the shapes of places.
-use Rattle.std.proofs.Common.{◌≡◌, ◌≢◌, ◌⊎◌, inl, inr, ℕ, List, [], ◌∷◌, ◌++◌, Some, true, false, ◌||◌, codes, refl, sym, ap, ◌∙◌, subst, append_assoc, arith, ◌==◌}
+use Rattle.std.proofs.Common.{◌≡◌, ◌≢◌, inl, inr, ℕ, List, [], ◌∷◌, ◌++◌, Some, true, false, codes, refl, sym, ap, ◌∙◌, append_assoc, arith, ◌==◌}
 use Rattle.std.proofs.lemmas.Bool.{false≢true, or_right}
 use Rattle.std.proofs.lemmas.List.{append_cancel_right}
 use Rattle.gix_ref_files.specs.Lock.{lock_of}
-use Rattle.gix_ref_base.specs.Layout.{Layout, IsLayout, below}
-use Rattle.gix_ref_base.specs.Locations.{Location, paths_at}
+use Rattle.gix_ref_base.specs.Layout.{Layout, IsLayout, below, packed_refs}
+use Rattle.gix_ref_base.specs.Locations.{Location}
 use Rattle.gix_ref_base.proofs.LocationLemmas.{head, has_slash, short, has_spot}
 use Rattle.gix_ref_theory.specs.ConcreteStore.{Options, store_of}
-use Rattle.gix_ref_theory.specs.LockPlaces.{NoLockIsBelowAnother}
-use Rattle.gix_ref_theory.proofs.PlaceLaws.{PlaceShape, Plain, Within, Named, IsPlaceShape, IsStart, IsNamespace, IsLaid, IsSpot, Lies, end_of, place_path, place_at, has_place, ends_as, start_below, cancel, cancel_below, cancel_slash, tail_is, nowhere, laid, known, row_by, spot_is, spot_ends, ends_compare, no_lock_inside}
+use Rattle.gix_ref_theory.specs.LockPlaces.{NoLockIsBelowAnother, NoLockIsBelowThatOfPackedRefs}
+use Rattle.gix_ref_theory.proofs.PlaceLaws.{PlaceShape, Plain, Within, Named, IsPlaceShape, IsStart, IsNamespace, IsLaid, IsSpot, Lies, end_of, place_path, place_at, has_place, ends_as, start_below, cancel, cancel_below, cancel_slash, nowhere, laid, known, row_by, spot_is, spot_ends, ends_compare, no_lock_inside}
 
 -- what follows a place that a lock of it is in the way of
 abbrev behind : List ℕ → List ℕ
@@ -95,21 +95,52 @@ slash_inside : (a rest : List ℕ) → has_slash (a ++ 47 ∷ rest) ≡ true
 slash_inside [] rest = refl
 slash_inside (x ∷ a) rest = or_right (x == 47) (has_slash (a ++ 47 ∷ rest)) (slash_inside a rest)
 
-pub no_lock_below : NoLockIsBelowAnother
-no_lock_below f o folders m n rest hm hn e = elim (ends_compare place (codes ".lock") (lock_of other) (47 ∷ rest) e) [
+-- where a place lies below the lock of `packed-refs`, its name has such a component too
+shape_below_packed : (n : List ℕ) → IsNamespace n → (x : PlaceShape) → IsPlaceShape x → (rest : List ℕ) → place_path n x ≡ codes "packed-refs" ++ behind rest → (front : List ℕ) × (end_of x ≡ front ++ behind rest)
+shape_below_packed n (inl none) (Plain k) hx rest e = (codes "packed-refs", ap (λ x. x ++ k) (sym none) ∙ e)
+shape_below_packed n (inr some) (Plain k) hx rest e =
+    let e' : ◌≡◌ {A = ℕ} 114 112 = ap (λ x. head (x ++ k)) (sym some.1) ∙ ap head e in absurd (omega arith)
+shape_below_packed n ns (Within w k) hx rest e =
+    let e' : ◌≡◌ {A = ℕ} 119 112 = ap head e in absurd (omega arith)
+shape_below_packed n (inl none) (Named w k) hx rest e =
+    let e' : ◌≡◌ {A = ℕ} 119 112 = ap (λ x. head (x ++ (codes "worktrees/" ++ (w ++ 47 ∷ k)))) (sym none) ∙ ap head e in absurd (omega arith)
+shape_below_packed n (inr some) (Named w k) hx rest e =
+    let e' : ◌≡◌ {A = ℕ} 114 112 = ap (λ x. head (x ++ (codes "worktrees/" ++ (w ++ 47 ∷ k)))) (sym some.1) ∙ ap head e in absurd (omega arith)
+
+in_packed : (f : Layout) (p a rest : List ℕ) → Lies f p a → p ≡ packed_refs f ++ behind rest → a ≡ codes "packed-refs" ++ behind rest
+in_packed f p a rest (inl hp) e =
+    cancel_below f.common a (codes "packed-refs" ++ behind rest) (sym hp ∙ (e ∙ append_assoc f.common (47 ∷ codes "packed-refs") (behind rest)))
+in_packed f p a rest (inr hp) e =
+    absurd (nowhere f hp.0 a (codes "packed-refs" ++ behind rest) (sym hp.1 ∙ (e ∙ append_assoc f.common (47 ∷ codes "packed-refs") (behind rest))))
+
+no_place_below_packed : (f : Layout) (o : Options) → IsLayout f → (m rest : List ℕ) → (store_of f o).is_reference m ≡ true → (store_of f o).place m ≢ packed_refs f ++ behind rest
+no_place_below_packed f o folders m rest hm e =
+    let x = known f o m hm in
+    let p = has_place f (laid f folders) x.spotted.0 (spot_is f o m x) in
+    let at = shape_below_packed f.namespace folders.1 p.0 p.1 rest (in_packed f (place_at f (Some x.spotted.0)) (place_path f.namespace p.0) rest p.2 (sym (ap (λ r. r.place) (row_by f o m x)) ∙ e)) in
+    let ends = spot_ends m x.spotted.0 (has_spot m x.spotted.0 x.spotted.1) in
+    no_lock_inside m (ends.0 ++ at.0) rest x.valid
+    (ends.1 ∙ (ap (λ k. ends.0 ++ k) (sym (ends_as f (laid f folders) x.spotted.0 (spot_is f o m x)) ∙ at.1) ∙ sym (append_assoc ends.0 at.0 (behind rest))))
+
+-- a path whose lock is below the lock of another is below that lock
+below_lock : (place other rest : List ℕ) → lock_of place ≡ lock_of other ++ 47 ∷ rest → (front : List ℕ) × (place ≡ other ++ behind front)
+below_lock place other rest e = elim (ends_compare place (codes ".lock") (lock_of other) (47 ∷ rest) e) [
   | inl k ↦ absurd (false≢true (ap has_slash k.1 ∙ slash_inside k.0 rest))
   | inr k ↦
-      let ends : rest ≡ k.1 ++ codes ".lock" = last k.0 (k.1 ++ codes ".lock") k.2 in
-      no_place_below f o folders m n k.1 hm hn
-      (append_cancel_right place (other ++ behind k.1) (codes ".lock")
-      (e ∙ (ap (λ r. lock_of other ++ 47 ∷ r) ends ∙ (sym (append_assoc (lock_of other) (47 ∷ k.1) (codes ".lock")) ∙ ap (λ p. p ++ codes ".lock") (append_assoc other (codes ".lock") (47 ∷ k.1))))))
+      let ends : rest ≡ k.1 ++ codes ".lock" = last k.0 (k.1 ++ codes ".lock") k.2 in (
+        k.1,
+        append_cancel_right place (other ++ behind k.1) (codes ".lock")
+            (e ∙ (ap (λ r. lock_of other ++ 47 ∷ r) ends ∙ (sym (append_assoc (lock_of other) (47 ∷ k.1) (codes ".lock")) ∙ ap (λ p. p ++ codes ".lock") (append_assoc other (codes ".lock") (47 ∷ k.1))))),
+      )
 ]
   where
-    place : List ℕ
-    place = (store_of f o).place m
-
-    other : List ℕ
-    other = (store_of f o).place n
-
     last : (c : ℕ) (z : List ℕ) → 47 ∷ rest ≡ c ∷ z → rest ≡ z
     last c z h = cc
+
+pub no_lock_below : NoLockIsBelowAnother
+no_lock_below f o folders m n rest hm hn e =
+    let under = below_lock ((store_of f o).place m) ((store_of f o).place n) rest e in no_place_below f o folders m n under.0 hm hn under.1
+
+pub no_lock_below_packed : NoLockIsBelowThatOfPackedRefs
+no_lock_below_packed f o folders m rest hm e =
+    let under = below_lock ((store_of f o).place m) (packed_refs f) rest e in no_place_below_packed f o folders m under.0 hm under.1

@@ -1,6 +1,5 @@
 -- A commit of updates for which no log line is due, in the mode that packs none: its plan, and the renames that carry it out.
-use Rattle.std.proofs.Common.{◌≡◌, ◌≢◌, inl, inr, ℕ, List, [], ◌∷◌, ◌++◌, Option, Some, None, Bool, true, false, ◌||◌, ◌&&◌, if◌then◌else◌, refl, sym, ap, ◌∙◌, subst, codes, bytes_eq}
-use Rattle.std.specs.List.{list_any, flat_map}
+use Rattle.std.proofs.Common.{◌≡◌, ◌≢◌, inl, inr, ℕ, List, [], ◌∷◌, ◌++◌, Option, Some, None, Bool, true, false, ◌||◌, ◌&&◌, if◌then◌else◌, refl, sym, ap, ◌∙◌, codes, bytes_eq}
 use Rattle.std.proofs.lemmas.Bool.{true≢false, cond-false}
 use Rattle.std.proofs.lemmas.List.{append-nil, append_cancel_right}
 use Rattle.gix_ref_hash.specs.declared.hash.ObjectId.{ObjectId}
@@ -16,7 +15,7 @@ use Rattle.gix_ref_files.specs.DiskSteps.{Synced}
 use Rattle.gix_ref_files.specs.DiskSteps.Synced.{With}
 use Rattle.gix_ref_theory.specs.Between.{AreEdits, IsEdit, IsPrepared}
 use Rattle.gix_ref_theory.specs.ConcreteStore.{written_id}
-use Rattle.gix_ref_theory.specs.Edits.{Change, Edit, Effect, effect, effect_of_change, has_already, alters_change, alters_packed, file_of_records}
+use Rattle.gix_ref_theory.specs.Edits.{Edit, Effect, effect, effect_of_change, has_already, alters_change, alters_packed, file_of_records}
 use Rattle.gix_ref_theory.specs.Edits.Change.{Update}
 use Rattle.gix_ref_theory.specs.Edits.Effect.{Writes, Removes, Keeps}
 use Rattle.gix_ref_theory.specs.Edits.Mode.{DeletionsOnly}

@@ -1,5 +1,5 @@
 -- A place is settled up to its root.
-use Rattle.std.proofs.Common.{◌≡◌, ◌≢◌, ◌⊎◌, inl, inr, ℕ, zero, suc, ◌+◌, ◌<◌, ◌≤◌, List, [], ◌∷◌, ◌++◌, length, take, get_or, Bool, true, false, codes, nat_eq, refl, sym, ◌∙◌, ap, subst, arith, drop, append_assoc}
+use Rattle.std.proofs.Common.{◌≡◌, ◌⊎◌, inl, inr, ℕ, ◌<◌, ◌≤◌, List, [], ◌∷◌, ◌++◌, length, take, get_or, Bool, true, false, codes, nat_eq, refl, sym, ◌∙◌, ap, subst, arith, drop, append_assoc}
 use Rattle.std.specs.Prelude.{unwrap_or, if◌then◌else◌}
 use Rattle.std.specs.List.{starts_with}
 use Rattle.std.proofs.lemmas.Bool.{true≢false}
@@ -8,12 +8,12 @@ use Rattle.std.proofs.lemmas.Slice.Eq.{starts_is}
 use Rattle.gix_ref_files.specs.Tree.{Path, fronts}
 use Rattle.gix_ref_files.specs.Settled.{IsIn, AreIn, SettlesPath, climb}
 use Rattle.gix_ref_files.proofs.Climbing.{climbs}
-use Rattle.gix_ref_base.specs.Layout.{Layout, LiesIn, below}
+use Rattle.gix_ref_base.specs.Layout.{Layout, LiesIn, below, packed_refs}
 use Rattle.gix_ref_base.specs.Locations.{Location, location, paths_of}
 use Rattle.gix_ref_base.specs.Locations.Location.{Common, ThisWorktree, MainWorktree, LinkedWorktree}
 use Rattle.gix_ref_name.proofs.FrontLemmas.{begins_true, begins_false}
-use Rattle.gix_ref_theory.specs.ConcreteStore.{Options, store_of}
-use Rattle.gix_ref_theory.specs.Roots.{root_of, roots, PlacesSettle}
+use Rattle.gix_ref_theory.specs.ConcreteStore.{store_of}
+use Rattle.gix_ref_theory.specs.Roots.{root_of, roots, LogsSettle, PackedSettles, PlacesSettle}
 
 -- each place lies in the git folder or in the common one, and in the namespace
 pub in_namespace : (f : Layout) (x : Location) → (folder rest : Path) × ((folder ≡ f.common) ⊎ (folder ≡ f.git)) × ((paths_of f x).place ≡ below folder (f.namespace ++ rest))
@@ -81,6 +81,21 @@ pub places_settle : PlacesSettle
 places_settle f o name git_is common_is =
     let at = in_namespace f (unwrap_or (location name) (Common name)) in
     settles f git_is common_is ((store_of f o).place name) at.0 (f.namespace ++ at.1) at.2 at.3
+
+-- and so are each log, and `packed-refs`
+log_below : (f : Layout) (x : Location) → (folder rest : Path) × ((folder ≡ f.common) ⊎ (folder ≡ f.git)) × ((paths_of f x).log ≡ below folder rest)
+log_below f (Common n) = (f.common, codes "logs/" ++ (f.namespace ++ n), inl refl, refl)
+log_below f (ThisWorktree n) = (f.git, codes "logs/" ++ (f.namespace ++ n), inr refl, refl)
+log_below f (MainWorktree n) = (f.common, codes "logs/" ++ (f.namespace ++ n), inl refl, refl)
+log_below f (LinkedWorktree w n) = (f.common, codes "worktrees/" ++ (w ++ 47 ∷ (codes "logs/" ++ (f.namespace ++ n))), inl refl, refl)
+
+pub logs_settle : LogsSettle
+logs_settle f o name git_is common_is =
+    let at = log_below f (unwrap_or (location name) (Common name)) in
+    settles f git_is common_is ((store_of f o).log name) at.0 at.1 at.2 at.3
+
+pub packed_settles : PackedSettles
+packed_settles f o git_is common_is = settles f git_is common_is (packed_refs f) f.common (codes "packed-refs") (inl refl) refl
 
 -- the root of a path in the git folder, and of one that is elsewhere
 pub root_below : (git common path rest : List ℕ) → path ≡ below git rest → length git ≡ root_of git common path

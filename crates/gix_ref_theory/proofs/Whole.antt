@@ -1,5 +1,5 @@
 -- The view after a whole plan.
-use Rattle.std.proofs.Common.{◌≡◌, ℕ, List, [], ◌++◌, Some, None, true, false, ◌&&◌, if◌then◌else◌, cond, refl, sym, ap, ◌∙◌, subst, inl, inr, ◌⊎◌, append-nil}
+use Rattle.std.proofs.Common.{◌≡◌, ℕ, List, [], ◌++◌, Some, None, true, false, cond, refl, sym, ap, ◌∙◌, subst, inl, inr, ◌⊎◌, append-nil}
 use Rattle.std.proofs.lemmas.Bool.{cond-true, cases_Bool}
 use Rattle.std.specs.Bool.{MatchBool}
 use Rattle.gix_ref_theory.proofs.Writes.{IsCut, is_touched, content}

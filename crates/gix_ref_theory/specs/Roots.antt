@@ -19,3 +19,14 @@ abbrev pub PlacesSettle : Type 0
 PlacesSettle =
     (f : Layout) (o : Options) (name : List ℕ) → 1 ≤ length f.git → 1 ≤ length f.common →
     SettlesPath (roots f) ((store_of f o).place name) (climb ((store_of f o).place name) (root_of f.git f.common ((store_of f o).place name)))
+
+-- and so are its log, and `packed-refs`
+abbrev pub LogsSettle : Type 0
+LogsSettle =
+    (f : Layout) (o : Options) (name : List ℕ) → 1 ≤ length f.git → 1 ≤ length f.common →
+    SettlesPath (roots f) ((store_of f o).log name) (climb ((store_of f o).log name) (root_of f.git f.common ((store_of f o).log name)))
+
+abbrev pub PackedSettles : Type 0
+PackedSettles =
+    (f : Layout) (o : Options) → 1 ≤ length f.git → 1 ≤ length f.common →
+    SettlesPath (roots f) (store_of f o).packed_path (climb (store_of f o).packed_path (root_of f.git f.common (store_of f o).packed_path))

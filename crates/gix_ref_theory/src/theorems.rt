@@ -1,5 +1,5 @@
 //! The theorems of the store, as contracts of functions that do nothing.
-ghost use Rattle.gix_ref_theory.specs.LockPlaces.{NoLockIsBelowAnother};
+ghost use Rattle.gix_ref_theory.specs.LockPlaces.{NoLockIsBelowAnother, NoLockIsBelowThatOfPackedRefs};
 ghost use Rattle.gix_ref_theory.specs.Roots.{PlacesSettle};
 ghost use Rattle.gix_ref_theory.specs.Theorems.{EveryStopIsBetween, NoDeletionShowsFirst, UpdatesShowInOrder, WholePlanCommits, PlanSeesNoLocks, MergedRecordsAreOne, PathsAreTheTable, SafeNamesAreTested, PlacesKeepTheLaws, OnePlaceHasOneLog, OneLogHasOnePlace, PlacesLieInTheNamespace};
 ghost use Rattle.gix_ref_theory.specs.Losses.{EveryLossIsBetween, EveryLossAmongIsBetween, EveryWholeRunIsKept, StopLogsAreBetween};
@@ -62,4 +62,5 @@ pub fn places_keep_the_laws()
     ensures namespaces { PlacesLieInTheNamespace }
     ensures settle { PlacesSettle }
     ensures locks { NoLockIsBelowAnother }
+    ensures packed_lock { NoLockIsBelowThatOfPackedRefs }
 {}

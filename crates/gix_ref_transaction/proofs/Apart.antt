@@ -1,7 +1,8 @@
 -- The locks of edits with safe names: none is at a place, at `packed-refs` or on the way to another one.
-use Rattle.std.proofs.Common.{◌≡◌, ⊎_elim, ℕ, List, [], ◌∷◌, ◌++◌, Bool, true, false, refl, sym, ◌∙◌, ap, append_assoc, if◌then◌else◌, All}
+use Rattle.std.proofs.Common.{◌≡◌, ⊎_elim, ℕ, List, [], ◌∷◌, ◌++◌, Bool, true, false, codes, refl, sym, ◌∙◌, ap, append_assoc, if◌then◌else◌, All}
 use Rattle.std.specs.Prelude.{bytes_eq, is_none, ◌&&◌, ◌==◌}
 use Rattle.std.proofs.lemmas.Bool.{eqb-true}
+use Rattle.std.proofs.lemmas.List.{append_cancel_right}
 use Rattle.std.proofs.lemmas.List.Elements.{All-nil, All-cons}
 use Rattle.gix_ref_hash.specs.declared.hash.Kind.{Kind}
 use Rattle.gix_ref_base.specs.Layout.{Layout, IsLayout, below}
@@ -10,10 +11,10 @@ use Rattle.gix_ref_files.specs.Tree.{Path, fronts, fronts_after}
 use Rattle.gix_ref_files.specs.Lock.{lock_of}
 use Rattle.gix_ref_theory.specs.Readings.{Store}
 use Rattle.gix_ref_theory.specs.ConcreteStore.{Options, store_of}
-use Rattle.gix_ref_theory.proofs.LockPlaces.{no_lock_below}
+use Rattle.gix_ref_theory.proofs.LockPlaces.{no_lock_below, no_lock_below_packed}
 use Rattle.gix_ref_theory.proofs.PlaceLaws.{laws_hold}
 use Rattle.gix_ref_transaction.specs.OwnLocks.{is_in}
-use Rattle.gix_ref_transaction.specs.Causes.{AllValid, LocksAreApart, locks_of}
+use Rattle.gix_ref_transaction.specs.Causes.{AllValid, IsApartFromPacked, LocksAreApart, locks_of}
 use Rattle.gix_ref_transaction.specs.DirectUpdates.{AreDirectUpdates}
 use Rattle.gix_ref_edits.specs.RefEdits.{name_of, AreUpdates}
 use Rattle.gix_ref_edits.specs.declared.transaction.RefEdit.{RefEdit}
@@ -56,6 +57,15 @@ module _ (f : Layout) (o : Options) (laid : IsLayout f) (kind : Kind) where
       (λ later. named (seen ++ edit ∷ []) edits valid.1 q later)
       (any_cases (λ p. bytes_eq p q) (locks_of s (edit ∷ [])) (locks_of s edits) within)
 
+  from_packed : (edit : RefEdit) → s.is_reference (name_of edit) ≡ true → IsApartFromPacked s edit
+  from_packed edit is = record {
+    lock = λ same. (laws_hold f o laid).place_is_not_packed (name_of edit) is (append_cancel_right (s.place (name_of edit)) s.packed_path (codes ".lock") same);
+    way = is_false (is_in (fronts (lock_of (s.place (name_of edit)))) (lock_of s.packed_path)) (λ within.
+        let front = front_of (lock_of (s.place (name_of edit))) (lock_of s.packed_path) within in
+        no_lock_below_packed f o laid (name_of edit) front.0 is front.1);
+    place = (laws_hold f o laid).place_is_no_lock (name_of edit) s.packed_path is;
+  }
+
   pub apart : (edits : List RefEdit) → AllValid s kind [] edits → LocksAreApart s edits
   apart edits valid = record {
     ways = λ lock q at there. is_false (is_in (fronts lock) q) (λ within.
@@ -69,6 +79,8 @@ module _ (f : Layout) (o : Options) (laid : IsLayout f) (kind : Kind) where
     packed = is_false (is_in (locks_of s edits) s.packed_path) (λ within.
         let m = named [] edits valid s.packed_path within in
         (laws_hold f o laid).packed_is_no_lock (s.place m.0) (sym m.2));
+    packed_locks = λ k d lt. from_packed _ (references [] edits valid k d lt);
+    packed_lock = (laws_hold f o laid).packed_is_no_lock s.packed_path;
   }
 
 pub updates_are : (edits : List RefEdit) → AreDirectUpdates edits → AreUpdates edits

@@ -36,16 +36,15 @@ use Rattle.gix_ref_theory.proofs.PlaceLaws.{laws_hold}
 use Rattle.gix_ref_theory.proofs.Roots.{places_settle}
 use Rattle.gix_ref_theory.proofs.RunLosses.{run_passes}
 use Rattle.gix_ref_transaction.specs.OwnLocks.{is_in, OnlyRemoves}
-use Rattle.gix_ref_transaction.specs.Causes.{locks_of}
 use Rattle.gix_ref_transaction.specs.CommitRenames.{renames_of, synced_renames_of}
 use Rattle.gix_ref_transaction.specs.CommittedEdits.{planned}
-use Rattle.gix_ref_transaction.specs.PrepareSteps.{AreWholeLocks, lock_paths, places_of}
+use Rattle.gix_ref_transaction.specs.PrepareSteps.{AreWholeLocks, own_locks, own_places}
 use Rattle.gix_ref_edits.specs.RefEdits.{AreUpdates}
 use Rattle.gix_ref_edits.specs.declared.transaction.RefEdit.{RefEdit}
-use Rattle.gix_ref_transaction.specs.declared.paths.Paths.{Paths}
+use Rattle.gix_ref_transaction.specs.declared.edit.Edit.{Edit as Own}
 use Rattle.gix_ref_transaction.proofs.Adds.{false_is_true, any_cases, in_one}
 use Rattle.gix_ref_transaction.proofs.Held.{IsReady}
-use Rattle.gix_ref_transaction.proofs.LockRounds.{own_lock}
+use Rattle.gix_ref_transaction.proofs.LockRounds.{own_all}
 use Rattle.gix_ref_transaction.proofs.Updates as commit
 
 -- where all was settled, all is again, once nothing but own locks has changed
@@ -94,9 +93,9 @@ whole_at D (l ∷ locks) whole q within = ⊎_elim
 pub same_text : (D : Disk) (locks : List Path) (q : Path) → is_in locks q ≡ true → texts_on D locks q ≡ view_of D.tree q
 same_text D locks q within = ap (λ b. if b then view_of D.tree q else None) within
 
-module _ (dirs : Dirs) (namespace : Option Namespace) (kind : Kind) (prohibits : Bool) (before : Tree) (first : Meaning) (given : List RefEdit) (paths : List Paths) (updates : AreUpdates given)
+module _ (dirs : Dirs) (namespace : Option Namespace) (kind : Kind) (prohibits : Bool) (before : Tree) (first : Meaning) (given : List RefEdit) (paths : List Own) (updates : AreUpdates given)
     (ready : IsReady (store_of (folders_of dirs namespace) (git_options kind prohibits)) kind before first.tree given paths)
-    (whole : AreWholeLocks (disk_of first) (locks_of (store_of (folders_of dirs namespace) (git_options kind prohibits)) given))
+    (whole : AreWholeLocks (disk_of first) (own_locks (store_of (folders_of dirs namespace) (git_options kind prohibits)) before given))
     (settled : IsAllSettled (disk_of first)) (stays : AllStay (disk_of first) (roots (folders_of dirs namespace))) where
   abbrev s : Store
   s = store_of (folders_of dirs namespace) (git_options kind prohibits)
@@ -108,7 +107,7 @@ module _ (dirs : Dirs) (namespace : Option Namespace) (kind : Kind) (prohibits :
   D = disk_of first
 
   abbrev locked : List Path
-  locked = places_of s given
+  locked = own_places s before given
 
   abbrev staying : List Path
   staying = roots (folders_of dirs namespace)
@@ -126,7 +125,7 @@ module _ (dirs : Dirs) (namespace : Option Namespace) (kind : Kind) (prohibits :
   all_writes = plan s DeletionsOnly (view_of first.tree) edits run.merged
 
   abbrev texts : View
-  texts = texts_on D (locks_of s given)
+  texts = texts_on D (own_locks s before given)
 
   abbrev syncs : Path → List Sync
   syncs q = climb q (root_in dirs q)
@@ -136,7 +135,7 @@ module _ (dirs : Dirs) (namespace : Option Namespace) (kind : Kind) (prohibits :
 
   have_texts : HaveTexts s (view_of first.tree) edits texts
   have_texts x text within is =
-      same_text D (locks_of s given) (lock_of (s.place x.name)) (commit.owned (folders_of dirs namespace) kind prohibits laid before first given paths updates ready given (lock_of (s.place x.name)) (own_lock_of x within))
+      same_text D (own_locks s before given) (lock_of (s.place x.name)) (commit.owned (folders_of dirs namespace) kind prohibits laid before first given paths updates ready (lock_of (s.place x.name)) (own_lock_of x within))
       ∙ commit.have_texts (folders_of dirs namespace) kind prohibits laid before first given paths updates ready x text within is
 
   carry : disk.CarryOut (IsSpokenOf locked D) staying texts steps all_writes
@@ -151,11 +150,11 @@ module _ (dirs : Dirs) (namespace : Option Namespace) (kind : Kind) (prohibits :
       (λ x within. places_settle (folders_of dirs namespace) (git_options kind prohibits) x.name (folders_have_bytes dirs).0 (folders_have_bytes dirs).1)
       have_texts))
 
-  own : (q : Path) → is_in (lock_paths paths) q ≡ true → IsOwnLock locked q
-  own q within = own_lock s given q (subst (λ ls. is_in ls q ≡ true) ready.locks within)
+  own : (q : Path) → is_in (own_locks s before given) q ≡ true → IsOwnLock locked q
+  own = own_all s before given
 
   texts_whole : AreWhole texts D
-  texts_whole = are_whole D (locks_of s given) whole
+  texts_whole = are_whole D (own_locks s before given) whole
 
   lost_well : (E : Disk) (T : Tree) → IsWithin (IsSpokenOf locked D) all_writes (view_of first.tree) E → Lost E T → IsLostWell s DeletionsOnly locked edits D before T
   lost_well E T within lost =
@@ -164,7 +163,7 @@ module _ (dirs : Dirs) (namespace : Option Namespace) (kind : Kind) (prohibits :
   pub begins : (T : Tree) → Lost D T → IsLostWell s DeletionsOnly locked edits D before T
   begins T lost = lost_well D T (run_passes locked staying texts steps all_writes first first stays texts_whole carry (passes_starts first (IsReachedBy steps D) (none_reached steps D))).disk lost
 
-  pub ends : (mid now : Meaning) → Passes first mid (IsReachedBy steps D) → OnlyRemoves (lock_paths paths) mid now → Loses first now (IsLostWell s DeletionsOnly locked edits D before)
+  pub ends : (mid now : Meaning) → Passes first mid (IsReachedBy steps D) → OnlyRemoves (own_locks s before given) mid now → Loses first now (IsLostWell s DeletionsOnly locked edits D before)
   ends mid now passes removes =
       let within = run_passes locked staying texts steps all_writes first mid stays texts_whole carry passes in
       losses (IsLostWell s DeletionsOnly locked edits D before) (λ E inside T lost. lost_well E T inside lost)

@@ -2,12 +2,17 @@ pub mod Adds
 pub mod Apart
 pub mod CommitLosses
 pub mod Committing
+pub mod EditRounds
 pub mod Firsts
 pub mod Held
 pub mod LockRounds
 pub mod Locking
 pub mod LookupLemmas
+pub mod PackedHeld
 pub mod PackedLemmas
+pub mod PackedLocks
+pub mod PackedRelease
+pub mod PackedRuns
 pub mod Released
 pub mod Removing
 pub mod Renames

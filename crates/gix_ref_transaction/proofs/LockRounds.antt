@@ -1,9 +1,10 @@
 -- One round of the loop that takes the locks, on the disk.
-use Rattle.std.proofs.Common.{◌≡◌, ◌≢◌, inl, inr, ⊎_elim, ℕ, ◌+◌, ◌<◌, List, [], ◌∷◌, ◌++◌, length, get_or, take, true, None, refl, sym, ap, subst}
+use Rattle.std.proofs.Common.{◌≡◌, ◌≢◌, inl, inr, ⊎_elim, ℕ, ◌+◌, ◌<◌, List, [], ◌∷◌, ◌++◌, length, get_or, take, map, true, None, refl, sym, ◌∙◌, ap, subst}
 use Rattle.std.specs.Prelude.{bytes_eq}
 use Rattle.std.proofs.lemmas.List.{map-append}
+use Rattle.std.proofs.lemmas.Simd.{map-map}
 use Rattle.gix_ref_hash.specs.declared.hash.Kind.{Kind}
-use Rattle.gix_ref_files.specs.Tree.{Path, is_file}
+use Rattle.gix_ref_files.specs.Tree.{Tree, Path, is_file}
 use Rattle.gix_ref_files.specs.Disk.{Disk}
 use Rattle.gix_ref_files.specs.Files.{Meaning, disk_of, Leaves, Passes}
 use Rattle.gix_ref_files.specs.Lock.{lock_of, LockingOn}
@@ -13,12 +14,12 @@ use Rattle.gix_ref_theory.specs.OnDisks.{IsAsBefore}
 use Rattle.gix_ref_theory.specs.Readings.{Store}
 use Rattle.gix_ref_theory.specs.Views.{IsOwnLock}
 use Rattle.gix_ref_theory.proofs.LockDisks.{locking_as_before, writing_as_before, whole_locking, whole_writing}
-use Rattle.gix_ref_transaction.specs.OwnLocks.{is_in, AddsLocks}
-use Rattle.gix_ref_transaction.specs.Causes.{LocksAreApart, locks_of}
-use Rattle.gix_ref_transaction.specs.PrepareSteps.{places_of, IsNewLock, FillingOn, IsSomeWhole, AreWholeLocks}
+use Rattle.gix_ref_transaction.specs.OwnLocks.{is_in, AddsLocks, OnlyLocks}
+use Rattle.gix_ref_transaction.specs.Causes.{LocksAreApart, locks_of, packed_taken}
+use Rattle.gix_ref_transaction.specs.PrepareSteps.{own_locks, own_places, packed_locks, places_of, IsNewLock, FillingOn, IsSomeWhole, AreWholeLocks}
 use Rattle.gix_ref_edits.specs.RefEdits.{name_of}
 use Rattle.gix_ref_edits.specs.declared.transaction.RefEdit.{RefEdit}
-use Rattle.gix_ref_transaction.proofs.Adds.{clash, any_cases, in_one}
+use Rattle.gix_ref_transaction.proofs.Adds.{clash, any_cases, any_right, in_here, in_one}
 use Rattle.gix_ref_transaction.proofs.Rounds.{more, within}
 use Rattle.gix_ref_transaction.proofs.Taking.{Held}
 
@@ -30,6 +31,42 @@ own_lock s (edit ∷ edits) q within =
     (λ here. inl (sym (in_one (lock_of (s.place (name_of edit))) q here)))
     (λ later. inr (own_lock s edits q later))
     (any_cases (λ p. bytes_eq p q) (locks_of s (edit ∷ [])) (locks_of s edits) within)
+
+-- the locks of some places are the transaction's
+own_any : (ps : List Path) (q : Path) → is_in (map lock_of ps) q ≡ true → IsOwnLock ps q
+own_any [] q within = clash within refl
+own_any (p ∷ ps) q within = ⊎_elim
+    (λ here. inl (sym (in_one (lock_of p) q here)))
+    (λ later. inr (own_any ps q later))
+    (any_cases (λ r. bytes_eq r q) (lock_of p ∷ []) (map lock_of ps) within)
+
+owned_any : (ps : List Path) (q : Path) → IsOwnLock ps q → is_in (map lock_of ps) q ≡ true
+owned_any [] q own = absurd own
+owned_any (p ∷ ps) q (inl here) = in_here (lock_of p) q (map lock_of ps) (sym here)
+owned_any (p ∷ ps) q (inr later) = any_right (λ r. bytes_eq r q) (lock_of p ∷ []) (map lock_of ps) (owned_any ps q later)
+
+-- and so all locks of edits, with that of `packed-refs`
+module _ (s : Store) (T : Tree) (edits : List RefEdit) where
+  by_places : own_locks s T edits ≡ map lock_of (own_places s T edits)
+  by_places =
+      ap (λ ls. packed_locks s T edits ++ ls) (sym (map-map lock_of (λ (e : RefEdit). s.place (name_of e)) edits))
+      ∙ sym (map-append lock_of (packed_taken s T edits) (places_of s edits))
+
+  pub own_all : (q : Path) → is_in (own_locks s T edits) q ≡ true → IsOwnLock (own_places s T edits) q
+  own_all q within = own_any (own_places s T edits) q (subst (λ (l : List Path). is_in l q ≡ true) by_places within)
+
+  pub owned_all : (q : Path) → IsOwnLock (own_places s T edits) q → is_in (own_locks s T edits) q ≡ true
+  owned_all q own = subst (λ (l : List Path). is_in l q ≡ true) (sym by_places) (owned_any (own_places s T edits) q own)
+
+  -- those of the edits are among them
+  pub edit_lock : (q : Path) → is_in (locks_of s edits) q ≡ true → is_in (own_locks s T edits) q ≡ true
+  edit_lock q within = any_right (λ r. bytes_eq r q) (packed_locks s T edits) (locks_of s edits) within
+
+  pub edit_place : (q : Path) → is_in (places_of s edits) q ≡ true → is_in (own_places s T edits) q ≡ true
+  edit_place q within = any_right (λ r. bytes_eq r q) (packed_taken s T edits) (places_of s edits) within
+
+  pub edit_own : (q : Path) → is_in (locks_of s edits) q ≡ true → IsOwnLock (own_places s T edits) q
+  edit_own q within = own_all q (edit_lock q within)
 
 module _ (locked staying : List Path) (first : Disk) where
   filling_as_before : (D E : Disk) (lock : Path) → IsOwnLock locked lock → is_file (D.tree lock) ≡ true → IsAsBefore locked staying first D → FillingOn D lock E → IsAsBefore locked staying first E
@@ -61,43 +98,49 @@ filling_whole : (D E : Disk) (lock q : Path) (bytes : List ℕ) → lock ≢ q �
 filling_whole D E lock q bytes apart whole (inl e) = subst (λ (X : Disk). IsWhole X q bytes) (sym e) whole
 filling_whole D E lock q bytes apart whole (inr (text, writing)) = whole_writing D E lock q text bytes apart whole writing
 
--- one more lock is whole: it was free, so those that are held are elsewhere
+-- what is whole stays so where one more lock is taken, which was free, and gets its text
+pub keeps_whole : (D U E : Disk) (place : Path) → D.tree (lock_of place) ≡ None → LockingOn D place U → FillingOn U (lock_of place) E → (q : Path) (bytes : List ℕ) → IsWhole D q bytes → IsWhole E q bytes
+keeps_whole D U E place free locking filling q bytes whole =
+    filling_whole U E (lock_of place) q bytes apart (whole_locking D U place q bytes apart whole locking) filling
+  where
+    apart : lock_of place ≢ q
+    apart same = clash (ap is_file whole.0) (ap is_file (subst (λ (p : Path). D.tree p ≡ None) same free))
+
+-- and one more lock is
 pub whole_then : (s : Store) (D U E : Disk) (seen : List RefEdit) (edit : RefEdit) → AreWholeLocks D (locks_of s seen) → D.tree (lock_of (s.place (name_of edit))) ≡ None →
     LockingOn D (s.place (name_of edit)) U → FillingOn U (lock_of (s.place (name_of edit))) E →
     IsSomeWhole E (lock_of (s.place (name_of edit))) → AreWholeLocks E (locks_of s (seen ++ edit ∷ []))
 whole_then s D U E seen edit whole free locking filling here =
     subst (AreWholeLocks E) (sym (map-append (λ (e : RefEdit). lock_of (s.place (name_of e))) seen (edit ∷ [])))
-    (whole_more E (locks_of s seen) lock (whole_on D E (locks_of s seen) keeps whole) here)
-  where
-    lock : Path
-    lock = lock_of (s.place (name_of edit))
+    (whole_more E (locks_of s seen) (lock_of (s.place (name_of edit))) (whole_on D E (locks_of s seen) (keeps_whole D U E (s.place (name_of edit)) free locking filling) whole) here)
 
-    apart : (q : Path) (bytes : List ℕ) → IsWhole D q bytes → lock ≢ q
-    apart q bytes whole same = clash (ap is_file whole.0) (ap is_file (subst (λ (p : Path). D.tree p ≡ None) same free))
+module _ (s : Store) (kind : Kind) (edits : List RefEdit) (apart : LocksAreApart s edits) (first mid : Meaning) (i : ℕ) (edit : RefEdit) (lt : i < length edits) (is : edit ≡ get_or edits i edit) (place : Path) (placed : place ≡ s.place (name_of edit)) (held : Held s kind edits apart first.tree (take i edits) mid.tree) (run : Leaves first mid (AddsLocks (locks_of s edits) (locks_of s edits) first.tree)) where
+  abbrev lock : Path
+  lock = lock_of place
 
-    keeps : (q : Path) (bytes : List ℕ) → IsWhole D q bytes → IsWhole E q bytes
-    keeps q bytes whole = filling_whole U E lock q bytes (apart q bytes whole) (whole_locking D U (s.place (name_of edit)) q bytes (apart q bytes whole) whole locking) filling
+  at : lock ≡ lock_of (s.place (name_of edit))
+  at = ap lock_of placed
 
-module _ (s : Store) (kind : Kind) (edits : List RefEdit) (apart : LocksAreApart s edits) (first mid : Meaning) (i : ℕ) (edit : RefEdit) (lt : i < length edits) (is : edit ≡ get_or edits i edit) (lock : Path) (at : lock ≡ lock_of (s.place (name_of edit))) (held : Held s kind edits apart first.tree (take i edits) mid.tree) (run : Leaves first mid (AddsLocks (locks_of s edits) (locks_of s edits) first.tree)) (place : Path) (placed : place ≡ s.place (name_of edit)) where
-  own : IsOwnLock (places_of s edits) (lock_of (s.place (name_of edit)))
-  own = own_lock s edits (lock_of (s.place (name_of edit))) (within s kind edits apart first mid i edit lt is lock at held run)
+  within' : is_in (locks_of s edits) lock ≡ true
+  within' = subst (λ (l : Path). is_in (locks_of s edits) l ≡ true) (sym at) (within s kind edits apart first mid i edit lt is lock at held run)
 
-  pub locking_round : (staying : List Path) (one : Meaning) → Passes first mid (IsAsBefore (places_of s edits) staying (disk_of first)) → Passes mid one (LockingOn (disk_of mid) place) →
-      Passes first one (IsAsBefore (places_of s edits) staying (disk_of first))
-  locking_round staying one before next = locking_passes (places_of s edits) staying (disk_of first) first mid one place (subst (λ (p : Path). IsOwnLock (places_of s edits) (lock_of p)) (sym placed) own) before next
+  pub locking_round : (one : Meaning) → OnlyLocks (locks_of s edits) first mid → Passes mid one (LockingOn (disk_of mid) place) → OnlyLocks (locks_of s edits) first one
+  locking_round one before next locked staying D own here = locking_passes locked staying D first mid one place (own lock within') (before locked staying D own here) next
 
-  pub filling_round : (staying : List Path) (one two : Meaning) → Passes first mid (IsAsBefore (places_of s edits) staying (disk_of first)) → Passes mid one (LockingOn (disk_of mid) place) → is_file (one.tree lock) ≡ true →
-      Passes one two (FillingOn (disk_of one) lock) → Passes first two (IsAsBefore (places_of s edits) staying (disk_of first))
-  filling_round staying one two before next file last =
-      filling_passes (places_of s edits) staying (disk_of first) first one two lock (subst (IsOwnLock (places_of s edits)) (sym at) own) file (locking_round staying one before next) last
+  pub filling_round : (one two : Meaning) → OnlyLocks (locks_of s edits) first mid → Passes mid one (LockingOn (disk_of mid) place) → is_file (one.tree lock) ≡ true →
+      Passes one two (FillingOn (disk_of one) lock) → OnlyLocks (locks_of s edits) first two
+  filling_round one two before next file last locked staying D own here =
+      filling_passes locked staying D first one two lock (own lock within') file (locking_round one before next locked staying D own here) last
 
-  pub whole_round : (one two : Meaning) (took : Leaves mid one (AddsLocks (lock ∷ []) (lock ∷ []) mid.tree)) (new : IsNewLock mid.tree lock one.tree) → AreWholeLocks (disk_of mid) (locks_of s (take i edits)) →
-      Passes mid one (LockingOn (disk_of mid) place) → Passes one two (FillingOn (disk_of one) lock) →
-      IsSomeWhole (disk_of two) lock → AreWholeLocks (disk_of two) (locks_of s (take (i + 1) edits))
-  whole_round one two took new whole next last here =
-      subst (λ (l : List RefEdit). AreWholeLocks (disk_of two) (locks_of s l)) (sym (more s kind edits apart first mid i edit lt is lock at held run))
-      (whole_then s (disk_of mid) (disk_of one) (disk_of two) (take i edits) edit whole
-      (subst (λ (l : Path). mid.tree l ≡ None) at new.free)
-      (subst (λ (p : Path). LockingOn (disk_of mid) p (disk_of one)) placed next.disk)
-      (subst (λ (l : Path). FillingOn (disk_of one) l (disk_of two)) at last.disk)
-      (subst (λ (l : Path). IsSomeWhole (disk_of two) l) at here))
+  module _ (one two : Meaning) (new : IsNewLock mid.tree lock one.tree) (next : Passes mid one (LockingOn (disk_of mid) place)) (last : Passes one two (FillingOn (disk_of one) lock)) where
+    pub wholes_round : (q : Path) (text : List ℕ) → IsWhole (disk_of mid) q text → IsWhole (disk_of two) q text
+    wholes_round q text whole = keeps_whole (disk_of mid) (disk_of one) (disk_of two) place new.free next.disk last.disk q text whole
+
+    pub whole_round : AreWholeLocks (disk_of mid) (locks_of s (take i edits)) → IsSomeWhole (disk_of two) lock → AreWholeLocks (disk_of two) (locks_of s (take (i + 1) edits))
+    whole_round whole here =
+        subst (λ (l : List RefEdit). AreWholeLocks (disk_of two) (locks_of s l)) (sym (more s kind edits apart first mid i edit lt is lock at held run))
+        (whole_then s (disk_of mid) (disk_of one) (disk_of two) (take i edits) edit whole
+        (subst (λ (l : Path). mid.tree l ≡ None) at new.free)
+        (subst (λ (p : Path). LockingOn (disk_of mid) p (disk_of one)) placed next.disk)
+        (subst (λ (l : Path). FillingOn (disk_of one) l (disk_of two)) at last.disk)
+        (subst (λ (l : Path). IsSomeWhole (disk_of two) l) at here))

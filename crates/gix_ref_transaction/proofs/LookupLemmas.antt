@@ -1,10 +1,9 @@
 -- What there is of a reference, by its loose file and its record, and what becomes of its loose file.
-use Rattle.std.proofs.Common.{◌≡◌, ℕ, List, [], ◌∷◌, Option, Some, None, Bool, true, false, not, ◌&&◌, ◌||◌, refl, sym, ap, ◌∙◌, if◌then◌else◌, IsSome, Vec}
-use Rattle.std.specs.Prelude.{is_none, is_some}
+use Rattle.std.proofs.Common.{◌≡◌, ℕ, List, [], ◌∷◌, Option, Some, None, Bool, true, false, not, ◌&&◌, ◌||◌, refl, sym, ap, ◌∙◌, if◌then◌else◌}
+use Rattle.std.specs.Prelude.{is_none}
 use Rattle.std.specs.List.{list_any}
 use Rattle.std.specs.Option.{option_map}
 use Rattle.gix_ref_grammar.specs.DeviceNames.{is_device}
-use Rattle.std.specs.declared.alloc.Global.{Global}
 use Rattle.gix_ref_hash.specs.declared.hash.Kind.{Kind}
 use Rattle.gix_ref_hash.specs.declared.hash.ObjectId.{ObjectId}
 use Rattle.gix_ref_base.specs.PackedRecords.{Record, record_named, id_read}
@@ -14,7 +13,7 @@ use Rattle.gix_ref_base.specs.Layout.{Layout}
 use Rattle.gix_ref_theory.specs.ConcreteStore.{store_of, loose_text}
 use Rattle.gix_ref_theory.specs.Edits.{Effect, effect_of_change, has_already}
 use Rattle.gix_ref_theory.specs.Edits.Change.{Update}
-use Rattle.gix_ref_theory.specs.Edits.Effect.{Writes, Keeps}
+use Rattle.gix_ref_theory.specs.Edits.Effect.{Writes, Removes, Keeps}
 use Rattle.gix_ref_theory.specs.Edits.Mode.{DeletionsOnly}
 use Rattle.gix_ref_theory.specs.Readings.{Store, reading, reading_by, reading_of_loose, reading_of_record, reading_of_id, records_in, as_read}
 use Rattle.gix_ref_theory.specs.Readings.Reading.{Is, Fault, Absent}
@@ -33,7 +32,9 @@ use Rattle.gix_ref_transaction.specs.Causes.{found, found_by, decoded, id_of_rec
 use Rattle.gix_ref_files.specs.Tree.{Tree, Path, put}
 use Rattle.gix_ref_files.specs.Tree.Content.{File}
 use Rattle.gix_ref_files.proofs.Puts.{put_same}
-use Rattle.gix_ref_transaction.specs.PrepareSteps.{effect_on, is_damaged, is_due, is_found, is_new, is_undecodable, is_written, IsTextFor, lock_text, target_by}
+use Rattle.gix_ref_transaction.specs.PrepareSteps.{decision, decision_of, effect_on, effect_value, is_damaged, is_found, is_undecodable, lock_text, target_by, text_of_new}
+use Rattle.gix_ref_transaction.specs.declared.edit.Effect.{Effect as Decision}
+use Rattle.gix_ref_transaction.specs.declared.edit.Effect.TheVariants.{Write, Remove, Keep}
 
 -- a store that prohibits no device names prohibits no place
 pub none_prohibited : (prohibits : Bool) (parts : List (List ℕ)) → prohibits ≡ false → list_any (λ component. prohibits && is_device component) parts ≡ false
@@ -61,13 +62,11 @@ module _ (f : Layout) (kind : Kind) (prohibits : Bool) where
   damaged_is (loose_files.Holds target) file told = sym (ap (is_damaged git) told.1 ∙ ap is_none (held_is kind told.0 (target_value target) told.2))
   damaged_is (loose_files.Undecodable error) file told = sym (ap (is_damaged git) told.1 ∙ ap is_none (refused_none kind told.0 error told.2 told.3))
 
--- the change of an update, as the plan of a commit has it
-pub change_by : (c : GivenChange) (t : TargetValue) → new_of c ≡ Some t → change_of c ≡ Update t
-change_by (given.Update log expected new) t h = ap Update (inner h)
-  where
-    inner : {a b : TargetValue} → Some a ≡ Some b → a ≡ b
-    inner e = cc
-change_by (given.Delete expected log) t h = cc
+-- what was decided, with this text
+abbrev pub by_decision : Decision → List ℕ → Effect
+by_decision Write text = Writes text
+by_decision Remove text = Removes
+by_decision Keep text = Keeps
 
 -- the effect of an edit is by its place and by `packed-refs` alone
 pub effect_alike : (s : Store) (view other : View) (edit : RefEdit) → view (s.place (name_of edit)) ≡ other (s.place (name_of edit)) → view s.packed_path ≡ other s.packed_path → effect_on s view edit ≡ effect_on s other edit
@@ -112,69 +111,50 @@ module _ (s : Store) where
       ap (λ b. has_already (if b then Fault else reading_by s (s.key name) (view (s.place name)) (records_in s (view s.packed_path))) t) allowed
       ∙ by_files (s.key name) (view (s.place name)) (records_in s (view s.packed_path)) t
 
-  -- what becomes of the loose file of an update
-  pub effect_is : (view : View) (edit : RefEdit) (t : TargetValue) → new_of edit.change ≡ Some t → s.is_prohibited (s.place (name_of edit)) ≡ false →
-      effect_on s view edit ≡ (if is_due edit.change (found s view (name_of edit)) (is_damaged s (view (s.place (name_of edit)))) then Writes (s.text_of t) else Keeps)
-  effect_is view edit t new allowed =
-      ap (λ c. if refers then effect_of_change s DeletionsOnly (s.key (name_of edit)) (reading s view (name_of edit)) c else Keeps) (change_by edit.change t new)
-      ∙ (ap (λ a. if refers then (if a then Keeps else Writes (s.text_of t)) else Keeps) (already_is view (name_of edit) t allowed)
-      ∙ (pick refers damaged (is_found (found s view (name_of edit)) t)
-      ∙ ap (λ n. if refers && is_new n (found s view (name_of edit)) damaged then Writes (s.text_of t) else Keeps) (sym new)))
+  -- what is decided of an update, by what was found and its file, is what becomes of the file
+  decided_update : (view : View) (name : List ℕ) (refers : Bool) (new : TargetValue) → s.is_prohibited (s.place name) ≡ false → s.text_of new ≡ loose_text new →
+      (d : Decision) → d ≡ (if refers then decision_of (Some new) (found s view name) (is_damaged s (view (s.place name))) else Keep) →
+      by_decision d (loose_text new) ≡ (if refers then effect_of_change s DeletionsOnly (s.key name) (reading s view name) (Update new) else Keeps)
+  decided_update view name true new allowed written d is =
+      ap (λ x. by_decision x (loose_text new)) is
+      ∙ (pick (is_damaged s (view (s.place name))) (is_found (found s view name) new)
+      ∙ (ap (λ a. if a then Keeps else Writes (loose_text new)) (sym (already_is view name new allowed))
+      ∙ ap (λ t. if has_already (reading s view name) new then Keeps else Writes t) (sym written)))
     where
-      refers : Bool
-      refers = is_of_reference (mode_of edit.change)
+      pick : (damaged x : Bool) → by_decision (if damaged || not x then Write else Keep) (loose_text new) ≡ (if not damaged && x then Keeps else Writes (loose_text new))
+      pick true x = refl
+      pick false true = refl
+      pick false false = refl
+  decided_update view name false new allowed written d is = ap (λ x. by_decision x (loose_text new)) is
 
-      damaged : Bool
-      damaged = is_damaged s (view (s.place (name_of edit)))
+  -- and so it is of every change
+  pub decided_is : (view : View) (edit : RefEdit) → s.is_prohibited (s.place (name_of edit)) ≡ false → ((t : TargetValue) → s.text_of t ≡ loose_text t) →
+      (d : Decision) → d ≡ decision edit.change (found s view (name_of edit)) (is_damaged s (view (s.place (name_of edit)))) → effect_value edit.change d ≡ effect_on s view edit
+  decided_is view edit allowed written d is = by edit.change d is
+    where
+      removed : (refers : Bool) → by_decision (if refers then Remove else Keep) [] ≡ (if refers then Removes else Keeps)
+      removed true = refl
+      removed false = refl
 
-      pick : (r d x : Bool) → (if r then (if not d && x then Keeps else Writes (s.text_of t)) else Keeps) ≡ (if r && (d || not x) then Writes (s.text_of t) else Keeps)
-      pick true true x = refl
-      pick true false true = refl
-      pick true false false = refl
-      pick false d x = refl
+      value_is : (c : GivenChange) (x : Decision) → effect_value c x ≡ by_decision x (text_of_new (new_of c))
+      value_is c Write = refl
+      value_is c Remove = refl
+      value_is c Keep = refl
 
-  module _ (written : (t : TargetValue) → s.text_of t ≡ loose_text t) (view : View) (edit : RefEdit) (allowed : s.is_prohibited (s.place (name_of edit)) ≡ false)
-      (target : Option TargetValue) (damaged : Bool) (is : target ≡ found s view (name_of edit)) (bad : damaged ≡ is_damaged s (view (s.place (name_of edit)))) where
-    abbrev due : Bool → TargetValue → Effect
-    due d t = if d then Writes (s.text_of t) else Keeps
+      by : (c : GivenChange) (x : Decision) → x ≡ decision c (found s view (name_of edit)) (is_damaged s (view (s.place (name_of edit)))) →
+          effect_value c x ≡ (if is_of_reference (mode_of c) then effect_of_change s DeletionsOnly (s.key (name_of edit)) (reading s view (name_of edit)) (change_of c) else Keeps)
+      by (given.Update log e new) x told = value_is (given.Update log e new) x ∙ decided_update view (name_of edit) (is_of_reference log.mode) (target_value new) allowed (written (target_value new)) x told
+      by (given.Delete e log) x told = value_is (given.Delete e log) x ∙ (ap (λ y. by_decision y []) told ∙ removed (is_of_reference log))
 
-    effect_by : (t : TargetValue) → new_of edit.change ≡ Some t → effect_on s view edit ≡ due (is_due edit.change target damaged) t
-    effect_by t new =
-        effect_is view edit t new allowed
-        ∙ (ap (λ w. due (is_due edit.change w (is_damaged s (view (s.place (name_of edit))))) t) (sym is) ∙ ap (λ d. due (is_due edit.change target d) t) (sym bad))
-
-    -- a text is the one that is written
-    pub writes_text : (text : Vec ℕ Global) → IsTextFor edit.change target damaged (Some text) → effect_on s view edit ≡ Writes text.items
-    writes_text text told = by (new_of edit.change) refl told.1
-      where
-        inner : {a b : List ℕ} → Some a ≡ Some b → a ≡ b
-        inner e = cc
-
-        by : (new : Option TargetValue) → new_of edit.change ≡ new → option_map loose_text new ≡ Some text.items → effect_on s view edit ≡ Writes text.items
-        by None new h = cc
-        by (Some t) new h = effect_by t new ∙ (ap (λ d. due d t) told.0 ∙ ap Writes (written t ∙ inner h))
-
-    -- where there is none, the file is kept
-    pub keeps : IsSome (new_of edit.change) → IsTextFor edit.change target damaged None → effect_on s view edit ≡ Keeps
-    keeps update told = by (new_of edit.change) refl update
-      where
-        by : (new : Option TargetValue) → new_of edit.change ≡ new → IsSome new → effect_on s view edit ≡ Keeps
-        by None new h = cc
-        by (Some t) new h = effect_by t new ∙ ap (λ d. due d t) told
-
-    pub flag_is : IsSome (new_of edit.change) → (text : Option (Vec ℕ Global)) → IsTextFor edit.change target damaged text → is_some text ≡ is_written (effect_on s view edit)
-    flag_is update None told = sym (ap is_written (keeps update told))
-    flag_is update (Some text) told = sym (ap is_written (writes_text text told))
-
--- What a lock holds once it got its text, or none.
-pub filled_with : (T T1 W : Tree) (lock lock' : Path) (text text' : List ℕ) (what : Effect) → T1 ≡ T → lock' ≡ lock → text' ≡ text → what ≡ Writes text → T lock ≡ Some (File []) →
-    (T1 lock' ≡ Some (File []) → W ≡ put T1 lock' (Some (File text'))) → W ≡ put T lock (Some (File (lock_text what)))
-filled_with T T1 W lock lock' text text' what same at told is empty fills =
+-- What a lock holds once it got its text: the one of its effect.
+pub filled_with : (T T1 W : Tree) (lock lock' : Path) (what what' : Effect) → T1 ≡ T → lock' ≡ lock → what' ≡ what → T lock ≡ Some (File []) →
+    (T1 lock' ≡ Some (File []) → W ≡ put T1 lock' (Some (File (lock_text what')))) → W ≡ put T lock (Some (File (lock_text what)))
+filled_with T T1 W lock lock' what what' same at is empty fills =
     fills (ap (λ (R : Tree). R lock') same ∙ (ap T at ∙ empty))
-    ∙ (ap (λ (R : Tree). put R lock' (Some (File text'))) same
-    ∙ (ap (λ (l : Path). put T l (Some (File text'))) at
-    ∙ (ap (λ t. put T lock (Some (File t))) told ∙ sym (ap (λ e. put T lock (Some (File (lock_text e)))) is))))
+    ∙ (ap (λ (R : Tree). put R lock' (Some (File (lock_text what')))) same
+    ∙ (ap (λ (l : Path). put T l (Some (File (lock_text what')))) at
+    ∙ ap (λ e. put T lock (Some (File (lock_text e)))) is))
 
-pub filled_none : (T W : Tree) (lock : Path) (what : Effect) → W ≡ T → what ≡ Keeps → T lock ≡ Some (File []) → W ≡ put T lock (Some (File (lock_text what)))
-filled_none T W lock what same is empty =
-    same ∙ (sym (put_same T lock (Some (File [])) (sym empty)) ∙ sym (ap (λ e. put T lock (Some (File (lock_text e)))) is))
+-- where no text is given
+pub filled_none : (T : Tree) (lock : Path) → T lock ≡ Some (File []) → T ≡ put T lock (Some (File []))
+filled_none T lock empty = sym (put_same T lock (Some (File [])) (sym empty))

@@ -1,10 +1,17 @@
 -- Faults of `packed-refs` as `prepare` reports them, and the ids of records.
-use Rattle.std.proofs.Common.{◌≡◌, ◌≤◌, ◌⊎◌, inl, inr, ⊎_elim, arith, ℕ, List, Bool, Option, Some, None, Result, Ok, Err, IfErr, refl, sym, ap, ◌∙◌}
+use Rattle.std.proofs.Common.{map, take, length, get_or, [], ◌∷◌, ◌++◌, ◌+◌, ◌<◌, ◌≡◌, ◌≤◌, ◌⊎◌, inl, inr, ⊎_elim, arith, ℕ, List, Bool, Option, Some, None, Result, Ok, Err, IfOk, IfErr, refl, subst, sym, ap, ◌∙◌}
+use Rattle.std.proofs.Math.ListN.{set}
+use Rattle.std.proofs.lemmas.Simd.{map-map}
+use Rattle.std.proofs.lemmas.List.{map-append, take_more_set, take_more, get_or-map, length-map}
+use Rattle.std.proofs.Math.Seq.{take-append_seam}
+use Rattle.gix_ref_transaction.specs.PrepareSteps.{AreSettled, HoldTexts, all_asked, all_given, given, effects_of, effects_on, ids_in, old_targets, packed_ids, place_paths, targets_of, updates}
+use Rattle.gix_ref_transaction.specs.Causes.{NoCause}
+use Rattle.gix_ref_transaction.specs.declared.edit.Edit.{Edit}
 use Rattle.gix_ref_hash.specs.declared.hash.Kind.{Kind}
 use Rattle.gix_ref_hash.specs.declared.hash.ObjectId.{ObjectId}
 use Rattle.gix_ref_base.specs.PackedRecords.{Record, record_named, id_read}
 use Rattle.gix_ref_files.specs.Files.{HasRisen}
-use Rattle.gix_ref_files.specs.Tree.{Content, Tree}
+use Rattle.gix_ref_files.specs.Tree.{Content, Path, Tree}
 use Rattle.gix_ref_packed.proofs.RecordsOfText.{records_computed}
 use Rattle.gix_ref_packed.specs.declared.packed.buffer.open.Error.{Error as OpenError}
 use Rattle.gix_ref_packed.specs.declared.packed.buffer.open.Error.TheVariants.{Iter, HeaderParsing, Io as unread, Memory as open_memory}
@@ -20,9 +27,10 @@ use Rattle.gix_ref_transaction.specs.Causes.{IsCounted, IsCountedWith, IsPackedR
 use Rattle.gix_ref_transaction.specs.PackedCauses.{as_cause, ids_among}
 use Rattle.gix_ref_transaction.specs.PrepareSteps.{packed_ids}
 use Rattle.gix_ref_theory.specs.OnRealTrees.{view_of}
+use Rattle.gix_ref_edits.specs.RefEdits.{name_of}
 use Rattle.gix_ref_edits.specs.declared.transaction.RefEdit.{RefEdit}
 use Rattle.gix_ref_transaction.specs.declared.prepare.error.Error.{Error}
-use Rattle.gix_ref_transaction.specs.declared.prepare.error.Error.TheVariants.{UnsafeName, DeviceName, TargetNotFull, OtherHashKind, PreprocessingFailed, Packed, PackedFind, PathCollision, LockAcquire, MustExist, MustNotExist, ReferenceOutOfDate, Io, Memory as NoMemory}
+use Rattle.gix_ref_transaction.specs.declared.prepare.error.Error.TheVariants.{UnsafeName, DeviceName, DeleteMustNotExist, PackedTransactionAcquire, DeleteReferenceMustExist, TargetNotFull, OtherHashKind, PreprocessingFailed, Packed, PackedFind, PathCollision, LockAcquire, MustExist, MustNotExist, ReferenceOutOfDate, Io, Memory as NoMemory}
 
 -- why no record is found, as it is reported
 pub counted_cause : (honest fault unreadable read : Type 0) (refused : OpenError → Type 0) (before now : ℕ) (error : LookupError) → (fault → HasRisen before now ⊎ read) →
@@ -47,11 +55,14 @@ counted_by honest other read before now (PackedFind error) follows told = tt
 counted_by honest other read before now (Io error) follows told = told
 counted_by honest other read before now UnsafeName follows told = told
 counted_by honest other read before now DeviceName follows told = told
+counted_by honest other read before now DeleteMustNotExist follows told = told
+counted_by honest other read before now PackedTransactionAcquire follows told = told
 counted_by honest other read before now TargetNotFull follows told = told
 counted_by honest other read before now OtherHashKind follows told = told
 counted_by honest other read before now (PreprocessingFailed source) follows told = told
 counted_by honest other read before now (PathCollision name) follows told = told
 counted_by honest other read before now (LockAcquire name) follows told = told
+counted_by honest other read before now (DeleteReferenceMustExist name) follows told = told
 counted_by honest other read before now (MustExist name expected) follows told = told
 counted_by honest other read before now (MustNotExist name actual new) follows told = told
 counted_by honest other read before now (ReferenceOutOfDate name expected actual) follows told = told
@@ -108,11 +119,14 @@ not_packed kind packed before now (Packed error) told = absurd told
 not_packed kind packed before now (PackedFind error) told = absurd told
 not_packed kind packed before now UnsafeName told = (tt, λ honest read. told)
 not_packed kind packed before now DeviceName told = (tt, λ honest read. told)
+not_packed kind packed before now DeleteMustNotExist told = (tt, λ honest read. told)
+not_packed kind packed before now PackedTransactionAcquire told = (tt, λ honest read. told)
 not_packed kind packed before now TargetNotFull told = (tt, λ honest read. told)
 not_packed kind packed before now OtherHashKind told = (tt, λ honest read. told)
 not_packed kind packed before now (PreprocessingFailed source) told = (tt, λ honest read. told)
 not_packed kind packed before now (PathCollision name) told = (tt, λ honest read. told)
 not_packed kind packed before now (LockAcquire name) told = (tt, λ honest read. told)
+not_packed kind packed before now (DeleteReferenceMustExist name) told = (tt, λ honest read. told)
 not_packed kind packed before now (MustExist name expected) told = (tt, λ honest read. told)
 not_packed kind packed before now (MustNotExist name actual new) told = (tt, λ honest read. told)
 not_packed kind packed before now (ReferenceOutOfDate name expected actual) told = (tt, λ honest read. told)
@@ -134,11 +148,14 @@ counted_later honest read a b d (PackedFind error) le told = absurd told
 counted_later honest read a b d (Io error) le told = (rise_before a b d le told.0, told.1)
 counted_later honest read a b d UnsafeName le told = tt
 counted_later honest read a b d DeviceName le told = tt
+counted_later honest read a b d DeleteMustNotExist le told = tt
+counted_later honest read a b d PackedTransactionAcquire le told = tt
 counted_later honest read a b d TargetNotFull le told = tt
 counted_later honest read a b d OtherHashKind le told = tt
 counted_later honest read a b d (PreprocessingFailed source) le told = tt
 counted_later honest read a b d (PathCollision name) le told = tt
 counted_later honest read a b d (LockAcquire name) le told = tt
+counted_later honest read a b d (DeleteReferenceMustExist name) le told = tt
 counted_later honest read a b d (MustExist name expected) le told = tt
 counted_later honest read a b d (MustNotExist name actual new) le told = tt
 counted_later honest read a b d (ReferenceOutOfDate name expected actual) le told = tt
@@ -154,12 +171,79 @@ counted_on honest read a b d (PackedFind error) le told = tt
 counted_on honest read a b d (Io error) le told = (rise_before a b d le told.0, told.1)
 counted_on honest read a b d UnsafeName le told = tt
 counted_on honest read a b d DeviceName le told = tt
+counted_on honest read a b d DeleteMustNotExist le told = tt
+counted_on honest read a b d PackedTransactionAcquire le told = tt
 counted_on honest read a b d TargetNotFull le told = tt
 counted_on honest read a b d OtherHashKind le told = tt
 counted_on honest read a b d (PreprocessingFailed source) le told = tt
 counted_on honest read a b d (PathCollision name) le told = tt
 counted_on honest read a b d (LockAcquire name) le told = tt
+counted_on honest read a b d (DeleteReferenceMustExist name) le told = tt
 counted_on honest read a b d (MustExist name expected) le told = tt
 counted_on honest read a b d (MustNotExist name actual new) le told = tt
 counted_on honest read a b d (ReferenceOutOfDate name expected actual) le told = tt
 counted_on honest read a b d NoMemory le told = tt
+
+-- what is the same of edits that ask for the same
+pub updates_alike : (old now : List Edit) → all_asked now ≡ all_asked old → updates now ≡ updates old
+updates_alike old now same =
+    sym (map-map (λ (p : RefEdit × Path). p.0) (λ (a : Edit). (a.update, a.lock)) now)
+    ∙ (ap (map (λ (p : RefEdit × Path). p.0)) same
+    ∙ map-map (λ (p : RefEdit × Path). p.0) (λ (a : Edit). (a.update, a.lock)) old)
+
+pub places_alike : (old now : List Edit) → all_asked now ≡ all_asked old → place_paths now ≡ place_paths old
+places_alike old now same =
+    sym (map-map (λ (p : RefEdit × Path). p.1) (λ (a : Edit). (a.update, a.lock)) now)
+    ∙ (ap (map (λ (p : RefEdit × Path). p.1)) same
+    ∙ map-map (λ (p : RefEdit × Path). p.1) (λ (a : Edit). (a.update, a.lock)) old)
+
+pub asked_alike : (old now : List Edit) → all_given now ≡ all_given old → all_asked now ≡ all_asked old
+asked_alike old now same =
+    sym (map-map {C = RefEdit × Path} (λ (p : RefEdit × Path × Option ObjectId). (p.0, p.1)) given now)
+    ∙ (ap (map {B = RefEdit × Path} (λ (p : RefEdit × Path × Option ObjectId). (p.0, p.1))) same
+    ∙ map-map {C = RefEdit × Path} (λ (p : RefEdit × Path × Option ObjectId). (p.0, p.1)) given old)
+
+-- a list that was written over in whole, by one that asks for the same
+pub asked_over : (len : ℕ) (old now rest : List Edit) → all_asked now ≡ all_asked old → length old ≡ len → take len (now ++ rest) ≡ now
+asked_over len old now rest same is =
+    ap (λ n. take n (now ++ rest))
+    (omega (arith, is, length-map {B = RefEdit × Path} now (λ (a : Edit). (a.update, a.lock)), length-map {B = RefEdit × Path} old (λ (a : Edit). (a.update, a.lock)), ap length same))
+    ∙ take-append_seam now rest
+
+pub if_ok : {X E : Type 0} {P Q : X → Type 0} (r : Result X E) → ((x : X) → P x → Q x) → IfOk r P → IfOk r Q
+if_ok (Ok x) wider holds = wider x holds
+if_ok (Err e) wider holds = tt
+
+-- edits are settled by what is asked for
+pub settled_alike : (s : Store) (kind : Kind) (before T : Tree) (a b new : List Edit) → updates a ≡ updates b → AreSettled s kind before T a new → AreSettled s kind before T b new
+settled_alike s kind before T a b new same settled = record {
+  was = subst (λ (u : List RefEdit). targets_of new ≡ old_targets s before u) same settled.was;
+  what = subst (λ (u : List RefEdit). effects_of new ≡ effects_on s (view_of before) u) same settled.what;
+  ids = subst (λ (u : List RefEdit). ids_in new ≡ packed_ids s before u) same settled.ids;
+  no_cause = subst (NoCause s kind before []) same settled.no_cause;
+  texts = subst (HoldTexts s before T) same settled.texts;
+}
+
+-- one more edit of a list has its id
+pub ids_more : (s : Store) (rs : List Record) (old now : List Edit) → all_asked now ≡ all_asked old → (i : ℕ) (e : Edit) → i < length now → e ≡ get_or now i e → (new : Edit) →
+    ids_in (take i now) ≡ ids_among s rs (take i (updates old)) → new.packed ≡ packed_id (s.key (name_of e.update)) rs →
+    ids_in (take (i + 1) (set now i new)) ≡ ids_among s rs (take (i + 1) (updates old))
+ids_more s rs old now same i e lt is new before here =
+    ap ids_in (take_more_set now i new lt)
+    ∙ (map-append (λ (a : Edit). a.packed) (take i now) (new ∷ [])
+    ∙ (ap (λ l. l ++ new.packed ∷ []) before
+    ∙ (ap (λ id. ids_among s rs (take i (updates old)) ++ id ∷ []) here
+    ∙ (sym (map-append (λ (u : RefEdit). packed_id (s.key (name_of u)) rs) (take i (updates old)) (e.update ∷ []))
+    ∙ ap (ids_among s rs) (sym more)))))
+  where
+    all_same : updates now ≡ updates old
+    all_same = updates_alike old now same
+
+    lt_all : i < length (updates old)
+    lt_all = omega (arith, lt, length-map now (λ (a : Edit). a.update), ap length all_same)
+
+    at : get_or (updates old) i e.update ≡ e.update
+    at = ap (λ l. get_or l i e.update) (sym all_same) ∙ (get_or-map (λ (a : Edit). a.update) now i e e.update lt ∙ ap (λ (a : Edit). a.update) (sym is))
+
+    more : take (i + 1) (updates old) ≡ take i (updates old) ++ e.update ∷ []
+    more = take_more (updates old) i e.update lt_all ∙ ap (λ u. take i (updates old) ++ u ∷ []) at

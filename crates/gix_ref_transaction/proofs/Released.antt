@@ -17,7 +17,7 @@ use Rattle.gix_ref_transaction.specs.CommitRenames.{first_renames, rename_at, lo
 use Rattle.gix_ref_transaction.specs.PrepareSteps.{lock_paths, place_paths, places_of}
 use Rattle.gix_ref_edits.specs.RefEdits.{name_of}
 use Rattle.gix_ref_edits.specs.declared.transaction.RefEdit.{RefEdit}
-use Rattle.gix_ref_transaction.specs.declared.paths.Paths.{Paths}
+use Rattle.gix_ref_transaction.specs.declared.edit.Edit.{Edit as Own}
 use Rattle.gix_ref_transaction.proofs.Adds.{clash, false_is_true, either_way, any_cases, in_one, in_at, same_path, is_same_path}
 use Rattle.gix_ref_transaction.proofs.LockRounds.{own_lock}
 use Rattle.gix_ref_transaction.proofs.Renames.{lock_found}
@@ -36,7 +36,7 @@ still_none S from to q other none =
     (λ apart. put_other S from q None (λ same. clash (is_same_path from q same) apart) ∙ none)
 
 -- no edit is written past the end of the list
-past : (paths : List Paths) (k : ℕ) → length paths ≤ k → is_written_at paths k ≡ false
+past : (paths : List Own) (k : ℕ) → length paths ≤ k → is_written_at paths k ≡ false
 past [] k le = none k
   where
     none : (n : ℕ) → get_or [] n false ≡ false
@@ -48,7 +48,7 @@ past (e ∷ edits) (suc k) le = past edits k (omega (arith, le))
 no_file_after : (removed : List Path) (T U : Tree) (q : Path) → RemovesLocks removed T U → is_file (T q) ≡ false → is_file (U q) ≡ false
 no_file_after removed T U q removes none = ⊎_elim (λ same. ap is_file same ∙ none) (λ gone. ap is_file gone.1) (removes q)
 
-module _ (s : Store) (laws : HasLaws s) (given : List RefEdit) (paths : List Paths) (references : All (λ (e : RefEdit). s.is_reference (name_of e) ≡ true) given)
+module _ (s : Store) (laws : HasLaws s) (given : List RefEdit) (paths : List Own) (references : All (λ (e : RefEdit). s.is_reference (name_of e) ≡ true) given)
     (places : place_paths paths ≡ places_of s given) (locks : lock_paths paths ≡ locks_of s given) (start : Tree) where
   abbrev own_locks : List Path
   own_locks = locks_of s given
@@ -122,17 +122,17 @@ module _ (s : Store) (laws : HasLaws s) (given : List RefEdit) (paths : List Pat
       by (inl all) = ap (λ (R : Tree). R (lock_at paths k)) (nothing (is_written_at paths done) (past paths done (omega (arith, all))) left) ∙ none
       by (inr less) = gone_on k done (omega (arith, lt, less)) less M T left none
 
-  pub gone : (mid now : Tree) (left : List Path) (done : ℕ) → done ≤ length paths → IsCutAt paths done start mid → RemovesLocks (lock_paths paths) mid now →
+  pub gone : (removed : List Path) (mid now : Tree) (left : List Path) (done : ℕ) → done ≤ length paths → IsCutAt paths done start mid → RemovesLocks removed mid now →
       ((k : ℕ) → k < length paths → stays_at paths done k ≡ true → is_in left (lock_at paths k) ≡ false → is_file (now (lock_at paths k)) ≡ false) →
       (q : Path) → is_in own_locks q ≡ true → is_in left q ≡ false → is_file (now q) ≡ false
-  gone mid now left done le cut removes released q within out =
+  gone removed mid now left done le cut removes released q within out =
       let at = lock_found paths q (subst (λ ls. is_in ls q ≡ true) (sym locks) within) in
       subst (λ (l : Path). is_file (now l) ≡ false) at.2
       (either_way (stays_at paths done at.0)
       (λ stays. released at.0 at.1 stays (subst (λ (l : Path). is_in left l ≡ false) (sym at.2) out))
       (λ renamed.
       let parts = was_renamed (nat_lt at.0 done) (is_written_at paths at.0) renamed in
-      no_file_after (lock_paths paths) mid now (lock_at paths at.0) removes (ap is_file (cut_gone done at.0 le (ltb-true at.0 done parts.0) parts.1 mid cut))))
+      no_file_after removed mid now (lock_at paths at.0) removes (ap is_file (cut_gone done at.0 le (ltb-true at.0 done parts.0) parts.1 mid cut))))
     where
       was_renamed : (x y : Bool) → not (x && y) ≡ false → (x ≡ true) × (y ≡ true)
       was_renamed true true h = (refl, refl)

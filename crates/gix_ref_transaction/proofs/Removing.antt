@@ -1,21 +1,23 @@
 -- One lock less.
-use Rattle.std.proofs.Common.{◌≡◌, ◌⊎◌, inl, inr, ⊎_elim, ℕ, List, [], ◌∷◌, ◌++◌, true, false, None, sym, ◌∙◌, ap, subst, Vec, take}
-use Rattle.std.specs.Prelude.{bytes_eq}
+use Rattle.std.proofs.Common.{◌≡◌, ◌⊎◌, inl, inr, ⊎_elim, ℕ, List, [], ◌∷◌, ◌++◌, Bool, true, false, None, refl, sym, ◌∙◌, ap, subst, Vec, take}
+use Rattle.std.specs.Prelude.{bytes_eq, if◌then◌else◌, map, Option}
 use Rattle.std.specs.declared.alloc.Global.{Global}
-use Rattle.std.proofs.lemmas.List.{map-append, take-map}
+use Rattle.std.proofs.lemmas.List.{append-nil, map-append, take-map}
+use Rattle.std.proofs.lemmas.Simd.{map-map}
 use Rattle.gix_ref_files.specs.Tree.{Tree, Path, is_file}
 use Rattle.gix_ref_files.specs.Files.{Meaning, disk_of, Leaves, Passes}
 use Rattle.gix_ref_files.specs.DiskCalls.{RemovingFileOn}
 use Rattle.gix_ref_files.proofs.Moments.{weaken, joins, passes_weaken, passes_joins}
 use Rattle.gix_ref_transaction.specs.OwnLocks.{paths_of, is_in, RemovesLocks, OnlyRemoves, AddsLocks}
-use Rattle.gix_ref_transaction.specs.PrepareSteps.{lock_paths}
+use Rattle.gix_ref_transaction.specs.PrepareSteps.{lock_paths, place_paths, places_of, updates, given, all_given}
+use Rattle.gix_ref_hash.specs.declared.hash.ObjectId.{ObjectId}
 use Rattle.gix_ref_transaction.specs.Causes.{locks_of}
 use Rattle.gix_ref_theory.proofs.LockDisks.{removing_among}
 use Rattle.gix_ref_theory.specs.Readings.{Store}
 use Rattle.gix_ref_edits.specs.RefEdits.{name_of}
 use Rattle.gix_ref_files.specs.Lock.{lock_of}
 use Rattle.gix_ref_edits.specs.declared.transaction.RefEdit.{RefEdit}
-use Rattle.gix_ref_transaction.specs.declared.paths.Paths.{Paths}
+use Rattle.gix_ref_transaction.specs.declared.edit.Edit.{Edit as Own}
 use Rattle.gix_ref_transaction.proofs.Adds.{clash, is_false, either_way, any_left, any_right, any_cases, in_one, in_here, same_path, is_same_path, adds_less, adds_left, adds_wider}
 
 -- some paths and one more
@@ -30,17 +32,28 @@ path_cases paths path q h =
     let parts = any_cases (λ p. bytes_eq p q) (paths_of paths) (paths_of (path ∷ [])) (rw map-append at h) in
     ⊎_elim (λ left. inl left) (λ right. inr (in_one path.items q right)) parts
 
+-- a lock that is named where it could not be removed
+pub named_kept : (names more : List Path) (q : Path) → is_in names q ≡ true → is_in (names ++ more) q ≡ true
+named_kept names more q h = any_left (λ p. bytes_eq p q) names more h
+
+pub named_here : (names : List Path) (lock : Path) (removed : Bool) → removed ≡ false → is_in (names ++ (if removed then [] else lock ∷ [])) lock ≡ true
+named_here names lock removed kept = subst (λ (b : Bool). is_in (names ++ (if b then [] else lock ∷ [])) lock ≡ true) (sym kept) (any_right (λ p. bytes_eq p lock) names (lock ∷ []) (in_here lock lock [] refl))
+
+pub named_cases : (names : List Path) (lock : Path) (removed : Bool) (q : Path) → is_in (names ++ (if removed then [] else lock ∷ [])) q ≡ true → (is_in names q ≡ true) ⊎ (lock ≡ q)
+named_cases names lock true q h = inl (subst (λ (l : List Path). is_in l q ≡ true) (append-nil names) h)
+named_cases names lock false q h = ⊎_elim (λ left. inl left) (λ right. inr (in_one lock q right)) (any_cases (λ p. bytes_eq p q) names (lock ∷ []) h)
+
 -- and so the locks of some paths and one more
-pub lock_left : (paths : List Paths) (path : Paths) (q : Path) → is_in (lock_paths paths) q ≡ true → is_in (lock_paths (paths ++ path ∷ [])) q ≡ true
+pub lock_left : (paths : List Own) (path : Own) (q : Path) → is_in (lock_paths paths) q ≡ true → is_in (lock_paths (paths ++ path ∷ [])) q ≡ true
 lock_left paths path q h = rw map-append (any_left (λ p. bytes_eq p q) (lock_paths paths) (lock_paths (path ∷ [])) h)
 
-pub lock_here : (paths : List Paths) (path : Paths) (q : Path) → path.lock.items ≡ q → is_in (lock_paths (paths ++ path ∷ [])) q ≡ true
-lock_here paths path q h = rw map-append (any_right (λ p. bytes_eq p q) (lock_paths paths) (lock_paths (path ∷ [])) (in_here path.lock.items q [] h))
+pub lock_here : (paths : List Own) (path : Own) (q : Path) → (lock_of path.lock) ≡ q → is_in (lock_paths (paths ++ path ∷ [])) q ≡ true
+lock_here paths path q h = rw map-append (any_right (λ p. bytes_eq p q) (lock_paths paths) (lock_paths (path ∷ [])) (in_here (lock_of path.lock) q [] h))
 
-pub lock_cases : (paths : List Paths) (path : Paths) (q : Path) → is_in (lock_paths (paths ++ path ∷ [])) q ≡ true → (is_in (lock_paths paths) q ≡ true) ⊎ (path.lock.items ≡ q)
+pub lock_cases : (paths : List Own) (path : Own) (q : Path) → is_in (lock_paths (paths ++ path ∷ [])) q ≡ true → (is_in (lock_paths paths) q ≡ true) ⊎ ((lock_of path.lock) ≡ q)
 lock_cases paths path q h =
     let parts = any_cases (λ p. bytes_eq p q) (lock_paths paths) (lock_paths (path ∷ [])) (rw map-append at h) in
-    ⊎_elim (λ left. inl left) (λ right. inr (in_one path.lock.items q right)) parts
+    ⊎_elim (λ left. inl left) (λ right. inr (in_one (lock_of path.lock) q right)) parts
 
 pub removes_then : (locks : List Path) (lock : Path) (S T U : Tree) → is_in locks lock ≡ true → RemovesLocks locks S T → RemovesLocks (lock ∷ []) T U → RemovesLocks locks S U
 removes_then locks lock S T U within first second q =
@@ -57,15 +70,15 @@ pub no_file_then : (lock : Path) (T U : Tree) (q : Path) → RemovesLocks (lock 
 no_file_then lock T U q removes no_file = ⊎_elim (λ same. ap is_file same ∙ no_file) (λ gone. ap is_file gone.1) (removes q)
 
 -- one lock of those that are left to do is done: it is gone, or it is named
-module _ (all : List Path) (rest : List Paths) (path : Paths) (T U : Tree) (removes : RemovesLocks (path.lock.items ∷ []) T U) where
-  pub gone_then : (left left' : List (Vec ℕ Global)) → ((q : Path) → is_in (paths_of left) q ≡ true → is_in (paths_of left') q ≡ true) → (is_in (paths_of left') path.lock.items ≡ false → is_file (U path.lock.items) ≡ false) → ((q : Path) → is_in all q ≡ true → is_in (lock_paths (rest ++ path ∷ [])) q ≡ false → is_in (paths_of left) q ≡ false → is_file (T q) ≡ false) → (q : Path) → is_in all q ≡ true → is_in (lock_paths rest) q ≡ false → is_in (paths_of left') q ≡ false → is_file (U q) ≡ false
+module _ (all : List Path) (rest : List Own) (path : Own) (T U : Tree) (removes : RemovesLocks ((lock_of path.lock) ∷ []) T U) where
+  pub gone_then : (left left' : List (Vec ℕ Global)) → ((q : Path) → is_in (paths_of left) q ≡ true → is_in (paths_of left') q ≡ true) → (is_in (paths_of left') (lock_of path.lock) ≡ false → is_file (U (lock_of path.lock)) ≡ false) → ((q : Path) → is_in all q ≡ true → is_in (lock_paths (rest ++ path ∷ [])) q ≡ false → is_in (paths_of left) q ≡ false → is_file (T q) ≡ false) → (q : Path) → is_in all q ≡ true → is_in (lock_paths rest) q ≡ false → is_in (paths_of left') q ≡ false → is_file (U q) ≡ false
   gone_then left left' wider done before q within not_rest not_left =
-      either_way (bytes_eq path.lock.items q)
-      (λ here. let e : path.lock.items ≡ q = same_path path.lock.items q here in
+      either_way (bytes_eq (lock_of path.lock) q)
+      (λ here. let e : (lock_of path.lock) ≡ q = same_path (lock_of path.lock) q here in
       subst (λ (p : Path). is_file (U p) ≡ false) e (done (subst (λ (p : Path). is_in (paths_of left') p ≡ false) (sym e) not_left)))
-      (λ elsewhere. no_file_then path.lock.items T U q removes
+      (λ elsewhere. no_file_then (lock_of path.lock) T U q removes
       (before q within
-      (is_false (is_in (lock_paths (rest ++ path ∷ [])) q) (λ h. ⊎_elim (λ old. clash old not_rest) (λ e. clash (is_same_path path.lock.items q e) elsewhere) (lock_cases rest path q h)))
+      (is_false (is_in (lock_paths (rest ++ path ∷ [])) q) (λ h. ⊎_elim (λ old. clash old not_rest) (λ e. clash (is_same_path (lock_of path.lock) q e) elsewhere) (lock_cases rest path q h)))
       (is_false (is_in (paths_of left) q) (λ h. clash (wider q h) not_left))))
 
 pub leaves_then : (locks : List Path) (lock : Path) (first mid now : Meaning) → is_in locks lock ≡ true → Leaves first mid (RemovesLocks locks first.tree) → Leaves mid now (RemovesLocks (lock ∷ []) mid.tree) → Leaves first now (RemovesLocks locks first.tree)
@@ -86,8 +99,25 @@ module _ (all locks : List Path) (first mid now : Meaning) (free : (q : Path) �
   cleaning run = joins run (weaken next (λ T removes. adds_wider locks all all all first.tree T known (λ q h. h) (adds_less locks all first.tree mid.tree T free adds removes)))
 
 -- the first of the paths are the locks of the first edits
-pub locks_front : (s : Store) (edits : List RefEdit) (paths : List Paths) (n : ℕ) → lock_paths paths ≡ locks_of s edits → lock_paths (take n paths) ≡ locks_of s (take n edits)
+pub locks_front : (s : Store) (edits : List RefEdit) (paths : List Own) (n : ℕ) → lock_paths paths ≡ locks_of s edits → lock_paths (take n paths) ≡ locks_of s (take n edits)
 locks_front s edits paths n same =
-    sym (take-map (λ (p : Paths). p.lock.items) n paths)
+    sym (take-map (λ (p : Own). (lock_of p.lock)) n paths)
     ∙ (ap (take n) same
     ∙ take-map (λ (e : RefEdit). lock_of (s.place (name_of e))) n edits)
+
+-- the locks of edits are those of their places
+pub locks_by_places : (s : Store) (edits : List RefEdit) (paths : List Own) → place_paths paths ≡ places_of s edits → lock_paths paths ≡ locks_of s edits
+locks_by_places s edits paths places =
+    sym (map-map lock_of (λ (e : Own). e.lock) paths)
+    ∙ (ap (map lock_of) places
+    ∙ map-map lock_of (λ (u : RefEdit). s.place (name_of u)) edits)
+
+-- and where the edits are those that were given, they have the locks of these
+pub locks_given : (s : Store) (old now : List Own) (n : ℕ) → place_paths old ≡ places_of s (updates old) → all_given now ≡ all_given old → lock_paths (take n now) ≡ locks_of s (take n (updates old))
+locks_given s old now n places same =
+    locks_front s (updates old) now n
+    (locks_by_places s (updates old) now
+    (sym (map-map (λ (g : RefEdit × Path × Option ObjectId). g.1) given now)
+    ∙ (ap (map (λ (g : RefEdit × Path × Option ObjectId). g.1)) same
+    ∙ (map-map (λ (g : RefEdit × Path × Option ObjectId). g.1) given old
+    ∙ places))))

@@ -4,6 +4,7 @@ use Rattle.std.specs.Prelude.{bytes_eq, not, ◌&&◌, if◌then◌else◌}
 use Rattle.std.proofs.lemmas.Bool.{le-ltb}
 use Rattle.std.proofs.Math.Nat.{eq-or-lt_of_le}
 use Rattle.std.proofs.lemmas.List.{map-append, append-nil, get_or_append_left}
+use Rattle.gix_ref_files.specs.Lock.{lock_of}
 use Rattle.gix_ref_files.specs.Tree.{Tree, Path, Content, is_file, is_folder, put, moved}
 use Rattle.gix_ref_files.specs.Tree.Content.{File as AFile, Folder as AFolder}
 use Rattle.gix_ref_files.proofs.Puts.{put_at, put_other, moved_to, moved_other}
@@ -21,15 +22,16 @@ use Rattle.gix_ref_lookup.specs.StoreLayout.{root_in}
 use Rattle.gix_ref_lookup.specs.declared.folders.Dirs.{Dirs}
 use Rattle.gix_ref_transaction.specs.declared.commit.renames.Why.TheVariants.{Folder}
 use Rattle.gix_ref_transaction.specs.OwnLocks.{is_in, RemovesLocks}
+use Rattle.gix_ref_transaction.specs.Effects.{is_write}
 use Rattle.gix_ref_transaction.specs.CommitRenames.{first_renames, rename_at, renames_of, IsStepOf, SayTheirEdits, IsCutAt, IsFolderInPlace, first_synced_renames, lock_at, place_at, stays_at, is_written_at, why_is, IsRaised}
 use Rattle.gix_ref_transaction.specs.PrepareSteps.{lock_paths}
-use Rattle.gix_ref_transaction.specs.declared.paths.Paths.{Paths}
+use Rattle.gix_ref_transaction.specs.declared.edit.Edit.{Edit as Own}
 use Rattle.gix_ref_lookup.proofs.Opening.{risen}
 use Rattle.gix_ref_transaction.proofs.Adds.{clash, either_way, same_path, is_same_path, false_is_true, is_false, any_right, any_cases, in_here, in_one}
 use Rattle.gix_ref_transaction.proofs.Removing.{no_file_then}
 
 -- one edit more is planned
-module _ (dirs : Dirs) (paths : List Paths) (plan : List (Planned ℕ)) (i : ℕ) where
+module _ (dirs : Dirs) (paths : List Own) (plan : List (Planned ℕ)) (i : ℕ) where
   next : i + 1 ≡ suc i
   next = omega arith
 
@@ -67,7 +69,7 @@ module _ (dirs : Dirs) (paths : List Paths) (plan : List (Planned ℕ)) (i : ℕ
       ∙ sym (ap (first_synced_renames dirs paths) next)
 
 -- one planned step more that says its edit
-pub says_more : (paths : List Paths) (plan : List (Planned ℕ)) (p : Planned ℕ) → SayTheirEdits paths plan → IsStepOf paths (length plan) p.about → SayTheirEdits paths (plan ++ p ∷ [])
+pub says_more : (paths : List Own) (plan : List (Planned ℕ)) (p : Planned ℕ) → SayTheirEdits paths plan → IsStepOf paths (length plan) p.about → SayTheirEdits paths (plan ++ p ∷ [])
 says_more paths plan p says here k d lt = ⊎_elim
     (λ (same : k ≡ length plan).
     subst (λ j. IsStepOf paths j (get_or (plan ++ p ∷ []) j d).about) (sym same)
@@ -80,7 +82,7 @@ says_more paths plan p says here k d lt = ⊎_elim
     at_end (q ∷ l) = at_end l
 
 -- the renames of a list, cut at one of them
-cut_in_two : (paths : List Paths) (at n : ℕ) → at < n → is_written_at paths at ≡ true →
+cut_in_two : (paths : List Own) (at n : ℕ) → at < n → is_written_at paths at ≡ true →
     (rest : List Step) × (first_renames paths n ≡ first_renames paths at ++ Rename (lock_at paths at) (place_at paths at) ∷ rest)
 cut_in_two paths at zero lt written = absurd (omega (arith, lt))
 cut_in_two paths at (suc n) lt written = ⊎_elim
@@ -106,14 +108,14 @@ ends_behind (y ∷ xs) x rest (suc k) cause S T is (next, done, ends) =
     let later = ends_behind xs x rest k cause next T (omega (arith, is)) ends in (later.0, (next, done, later.1), later.2)
 
 -- a run of the renames that ended at the rename of an edit
-ended_at : (paths : List Paths) (at k : ℕ) (cause : Cause) (S T : Tree) → IsStepOf paths k at → EndsAt (renames_of paths) k cause S T →
+ended_at : (paths : List Own) (at k : ℕ) (cause : Cause) (S T : Tree) → IsStepOf paths k at → EndsAt (renames_of paths) k cause S T →
     (mid : Tree) × IsAfter (first_renames paths at) S mid × EndsBy (Rename (lock_at paths at) (place_at paths at)) cause mid T
 ended_at paths at k cause S T step ends =
     let cut = cut_in_two paths at (length paths) step.within step.written in
     ends_behind (first_renames paths at) (Rename (lock_at paths at) (place_at paths at)) cut.0 k cause S T step.number (subst (λ steps. EndsAt steps k cause S T) cut.1 ends)
 
 -- leaves the tree cut there
-pub cut_at : (paths : List Paths) (at k : ℕ) (cause : Cause) (S T : Tree) → IsStepOf paths k at → EndsAt (renames_of paths) k cause S T → IsCutAt paths at S T
+pub cut_at : (paths : List Own) (at k : ℕ) (cause : Cause) (S T : Tree) → IsStepOf paths k at → EndsAt (renames_of paths) k cause S T → IsCutAt paths at S T
 cut_at paths at k cause S T step ends =
     let ended = ended_at paths at k cause S T step ends in (
       ended.0,
@@ -136,7 +138,7 @@ one_of_both [] ys step h = inr h
 one_of_both (x ∷ xs) ys step (inl h) = inl (inl h)
 one_of_both (x ∷ xs) ys step (inr h) = ⊎_elim (λ l. inl (inr l)) (λ r. inr r) (one_of_both xs ys step h)
 
-all_renames : (paths : List Paths) (n : ℕ) (step : Step) → IsOneOf step (first_renames paths n) → IsRename step
+all_renames : (paths : List Own) (n : ℕ) (step : Step) → IsOneOf step (first_renames paths n) → IsRename step
 all_renames paths zero step none = absurd none
 all_renames paths (suc n) step h =
     ⊎_elim (λ before. all_renames paths n step before) (λ here. last (is_written_at paths n) here) (one_of_both (first_renames paths n) (rename_at paths n) step h)
@@ -176,7 +178,7 @@ folder_before (step ∷ steps) S T q renames (M, done, after) folder =
     back End is does there = absurd is
 
 -- and where it ended, but not by a fault, it found a folder at the place, which was there before
-pub folder_there : (paths : List Paths) (at k : ℕ) (cause : Cause) (S T : Tree) → IsStepOf paths k at → EndsAt (renames_of paths) k cause S T → why_is cause ≡ Folder → IsFolderInPlace S T (place_at paths at)
+pub folder_there : (paths : List Own) (at k : ℕ) (cause : Cause) (S T : Tree) → IsStepOf paths k at → EndsAt (renames_of paths) k cause S T → why_is cause ≡ Folder → IsFolderInPlace S T (place_at paths at)
 folder_there paths at k cause S T step ends why = let ended = ended_at paths at k cause S T step ends in by cause ended.0 ended.1 ended.2 why
   where
     by : (c : Cause) (mid : Tree) → IsAfter (first_renames paths at) S mid → EndsBy (Rename (lock_at paths at) (place_at paths at)) c mid T → why_is c ≡ Folder → IsFolderInPlace S T (place_at paths at)
@@ -196,23 +198,28 @@ raised_by Unexpected before none = tt
 raised_by Asked before none = tt
 
 -- the lock of an element of a list
-pub lock_there : (rest : List Paths) (own : Paths) (tail : List Paths) → lock_at (rest ++ own ∷ tail) (length rest) ≡ own.lock.items
+pub lock_there : (rest : List Own) (own : Own) (tail : List Own) → lock_at (rest ++ own ∷ tail) (length rest) ≡ (lock_of own.lock)
 lock_there [] own tail = refl
 lock_there (p ∷ rest) own tail = lock_there rest own tail
 
+-- and its place
+pub place_there : (rest : List Own) (own : Own) (tail : List Own) → place_at (rest ++ own ∷ tail) (length rest) ≡ own.lock
+place_there [] own tail = refl
+place_there (p ∷ rest) own tail = place_there rest own tail
+
 -- and so is whether it is written
-pub flag_there : (rest : List Paths) (own : Paths) (tail : List Paths) → is_written_at (rest ++ own ∷ tail) (length rest) ≡ own.writes
+pub flag_there : (rest : List Own) (own : Own) (tail : List Own) → is_written_at (rest ++ own ∷ tail) (length rest) ≡ (is_write own.effect)
 flag_there [] own tail = refl
 flag_there (p ∷ rest) own tail = flag_there rest own tail
 
 -- it is among the locks
-pub lock_within : (rest : List Paths) (own : Paths) (tail : List Paths) → is_in (lock_paths (rest ++ own ∷ tail)) own.lock.items ≡ true
+pub lock_within : (rest : List Own) (own : Own) (tail : List Own) → is_in (lock_paths (rest ++ own ∷ tail)) (lock_of own.lock) ≡ true
 lock_within rest own tail =
-    subst (λ (locks : List Path). is_in locks own.lock.items ≡ true) (sym (map-append (λ (p : Paths). p.lock.items) rest (own ∷ tail)))
-    (any_right (λ p. bytes_eq p own.lock.items) (lock_paths rest) (lock_paths (own ∷ tail)) (in_here own.lock.items own.lock.items (lock_paths tail) refl))
+    subst (λ (locks : List Path). is_in locks (lock_of own.lock) ≡ true) (sym (map-append (λ (p : Own). (lock_of p.lock)) rest (own ∷ tail)))
+    (any_right (λ p. bytes_eq p (lock_of own.lock)) (lock_paths rest) (lock_paths (own ∷ tail)) (in_here (lock_of own.lock) (lock_of own.lock) (lock_paths tail) refl))
 
 -- one more is released: the lock at a place from it on is gone, renamed or left
-module _ (all : List Paths) (total : ℕ) (done n : ℕ) (lock : Path) (at : lock_at all n ≡ lock) (T U : Tree) (removes : RemovesLocks (lock ∷ []) T U) where
+module _ (all : List Own) (total : ℕ) (done n : ℕ) (lock : Path) (at : lock_at all n ≡ lock) (T U : Tree) (removes : RemovesLocks (lock ∷ []) T U) where
   pub released : (left left' : List Path) → ((q : Path) → is_in left q ≡ true → is_in left' q ≡ true) →
       (stays_at all done n ≡ true → is_in left' lock ≡ false → is_file (U lock) ≡ false) →
       ((k : ℕ) → n + 1 ≤ k → k < total → stays_at all done k ≡ true → is_in left (lock_at all k) ≡ false → is_file (T (lock_at all k)) ≡ false) →
@@ -227,13 +234,13 @@ module _ (all : List Paths) (total : ℕ) (done n : ℕ) (lock : Path) (at : loc
       (eq-or-lt_of_le le)
 
 -- a lock of some paths is at an index of the list
-pub lock_found : (paths : List Paths) (q : Path) → is_in (lock_paths paths) q ≡ true → (k : ℕ) × (k < length paths) × (lock_at paths k ≡ q)
+pub lock_found : (paths : List Own) (q : Path) → is_in (lock_paths paths) q ≡ true → (k : ℕ) × (k < length paths) × (lock_at paths k ≡ q)
 lock_found [] q h = false_is_true h
 lock_found (own ∷ paths) q h = ⊎_elim
-    (λ here. (0, omega arith, in_one own.lock.items q here))
+    (λ here. (0, omega arith, in_one (lock_of own.lock) q here))
     (λ later. let at = lock_found paths q later in (suc at.0, omega (arith, at.1), at.2))
-    (any_cases (λ p. bytes_eq p q) (own.lock.items ∷ []) (lock_paths paths) h)
+    (any_cases (λ p. bytes_eq p q) ((lock_of own.lock) ∷ []) (lock_paths paths) h)
 
 -- where none is done, no lock was renamed
-pub none_renamed : (paths : List Paths) (k : ℕ) → stays_at paths 0 k ≡ true
+pub none_renamed : (paths : List Own) (k : ℕ) → stays_at paths 0 k ≡ true
 none_renamed paths k = ap (λ b. not (b && is_written_at paths k)) (le-ltb k 0 (omega arith))

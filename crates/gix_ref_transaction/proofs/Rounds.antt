@@ -1,45 +1,33 @@
 -- One round of the loop that takes the locks, over plain meanings.
 use Rattle.std.proofs.Common.{◌≡◌, ◌⊎◌, inl, inr, ⊎_elim, ℕ, ◌+◌, ◌<◌, List, [], ◌∷◌, ◌++◌, length, get_or, true, false, Option, Some, None, All, refl, sym, ◌∙◌, ap, subst, take, drop}
 use Rattle.std.proofs.lemmas.List.Elements.{All-nil, All-cons}
-use Rattle.std.proofs.lemmas.List.{get_or-map, map-append}
+use Rattle.std.proofs.lemmas.List.{map-append}
 use Rattle.gix_ref_hash.specs.declared.hash.Kind.{Kind}
 use Rattle.gix_ref_hash.specs.declared.hash.ObjectId.{ObjectId}
-use Rattle.gix_ref_transaction.specs.declared.prepare.lock.Found.{Found}
 use Rattle.gix_ref_files.specs.Tree.{Tree, Path, put}
 use Rattle.gix_ref_files.specs.Tree.Content.{File}
 use Rattle.gix_ref_files.specs.Files.{Meaning, Leaves}
 use Rattle.gix_ref_files.proofs.Moments.{weaken, joins}
 use Rattle.gix_ref_transaction.specs.OwnLocks.{is_in, AddsLocks}
 use Rattle.gix_ref_theory.specs.OnRealTrees.{view_of}
-use Rattle.gix_ref_transaction.specs.Causes.{AllValid, IsValidEdit, found, packed_of, Passes, IsFault, IsIoOrMemory, IsMismatch, NoCause, IsFirstCause, LocksAreApart, IsLockable, locks_of}
+use Rattle.gix_ref_transaction.specs.Causes.{AllValid, IsPossible, IsValidEdit, found, packed_of, Passes, IsFault, IsIoOrMemory, IsMismatch, NoCause, IsFirstCause, LocksAreApart, IsLockable, locks_of}
 use Rattle.gix_ref_theory.specs.Readings.{Store}
-use Rattle.gix_ref_transaction.specs.PrepareSteps.{lock_text, effect_on, is_written, are_written, packed_ids, targets_of, flags_of, HoldTexts, AreLockable, value_of, lock_paths, place_paths, places_of, IsRefusedLock, IsNewLock, FillsLock, old_targets}
+use Rattle.gix_ref_transaction.specs.PrepareSteps.{lock_text, effect_on, effect_value, effects_of, effects_on, targets_of, HoldTexts, AreLockable, value_of, IsRefusedLock, IsNewLock, FillsLock, old_targets}
 use Rattle.gix_ref_edits.specs.RefEdits.{name_of, expected_of, new_of, Expects}
 use Rattle.gix_ref_files.specs.Lock.{lock_of}
 use Rattle.gix_ref_edits.specs.declared.transaction.RefEdit.{RefEdit}
-use Rattle.gix_ref_transaction.specs.declared.paths.Paths.{Paths}
+use Rattle.gix_ref_transaction.specs.declared.edit.Edit.{Edit}
 use Rattle.gix_ref_transaction.specs.declared.prepare.error.Error.{Error}
 use Rattle.gix_ref_transaction.proofs.Firsts.{fault_here, fault_later, pass_more, seen_of}
 use Rattle.gix_ref_transaction.proofs.Taking.{Held, front_in, more_here, refused, still, stop_taking, lockable, free_more, same_found, filling, stop_filling, held_more, same_id, same_effect, texts_more}
-
--- the lock of an edit is at its index
-pub lock_at : (s : Store) (edits : List RefEdit) (paths : List Paths) → lock_paths paths ≡ locks_of s edits → (i : ℕ) (edit : RefEdit) (path : Paths) → i < length edits → i < length paths → edit ≡ get_or edits i edit → path ≡ get_or paths i path → path.lock.items ≡ lock_of (s.place (name_of edit))
-lock_at s edits paths same i edit path lt lt' is path_is =
-    let at_path : get_or (lock_paths paths) i [] ≡ (get_or paths i path).lock.items = get_or-map (λ (p : Paths). p.lock.items) paths i path [] lt' in
-    let at_edit : get_or (locks_of s edits) i [] ≡ lock_of (s.place (name_of (get_or edits i edit))) = get_or-map (λ (e : RefEdit). lock_of (s.place (name_of e))) edits i edit [] lt in
-    ap (λ (p : Paths). p.lock.items) path_is ∙ sym at_path ∙ ap (λ l. get_or l i []) same ∙ at_edit ∙ ap (λ (e : RefEdit). lock_of (s.place (name_of e))) (sym is)
-
--- and so does its place
-pub place_at : (s : Store) (edits : List RefEdit) (paths : List Paths) → place_paths paths ≡ places_of s edits → (i : ℕ) (edit : RefEdit) (path : Paths) → i < length edits → i < length paths → edit ≡ get_or edits i edit → path ≡ get_or paths i path → path.place.items ≡ s.place (name_of edit)
-place_at s edits paths same i edit path lt lt' is path_is =
-    let at_path : get_or (place_paths paths) i [] ≡ (get_or paths i path).place.items = get_or-map (λ (p : Paths). p.place.items) paths i path [] lt' in
-    let at_edit : get_or (places_of s edits) i [] ≡ s.place (name_of (get_or edits i edit)) = get_or-map (λ (e : RefEdit). s.place (name_of e)) edits i edit [] lt in
-    ap (λ (p : Paths). p.place.items) path_is ∙ sym at_path ∙ ap (λ l. get_or l i []) same ∙ at_edit ∙ ap (λ (e : RefEdit). s.place (name_of e)) (sym is)
 
 -- no edit is of a reference that the store prohibits
 all_valid : (s : Store) (kind : Kind) (seen edits : List RefEdit) → AllValid s kind seen edits → All (IsValidEdit s kind) edits
 all_valid s kind seen [] valid = All-nil (IsValidEdit s kind)
 all_valid s kind seen (edit ∷ edits) valid = All-cons (IsValidEdit s kind) edit edits valid.0 (all_valid s kind (seen ++ edit ∷ []) edits valid.1)
+
+pub possible_at : (s : Store) (kind : Kind) (edits : List RefEdit) → AllValid s kind [] edits → (i : ℕ) (edit : RefEdit) → i < length edits → edit ≡ get_or edits i edit → IsPossible edit.change
+possible_at s kind edits valid i edit lt is = subst (λ (e : RefEdit). IsPossible e.change) (sym is) (all_valid s kind [] edits valid i edit lt).possible
 
 pub allowed_at : (s : Store) (kind : Kind) (edits : List RefEdit) → AllValid s kind [] edits → (i : ℕ) (edit : RefEdit) → i < length edits → edit ≡ get_or edits i edit → s.is_prohibited (s.place (name_of edit)) ≡ false
 allowed_at s kind edits valid i edit lt is = subst (λ (e : RefEdit). s.is_prohibited (s.place (name_of e)) ≡ false) (sym is) (all_valid s kind [] edits valid i edit lt).allowed
@@ -124,12 +112,8 @@ module _ (s : Store) (kind : Kind) (edits : List RefEdit) (apart : LocksAreApart
     pub held_then : (T : Tree) → FillsLock one.tree lock T → Held s kind edits apart T0 (take (i + 1) edits) T
     held_then T fills = subst (λ l. Held s kind edits apart T0 l T) (sym more) (held_more s kind edits apart T0 seen known edit within mid.tree held one.tree adds' new' T (fills' T fills))
 
-    pub id_as_first : (packed : List (Option ObjectId)) (d : Option ObjectId) → length packed ≡ length edits → packed ≡ packed_ids s T0 edits → get_or packed i d ≡ packed_of s (view_of one.tree) (name_of edit)
-    id_as_first packed d len asked =
-        ap (λ l. get_or l i d) asked
-        ∙ (get_or-map (λ (e : RefEdit). packed_of s (view_of T0) (name_of e)) edits i edit d lt
-        ∙ (ap (λ (e : RefEdit). packed_of s (view_of T0) (name_of e)) (sym is)
-        ∙ sym (same_id s kind edits apart T0 seen known edit within mid.tree held one.tree adds' new' place_apart)))
+    pub id_as_first : (id : Option ObjectId) → id ≡ packed_of s (view_of T0) (name_of edit) → id ≡ packed_of s (view_of one.tree) (name_of edit)
+    id_as_first id asked = asked ∙ sym (same_id s kind edits apart T0 seen known edit within mid.tree held one.tree adds' new' place_apart)
 
     effect_as_first : effect_on s (view_of one.tree) edit ≡ effect_on s (view_of T0) edit
     effect_as_first = same_effect s kind edits apart T0 seen known edit within mid.tree held one.tree adds' new' place_apart
@@ -139,21 +123,21 @@ module _ (s : Store) (kind : Kind) (edits : List RefEdit) (apart : LocksAreApart
         (texts_more s kind edits apart T0 seen known edit within mid.tree held one.tree adds' new' T texts
         (subst (λ e. T ≡ put one.tree (lock_of (s.place (name_of edit))) (Some (File (lock_text e)))) effect_as_first (subst (λ l. T ≡ put one.tree l (Some (File (lock_text (effect_on s (view_of one.tree) edit))))) at filled)))
 
-    pub found_then : (was : List Found) (value : Found) → targets_of was ≡ old_targets s T0 seen → value_of value.target ≡ found s (view_of one.tree) (name_of edit) → targets_of (was ++ value ∷ []) ≡ old_targets s T0 (take (i + 1) edits)
-    found_then was value before here =
-        map-append (λ (f : Found). value_of f.target) was (value ∷ [])
-        ∙ ap (λ l. l ++ value_of value.target ∷ []) before
+    pub found_then : (es : List Edit) (e : Edit) → targets_of es ≡ old_targets s T0 seen → value_of e.found ≡ found s (view_of one.tree) (name_of edit) → targets_of (es ++ e ∷ []) ≡ old_targets s T0 (take (i + 1) edits)
+    found_then es e before here =
+        map-append (λ (x : Edit). value_of x.found) es (e ∷ [])
+        ∙ ap (λ l. l ++ value_of e.found ∷ []) before
         ∙ ap (λ t. old_targets s T0 seen ++ t ∷ []) (here ∙ same_as_first)
-        ∙ sym (map-append (λ (e : RefEdit). found s (view_of T0) (name_of e)) seen (edit ∷ []))
+        ∙ sym (map-append (λ (x : RefEdit). found s (view_of T0) (name_of x)) seen (edit ∷ []))
         ∙ ap (old_targets s T0) (sym more)
 
-    pub flags_then : (was : List Found) (value : Found) → flags_of was ≡ are_written s (view_of T0) seen → value.writes ≡ is_written (effect_on s (view_of one.tree) edit) → flags_of (was ++ value ∷ []) ≡ are_written s (view_of T0) (take (i + 1) edits)
-    flags_then was value before here =
-        map-append (λ (f : Found). f.writes) was (value ∷ [])
-        ∙ ap (λ l. l ++ value.writes ∷ []) before
-        ∙ ap (λ b. are_written s (view_of T0) seen ++ b ∷ []) (here ∙ ap is_written effect_as_first)
-        ∙ sym (map-append (λ (e : RefEdit). is_written (effect_on s (view_of T0) e)) seen (edit ∷ []))
-        ∙ ap (are_written s (view_of T0)) (sym more)
+    pub effects_then : (es : List Edit) (e : Edit) → effects_of es ≡ effects_on s (view_of T0) seen → effect_value e.update.change e.effect ≡ effect_on s (view_of one.tree) edit → effects_of (es ++ e ∷ []) ≡ effects_on s (view_of T0) (take (i + 1) edits)
+    effects_then es e before here =
+        map-append (λ (x : Edit). effect_value x.update.change x.effect) es (e ∷ [])
+        ∙ ap (λ l. l ++ effect_value e.update.change e.effect ∷ []) before
+        ∙ ap (λ w. effects_on s (view_of T0) seen ++ w ∷ []) (here ∙ effect_as_first)
+        ∙ sym (map-append (effect_on s (view_of T0)) seen (edit ∷ []))
+        ∙ ap (effects_on s (view_of T0)) (sym more)
 
     -- one lock more that can be taken
     pub lockable_then : AreLockable s kind T0 (take (i + 1) edits) (drop (i + 1) edits) → AreLockable s kind T0 seen (drop i edits)

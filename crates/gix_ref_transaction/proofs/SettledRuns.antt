@@ -30,15 +30,16 @@ use Rattle.gix_ref_theory.proofs.PlaceLaws.{laws_hold}
 use Rattle.gix_ref_theory.proofs.Roots.{places_settle}
 use Rattle.gix_ref_transaction.specs.OwnLocks.{is_in, OnlyRemoves}
 use Rattle.gix_ref_transaction.specs.Causes.{locks_of}
+use Rattle.gix_ref_transaction.specs.Effects.{is_write}
 use Rattle.gix_ref_transaction.specs.CommitRenames.{synced_renames_of}
-use Rattle.gix_ref_transaction.specs.PrepareSteps.{AreLockable, AreWholeLocks, lock_paths, place_paths, places_of}
+use Rattle.gix_ref_transaction.specs.PrepareSteps.{AreLockable, AreWholeLocks, lock_paths, own_locks, own_places, place_paths, places_of}
 use Rattle.gix_ref_edits.specs.RefEdits.{name_of}
 use Rattle.gix_ref_edits.specs.declared.transaction.RefEdit.{RefEdit}
-use Rattle.gix_ref_transaction.specs.declared.paths.Paths.{Paths}
+use Rattle.gix_ref_transaction.specs.declared.edit.Edit.{Edit as Own}
 use Rattle.gix_ref_transaction.proofs.Adds.{clash, false_is_true, is_false, any_left, any_right, any_cases, in_one, in_here}
 use Rattle.gix_ref_transaction.proofs.CommitLosses.{are_whole, rest_kept, same_text, texts_on, whole_at}
 use Rattle.gix_ref_transaction.proofs.Held.{heads}
-use Rattle.gix_ref_transaction.proofs.LockRounds.{own_lock}
+use Rattle.gix_ref_transaction.proofs.LockRounds.{edit_lock, edit_own, own_all}
 use Rattle.gix_ref_transaction.proofs.Updates.{synced_on}
 
 -- a lock that is taken later is none of those before it
@@ -67,15 +68,15 @@ module _ (dirs : Dirs) (namespace : Option Namespace) (kind : Kind) (prohibits :
   abbrev HaveSome : List RefEdit → View → Type 0
   HaveSome some texts = (q : Path) → is_in (locks_of s some) q ≡ true → (text : List ℕ) × (texts q ≡ Some text)
 
-  abbrev Carries : List Paths → View → Type 0
+  abbrev Carries : List Own → View → Type 0
   Carries ps texts = (writes : List Write) × disk.CarryOut (IsSpokenOf locked D) staying texts (synced_renames_of dirs ps) writes
 
   -- the first rename, where those behind it carry some writes out
-  one : (seen : List RefEdit) (e : RefEdit) (some : List RefEdit) (p : Paths) (ps : List Paths) (texts : View) → All (λ (r : RefEdit). s.is_reference (name_of r) ≡ true) (e ∷ some) →
+  one : (seen : List RefEdit) (e : RefEdit) (some : List RefEdit) (p : Own) (ps : List Own) (texts : View) → All (λ (r : RefEdit). s.is_reference (name_of r) ≡ true) (e ∷ some) →
       AreLockable s kind before seen (e ∷ some) → place_paths (p ∷ ps) ≡ places_of s (e ∷ some) → lock_paths (p ∷ ps) ≡ locks_of s (e ∷ some) →
       ((q : Path) → is_in (locks_of s (e ∷ some)) q ≡ true → IsOwnLock locked q) → HaveSome (e ∷ some) texts → ((now : View) → HaveSome some now → Carries ps now) → Carries (p ∷ ps) texts
   one seen e some p ps texts are lockable places locks own holds rest =
-      subst (λ steps. (writes : List Write) × disk.CarryOut (IsSpokenOf locked D) staying texts steps writes) (sym steps_are) (by p.writes)
+      subst (λ steps. (writes : List Write) × disk.CarryOut (IsSpokenOf locked D) staying texts steps writes) (sym steps_are) (by (is_write p.effect))
     where
       place : Path
       place = s.place (name_of e)
@@ -124,14 +125,14 @@ module _ (dirs : Dirs) (namespace : Option Namespace) (kind : Kind) (prohibits :
           )
       by false = rest texts (λ q h. holds q (in_rest q h))
 
-      steps_are : synced_renames_of dirs (p ∷ ps) ≡ (if p.writes then With (Rename lock place) (syncs place) ∷ [] else []) ++ synced_renames_of dirs ps
+      steps_are : synced_renames_of dirs (p ∷ ps) ≡ (if (is_write p.effect) then With (Rename lock place) (syncs place) ∷ [] else []) ++ synced_renames_of dirs ps
       steps_are =
           synced_on p ps dirs (length ps)
-          ∙ (ap (λ (l : Path). (if p.writes then With (Rename l p.place.items) (syncs p.place.items) ∷ [] else []) ++ synced_renames_of dirs ps) (heads locks).0
-          ∙ ap (λ (q : Path). (if p.writes then With (Rename lock q) (syncs q) ∷ [] else []) ++ synced_renames_of dirs ps) (heads places).0)
+          ∙ (ap (λ (l : Path). (if (is_write p.effect) then With (Rename l p.lock) (syncs p.lock) ∷ [] else []) ++ synced_renames_of dirs ps) (heads locks).0
+          ∙ ap (λ (q : Path). (if (is_write p.effect) then With (Rename lock q) (syncs q) ∷ [] else []) ++ synced_renames_of dirs ps) (heads places).0)
 
   -- the renames carry some writes out
-  carries : (seen some : List RefEdit) (ps : List Paths) (texts : View) → All (λ (e : RefEdit). s.is_reference (name_of e) ≡ true) some → AreLockable s kind before seen some →
+  carries : (seen some : List RefEdit) (ps : List Own) (texts : View) → All (λ (e : RefEdit). s.is_reference (name_of e) ≡ true) some → AreLockable s kind before seen some →
       place_paths ps ≡ places_of s some → lock_paths ps ≡ locks_of s some → ((q : Path) → is_in (locks_of s some) q ≡ true → IsOwnLock locked q) → HaveSome some texts →
       (writes : List Write) × disk.CarryOut (IsSpokenOf locked D) staying texts (synced_renames_of dirs ps) writes
   carries seen [] [] texts are lockable places locks own holds = ([], refl)
@@ -144,20 +145,21 @@ module _ (dirs : Dirs) (namespace : Option Namespace) (kind : Kind) (prohibits :
       (λ q h. own q (any_right (λ l. bytes_eq l q) (locks_of s (e ∷ [])) (locks_of s some) h)) have)
 
 -- a run of all renames, and then the removal of the other locks
-pub settles : (dirs : Dirs) (namespace : Option Namespace) (kind : Kind) (prohibits : Bool) (before : Tree) (first : Meaning) (given : List RefEdit) (paths : List Paths) →
+pub settles : (dirs : Dirs) (namespace : Option Namespace) (kind : Kind) (prohibits : Bool) (before : Tree) (first : Meaning) (given : List RefEdit) (paths : List Own) →
     let s = store_of (folders_of dirs namespace) (git_options kind prohibits) in
     let staying = roots (folders_of dirs namespace) in
     All (λ (e : RefEdit). s.is_reference (name_of e) ≡ true) given → AreLockable s kind before [] given → place_paths paths ≡ places_of s given → lock_paths paths ≡ locks_of s given →
-    AreWholeLocks (disk_of first) (locks_of s given) → IsAllSettled (disk_of first) → AllStay (disk_of first) staying →
-    (mid now : Meaning) → IsSyncedAfter (synced_renames_of dirs paths) (disk_of first) (disk_of mid) → OnlyRemoves (lock_paths paths) mid now → IsAllSettled (disk_of now) × AllStay (disk_of now) staying
+    AreWholeLocks (disk_of first) (own_locks s before given) → IsAllSettled (disk_of first) → AllStay (disk_of first) staying →
+    (mid now : Meaning) → IsSyncedAfter (synced_renames_of dirs paths) (disk_of first) (disk_of mid) → OnlyRemoves (own_locks s before given) mid now → IsAllSettled (disk_of now) × AllStay (disk_of now) staying
 settles dirs namespace kind prohibits before first given paths are lockable places locks whole settled stays mid now done removes =
     let s' = store_of (folders_of dirs namespace) (git_options kind prohibits) in
     let D = disk_of first in
-    let locked = places_of s' given in
+    let locked = own_places s' before given in
+    let mine = own_locks s' before given in
     let staying' = roots (folders_of dirs namespace) in
-    let texts = texts_on D (locks_of s' given) in
-    let carry = carries dirs namespace kind prohibits before D locked [] given paths texts are lockable places locks (λ q within. own_lock s' given q within)
-    (λ q within. let w = whole_at D (locks_of s' given) whole q within in (w.0, same_text D (locks_of s' given) q within ∙ w.1)) in
-    let end = runs.settles locked staying' texts (synced_renames_of dirs paths) carry.0 D (disk_of mid) stays (are_whole D (locks_of s' given) whole) settled carry.1 done in
+    let texts = texts_on D mine in
+    let carry = carries dirs namespace kind prohibits before D locked [] given paths texts are lockable places locks (λ q within. edit_own s' before given q within)
+    (λ q within. let here = edit_lock s' before given q within in let w = whole_at D mine whole q here in (w.0, same_text D mine q here ∙ w.1)) in
+    let end = runs.settles locked staying' texts (synced_renames_of dirs paths) carry.0 D (disk_of mid) stays (are_whole D mine whole) settled carry.1 done in
     rest_kept locked staying' (disk_of mid) (disk_of now) end.0
-    (removes locked staying' [] (disk_of mid) (λ q within. own_lock s' given q (subst (λ ls. is_in ls q ≡ true) locks within)) (as_before locked staying' (disk_of mid) end.1)).disk
+    (removes locked staying' [] (disk_of mid) (λ q within. own_all s' before given q within) (as_before locked staying' (disk_of mid) end.1)).disk

@@ -3,7 +3,10 @@ use Rattle.std.proofs.Common.{◌≡◌, ℕ, List, [], ◌∷◌, ◌++◌, Opt
 use Rattle.std.proofs.lemmas.List.Elements.{All-nil, All-cons, All-head, All-tail, All-append}
 use Rattle.gix_ref_hash.specs.declared.hash.Kind.{Kind}
 use Rattle.gix_ref_theory.specs.Readings.{Store}
-use Rattle.gix_ref_edits.specs.EditValues.{ChangeValue, EditValue, change_value, edit_value, expected_value}
+use Rattle.gix_ref_edits.specs.EditValues.{ChangeValue, EditValue, ExpectedValue, change_value, edit_value, expected_value}
+use Rattle.gix_ref_edits.specs.EditValues.ExpectedValue.{anything, must_exist, must_not_exist, must_match, may_match}
+use Rattle.gix_ref_edits.specs.declared.transaction.RefLog.{RefLog}
+use Rattle.gix_ref_edits.specs.declared.transaction.RefLog.TheVariants.{Only}
 use Rattle.gix_ref_edits.specs.EditValues.ChangeValue.{update, delete}
 use Rattle.gix_ref_edits.specs.RefEdits.{new_of, expected_of, previous_of, AreUpdates}
 use Rattle.gix_ref_edits.specs.SplitLists.{looked_up, child_list, parent_change}
@@ -12,9 +15,9 @@ use Rattle.gix_ref_edits.specs.declared.transaction.Change.TheVariants.{Update, 
 use Rattle.gix_ref_edits.specs.declared.transaction.PreviousValue.{PreviousValue}
 use Rattle.gix_ref_edits.specs.declared.transaction.PreviousValue.TheVariants as expected
 use Rattle.gix_ref_edits.specs.declared.transaction.RefEdit.{RefEdit}
-use Rattle.gix_ref_transaction.specs.Causes.{AllValid, IsFullTarget, IsOfKind, IsValidEdit, IsWholeTarget}
+use Rattle.gix_ref_transaction.specs.Causes.{AllValid, IsPossible, IsFullTarget, IsOfKind, IsValidEdit, IsWholeTarget}
 use Rattle.gix_ref_transaction.specs.Splits.{values_of, CanFollow}
-use Rattle.gix_ref_transaction.specs.internal.SplitRounds.{after_by, children_by, expected_in, new_in, previous_in, IsSoundChange, IsSoundValue, IsUpdateValue, IsValidValue}
+use Rattle.gix_ref_transaction.specs.internal.SplitRounds.{after_by, children_by, expected_in, new_in, previous_in, IsPossibleValue, IsSoundChange, IsSoundValue, IsUpdateValue, IsValidValue}
 
 new_is : (c : Change) → new_in (change_value c) ≡ new_of c
 new_is (Update log e new) = refl
@@ -31,12 +34,37 @@ previous_is : (c : Change) → previous_in (expected_in (change_value c)) ≡ pr
 previous_is (Update log e new) = previous_value_is e
 previous_is (Delete e log) = previous_value_is e
 
+possible_value : (c : Change) → IsPossible c → IsPossibleValue (change_value c)
+possible_value (Update log e new) is = tt
+possible_value (Delete expected.Any log) is = tt
+possible_value (Delete expected.MustExist log) is = tt
+possible_value (Delete expected.MustNotExist log) is = is
+possible_value (Delete (expected.MustExistAndMatch target) log) is = tt
+possible_value (Delete (expected.ExistingMustMatch target) log) is = tt
+
+possible_of_value : (c : Change) → IsPossibleValue (change_value c) → IsPossible c
+possible_of_value (Update log e new) is = tt
+possible_of_value (Delete expected.Any log) is = tt
+possible_of_value (Delete expected.MustExist log) is = tt
+possible_of_value (Delete expected.MustNotExist log) is = is
+possible_of_value (Delete (expected.MustExistAndMatch target) log) is = tt
+possible_of_value (Delete (expected.ExistingMustMatch target) log) is = tt
+
+-- a deletion stays possible in another mode
+possible_in : (e : ExpectedValue) (mode other : RefLog) → IsPossibleValue (delete e mode) → IsPossibleValue (delete e other)
+possible_in anything mode other is = tt
+possible_in must_exist mode other is = tt
+possible_in must_not_exist mode other is = is
+possible_in (must_match target) mode other is = tt
+possible_in (may_match target) mode other is = tt
+
 module _ (s : Store) (kind : Kind) where
   -- an edit is valid by its value
   value_of_valid : (edit : RefEdit) → IsValidEdit s kind edit → IsValidValue s kind (edit_value edit)
   value_of_valid edit valid = (
     record { safe = valid.safe; allowed = valid.allowed },
     record {
+      possible = possible_value edit.change valid.possible;
       target = subst IsFullTarget (sym (new_is edit.change)) valid.target;
       new = subst (IsOfKind kind) (sym (new_is edit.change)) valid.kinds.0;
       previous = subst (IsOfKind kind) (sym (previous_is edit.change)) valid.kinds.1;
@@ -48,6 +76,7 @@ module _ (s : Store) (kind : Kind) where
   valid_of_value edit valid = record {
     safe = valid.0.safe;
     allowed = valid.0.allowed;
+    possible = possible_of_value edit.change valid.1.possible;
     target = subst IsFullTarget (new_is edit.change) valid.1.target;
     kinds = (subst (IsOfKind kind) (new_is edit.change) valid.1.new, subst (IsOfKind kind) (previous_is edit.change) valid.1.previous);
     whole = subst IsWholeTarget (new_is edit.change) valid.1.whole;
@@ -78,8 +107,8 @@ module _ (s : Store) (kind : Kind) where
   now_valid edits sound can k d lt = sound_valid _ (sound k d lt) (can k d lt)
 
   parent_sound : (c : ChangeValue) → IsSoundChange kind c → IsSoundChange kind (parent_change c)
-  parent_sound (update mode forced message e new) sound = record { target = sound.target; new = sound.new; previous = tt; whole = sound.whole }
-  parent_sound (delete e mode) sound = record { target = sound.target; new = sound.new; previous = sound.previous; whole = sound.whole }
+  parent_sound (update mode forced message e new) sound = record { possible = tt; target = sound.target; new = sound.new; previous = tt; whole = sound.whole }
+  parent_sound (delete e mode) sound = record { possible = possible_in e mode Only sound.possible; target = sound.target; new = sound.new; previous = sound.previous; whole = sound.whole }
 
   looked_up_valid : (edit : EditValue) (name : Option (List ℕ)) → IsValidValue s kind edit → IsValidValue s kind (looked_up edit name)
   looked_up_valid edit None valid = (valid.0, valid.1)

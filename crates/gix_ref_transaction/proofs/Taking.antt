@@ -15,7 +15,7 @@ use Rattle.gix_ref_edits.specs.RefEdits.{name_of}
 use Rattle.gix_ref_files.specs.Lock.{lock_of}
 use Rattle.gix_ref_edits.specs.declared.transaction.RefEdit.{RefEdit}
 use Rattle.gix_ref_transaction.specs.declared.prepare.error.Error.{Error}
-use Rattle.gix_ref_transaction.specs.declared.prepare.error.Error.TheVariants.{UnsafeName, DeviceName, TargetNotFull, OtherHashKind, PreprocessingFailed, Packed, PackedFind, PathCollision, LockAcquire, MustExist, MustNotExist, ReferenceOutOfDate, Io, Memory}
+use Rattle.gix_ref_transaction.specs.declared.prepare.error.Error.TheVariants.{UnsafeName, DeviceName, DeleteMustNotExist, TargetNotFull, OtherHashKind, PreprocessingFailed, PackedTransactionAcquire, Packed, PackedFind, PathCollision, LockAcquire, DeleteReferenceMustExist, MustExist, MustNotExist, ReferenceOutOfDate, Io, Memory}
 use Rattle.gix_ref_transaction.proofs.LookupLemmas.{effect_alike}
 use Rattle.gix_ref_transaction.proofs.Adds.{clash, is_false, either_way, any_left, any_right, any_cases, in_one, in_here, any_same, leads_in, leads_one, no_way, adds_wider, adds_then, same_view, same_lock, same_path, is_same_path}
 
@@ -79,11 +79,14 @@ module _ (s : Store) (kind : Kind) (edits : List RefEdit) (apart : LocksAreApart
     refused Memory why = inl tt
     refused UnsafeName why = absurd why
     refused DeviceName why = absurd why
+    refused DeleteMustNotExist why = absurd why
     refused TargetNotFull why = absurd why
     refused OtherHashKind why = absurd why
     refused (PreprocessingFailed source) why = absurd why
+    refused PackedTransactionAcquire why = absurd why
     refused (Packed error) why = absurd why
     refused (PackedFind error) why = absurd why
+    refused (DeleteReferenceMustExist name) why = absurd why
     refused (MustExist name expected) why = absurd why
     refused (MustNotExist name actual new) why = absurd why
     refused (ReferenceOutOfDate name expected actual) why = absurd why

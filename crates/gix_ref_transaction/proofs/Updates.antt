@@ -41,21 +41,23 @@ use Rattle.gix_ref_theory.proofs.Trees as trees
 use Rattle.gix_ref_transaction.specs.OwnLocks.{is_in, RemovesLocks}
 use Rattle.gix_ref_transaction.specs.Causes.{IsFullTarget, IsOfKind, IsWholeTarget, locks_of}
 use Rattle.gix_ref_transaction.specs.CarriedEdits.{change_of, edit_of}
+use Rattle.gix_ref_transaction.specs.Effects.{is_write}
 use Rattle.gix_ref_transaction.specs.CommitRenames.{renames_of, first_renames, rename_at, synced_renames_of, first_synced_renames, synced_rename_at}
 use Rattle.gix_ref_transaction.specs.CommittedEdits.{planned, AreCommitted, IsOldOrNew}
-use Rattle.gix_ref_transaction.specs.PrepareSteps.{effect_on, is_written, lock_text, lock_paths, places_of}
+use Rattle.gix_ref_transaction.specs.PrepareSteps.{effect_on, is_written, lock_text, own_locks, own_places, packed_locks, places_of}
 use Rattle.gix_ref_edits.specs.RefEdits.{name_of, new_of, AreUpdates}
 use Rattle.gix_ref_edits.specs.declared.transaction.RefEdit.{RefEdit}
-use Rattle.gix_ref_transaction.specs.declared.paths.Paths.{Paths}
-use Rattle.gix_ref_transaction.proofs.Adds.{clash, false_is_true, any_cases, any_right, in_one, in_here, is_false, same_view}
+use Rattle.gix_ref_transaction.specs.declared.edit.Edit.{Edit as Own}
+use Rattle.gix_ref_transaction.proofs.Adds.{clash, false_is_true, any_cases, in_one, is_false, same_view}
 use Rattle.gix_ref_transaction.proofs.Apart.{references}
 use Rattle.gix_ref_transaction.proofs.Committing.{update_is, reads_back, id_reads_as_written}
 use Rattle.gix_ref_transaction.proofs.LookupLemmas.{effect_alike}
 use Rattle.gix_ref_transaction.proofs.Held.{IsReady, IsHeld, AreHeld, held, held_at, edits_apart}
-use Rattle.gix_ref_transaction.proofs.LockRounds.{own_lock}
+use Rattle.gix_ref_transaction.proofs.LockRounds.{edit_lock, edit_own, own_all, owned_all}
+use Rattle.gix_ref_transaction.proofs.PackedLocks.{taken_was_free}
 
 -- The steps of a list of edits are those of the first, and then those of the others.
-module _ (p : Paths) (paths : List Paths) where
+module _ (p : Own) (paths : List Own) where
   pub renames_on : (n : ℕ) → first_renames (p ∷ paths) (suc n) ≡ rename_at (p ∷ paths) 0 ++ first_renames paths n
   renames_on zero = sym (append-nil (rename_at (p ∷ paths) 0))
   renames_on (suc n) =
@@ -68,7 +70,7 @@ module _ (p : Paths) (paths : List Paths) where
       ap (λ steps. steps ++ synced_rename_at dirs paths n) (synced_on dirs n)
       ∙ append_assoc (synced_rename_at dirs (p ∷ paths) 0) (first_synced_renames dirs paths n) (synced_rename_at dirs paths n)
 
-module _ (f : Layout) (kind : Kind) (prohibits : Bool) (laid : IsLayout f) (before : Tree) (first : Meaning) (given : List RefEdit) (paths : List Paths) (updates : AreUpdates given)
+module _ (f : Layout) (kind : Kind) (prohibits : Bool) (laid : IsLayout f) (before : Tree) (first : Meaning) (given : List RefEdit) (paths : List Own) (updates : AreUpdates given)
     (ready : IsReady (store_of f (git_options kind prohibits)) kind before first.tree given paths) where
   abbrev s : Store
   s = store_of f (git_options kind prohibits)
@@ -80,10 +82,10 @@ module _ (f : Layout) (kind : Kind) (prohibits : Bool) (laid : IsLayout f) (befo
   view = view_of start
 
   abbrev pub locked : List Path
-  locked = places_of s given
+  locked = own_places s before given
 
-  abbrev own_locks : List Path
-  own_locks = locks_of s given
+  abbrev mine : List Path
+  mine = own_locks s before given
 
   abbrev pub edits : List Edit
   edits = planned given
@@ -94,7 +96,7 @@ module _ (f : Layout) (kind : Kind) (prohibits : Bool) (laid : IsLayout f) (befo
   laws : HasLaws s
   laws = laws_hold f (git_options kind prohibits) laid
 
-  abbrev IsOne : RefEdit → Paths → Type 0
+  abbrev IsOne : RefEdit → Own → Type 0
   IsOne e p = IsHeld s kind before start e p
 
   pub hold : AreHeld s kind before start given paths
@@ -104,40 +106,27 @@ module _ (f : Layout) (kind : Kind) (prohibits : Bool) (laid : IsLayout f) (befo
   edits_are = edits_apart s kind before start [] given ready.accepted.no_cause (references f (git_options kind prohibits) laid kind [] given ready.accepted.sound)
 
   -- its locks, and the places that they are of
-  pub owned : (some : List RefEdit) (q : Path) → IsOwnLock (places_of s some) q → is_in (locks_of s some) q ≡ true
-  owned [] q own = absurd own
-  owned (e ∷ some) q (inl here) = in_here (lock_of (s.place (name_of e))) q (locks_of s some) (sym here)
-  owned (e ∷ some) q (inr later) = in_more (lock_of (s.place (name_of e))) q (locks_of s some) (owned some q later)
-    where
-      in_more : (l r : Path) (ls : List Path) → is_in ls r ≡ true → is_in (l ∷ ls) r ≡ true
-      in_more l r ls h = any_right (λ p. bytes_eq p r) (l ∷ []) ls h
+  pub owned : (q : Path) → IsOwnLock locked q → is_in mine q ≡ true
+  owned = owned_all s before given
 
-  is_reference : (e : RefEdit) (p : Paths) → IsOne e p → s.is_reference (name_of e) ≡ true
+  is_reference : (e : RefEdit) (p : Own) → IsOne e p → s.is_reference (name_of e) ≡ true
   is_reference e p h = (references f (git_options kind prohibits) laid kind [] (e ∷ []) (h.valid, tt)) 0 e (omega arith)
 
-  placed : (some : List RefEdit) (ps : List Paths) → AreHeld s kind before start some ps → (q : Path) → is_in (places_of s some) q ≡ true → (n : List ℕ) × (s.is_reference n ≡ true) × (s.place n ≡ q)
-  placed [] ps hold' q within = false_is_true within
-  placed (e ∷ some) [] hold' q within = absurd hold'
-  placed (e ∷ some) (p ∷ ps) hold' q within = ⊎_elim
-      (λ here. (name_of e, is_reference e p hold'.0, in_one (s.place (name_of e)) q here))
-      (λ later. placed some ps hold'.1 q later)
-      (any_cases (λ r. bytes_eq r q) (s.place (name_of e) ∷ []) (places_of s some) within)
-
-  no_lock_there : (n : List ℕ) (q : Path) → s.is_reference n ≡ true → is_in own_locks q ≡ true → s.place n ≢ q
-  no_lock_there n q is within same = let l = own_is_lock locked q (own_lock s given q within) in laws.place_is_no_lock n l.0 is (same ∙ l.1)
+  no_lock_there : (n : List ℕ) (q : Path) → s.is_reference n ≡ true → is_in mine q ≡ true → s.place n ≢ q
+  no_lock_there n q is within same = let l = own_is_lock locked q (own_all s before given q within) in laws.place_is_no_lock n l.0 is (same ∙ l.1)
 
   -- no file but these locks has changed so far
-  same_file : (q : Path) → is_in own_locks q ≡ false → view q ≡ view_of before q
-  same_file q none = same_view file_of refl own_locks own_locks before start q ready.adds none
+  same_file : (q : Path) → is_in mine q ≡ false → view q ≡ view_of before q
+  same_file q none = same_view file_of refl mine mine before start q ready.adds none
 
-  packed_apart : is_in own_locks s.packed_path ≡ false
-  packed_apart = is_false (is_in own_locks s.packed_path) (λ within. let l = own_is_lock locked s.packed_path (own_lock s given s.packed_path within) in laws.packed_is_no_lock l.0 l.1)
+  packed_apart : is_in mine s.packed_path ≡ false
+  packed_apart = is_false (is_in mine s.packed_path) (λ within. let l = own_is_lock locked s.packed_path (own_all s before given s.packed_path within) in laws.packed_is_no_lock l.0 l.1)
 
   alike : IsSameButLocks locked (view_of before) view
-  alike path n = sym (same_file path (is_false (is_in own_locks path) (λ within. n (own_lock s given path within))))
+  alike path n = sym (same_file path (is_false (is_in mine path) (λ within. n (own_all s before given path within))))
 
   -- One edit: its rename is that of the plan, and its lock has the text that is planned.
-  module _ (e : RefEdit) (p : Paths) (h : IsHeld s kind before start e p) where
+  module _ (e : RefEdit) (p : Own) (h : IsHeld s kind before start e p) where
     abbrev place : Path
     place = s.place (name_of e)
 
@@ -150,8 +139,8 @@ module _ (f : Layout) (kind : Kind) (prohibits : Bool) (laid : IsLayout f) (befo
     change_is : change_of e.change ≡ Update target
     change_is = (update_is e.change h.update).2
 
-    no_own_lock : is_in own_locks place ≡ false
-    no_own_lock = is_false (is_in own_locks place) (λ within. no_lock_there (name_of e) place (is_reference e p h) within refl)
+    no_own_lock : is_in mine place ≡ false
+    no_own_lock = is_false (is_in mine place) (λ within. no_lock_there (name_of e) place (is_reference e p h) within refl)
 
     abbrev what : Effect
     what = effect_on s (view_of before) e
@@ -160,10 +149,10 @@ module _ (f : Layout) (kind : Kind) (prohibits : Bool) (laid : IsLayout f) (befo
     does_is : does s view (edit_of e) ≡ what
     does_is = effect_alike s view (view_of before) e (same_file place no_own_lock) (same_file s.packed_path packed_apart)
 
-    step_is : (if p.writes then Rename p.lock.items p.place.items ∷ [] else []) ≡ step_for place (does s view (edit_of e))
+    step_is : (if (is_write p.effect) then Rename (lock_of p.lock) p.lock ∷ [] else []) ≡ step_for place (does s view (edit_of e))
     step_is =
-        ap (λ b. if b then Rename p.lock.items p.place.items ∷ [] else []) h.flag
-        ∙ (ap (λ (l : Path). if is_written what then Rename l p.place.items ∷ [] else []) h.lock
+        ap (λ b. if b then Rename (lock_of p.lock) p.lock ∷ [] else []) h.flag
+        ∙ (ap (λ (l : Path). if is_written what then Rename l p.lock ∷ [] else []) h.lock
         ∙ (ap (λ (q : Path). if is_written what then Rename (lock_of place) q ∷ [] else []) h.place
         ∙ (by what ∙ ap (step_for place) (sym does_is))))
       where
@@ -172,10 +161,10 @@ module _ (f : Layout) (kind : Kind) (prohibits : Bool) (laid : IsLayout f) (befo
         by Removes = refl
         by Keeps = refl
 
-    synced_is : (dirs : Dirs) → (if p.writes then With (Rename p.lock.items p.place.items) (climb p.place.items (root_in dirs p.place.items)) ∷ [] else []) ≡ synced_step_for (λ q. climb q (root_in dirs q)) place (does s view (edit_of e))
+    synced_is : (dirs : Dirs) → (if (is_write p.effect) then With (Rename (lock_of p.lock) p.lock) (climb p.lock (root_in dirs p.lock)) ∷ [] else []) ≡ synced_step_for (λ q. climb q (root_in dirs q)) place (does s view (edit_of e))
     synced_is dirs =
-        ap (λ b. if b then With (Rename p.lock.items p.place.items) (climb p.place.items (root_in dirs p.place.items)) ∷ [] else []) h.flag
-        ∙ (ap (λ (l : Path). if is_written what then With (Rename l p.place.items) (climb p.place.items (root_in dirs p.place.items)) ∷ [] else []) h.lock
+        ap (λ b. if b then With (Rename (lock_of p.lock) p.lock) (climb p.lock (root_in dirs p.lock)) ∷ [] else []) h.flag
+        ∙ (ap (λ (l : Path). if is_written what then With (Rename l p.lock) (climb p.lock (root_in dirs p.lock)) ∷ [] else []) h.lock
         ∙ (ap (λ (q : Path). if is_written what then With (Rename (lock_of place) q) (climb q (root_in dirs q)) ∷ [] else []) h.place
         ∙ (by what ∙ ap (synced_step_for (λ q. climb q (root_in dirs q)) place) (sym does_is))))
       where
@@ -198,7 +187,7 @@ module _ (f : Layout) (kind : Kind) (prohibits : Bool) (laid : IsLayout f) (befo
         inner e = cc
 
   -- The renames of its edits are those of its plan.
-  renames_are : (some : List RefEdit) (ps : List Paths) → AreHeld s kind before start some ps → renames_of ps ≡ steps_for s view (planned some)
+  renames_are : (some : List RefEdit) (ps : List Own) → AreHeld s kind before start some ps → renames_of ps ≡ steps_for s view (planned some)
   renames_are [] [] hold' = refl
   renames_are [] (p ∷ ps) hold' = absurd hold'
   renames_are (e ∷ some) [] hold' = absurd hold'
@@ -206,7 +195,7 @@ module _ (f : Layout) (kind : Kind) (prohibits : Bool) (laid : IsLayout f) (befo
       renames_on p ps (length ps)
       ∙ (ap (λ l. l ++ renames_of ps) (step_is e p hold'.0) ∙ ap (λ l. step_for (s.place (name_of e)) (does s view (edit_of e)) ++ l) (renames_are some ps hold'.1))
 
-  pub synced_are : (dirs : Dirs) (some : List RefEdit) (ps : List Paths) → AreHeld s kind before start some ps →
+  pub synced_are : (dirs : Dirs) (some : List RefEdit) (ps : List Own) → AreHeld s kind before start some ps →
       synced_renames_of dirs ps ≡ synced_steps_for s view (λ q. climb q (root_in dirs q)) (planned some)
   synced_are dirs [] [] hold' = refl
   synced_are dirs [] (p ∷ ps) hold' = absurd hold'
@@ -217,7 +206,7 @@ module _ (f : Layout) (kind : Kind) (prohibits : Bool) (laid : IsLayout f) (befo
       ∙ ap (λ l. synced_step_for (λ q. climb q (root_in dirs q)) (s.place (name_of e)) (does s view (edit_of e)) ++ l) (synced_are dirs some ps hold'.1))
 
   abbrev At : Edit → Type 0
-  At x = (e : RefEdit) × (p : Paths) × IsHeld s kind before start e p × (edit_of e ≡ x) × (is_in (locks_of s given) (lock_of (s.place (name_of e))) ≡ true) × (is_in (places_of s given) (s.place (name_of e)) ≡ true)
+  At x = (e : RefEdit) × (p : Own) × IsHeld s kind before start e p × (edit_of e ≡ x) × (is_in (locks_of s given) (lock_of (s.place (name_of e))) ≡ true) × (is_in (places_of s given) (s.place (name_of e)) ≡ true)
 
   at : (x : Edit) → IsEdit x edits → At x
   at x within = held_at s kind before start given paths hold x within
@@ -228,7 +217,7 @@ module _ (f : Layout) (kind : Kind) (prohibits : Bool) (laid : IsLayout f) (befo
   pub own_lock_of : (x : Edit) → IsEdit x edits → IsOwnLock locked (lock_of (s.place x.name))
   own_lock_of x within =
       let m = at x within in
-      subst (λ (y : Edit). IsOwnLock locked (lock_of (s.place y.name))) m.3 (own_lock s given (lock_of (s.place (name_of m.0))) m.4)
+      subst (λ (y : Edit). IsOwnLock locked (lock_of (s.place y.name))) m.3 (edit_own s before given (lock_of (s.place (name_of m.0))) m.4)
 
   -- the text of a lock whose reference is written, in the tree
   pub have_texts : HaveTexts s view edits view
@@ -269,9 +258,9 @@ module _ (f : Layout) (kind : Kind) (prohibits : Bool) (laid : IsLayout f) (befo
   }
 
   -- a lock that is removed changes no other file
-  but_locks : (T U : Tree) → RemovesLocks (lock_paths paths) T U → IsSameButLocks locked (view_of U) (view_of T)
+  but_locks : (T U : Tree) → RemovesLocks mine T U → IsSameButLocks locked (view_of U) (view_of T)
   but_locks T U removes path n =
-      ⊎_elim (λ same. ap file_of same) (λ gone. absurd (n (own_lock s given path (subst (λ ls. is_in ls path ≡ true) ready.locks gone.0)))) (removes path)
+      ⊎_elim (λ same. ap file_of same) (λ gone. absurd (n (own_all s before given path gone.0))) (removes path)
 
   -- the renames change nothing but places and locks
   apart_from : (some : List Edit) (S T : Tree) (q : Path) → ((x : Edit) → IsEdit x some → (s.place x.name ≢ q) × (lock_of (s.place x.name) ≢ q)) → IsLeftBy (steps_for s view some) S T → T q ≡ S q
@@ -288,7 +277,7 @@ module _ (f : Layout) (kind : Kind) (prohibits : Bool) (laid : IsLayout f) (befo
       by later Removes rest = later S rest
       by later Keeps rest = later S rest
 
-  elsewhere : (T : Tree) → IsLeftBy steps start T → (q : Path) → is_in locked q ≡ false → is_in own_locks q ≡ false → view_of T q ≡ view_of before q
+  elsewhere : (T : Tree) → IsLeftBy steps start T → (q : Path) → is_in (places_of s given) q ≡ false → is_in mine q ≡ false → view_of T q ≡ view_of before q
   elsewhere T left q no_place no_lock =
       ap file_of (apart_from edits start T q other (subst (λ ss. IsLeftBy ss start T) (renames_are given paths hold) left)) ∙ same_file q no_lock
     where
@@ -296,13 +285,13 @@ module _ (f : Layout) (kind : Kind) (prohibits : Bool) (laid : IsLayout f) (befo
       other x within =
           let m = at x within in
           subst (λ (y : Edit). (s.place y.name ≢ q) × (lock_of (s.place y.name) ≢ q)) m.3
-          (λ same. clash (subst (λ (r : Path). is_in locked r ≡ true) same m.5) no_place, λ same. clash (subst (λ (r : Path). is_in own_locks r ≡ true) same m.4) no_lock)
+          (λ same. clash (subst (λ (r : Path). is_in (places_of s given) r ≡ true) same m.5) no_place, λ same. clash (subst (λ (r : Path). is_in mine r ≡ true) same (edit_lock s before given (lock_of (s.place (name_of m.0))) m.4)) no_lock)
 
   -- at every stop of the renames
   pub stopped : (T : Tree) → IsLeftBy steps start T → IsOldOrNew s given before T
   stopped T left = record { well = trees.left_well s laws DeletionsOnly locked edits before start T steps run left; elsewhere = elsewhere T left }
 
-  pub left_then : (T U : Tree) → IsOldOrNew s given before T → RemovesLocks (lock_paths paths) T U → IsOldOrNew s given before U
+  pub left_then : (T U : Tree) → IsOldOrNew s given before T → RemovesLocks mine T U → IsOldOrNew s given before U
   left_then T U left removes = record {
     well = record {
       between = locks.between s laws DeletionsOnly locked (view_of before) edits edits_are (view_of T) (view_of U) (but_locks T U removes) left.well.between;
@@ -312,14 +301,14 @@ module _ (f : Layout) (kind : Kind) (prohibits : Bool) (laid : IsLayout f) (befo
           (λ x u seen later all he. subst (IsEdit x) all (edit_in_front x seen (u ∷ later) he));
     };
     elsewhere = λ q no_place no_lock.
-        but_locks T U removes q (λ own. clash (owned given q own) no_lock) ∙ left.elsewhere q no_place no_lock;
+        but_locks T U removes q (λ own. clash (owned q own) no_lock) ∙ left.elsewhere q no_place no_lock;
   }
 
   -- no rename has begun yet
   pub begins : IsOldOrNew s given before start
   begins = stopped start (none_begun steps start)
 
-  free : (some : List RefEdit) (ps : List Paths) → AreHeld s kind before start some ps → (q : Path) → is_in (locks_of s some) q ≡ true → before q ≡ None
+  free : (some : List RefEdit) (ps : List Own) → AreHeld s kind before start some ps → (q : Path) → is_in (locks_of s some) q ≡ true → before q ≡ None
   free [] ps hold' q within = false_is_true within
   free (e ∷ some) [] hold' q within = absurd hold'
   free (e ∷ some) (p ∷ ps) hold' q within = ⊎_elim
@@ -327,12 +316,19 @@ module _ (f : Layout) (kind : Kind) (prohibits : Bool) (laid : IsLayout f) (befo
       (λ later. free some ps hold'.1 q later)
       (any_cases (λ r. bytes_eq r q) (locks_of s (e ∷ [])) (locks_of s some) within)
 
-  pub commits : (mid now : Tree) (left : List Path) → IsAfter steps start mid → RemovesLocks (lock_paths paths) mid now →
-      ((q : Path) → is_in own_locks q ≡ true → is_in left q ≡ false → is_file (now q) ≡ false) → AreCommitted s given before left now
+  -- that of `packed-refs` was free where it was taken
+  packed_free : (q : Path) → is_in (packed_locks s before given) q ≡ true → before q ≡ None
+  packed_free = taken_was_free s before given ready.accepted.unlocked
+
+  all_free : (q : Path) → is_in mine q ≡ true → before q ≡ None
+  all_free q within = ⊎_elim (λ packed. packed_free q packed) (λ own. free given paths hold q own) (any_cases (λ r. bytes_eq r q) (packed_locks s before given) (locks_of s given) within)
+
+  pub commits : (mid now : Tree) (left : List Path) → IsAfter steps start mid → RemovesLocks mine mid now →
+      ((q : Path) → is_in mine q ≡ true → is_in left q ≡ false → is_file (now q) ≡ false) → AreCommitted s given before left now
   commits mid now left after removes gone staying cover =
       headline.committed s laws DeletionsOnly locked staying edits run.merged (view_of before) (view_of start) (view_of now) run.prepared run.locks
       (λ path n. but_locks mid now removes path n
       ∙ after_alike locked steps (plan s DeletionsOnly (view_of start) edits run.merged) start mid (view_of start) (view_of start) (record { at = λ q. refl }) (λ q m. refl) run.steps_are_planned after path n)
       (λ path own out.
-      let within = owned given path own in
-      no_file (now path) (gone path within (is_false (is_in left path) (λ h. out (cover path h)))) ∙ sym (ap file_of (free given paths hold path within)))
+      let within = owned path own in
+      no_file (now path) (gone path within (is_false (is_in left path) (λ h. out (cover path h)))) ∙ sym (ap file_of (all_free path within)))

@@ -1,5 +1,6 @@
 -- Why `prepare` refuses edits: each cause as a statement on the tree before the call, and the order in which they are reported.
-use Rattle.std.specs.Prelude.{◌≡◌, ◌≢◌, ◌⊎◌, ℕ, List, [], true, false, Option, Some, None, IsSome, map, All}
+use Rattle.std.specs.Prelude.{◌≡◌, ◌≢◌, ◌⊎◌, ℕ, List, [], ◌∷◌, Bool, true, false, ◌&&◌, Option, Some, None, IsSome, is_some, map, All, if◌then◌else◌}
+use Rattle.std.specs.List.{list_any}
 use Rattle.std.specs.Option.{option_map}
 use Rattle.gix_ref_hash.specs.Ids.{id_kind, null_id, IsWhole}
 use Rattle.gix_ref_grammar.specs.NameGrammar.{IsFullName}
@@ -7,7 +8,7 @@ use Rattle.gix_ref_name.specs.Names.{full_bytes}
 use Rattle.gix_ref_base.specs.Targets.{TargetValue, target_value}
 use Rattle.gix_ref_base.specs.Targets.TargetValue.{object_id, symbolic_name}
 use Rattle.gix_ref_hash.specs.declared.hash.Kind.{Kind}
-use Rattle.gix_ref_files.specs.Tree.{Tree, Path, Content, is_blocked, fronts}
+use Rattle.gix_ref_files.specs.Tree.{Tree, Path, Content, is_blocked, is_file, fronts}
 use Rattle.gix_ref_files.specs.Files.{HasRisen}
 use Rattle.gix_ref_files.specs.declared.files.FileError.{FileError}
 use Rattle.gix_ref_files.specs.declared.files.FileError.TheVariants.{Device, NotUtf8, Memory as out_of_memory}
@@ -25,12 +26,14 @@ use Rattle.gix_ref_transaction.specs.OwnLocks.{is_in}
 use Rattle.gix_ref_transaction.specs.First.{AllPass, FirstFault}
 use Rattle.gix_ref_edits.specs.DoubledNames.{NoneDoubled, IsLeastDoubled}
 use Rattle.gix_ref_edits.specs.declared.transaction.ext.error.SplitError.TheVariants.{DoubledName}
-use Rattle.gix_ref_edits.specs.RefEdits.{name_of, new_of, expected_of, previous_of, Expects}
+use Rattle.gix_ref_edits.specs.RefEdits.{name_of, new_of, expected_of, mode_of, is_of_reference, previous_of, Expects}
+use Rattle.gix_ref_edits.specs.declared.transaction.Change.{Change}
+use Rattle.gix_ref_edits.specs.declared.transaction.Change.TheVariants.{Update, Delete}
 use Rattle.gix_ref_edits.specs.declared.transaction.PreviousValue.{PreviousValue}
 use Rattle.gix_ref_edits.specs.declared.transaction.PreviousValue.TheVariants.{MustExist, MustNotExist as must_not_exist, MustExistAndMatch}
 use Rattle.gix_ref_edits.specs.declared.transaction.RefEdit.{RefEdit}
 use Rattle.gix_ref_transaction.specs.declared.prepare.error.Error.{Error}
-use Rattle.gix_ref_transaction.specs.declared.prepare.error.Error.TheVariants.{UnsafeName, DeviceName, TargetNotFull, OtherHashKind, PreprocessingFailed, Packed, PackedFind, PathCollision, LockAcquire, MustExist as must_exist, MustNotExist, ReferenceOutOfDate, Io, Memory}
+use Rattle.gix_ref_transaction.specs.declared.prepare.error.Error.TheVariants.{UnsafeName, DeviceName, DeleteMustNotExist, TargetNotFull, OtherHashKind, PreprocessingFailed, PackedTransactionAcquire, Packed, PackedFind, PathCollision, LockAcquire, DeleteReferenceMustExist, MustExist as must_exist, MustNotExist, ReferenceOutOfDate, Io, Memory}
 
 -- how a fault of files is reported
 abbrev pub cause_of : FileError → Error
@@ -76,8 +79,14 @@ IsPackedRefusal kind packed other = Unit {0}
 abbrev pub IsPackedWell : Kind → Option (List ℕ) → Type 0
 IsPackedWell kind packed = (records : List Record) × ArePackedRecords kind packed records
 
--- Each edit by itself: its name is safe, its place is not prohibited, the name of a symbolic target is a full name, and its ids are of
--- the store's kind.
+-- Each edit by itself: its name is safe, its place is not prohibited, it is no deletion that expects nothing, the name of a symbolic
+-- target is a full name, and its ids are of the store's kind.
+
+-- a deletion does not expect that there is no reference
+abbrev pub IsPossible : Change → Type 0
+IsPossible (Update log expected new) = Unit {0}
+IsPossible (Delete must_not_exist log) = ⊥
+IsPossible (Delete expected log) = Unit {0}
 
 -- a target whose name, if it has one, is a full name
 abbrev pub IsFullTarget : Option TargetValue → Type 0
@@ -112,6 +121,7 @@ IsMisnamed s name other = ⊥
 pub record IsValidEdit (s : Store) (kind : Kind) (edit : RefEdit) : Type 0 where
   pub safe : is_safe (name_of edit) ≡ true
   pub allowed : s.is_prohibited (s.place (name_of edit)) ≡ false
+  pub possible : IsPossible edit.change
   pub target : IsFullTarget (new_of edit.change)
   pub kinds : HasKind kind edit
   pub whole : IsWholeTarget (new_of edit.change)
@@ -120,10 +130,10 @@ pub record IsValidEdit (s : Store) (kind : Kind) (edit : RefEdit) : Type 0 where
 abbrev pub IsInvalidEdit : Store → Kind → RefEdit → Error → Type 0
 IsInvalidEdit s kind edit UnsafeName = is_safe (name_of edit) ≡ false
 IsInvalidEdit s kind edit DeviceName = (is_safe (name_of edit) ≡ true) × (s.is_prohibited (s.place (name_of edit)) ≡ true)
-IsInvalidEdit s kind edit TargetNotFull =
-    (is_safe (name_of edit) ≡ true) × (s.is_prohibited (s.place (name_of edit)) ≡ false) × (IsFullTarget (new_of edit.change) → ⊥)
+IsInvalidEdit s kind edit DeleteMustNotExist = IsWellNamed s (name_of edit) × (IsPossible edit.change → ⊥)
+IsInvalidEdit s kind edit TargetNotFull = IsWellNamed s (name_of edit) × IsPossible edit.change × (IsFullTarget (new_of edit.change) → ⊥)
 IsInvalidEdit s kind edit OtherHashKind =
-    (is_safe (name_of edit) ≡ true) × (s.is_prohibited (s.place (name_of edit)) ≡ false) × IsFullTarget (new_of edit.change) × (HasKind kind edit → ⊥)
+    IsWellNamed s (name_of edit) × IsPossible edit.change × IsFullTarget (new_of edit.change) × (HasKind kind edit → ⊥)
 IsInvalidEdit s kind edit other = ⊥
 
 abbrev pub AllValid : Store → Kind → List RefEdit → List RefEdit → Type 0
@@ -142,6 +152,33 @@ names_of edits = map name_of edits
 abbrev pub IsDoubling : List RefEdit → Error → Type 0
 IsDoubling edits (PreprocessingFailed (DoubledName name)) = IsLeastDoubled (names_of edits) (full_bytes name)
 IsDoubling edits other = ⊥
+
+-- The lock of `packed-refs`: it is taken before the records are read, where an edit of a reference may have one.
+
+-- an edit of a reference, and not of its log alone, that may have a record
+abbrev pub has_key : Store → RefEdit → Bool
+has_key s edit = is_of_reference (mode_of edit.change) && is_some (s.key (name_of edit))
+
+abbrev pub ask_packed : Store → List RefEdit → Bool
+ask_packed s edits = list_any (has_key s) edits
+
+-- something is at the path of a lock, or a file is in the way of it
+abbrev pub IsInTheWay : Tree → Path → Type 0
+IsInTheWay T lock = IsSome (T lock) ⊎ (is_blocked T lock ≡ true)
+
+-- It is asked for and cannot be taken: something is at its path, or it is to be taken and a file is in the way of it.
+abbrev pub IsPackedLocked : Store → Tree → List RefEdit → Type 0
+IsPackedLocked s T edits =
+    (ask_packed s edits ≡ true)
+    × (IsSome (T (lock_of s.packed_path)) ⊎ ((is_file (T s.packed_path) ≡ true) × IsInTheWay T (lock_of s.packed_path)))
+
+abbrev pub IsPackedCause : Store → Tree → List RefEdit → Error → Type 0
+IsPackedCause s T edits PackedTransactionAcquire = IsPackedLocked s T edits
+IsPackedCause s T edits other = ⊥
+
+-- It is taken where `packed-refs` is a file: the place of the lock, or none.
+abbrev pub packed_taken : Store → Tree → List RefEdit → List Path
+packed_taken s T edits = if ask_packed s edits && is_file (T s.packed_path) then s.packed_path ∷ [] else []
 
 -- What is found of a reference: its reading, with a file that holds no target counted as none.
 
@@ -182,8 +219,10 @@ required kind other = None
 
 -- nothing was found where something has to be; another target than the new one, where none was to be; another than the expected one
 abbrev pub IsMismatch : Kind → RefEdit → Option TargetValue → Error → Type 0
+IsMismatch kind edit found (DeleteReferenceMustExist name) =
+    (full_bytes name ≡ name_of edit) × (new_of edit.change ≡ None) × IsSome (required kind (expected_of edit.change)) × (found ≡ None)
 IsMismatch kind edit found (must_exist name expected) =
-    (full_bytes name ≡ name_of edit) × (required kind (expected_of edit.change) ≡ Some (target_value expected)) × (found ≡ None)
+    (full_bytes name ≡ name_of edit) × IsSome (new_of edit.change) × (required kind (expected_of edit.change) ≡ Some (target_value expected)) × (found ≡ None)
 IsMismatch kind edit found (MustNotExist name actual new) =
     (full_bytes name ≡ name_of edit) × (expected_of edit.change ≡ must_not_exist) × (new_of edit.change ≡ Some (target_value new))
     × (found ≡ Some (target_value actual)) × (target_value actual ≢ target_value new)
@@ -220,11 +259,19 @@ module _ (s : Store) (kind : Kind) (T : Tree) where
   IsFault earlier edit error =
       IsIoOrMemory error ⊎ (IsUnlockable earlier edit error ⊎ (IsLockable earlier edit × IsMismatch kind edit (found s (view_of T) (name_of edit)) error))
 
+-- The lock of `packed-refs` is not that of an edit, nor on the way to it, nor its place.
+pub record IsApartFromPacked (s : Store) (edit : RefEdit) : Type 0 where
+  pub lock : lock_of (s.place (name_of edit)) ≢ lock_of s.packed_path
+  pub way : is_in (fronts (lock_of (s.place (name_of edit)))) (lock_of s.packed_path) ≡ false
+  pub place : s.place (name_of edit) ≢ lock_of s.packed_path
+
 -- No lock lies at a place, at `packed-refs` or on the way to a lock.
 pub record LocksAreApart (s : Store) (edits : List RefEdit) : Type 0 where
   pub ways : (lock q : Path) → is_in (locks_of s edits) lock ≡ true → is_in (locks_of s edits) q ≡ true → is_in (fronts lock) q ≡ false
   pub places : All (λ (edit : RefEdit). is_in (locks_of s edits) (s.place (name_of edit)) ≡ false) edits
   pub packed : is_in (locks_of s edits) s.packed_path ≡ false
+  pub packed_locks : All (IsApartFromPacked s) edits
+  pub packed_lock : s.packed_path ≢ lock_of s.packed_path
 
 -- No edit has a cause to be refused, each after those before it.
 abbrev pub NoCause : Store → Kind → Tree → List RefEdit → List RefEdit → Type 0
@@ -234,8 +281,13 @@ NoCause s kind T seen edits = AllPass (Passes s kind T) (IsFault s kind T) seen 
 abbrev pub IsFirstCause : Store → Kind → Tree → List RefEdit → List RefEdit → Error → Type 0
 IsFirstCause s kind T seen edits error = FirstFault (Passes s kind T) (IsFault s kind T) seen edits error
 
+-- The cause of the locks: that of `packed-refs` comes first.
+abbrev pub IsLockCause : Store → Kind → Tree → List RefEdit → Error → Type 0
+IsLockCause s kind T edits error = IsPackedCause s T edits error ⊎ ((IsPackedLocked s T edits → ⊥) × IsFirstCause s kind T [] edits error)
+
 -- no cause applies
 pub record IsAccepted (s : Store) (kind : Kind) (T : Tree) (edits : List RefEdit) : Type 0 where
   pub sound : AllValid s kind [] edits
   pub single : NoneDoubled (names_of edits)
+  pub unlocked : IsPackedLocked s T edits → ⊥
   pub no_cause : NoCause s kind T [] edits

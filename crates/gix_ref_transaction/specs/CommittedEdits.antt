@@ -10,9 +10,9 @@ use Rattle.gix_ref_theory.specs.Readings as readings
 use Rattle.gix_ref_theory.specs.Views.{IsOwnLock}
 use Rattle.gix_ref_edits.specs.declared.transaction.RefEdit.{RefEdit}
 use Rattle.gix_ref_transaction.specs.CarriedEdits.{edit_of}
-use Rattle.gix_ref_transaction.specs.Causes.{locks_of, names_of}
+use Rattle.gix_ref_transaction.specs.Causes.{names_of}
 use Rattle.gix_ref_transaction.specs.OwnLocks.{is_in}
-use Rattle.gix_ref_transaction.specs.PrepareSteps.{places_of}
+use Rattle.gix_ref_transaction.specs.PrepareSteps.{own_locks, own_places, places_of}
 use Rattle.gix_ref_transaction.specs.declared.commit.error.Error.{Error}
 use Rattle.gix_ref_transaction.specs.declared.commit.error.Error.TheVariants.{LockCommit, FolderInPlace, Memory}
 use Rattle.gix_ref_transaction.specs.declared.commit.renames.Why.{Why}
@@ -28,11 +28,11 @@ AreCommitted s edits before left T =
     (staying : List Path) → ((q : Path) → is_in left q ≡ true → IsOwnLock staying q) →
     IsCommitted s DeletionsOnly staying (planned edits) (view_of before) (view_of T)
 
--- In T every reference reads as before or as edited, and every file is as before or as edited; one that is at no place and no lock of the
--- edits is as before, and so is all that lies outside of the store's namespace.
+-- In T every reference reads as before or as edited, and every file is as before or as edited; one that is at no place of the edits, and is
+-- no lock of the transaction, is as before, and so is all that lies outside of the store's namespace.
 pub record IsOldOrNew (s : readings.Store) (edits : List RefEdit) (before T : Tree) : Type 0 where
-  pub well : IsOldOrNewTree s DeletionsOnly (places_of s edits) (planned edits) before T
-  pub elsewhere : (q : Path) → is_in (places_of s edits) q ≡ false → is_in (locks_of s edits) q ≡ false → view_of T q ≡ view_of before q
+  pub well : IsOldOrNewTree s DeletionsOnly (own_places s before edits) (planned edits) before T
+  pub elsewhere : (q : Path) → is_in (places_of s edits) q ≡ false → is_in (own_locks s before edits) q ≡ false → view_of T q ≡ view_of before q
 
 -- what an error reports of the renames of these edits, where they ended at one of them, by this fault or by a folder at this place
 abbrev pub SaysWhy : List RefEdit → (at : ℕ) → Path → Why → Error → Type 0

@@ -3,6 +3,7 @@ pub mod Causes
 pub mod CommitRenames
 pub mod CommittedEdits
 pub mod DirectUpdates
+pub mod Effects
 pub mod First
 pub mod OwnLocks
 pub mod PackedCauses

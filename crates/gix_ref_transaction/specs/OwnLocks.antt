@@ -5,7 +5,7 @@ use Rattle.std.specs.declared.alloc.Global.{Global}
 use Rattle.gix_ref_files.specs.Tree.{Tree, Path, Content, fronts, is_file}
 use Rattle.gix_ref_files.specs.Disk.{Disk}
 use Rattle.gix_ref_files.specs.Files.{Meaning, disk_of, Passes}
-use Rattle.gix_ref_theory.specs.OnDisks.{IsAmong}
+use Rattle.gix_ref_theory.specs.OnDisks.{IsAmong, IsAsBefore}
 use Rattle.gix_ref_theory.specs.Views.{Write, IsOwnLock}
 use Rattle.gix_ref_files.specs.Tree.Content.{File, Folder}
 
@@ -41,3 +41,10 @@ abbrev pub OnlyRemoves : List Path → Meaning → Meaning → Type 0
 OnlyRemoves locks old new =
     (locked staying : List Path) (writes : List Write) (first : Disk) → ((q : Path) → is_in locks q ≡ true → IsOwnLock locked q) →
     IsAmong locked staying writes first (disk_of old) → Passes old new (IsAmong locked staying writes first)
+
+-- All that was done is that some of these locks were taken, and got a text: where they are the transaction's, a disk that was as the one at
+-- its beginning stays so.
+abbrev pub OnlyLocks : List Path → Meaning → Meaning → Type 0
+OnlyLocks locks old new =
+    (locked staying : List Path) (first : Disk) → ((q : Path) → is_in locks q ≡ true → IsOwnLock locked q) →
+    IsAsBefore locked staying first (disk_of old) → Passes old new (IsAsBefore locked staying first)

@@ -1,7 +1,6 @@
 -- What the rounds of `prepare` leave.
-use Rattle.std.specs.Prelude.{◌≡◌, ◌⊎◌, ℕ, List, [], ◌∷◌, Bool, true, false, not, ◌&&◌, ◌||◌, Option, Some, None, IsSome, is_none, map, Vec}
+use Rattle.std.specs.Prelude.{◌≡◌, ◌⊎◌, ℕ, List, [], ◌∷◌, ◌++◌, Bool, true, false, not, ◌||◌, Option, Some, None, IsSome, is_none, map, if◌then◌else◌}
 use Rattle.std.specs.Option.{option_map}
-use Rattle.std.specs.declared.alloc.Global.{Global}
 use Rattle.gix_ref_name.specs.Names.{full_bytes}
 use Rattle.gix_ref_base.specs.Targets.{TargetValue, target_value, stripped_target}
 use Rattle.gix_ref_base.specs.declared.target.Target.{Target}
@@ -20,9 +19,10 @@ use Rattle.gix_ref_theory.specs.Edits.Mode.{DeletionsOnly}
 use Rattle.gix_ref_theory.specs.Views.{View}
 use Rattle.gix_ref_theory.specs.Readings.{Store}
 use Rattle.gix_ref_lookup.specs.Lookups.{meaning_in}
-use Rattle.gix_ref_transaction.specs.Causes.{found, packed_of, IsLockable}
+use Rattle.gix_ref_transaction.specs.OwnLocks.{is_in}
+use Rattle.gix_ref_transaction.specs.Causes.{found, locks_of, packed_of, packed_taken, IsLockable, NoCause}
 use Rattle.gix_ref_transaction.specs.CarriedEdits.{edit_of}
-use Rattle.gix_ref_edits.specs.RefEdits.{name_of, new_of, mode_of, is_of_reference}
+use Rattle.gix_ref_edits.specs.RefEdits.{name_of, new_of, expected_of, mode_of, is_of_reference, Expects}
 use Rattle.gix_ref_edits.specs.declared.transaction.Change.{Change}
 use Rattle.gix_ref_base.specs.Targets.TargetValue.{object_id}
 use Rattle.gix_ref_edits.specs.declared.transaction.RefEdit.{RefEdit}
@@ -31,8 +31,9 @@ use Rattle.gix_ref_lookup.specs.declared.find.loose.Loose.{Loose}
 use Rattle.gix_ref_lookup.specs.declared.find.loose.Loose.TheVariants as loose_files
 use Rattle.gix_ref_theory.specs.ConcreteStore.{loose_text}
 use Rattle.gix_ref_transaction.specs.First.{AllPass}
-use Rattle.gix_ref_transaction.specs.declared.paths.Paths.{Paths}
-use Rattle.gix_ref_transaction.specs.declared.prepare.lock.Found.{Found}
+use Rattle.gix_ref_transaction.specs.declared.edit.Edit.{Edit}
+use Rattle.gix_ref_transaction.specs.declared.edit.Effect.{Effect as Decision}
+use Rattle.gix_ref_transaction.specs.declared.edit.Effect.TheVariants.{Write, Remove, Keep}
 use Rattle.gix_ref_transaction.specs.declared.prepare.error.Error.{Error}
 use Rattle.gix_ref_transaction.specs.declared.prepare.error.Error.TheVariants.{PathCollision, LockAcquire, Io, Memory}
 
@@ -45,16 +46,71 @@ abbrev pub value_of : Option Target → Option TargetValue
 value_of None = None
 value_of (Some target) = Some (target_value target)
 
--- the locks of some paths, and their places
-abbrev pub lock_paths : List Paths → List Path
-lock_paths paths = map (λ (p : Paths). p.lock.items) paths
+-- what is asked for by the edits of a transaction
+abbrev pub updates : List Edit → List RefEdit
+updates edits = map (λ (e : Edit). e.update) edits
 
-abbrev pub place_paths : List Paths → List Path
-place_paths paths = map (λ (p : Paths). p.place.items) paths
+-- their locks, and the places of these
+abbrev pub lock_paths : List Edit → List Path
+lock_paths edits = map (λ (e : Edit). lock_of e.lock) edits
+
+abbrev pub place_paths : List Edit → List Path
+place_paths edits = map (λ (e : Edit). e.lock) edits
+
+-- what is asked for, with the place
+abbrev pub all_asked : List Edit → List (RefEdit × Path)
+all_asked edits = map (λ (e : Edit). (e.update, e.lock)) edits
+
+-- and with the id of the record, which stays while locks are taken
+abbrev pub given : Edit → RefEdit × Path × Option ObjectId
+given e = (e.update, e.lock, e.packed)
+
+abbrev pub all_given : List Edit → List (RefEdit × Path × Option ObjectId)
+all_given edits = map given edits
+
+-- the ids that the edits have of their records
+abbrev pub ids_in : List Edit → List (Option ObjectId)
+ids_in edits = map (λ (e : Edit). e.packed) edits
 
 -- the places of edits
 abbrev pub places_of : Store → List RefEdit → List Path
 places_of s edits = map (λ (edit : RefEdit). s.place (name_of edit)) edits
+
+-- All locks of a transaction that begins with this tree, and their places: that of `packed-refs`, where it is taken, and one for each
+-- edit.
+abbrev pub own_places : Store → Tree → List RefEdit → List Path
+own_places s T edits = packed_taken s T edits ++ places_of s edits
+
+abbrev pub packed_locks : Store → Tree → List RefEdit → List Path
+packed_locks s T edits = map lock_of (packed_taken s T edits)
+
+abbrev pub own_locks : Store → Tree → List RefEdit → List Path
+own_locks s T edits = packed_locks s T edits ++ locks_of s edits
+
+-- those that it can have
+abbrev pub possible_locks : Store → List RefEdit → List Path
+possible_locks s edits = lock_of s.packed_path ∷ locks_of s edits
+
+-- each of these is an empty file
+abbrev pub AreEmpty : Tree → List Path → Type 0
+AreEmpty T locks = (q : Path) → is_in locks q ≡ true → T q ≡ Some (File [])
+
+-- the place of the lock of `packed-refs`, where it is held
+abbrev pub packed_places : Option Path → List Path
+packed_places None = []
+packed_places (Some place) = place ∷ []
+
+abbrev pub IsPackedPlace : Store → Option Path → Type 0
+IsPackedPlace s packed = (packed ≡ None) ⊎ (packed ≡ Some s.packed_path)
+
+-- all locks that are held
+abbrev pub held_locks : Option Path → List Edit → List Path
+held_locks packed edits = map lock_of (packed_places packed) ++ lock_paths edits
+
+-- The lock of `packed-refs` was taken, or not: it was free, and is an empty file.
+abbrev pub TakesPacked : (before : Tree) → Option Path → Tree → Type 0
+TakesPacked before None T = T ≡ before
+TakesPacked before (Some place) T = (before (lock_of place) ≡ None) × (T ≡ put before (lock_of place) (Some (File [])))
 
 -- why a lock is not taken in this tree
 abbrev pub IsRefusedLock : Tree → List ℕ → Path → Error → Type 0
@@ -112,10 +168,6 @@ lock_text (Writes text) = text
 lock_text Removes = []
 lock_text Keeps = []
 
--- which of these edits write their reference
-abbrev pub are_written : Store → View → List RefEdit → List Bool
-are_written s view edits = map (λ (edit : RefEdit). is_written (effect_on s view edit)) edits
-
 -- The lock of each of these edits is in T, with its whole text by what was there before.
 abbrev pub HoldTexts : Store → (before T : Tree) → List RefEdit → Type 0
 HoldTexts s before T [] = Unit {0}
@@ -147,23 +199,56 @@ abbrev pub is_undecodable : Loose → Bool
 is_undecodable (loose_files.Undecodable error) = true
 is_undecodable other = false
 
--- the reference has not the new object already
-abbrev pub is_new : Option TargetValue → (found : Option TargetValue) → (damaged : Bool) → Bool
-is_new None found damaged = false
-is_new (Some new) found damaged = damaged || not (is_found found new)
+-- an update changes its reference: it has not the new object already, in a file that can be read
+abbrev pub is_new : TargetValue → (old : Option TargetValue) → (damaged : Bool) → Bool
+is_new new old damaged = damaged || not (is_found old new)
 
--- a change writes its reference
-abbrev pub is_due : Change → (found : Option TargetValue) → (damaged : Bool) → Bool
-is_due change found damaged = is_of_reference (mode_of change) && is_new (new_of change) found damaged
+-- The decision: an update of a reference writes where it changes it, and a deletion removes; an edit of the log alone leaves the file.
+abbrev pub decision_of : Option TargetValue → (old : Option TargetValue) → (damaged : Bool) → Decision
+decision_of None old damaged = Remove
+decision_of (Some new) old damaged = if is_new new old damaged then Write else Keep
 
--- the text for a lock; none where the reference is not written
-abbrev pub IsTextFor : Change → (found : Option TargetValue) → (damaged : Bool) → Option (Vec ℕ Global) → Type 0
-IsTextFor change found damaged None = is_due change found damaged ≡ false
-IsTextFor change found damaged (Some text) = (is_due change found damaged ≡ true) × (option_map loose_text (new_of change) ≡ Some text.items)
+abbrev pub decision : Change → (old : Option TargetValue) → (damaged : Bool) → Decision
+decision change old damaged = if is_of_reference (mode_of change) then decision_of (new_of change) old damaged else Keep
 
--- what was found of each edit, and which of them write their reference
-abbrev pub targets_of : List Found → List (Option TargetValue)
-targets_of found = map (λ (f : Found). value_of f.target) found
+-- the text of a new target
+abbrev pub text_of_new : Option TargetValue → List ℕ
+text_of_new None = []
+text_of_new (Some target) = loose_text target
 
-abbrev pub flags_of : List Found → List Bool
-flags_of found = map (λ (f : Found). f.writes) found
+-- what was decided, as the plan of a commit has it
+abbrev pub effect_value : Change → Decision → Effect
+effect_value change Write = Writes (text_of_new (new_of change))
+effect_value change Remove = Removes
+effect_value change Keep = Keeps
+
+-- What was found and decided of an edit is by the files before, the edit expects what was found, and its lock has its text.
+pub record IsDecided (s : Store) (before T : Tree) (old new : Edit) : Type 0 where
+  pub was : value_of new.found ≡ found s (view_of before) (name_of old.update)
+  pub what : effect_value old.update.change new.effect ≡ effect_on s (view_of before) old.update
+  pub expects : Expects (expected_of old.update.change) (new_of old.update.change) (found s (view_of before) (name_of old.update))
+  pub filled : T ≡ put before (lock_of old.lock) (Some (File (lock_text (effect_on s (view_of before) old.update))))
+
+-- what was decided of each edit
+abbrev pub decisions : List Edit → List Decision
+decisions edits = map (λ (e : Edit). e.effect) edits
+
+-- what was found of each edit, and what was decided of it, as the plan of a commit has it
+abbrev pub targets_of : List Edit → List (Option TargetValue)
+targets_of edits = map (λ (e : Edit). value_of e.found) edits
+
+abbrev pub effects_of : List Edit → List Effect
+effects_of edits = map (λ (e : Edit). effect_value e.update.change e.effect) edits
+
+-- the effects of edits among these files
+abbrev pub effects_on : Store → View → List RefEdit → List Effect
+effects_on s view edits = map (effect_on s view) edits
+
+-- All of these edits are settled, from the tree `before` to T: this was found and decided of each, none has a cause to be refused, and its
+-- lock has its text.
+pub record AreSettled (s : Store) (kind : Kind) (before T : Tree) (old new : List Edit) : Type 0 where
+  pub was : targets_of new ≡ old_targets s before (updates old)
+  pub what : effects_of new ≡ effects_on s (view_of before) (updates old)
+  pub ids : ids_in new ≡ packed_ids s before (updates old)
+  pub no_cause : NoCause s kind before [] (updates old)
+  pub texts : HoldTexts s before T (updates old)

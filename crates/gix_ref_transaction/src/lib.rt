@@ -3,6 +3,6 @@
 #![tactic(auto)]
 
 pub mod commit;
-pub mod paths;
+pub mod edit;
 pub mod prepare;
 pub mod release;

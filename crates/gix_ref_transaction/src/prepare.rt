@@ -2,9 +2,9 @@
 pub mod carry;
 pub mod check;
 mod error;
-mod expect;
+pub(crate) mod expect;
 pub mod hold;
-pub mod lock;
+pub mod packed_lock;
 pub mod records;
 pub mod split;
 pub mod take;

@@ -1,16 +1,83 @@
 //! The locks of a transaction, removed: those that a commit has not renamed, or all.
-ghost use Rattle.std.specs.Prelude.{◌≡◌, ◌≤◌, ◌<◌, ◌⊎◌, ℕ, [], ◌∷◌, IsTrue, true, false, not, ◌&&◌, nat_lt, vec_len};
+ghost use Rattle.std.specs.Prelude.{◌≡◌, ◌≤◌, ◌<◌, ◌+◌, ◌⊎◌, ℕ, [], ◌∷◌, ◌++◌, IfOk, IsTrue, true, false, not, ◌&&◌, map, nat_lt, vec_len, if◌then◌else◌};
 ghost use Rattle.std.specs.Vec.{vec_capacity};
 ghost use Rattle.std.specs.Bool.{OnFalse};
+ghost use Rattle.gix_ref_files.specs.Lock.{lock_of};
 ghost use Rattle.gix_ref_files.specs.Tree.{Path, is_file};
 ghost use Rattle.gix_ref_files.specs.Files.{disk_of, Leaves, Passes, HasRisen};
 ghost use Rattle.gix_ref_files.specs.DiskCalls.{RemovingFileOn};
 ghost use Rattle.gix_ref_transaction.specs.OwnLocks.{paths_of, RemovesLocks, OnlyRemoves, is_in};
-ghost use Rattle.gix_ref_transaction.specs.CommitRenames.{lock_at, stays_at};
-ghost use Rattle.gix_ref_transaction.specs.PrepareSteps.{lock_paths};
+ghost use Rattle.gix_ref_transaction.specs.CommitRenames.{lock_at, place_at, stays_at};
+ghost use Rattle.gix_ref_transaction.specs.Effects.{is_write};
+ghost use Rattle.gix_ref_transaction.specs.PrepareSteps.{held_locks, lock_paths, packed_places, updates};
 
-use crate::paths::Paths;
+use crate::edit::Edit;
+use gix_ref_edits::transaction::RefEdit;
 use gix_ref_files::files::Files;
+use gix_ref_files::lock::LockFile;
+use std::alloc::{AllocError, Global};
+
+/// What is left of a transaction once its locks are released. It is reserved before the first lock, so that the end of a transaction
+/// takes no memory.
+#[derive(Debug, Drop)]
+pub struct Remains {
+    /// Its edits, in their order.
+    pub edits: Vec<RefEdit>,
+    /// The paths of locks that could not be removed.
+    pub left: Vec<Vec<u8>>,
+    /// The place of the edit at which a commit ended; empty where there is none.
+    pub place: Vec<u8>,
+}
+
+impl Remains {
+    /// Room for so many edits and locks.
+    pub fn reserve(alloc: Global, edits: usize, locks: usize) -> Result<Remains, AllocError>
+        ensures edits { IfOk result (λ r. (edits ≤ vec_capacity r.edits) × (r.edits.items ≡ [])) }
+        ensures locks { IfOk result (λ r. (locks ≤ vec_capacity r.left) × (r.left.items ≡ [])) }
+        ensures place { IfOk result (λ r. r.place.items ≡ []) }
+    {
+        Ok(Remains {
+            edits: Vec::with_capacity(alloc, edits)?,
+            left: Vec::with_capacity(alloc, locks)?,
+            place: Vec::new(alloc),
+        })
+    }
+
+    /// Adds an edit, with the path of its lock where that could not be removed, and its place where the commit ended there.
+    fn add(&mut self, edit: Edit, removed: bool, here: bool)
+        requires room { vec_len self.old.left < vec_capacity self.old.left }
+        requires room_for_edit { vec_len self.old.edits < vec_capacity self.old.edits }
+        ensures edits { self.new.edits.items ≡ self.old.edits.items
+            ++ edit.update ∷ [] }
+        ensures left { paths_of self.new.left.items ≡ paths_of self.old.left.items ++
+            (if removed then [] else lock_of edit.lock ∷ []) }
+        ensures same { removed ≡ true → self.new.left.items ≡ self.old.left.items }
+        ensures place { self.new.place.items ≡ (if here then edit.lock else
+            self.old.place.items) }
+        ensures room { vec_capacity self.new.left ≡ vec_capacity self.old.left }
+        ensures room_for_edits { vec_capacity self.new.edits ≡ vec_capacity self.old.edits }
+        ensures len { vec_len self.new.left ≤ vec_len self.old.left + 1 }
+        ensures len_of_edits { vec_len self.new.edits ≡ vec_len self.old.edits + 1 }
+    {
+        let Edit {
+            update,
+            parent: _,
+            lock,
+            packed: _,
+            found: _,
+            effect: _,
+            log: _,
+        } = edit;
+        let (place, path) = lock.into_parts();
+        if here {
+            self.place = place;
+        }
+        if !removed {
+            self.left.push_reserved(path);
+        }
+        self.edits.push_reserved(update);
+    }
+}
 
 /// Removes one lock; false where it could not.
 fn remove_lock<F: Files>(files: &mut F, lock: &[u8]) -> bool
@@ -28,70 +95,122 @@ fn remove_lock<F: Files>(files: &mut F, lock: &[u8]) -> bool
     }
 }
 
-/// Removes the lock at a place of the list, unless it was renamed: another may hold it by now. False where it could not.
-fn release<F: Files>(files: &mut F, done: usize, at: usize, own: &Paths) -> bool
-    ensures renamed { not (nat_lt at done && own.now.writes) ≡ false → files.new ≡ files.old }
-    ensures gone { F.honest → not (nat_lt at done && own.now.writes) ≡ true → IsTrue result →
-        is_file ((F.means files.new).tree own.now.lock.items) ≡ false }
+/// Removes the lock of `packed-refs`, where it is held, and adds its path behind the others where it could not.
+pub fn release_packed<F: Files>(files: &mut F, packed: Option<LockFile>, left: &mut Vec<Vec<u8>>)
+    requires room { vec_len left.old < vec_capacity left.old }
+    ensures gone { F.honest → (q : Path) → is_in (map lock_of (packed_places packed)) q ≡ true →
+        is_in (paths_of left.new.items) q ≡ false → is_file ((F.means files.new).tree q) ≡ false }
+    ensures left { (paths_of left.new.items ≡ paths_of left.old.items) ⊎ (paths_of left.new.items
+        ≡ paths_of left.old.items ++ map lock_of (packed_places packed)) }
     ensures leaves { F.honest → Leaves (F.means files.old) (F.means files.new)
-        (RemovesLocks (own.now.lock.items ∷ []) (F.means files.old).tree) }
+        (RemovesLocks (map lock_of (packed_places packed)) (F.means files.old).tree) }
+    ensures passes { F.honest → OnlyRemoves (map lock_of (packed_places packed))
+        (F.means files.old) (F.means files.new) }
+    ensures len { vec_len left.new ≤ vec_len left.old + 1 }
+    ensures room { vec_capacity left.new ≡ vec_capacity left.old }
+    ensures no_fewer { F.faults files.old ≤ F.faults files.new }
+    ensures counted { (left.new.items ≡ left.old.items) ⊎ HasRisen (F.faults files.old)
+        (F.faults files.new) }
+{
+    if let Some(lock) = packed {
+        if !remove_lock(files, lock.path()) {
+            left.push_reserved(lock.into_parts().1);
+        }
+    }
+}
+
+/// Removes the lock at a place of the list, unless it was renamed: another may hold it by now. False where it could not.
+fn release<F: Files>(files: &mut F, done: usize, at: usize, edit: &Edit) -> bool
+    ensures renamed { not (nat_lt at done && is_write edit.now.effect) ≡ false → files.new ≡ files.old }
+    ensures gone { F.honest → not (nat_lt at done && is_write edit.now.effect) ≡ true → IsTrue result →
+        is_file ((F.means files.new).tree (lock_of edit.now.lock)) ≡ false }
+    ensures leaves { F.honest → Leaves (F.means files.old) (F.means files.new)
+        (RemovesLocks (lock_of edit.now.lock ∷ []) (F.means files.old).tree) }
     ensures passes { F.honest → Passes (F.means files.old) (F.means files.new)
-        (RemovingFileOn (disk_of (F.means files.old)) own.now.lock.items) }
+        (RemovingFileOn (disk_of (F.means files.old)) (lock_of edit.now.lock)) }
     ensures no_fewer { F.faults files.old ≤ F.faults files.new }
     ensures counted { OnFalse result (HasRisen (F.faults files.old) (F.faults files.new)) }
 {
-    if at < done && own.writes {
+    if at < done && edit.effect.is_write() {
         return true;
     }
-    remove_lock(files, &own.lock)
+    remove_lock(files, edit.lock.path())
 }
 
-/// Removes the locks of these paths but for those that were renamed, where the edits before `done` are done. Hands back in
-/// `left`, which has room for all of them, those that it could not remove. Where all were renamed no call is made.
+/// Removes the locks of these edits but for those that were renamed, where the edits before `done` are done. Hands back the edits,
+/// the place of the edit at `done`, and behind the paths in `remains` the locks that could not be removed. Takes no memory, and
+/// where all were renamed makes no call.
 pub fn release_locks<F: Files>(
     files: &mut F,
     done: usize,
-    mut paths: Vec<Paths>,
-    mut left: Vec<Vec<u8>>,
-) -> Vec<Vec<u8>>
-    requires room { vec_len paths ≤ vec_capacity left }
-    requires none { left.items ≡ [] }
-    ensures renamed { ((k : ℕ) → k < vec_len paths → stays_at paths.items done k ≡ false) →
+    mut edits: Vec<Edit>,
+    mut remains: Remains,
+) -> Remains
+    requires room { vec_len edits + vec_len remains.left ≤ vec_capacity remains.left }
+    requires room_for_edits { vec_len edits ≤ vec_capacity remains.edits }
+    requires none { remains.edits.items ≡ [] }
+    ensures edits { result.edits.items ≡ updates edits.items }
+    ensures place { done < vec_len edits → result.place.items ≡ place_at edits.items done }
+    ensures renamed { ((k : ℕ) → k < vec_len edits → stays_at edits.items done k ≡ false) →
         files.new ≡ files.old }
-    ensures gone { F.honest → (k : ℕ) → k < vec_len paths → stays_at paths.items done k ≡ true →
-        is_in (paths_of result.items) (lock_at paths.items k) ≡ false →
-        is_file ((F.means files.new).tree (lock_at paths.items k)) ≡ false }
-    ensures ours { (q : Path) → is_in (paths_of result.items) q ≡ true →
-        is_in (lock_paths paths.items) q ≡ true }
+    ensures gone { F.honest → (k : ℕ) → k < vec_len edits → stays_at edits.items done k ≡ true →
+        is_in (paths_of result.left.items) (lock_at edits.items k) ≡ false →
+        is_file ((F.means files.new).tree (lock_at edits.items k)) ≡ false }
+    ensures ours { (q : Path) → is_in (paths_of result.left.items) q ≡ true →
+        (is_in (paths_of remains.left.items) q ≡ true)
+        ⊎ (is_in (lock_paths edits.items) q ≡ true) }
+    ensures kept { (q : Path) → is_in (paths_of remains.left.items) q ≡ true →
+        is_in (paths_of result.left.items) q ≡ true }
     ensures leaves { F.honest → Leaves (F.means files.old) (F.means files.new)
-        (RemovesLocks (lock_paths paths.items) (F.means files.old).tree) }
-    ensures passes { F.honest → OnlyRemoves (lock_paths paths.items) (F.means files.old)
+        (RemovesLocks (lock_paths edits.items) (F.means files.old).tree) }
+    ensures passes { F.honest → OnlyRemoves (lock_paths edits.items) (F.means files.old)
         (F.means files.new) }
     ensures no_fewer { F.faults files.old ≤ F.faults files.new }
-    ensures counted { (result.items ≡ []) ⊎ HasRisen (F.faults files.old) (F.faults files.new) }
+    ensures len { vec_len result.left ≤ vec_len remains.left + vec_len edits }
+    ensures room { vec_capacity result.left ≡ vec_capacity remains.left }
+    ensures counted { (result.left.items ≡ remains.left.items) ⊎ HasRisen (F.faults files.old)
+        (F.faults files.new) }
 {
-    while let Some(own) = paths.pop() {
-        if !release(files, done, paths.len(), &own) {
-            let _ = left.push(own.lock);
-        }
+    while let Some(edit) = edits.pop() {
+        let at = edits.len();
+        let removed = release(files, done, at, &edit);
+        remains.add(edit, removed, at == done);
     }
-    left
+    remains.edits.reverse();
+    remains
 }
 
-/// Removes these locks, and hands back in `left`, which has room for all of them, those that it could not remove.
-pub fn remove_locks<F: Files>(files: &mut F, locks: Vec<Paths>, left: Vec<Vec<u8>>) -> Vec<Vec<u8>>
-    requires room { vec_len locks ≤ vec_capacity left }
-    requires none { left.items ≡ [] }
-    ensures gone { F.honest → (q : Path) → is_in (lock_paths locks.items) q ≡ true →
-        is_in (paths_of result.items) q ≡ false → is_file ((F.means files.new).tree q) ≡ false }
-    ensures ours { (q : Path) → is_in (paths_of result.items) q ≡ true →
-        is_in (lock_paths locks.items) q ≡ true }
+/// Removes the lock of `packed-refs`, where it is held, and then those of the edits, as `release_locks`.
+pub fn release_all<F: Files>(
+    files: &mut F,
+    done: usize,
+    packed: Option<LockFile>,
+    edits: Vec<Edit>,
+    mut remains: Remains,
+) -> Remains
+    requires room { vec_len edits + 1 ≤ vec_capacity remains.left }
+    requires none_left { remains.left.items ≡ [] }
+    requires room_for_edits { vec_len edits ≤ vec_capacity remains.edits }
+    requires none { remains.edits.items ≡ [] }
+    ensures edits { result.edits.items ≡ updates edits.items }
+    ensures place { done < vec_len edits → result.place.items ≡ place_at edits.items done }
+    ensures gone { F.honest → (k : ℕ) → k < vec_len edits → stays_at edits.items done k ≡ true →
+        is_in (paths_of result.left.items) (lock_at edits.items k) ≡ false →
+        is_file ((F.means files.new).tree (lock_at edits.items k)) ≡ false }
+    ensures packed_gone { F.honest → (q : Path) →
+        is_in (map lock_of (packed_places packed)) q ≡ true →
+        is_in (paths_of result.left.items) q ≡ false →
+        is_file ((F.means files.new).tree q) ≡ false }
+    ensures ours { (q : Path) → is_in (paths_of result.left.items) q ≡ true →
+        is_in (held_locks packed edits.items) q ≡ true }
     ensures leaves { F.honest → Leaves (F.means files.old) (F.means files.new)
-        (RemovesLocks (lock_paths locks.items) (F.means files.old).tree) }
-    ensures passes { F.honest → OnlyRemoves (lock_paths locks.items) (F.means files.old)
-        (F.means files.new) }
+        (RemovesLocks (held_locks packed edits.items) (F.means files.old).tree) }
+    ensures passes { F.honest → OnlyRemoves (held_locks packed edits.items)
+        (F.means files.old) (F.means files.new) }
     ensures no_fewer { F.faults files.old ≤ F.faults files.new }
-    ensures counted { (result.items ≡ []) ⊎ HasRisen (F.faults files.old) (F.faults files.new) }
+    ensures named { (result.left.items ≡ []) ⊎ HasRisen (F.faults files.old)
+        (F.faults files.new) }
 {
-    release_locks(files, 0, locks, left)
+    release_packed(files, packed, &mut remains.left);
+    release_locks(files, done, edits, remains)
 }

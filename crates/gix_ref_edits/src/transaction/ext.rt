@@ -21,7 +21,8 @@ mod split;
 pub use entry::EditEntry;
 pub use error::{EditError, SplitError};
 
-/// What a list of edits is put through before a transaction, in whatever store.
+/// What a list of edits is put through before a transaction, in whatever store. As gix-ref's
+/// `transaction::RefEditsExt`.
 ///
 /// `find` returns the target of a reference, as far as it has one, and may fail. `make_entry` makes the entry for a
 /// child, from the place of its parent in the list and the child's edit, which the entry has to have.
@@ -29,7 +30,16 @@ pub trait RefEditsExt<T: EditEntry> {
     // the entries of the list
     ghost entries: { Self → List T };
 
-    /// Refuses a name that more than one edit has, and reports the least such name.
+    /// Refuses a name that more than one edit has, and reports the least such name. As gix-ref's
+    /// `RefEditsExt::assure_one_name_has_one_edit`.
+    ///
+    /// ```text
+    /// match edits.assure_one_name_has_one_edit(alloc) {
+    ///     Err(EditError::DoubledName(name)) => println!(rt; "{name} has two edits")?,
+    ///     Err(EditError::Memory) => println!(rt; "no memory")?,
+    ///     Ok(()) => {}
+    /// }
+    /// ```
     fn assure_one_name_has_one_edit(&self, alloc: Global) -> Result<(), EditError>
         ensures single { OnOk result (NoneDoubled (names_of T.edit_of (entries self.now))) }
         ensures doubled { IfErr result
@@ -38,6 +48,7 @@ pub trait RefEditsExt<T: EditEntry> {
     /// Splits the edits that follow symbolic references (`deref`): the edit of the symbolic reference becomes one of its
     /// log alone, and an edit of the reference that it leads to is appended, which follows in turn. An update's
     /// expectation goes to that child, and a deletion has its expectation of both. At most four rounds append children.
+    /// As gix-ref's `RefEditsExt::extend_with_splits_of_symbolic_refs`.
     ///
     /// After an error the edits may stay altered.
     fn extend_with_splits_of_symbolic_refs<E, F, M>(
@@ -61,9 +72,15 @@ pub trait RefEditsExt<T: EditEntry> {
             (HasTooManySplits F.step find.old (edits_of T.edit_of (entries self.old)) find.new)
             (λ _. ⊥)) };
 
-    /// Splits the edits that follow symbolic references, and then refuses a name that more than one edit has.
+    /// Splits the edits that follow symbolic references, and then refuses a name that more than one edit has. As
+    /// gix-ref's `RefEditsExt::pre_process`.
     ///
     /// After an error the edits may stay altered.
+    ///
+    /// ```text
+    /// // What a store finds for a name is its loose target; a child needs no record around its edit.
+    /// edits.pre_process(alloc, &mut |name| targets.find(name), &mut |_parent, edit| edit)?;
+    /// ```
     fn pre_process<E, F, M>(
         &mut self,
         alloc: Global,

@@ -45,7 +45,13 @@ fn is_among(text: &[u8], names: &[&[u8]]) -> bool
 }
 
 /// Whether a component of a path is a device on Windows: `AUX`, `CON`, `NUL`, `PRN`, `CONIN$`, `CONOUT$`, `COM1` to
-/// `COM9` or `LPT0` to `LPT9`, in any case and with anything behind a dot, as `aux.txt`.
+/// `COM9` or `LPT0` to `LPT9`, in any case and with anything behind a dot, as `aux.txt`. As gix-validate's
+/// `path::component_is_windows_device`, whose list may differ.
+///
+/// ```text
+/// is_device_name(b"aux.txt") // true
+/// is_device_name(b"auxiliary") // false
+/// ```
 pub fn is_device_name(component: &[u8]) -> bool
     ensures { result ≡ is_device component.now }
 {
@@ -56,7 +62,12 @@ pub fn is_device_name(component: &[u8]) -> bool
     is_among(stem, &DEVICES)
 }
 
-/// Whether a component of a path with slashes is a device on Windows. The cost is linear in the length of the path.
+/// Whether a component of a path with slashes is a device on Windows. The cost is linear in the length of the path. As
+/// `is_device_name` of each component.
+///
+/// ```text
+/// has_device_name(b"refs/heads/nul") // true
+/// ```
 pub fn has_device_name(path: &[u8]) -> bool
     ensures { result ≡ has_device path.now }
 {

@@ -82,7 +82,12 @@ fn is_pseudo_name_byte(byte: u8) -> bool
     byte.is_ascii_uppercase() || byte == b'_'
 }
 
-/// Whether a name has only bytes of a pseudo name.
+/// Whether a name has only bytes of a pseudo name. As gix-ref's rule for `Category::PseudoRef`.
+///
+/// ```text
+/// is_pseudo_name(b"FETCH_HEAD") // true
+/// is_pseudo_name(b"FETCH-HEAD") // false
+/// ```
 pub fn is_pseudo_name(name: &[u8]) -> bool
     ensures { result ≡ list_all is_pseudo_byte name.now }
 {
@@ -143,7 +148,13 @@ fn scan(name: &[u8]) -> Result<Faults, u8>
     Ok(seen)
 }
 
-/// The first of the rules for partial names that the name breaks (`git check-ref-format`).
+/// The first of the rules for partial names that the name breaks (`git check-ref-format`). As gix-validate's
+/// `reference::name_partial`.
+///
+/// ```text
+/// broken_partial_rule(b"main")  // None
+/// broken_partial_rule(b"a..b")  // Some(Error::RepeatedDot)
+/// ```
 #[tactic(auto, unfolding(crate::specs::NameGrammar::partial_error))]
 pub fn broken_partial_rule(name: &[u8]) -> Option<Error>
     ensures { result ≡ partial_error name.now }
@@ -181,7 +192,8 @@ pub fn broken_partial_rule(name: &[u8]) -> Option<Error>
     }
 }
 
-/// The first of the rules for full names that the name breaks (`git check-ref-format`).
+/// The first of the rules for full names that the name breaks (`git check-ref-format`). As gix-validate's
+/// `reference::name`.
 #[tactic(auto, unfolding(crate::specs::NameGrammar::full_error))]
 pub fn broken_full_rule(name: &[u8]) -> Option<Error>
     ensures value { result ≡ full_error name.now }

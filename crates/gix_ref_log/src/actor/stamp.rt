@@ -63,7 +63,7 @@ fn seconds_of(pairs: &[u16; 8]) -> u64
     (front * 100 + u64::from(d)) * 100 + u64::from(e)
 }
 
-/// The time that these bytes give, if they have the usual form.
+/// The time that these bytes give, if they have the common form.
 #[inline(always)]
 pub(super) fn time_of(text: &[u8; 18]) -> Option<Time>
     ensures { IfSome result (λ time. IsStamp text.now time.seconds time.offset) }

@@ -25,6 +25,7 @@ use std::alloc::Global;
 
 /// The lines of a log, oldest first. Each is a line, or a decode fault with its number, and it goes on after one. Lines
 /// are cut at LF, a CR before LF is dropped, and nothing follows a final LF. Costs time in proportion to what is read.
+/// As gix-ref's `log::iter::forward` (`git reflog`).
 ///
 /// ```text
 /// for line in forward(&log) {
@@ -45,6 +46,7 @@ pub fn forward(log: &[u8]) -> Forward<'_>
 /// The lines of a log, newest first, through the buffer, whose length is the only limit: a line of L bytes (its CR counted,
 /// its LF not) is given where L + 1 bytes fit, or L for the first line of the file. The first line that does not fit is one
 /// `BufferTooSmall`. Decode faults are numbered from the end, and it goes on after one; after any other error it has ended.
+/// As gix-ref's `log::iter::reverse` (`git reflog`, `git log -g`).
 ///
 /// It reads as much of the file as its lines ask for, each byte once, in reads of about the buffer's length, and keeps the
 /// allocator for the lines that it gives; it takes no memory for anything else. A buffer without room is `EmptyBuffer`.

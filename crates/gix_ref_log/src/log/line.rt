@@ -14,7 +14,7 @@ mod write;
 use decode::decode_line;
 pub use write::{AppendError, WriteError, appended_line, lines_read_back};
 
-/// An owned line of a reflog.
+/// An owned line of a reflog. As gix-ref's `log::Line`.
 #[derive(Debug, PartialEq, Eq, PartialOrd, Ord, Hash, Clone, Drop)]
 pub struct Line {
     /// The object that the reference pointed to before; the null id where there was none.
@@ -27,7 +27,7 @@ pub struct Line {
     pub message: Vec<u8>,
 }
 
-/// A lent line of a reflog. Its ids are hex digits of either case.
+/// A lent line of a reflog. Its ids are hex digits of either case. As gix-ref's `log::LineRef`.
 #[derive(Clone, Copy, Debug, PartialEq, Eq, PartialOrd, Ord, Hash)]
 pub struct LineRef<'a> {
     /// The 40 or 64 hex digits of the object that the reference pointed to before.
@@ -49,7 +49,7 @@ impl<'a> LineRef<'a> {
 
     /// Reads the first line of the text: an id, a space, an id, a space, a signature, and optionally a tab and the message,
     /// up to LF or the end. A CR before the LF belongs to the message. The error lends the first line of
-    /// any other text.
+    /// any other text. As gix-ref's `log::LineRef::from_bytes`.
     ///
     /// ```text
     /// match LineRef::from_bytes(line) {
@@ -68,21 +68,26 @@ impl<'a> LineRef<'a> {
         }
     }
 
-    /// The id of the object that the reference pointed to before.
+    /// The id of the object that the reference pointed to before. As gix-ref's `log::LineRef::previous_oid`.
     pub fn previous_oid(&self) -> ObjectId
         ensures { ReadsId self.now.previous_oid.now result }
     {
         id_of_digits(self.previous_oid)
     }
 
-    /// The id of the object that the reference points to since.
+    /// The id of the object that the reference points to since. As gix-ref's `log::LineRef::new_oid`.
     pub fn new_oid(&self) -> ObjectId
         ensures { ReadsId self.now.new_oid.now result }
     {
         id_of_digits(self.new_oid)
     }
 
-    /// An owned copy with the ids read; the error says that there was no memory for it.
+    /// An owned copy with the ids read; the error says that there was no memory for it. As gix-ref's
+    /// `log::LineRef::to_owned`.
+    ///
+    /// ```text
+    /// let line = LineRef::from_bytes(text)?.to_owned(alloc)?;
+    /// ```
     #[inline(always)]
     pub fn to_owned(&self, alloc: Global) -> Result<Line, AllocError>
         ensures { IfOk result (IsOwned (line_ref_parts self.now)) }
@@ -105,7 +110,12 @@ impl Line {
 
     /// Writes the ids in lower case, the signature as it is, a tab also before an empty message, and LF. A message with
     /// LF is `MessageWithNewlines`, else a signature that cannot be written is `SignatureUnwritable`, both before the first
-    /// byte; after `Io` the writer holds what it took before it failed.
+    /// byte; after `Io` the writer holds what it took before it failed. As gix-ref's `log::Line::write_to`.
+    ///
+    /// ```text
+    /// // The old id, the new id, the signature, a tab and the message.
+    /// line.write_to(&mut out)?;
+    /// ```
     pub fn write_to<W: io::Write>(&self, out: &mut W) -> Result<(), WriteError>
         ensures written { OnOk result (CanWriteLine
             (signature_who self.now.signature) self.now.message.items

@@ -18,7 +18,7 @@ use gix_ref_name::name::{PartialName, PartialNameRef};
 use gix_ref_packed::raw::Reference;
 use std::alloc::{AllocError, Global};
 
-/// The composed name that is asked in place of a name, where names are composed; `None` where the name is asked as it is.
+/// The composed name that a lookup asks for, where names are composed; `None` where it asks for the name as it is.
 /// The error says that there was no memory for it.
 pub fn composed_name(
     alloc: Global,
@@ -49,7 +49,7 @@ fn with_decomposed_name(alloc: Global, found: Reference) -> Result<Reference, Al
     })
 }
 
-/// What is given of what a lookup of a composed name found.
+/// The result of a lookup, from what was found under the composed name.
 fn given(alloc: Global, found: Result<Option<Reference>, Error>) -> Result<Option<Reference>, Error>
     ensures { IsGivenOf found result }
 {

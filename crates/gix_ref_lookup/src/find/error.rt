@@ -20,7 +20,7 @@ pub enum ReadError {
 /// The errors of a lookup.
 #[derive(Debug, Drop, Error)]
 pub enum Error {
-    /// A text is no name: for callers who convert one first. No lookup returns this.
+    /// A text is not a valid name: for callers who convert one first. No lookup returns this.
     #[error("the name of a reference is not valid: {0}")]
     RefnameValidation(name::Error),
     /// The file at the place of a candidate, which is the path, could not be read.
@@ -42,7 +42,7 @@ pub enum Error {
     /// `packed-refs` could not be opened or read.
     #[error("packed-refs could not be opened: {0}")]
     PackedOpen(packed::buffer::open::Error),
-    /// A copy found no memory.
+    /// There was no memory for a copy.
     #[error("out of memory")]
     Memory,
 }

@@ -19,7 +19,7 @@ use gix_ref_name::name::candidates::{fronts_of, name_behind, remote_head};
 use gix_ref_packed::raw::Reference;
 use std::alloc::Global;
 
-/// The first candidate of a name that is there.
+/// The first candidate of a name that exists.
 fn find_first<F: Files>(
     alloc: Global,
     files: &mut F,
@@ -95,7 +95,7 @@ fn find_head<F: Files>(
     }
 }
 
-/// The reference that a partial name is short for: the first of its candidates that is there, or else the `HEAD` of a remote
+/// The reference that a partial name is short for: the first of its candidates that exists, or else the `HEAD` of a remote
 /// of this name, as a loose file alone (`gitrevisions`). The name is asked as it is.
 pub fn find_asked<F: Files>(
     alloc: Global,

@@ -9,10 +9,10 @@ pub enum Error {
     /// The text is neither an id of the store's kind nor a symbolic reference.
     #[error("a loose file is neither an id nor a symbolic reference")]
     Parse { content: Vec<u8> },
-    /// The path of a symbolic reference is no full name.
+    /// The path of a symbolic reference is not a full name.
     #[error("the path of a symbolic reference is no full name: {source}")]
     RefnameValidation { source: name::Error, path: Vec<u8> },
-    /// A copy found no memory.
+    /// There was no memory for a copy.
     #[error("out of memory")]
     Memory,
 }

@@ -12,7 +12,7 @@ use super::changes::{Change, Known, Stands, Stored, find, place, stands_in_folde
 use super::sure::sure_at;
 use std::alloc::{AllocError, Global};
 
-/// The synced bytes, and in place of the others as many bytes 0x3F.
+/// The synced bytes, and as many bytes 0x3F as there are others.
 fn lost_bytes(alloc: Global, bytes: &[u8], synced: usize) -> Result<Vec<u8>, AllocError>
     ensures { IfOk result (λ left. left.items
         ≡ take synced bytes.now ++ replicate (length bytes.now - synced) 63) }
@@ -124,7 +124,7 @@ fn leave_named(
     }
 }
 
-/// What is left of each entry, by a choice of its own.
+/// What is left of each entry, by a choice for each.
 fn left_entries(alloc: Global, changes: &[Change], pick: u64) -> Result<Vec<Change>, AllocError>
     ensures { IfOk result (λ left. (q : Path) →
         IsChoice changes.now pick q (after left.items no_tree q)) }

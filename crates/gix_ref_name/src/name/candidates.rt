@@ -60,7 +60,12 @@ fn remotes_front(name: &[u8]) -> &'static [u8]
 /// What a lookup puts in front of a partial name, in the order of the lookup (`gitrevisions`). A name of only `A` to
 /// `Z` and underscores, as `HEAD`, is looked up as it is first, and then below `refs/`, `refs/tags/`, `refs/heads/` and
 /// `refs/remotes/`; a name below `refs/`, `main-worktree/` or `worktrees/` as it is first, and then below `tags/`,
-/// `heads/` and `remotes/`; any other name below `refs/`, `refs/tags/`, `refs/heads/` and `refs/remotes/`.
+/// `heads/` and `remotes/`; any other name below `refs/`, `refs/tags/`, `refs/heads/` and `refs/remotes/`. As the rules
+/// of gix-ref's `file::Store::try_find`.
+///
+/// ```text
+/// fronts_of(PartialNameRef::try_from("main")?) // refs/, refs/tags/, refs/heads/, refs/remotes/
+/// ```
 pub fn fronts_of(name: PartialNameRef<'_>) -> &'static [&'static [u8]]
     ensures { map (λ f. f.now) result.now ≡ fronts (partial_ref_bytes name.entry) }
 {
@@ -74,7 +79,8 @@ pub fn fronts_of(name: PartialNameRef<'_>) -> &'static [&'static [u8]]
     }
 }
 
-/// The full name that a partial name has behind one of its fronts. The error says that there was no memory.
+/// The full name that a partial name has behind one of its fronts. The error says that there was no memory. As
+/// `format!` of both.
 pub fn name_behind(
     alloc: Global,
     front: &[u8],
@@ -93,7 +99,8 @@ pub fn name_behind(
 
 /// The `HEAD` of the remote that the partial name may be (`gitrevisions`): `refs/remotes/`, the name and `/HEAD`;
 /// without `refs/` in front where the name is `refs`, `main-worktree` or `worktrees`, or begins with one of them and a
-/// slash. `None` for the name `HEAD`. The error says that there was no memory.
+/// slash. `None` for the name `HEAD`. The error says that there was no memory. As the last rule of gix-ref's
+/// `file::Store::try_find`.
 pub fn remote_head(alloc: Global, name: PartialNameRef<'_>) -> Result<Option<FullName>, AllocError>
     ensures bytes { IfOk result
         (λ r. option_map full_bytes r ≡ head_of_remote (partial_ref_bytes name.entry)) }

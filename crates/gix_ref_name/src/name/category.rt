@@ -8,7 +8,8 @@ use gix_ref_hash::bytes::{begins_with, split_component, strip_front};
 use std::alloc::{AllocError, Global};
 
 /// The kind of reference that a name is. Each variant says how the name begins; the short name is what follows that,
-/// but for the notes, bisect, worktree and rewritten groups, whose short name is all behind `refs/`.
+/// but for the notes, bisect, worktree and rewritten groups, whose short name is all behind `refs/`. As gix-ref's
+/// `Category`.
 #[derive(Clone, Copy, Debug, PartialEq, Eq, PartialOrd, Ord, Hash)]
 pub enum Category<'a> {
     /// `refs/tags/`
@@ -156,7 +157,7 @@ impl<'a> Category<'a> {
     ghost use Rattle.gix_ref_name.specs.Categories.{prefix_of, word_of, front_of, text_of, is_private, code_of};
 
     /// The text in front of the names of the category, as far as it is the same for all of them; empty for a pseudo
-    /// name.
+    /// name. As gix-ref's `Category::prefix`.
     ///
     /// ```text
     /// Category::RemoteBranch.prefix() // `refs/remotes/`
@@ -179,7 +180,8 @@ impl<'a> Category<'a> {
         }
     }
 
-    /// Whether each worktree has its own references of this category, which no other worktree sees (`git worktree`).
+    /// Whether each worktree has its own references of this category, which no other worktree sees (`git worktree`). As
+    /// gix-ref's `Category::is_worktree_private`.
     pub fn is_worktree_private(self) -> bool
         ensures { result ≡ is_private self.entry }
     {
@@ -194,7 +196,8 @@ impl<'a> Category<'a> {
         )
     }
 
-    /// Whether these are remote-tracking branches, below `refs/remotes/`.
+    /// Whether these are remote-tracking branches, below `refs/remotes/`. As gix-ref's
+    /// `Category::is_remote_tracking_branch`.
     pub fn is_remote_tracking_branch(self) -> bool
         ensures { IsTrue result ↔ (self.entry ≡ Category.RemoteBranch) }
     {
@@ -230,7 +233,7 @@ impl<'a> Category<'a> {
     /// The full name with this short name. The word of the category (`notes/`, `refs/` for `MainRef`, `bisect/`,
     /// `rewritten/`, `worktree/`) is dropped from the front of the short name if it begins with it; then the prefix
     /// goes in front, for a linked worktree also its name and a slash, unless the text begins with it. The error is
-    /// the first rule for full names that the text breaks, or `Memory`.
+    /// the first rule for full names that the text breaks, or `Memory`. As gix-ref's `Category::to_full_name`.
     ///
     /// ```text
     /// Category::Tag.to_full_name(alloc, b"v1")?        // refs/tags/v1

@@ -59,7 +59,8 @@ fn in_form_d(alloc: Global, path: &[u8]) -> Result<Option<FullName>, AllocError>
 }
 
 /// The name in Unicode's Normalization Form D; the name as it is where it is not UTF-8, or would be no valid full name
-/// in that form. The error says that there was no memory, and drops the name; a name of ASCII bytes takes none.
+/// in that form. The error says that there was no memory, and drops the name; a name of ASCII bytes takes none. As
+/// gix-utils' `str::decompose`; see `core.precomposeUnicode` of `git config`.
 pub fn decompose(alloc: Global, name: FullName) -> Result<FullName, AllocError>
     ensures { IfOk result (λ n. full_bytes n ≡ decomposed (full_bytes name)) }
 {

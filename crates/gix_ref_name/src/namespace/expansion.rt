@@ -20,7 +20,11 @@ fn push_component(bytes: &mut Vec<u8>, component: &[u8]) -> Result<(), AllocErro
 
 /// The namespace of a name, as `git --namespace` expands it: `refs/namespaces/`, the component and a slash for each
 /// component, so that `foo/bar` gives `refs/namespaces/foo/refs/namespaces/bar/`. The error says that there was no
-/// memory.
+/// memory. As gix-ref's `namespace::expand`.
+///
+/// ```text
+/// store.namespace = Some(expand(alloc, PartialNameRef::try_from("fork")?)?); // refs/namespaces/fork/
+/// ```
 pub fn expand(alloc: Global, namespace: PartialNameRef<'_>) -> Result<Namespace, AllocError>
     ensures { IfOk result (λ n. namespace_bytes n ≡ expanded (partial_ref_bytes namespace.entry)) }
 {

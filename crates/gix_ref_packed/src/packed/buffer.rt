@@ -12,7 +12,7 @@ use gix_ref_records::packed::header_end::{
 use open::Error;
 use std::alloc::Global;
 
-/// The records of a `packed-refs` in memory, in the order of their names.
+/// The records of a `packed-refs` in memory, in the order of their names. As gix-ref's `packed::Buffer`.
 #[derive(Debug, Drop)]
 pub struct Buffer {
     bytes: Vec<u8>,
@@ -26,16 +26,23 @@ pub struct Buffer {
 }
 
 impl Buffer {
-    ghost use Rattle.std.specs.Prelude.{◌≡◌, ◌≤◌, ◌<◌, IfOk, IfErr, MatchOption, true, false, vec_len, drop};
+    ghost use Rattle.std.specs.Prelude.{◌≡◌, ◌≤◌, ◌<◌, IfOk, IfErr, IsErrOf, MatchOption, true, false, vec_len, drop};
     ghost use Rattle.gix_ref_files.specs.Tree.{is_file, bytes_of};
-    ghost use Rattle.gix_ref_files.specs.Files.{Leaves};
+    ghost use Rattle.gix_ref_files.specs.Files.{disk_of, Leaves, Passes};
     ghost use Rattle.gix_ref_files.specs.Calls.{Unchanged};
+    ghost use Rattle.gix_ref_files.specs.DiskCalls.{Untouched};
     ghost use Rattle.gix_ref_records.specs.OpenedText.{Keeps};
     ghost use Rattle.gix_ref_packed.specs.Buffers.{buffer_text, buffer_kind, buffer_line, Opened, IsRefused, IsRefusedFile, IsStuck, count_open};
 
     /// Opens the file at a path, whose ids are of the kind; `None` where no file is there. `Io` where it cannot be
     /// read, and else an error of `from_bytes`. The threshold, from which on other stores map the file into memory, has
-    /// no effect. The file is read once, into memory.
+    /// no effect. The file is read once, into memory. As gix-ref's `packed::Buffer::open`.
+    ///
+    /// ```text
+    /// if let Some(packed) = Buffer::open(alloc, &mut files, b".git/packed-refs", 32_768, Kind::Sha1)? {
+    ///     println!(rt; "{} bytes of records", packed.as_bytes().len())?;
+    /// }
+    /// ```
     pub fn open<F: Files>(
         alloc: Global,
         files: &mut F,
@@ -51,7 +58,10 @@ impl Buffer {
             (IsRefusedFile kind ((F.means files.old).tree path.now)) }
         ensures leaves { F.honest → Leaves (F.means files.old) (F.means files.new)
             (Unchanged (F.means files.old).tree) }
+        ensures passes { F.honest → Passes (F.means files.old) (F.means files.new)
+            (Untouched (disk_of (F.means files.old))) }
         ensures count { F.faults files.new ≡ count_open result (F.faults files.old) }
+        ensures memory { IsErrOf result (Error.Io FileError.Memory) → ⊥ }
     {
         let mut bytes = Vec::new(alloc);
         match files.read(alloc, path, &mut bytes) {
@@ -70,7 +80,7 @@ impl Buffer {
     /// that it is sorted, nothing but that line is looked at. Else each record is read, at a cost of n log n for n
     /// records: `Iter` reports the first line that is no record. Where a name is below an earlier one, the records are put in
     /// the order of their names, those of one name in their old order, and `Memory` reports that there was no memory for
-    /// that (`git pack-refs`).
+    /// that (`git pack-refs`). As gix-ref's `packed::Buffer::from_bytes`.
     ///
     /// ```text
     /// let text = fs::read(&rt, ".git/packed-refs")?;
@@ -143,7 +153,7 @@ impl Buffer {
         }
     }
 
-    /// The text of the records, without the header.
+    /// The text of the records, without the header. As gix-ref's `packed::Buffer::as_ref`.
     pub fn as_bytes(&self) -> &[u8]
         ensures { result.now ≡ buffer_text self.now }
     {
@@ -158,7 +168,7 @@ impl Buffer {
     }
 
     /// The number of the records' first line in the file.
-    pub(crate) fn first_line(&self) -> u64
+    pub fn first_line(&self) -> u64
         ensures line { result ≡ buffer_line self.now }
         ensures early { result < 3 }
     {

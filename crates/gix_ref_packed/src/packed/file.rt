@@ -17,7 +17,7 @@ use gix_ref_records::packed::window::{Found, ids_of};
 use std::alloc::Global;
 
 /// A `packed-refs` that is open for searches: the file itself where its header says that it is sorted, and else its
-/// records in memory.
+/// records in memory. Not in gix-ref, which maps the file into memory.
 #[derive(Drop)]
 pub enum PackedFile<R: ReadAt + Drop> {
     /// The file is sorted: a search reads the parts of it that it needs.
@@ -130,7 +130,14 @@ impl<R: ReadAt + Drop> PackedFile<R> {
 
     /// The ids of the record of a full name, by halving; `None` where there is no such record. In a file a name among a
     /// million records costs some seventeen reads of 1 KB. `Read` where the file cannot be read, `Parse` where a line
-    /// is malformed and nothing was found, or the record that was found cannot be read.
+    /// is malformed and nothing was found, or the record that was found cannot be read. As `Buffer::try_find_key`,
+    /// without the text in memory.
+    ///
+    /// ```text
+    /// if let Some(found) = packed.find(FullNameRef::try_from("refs/tags/v1.0")?)? {
+    ///     println!(rt; "{}", found.target)?;
+    /// }
+    /// ```
     pub fn find(&mut self, name: FullNameRef<'_>) -> Result<Option<Found>, FindError>
         ensures same { packed_file_text self.new ≡ packed_file_text self.old }
         ensures kind { packed_file_kind self.new ≡ packed_file_kind self.old }

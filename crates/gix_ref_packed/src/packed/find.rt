@@ -187,7 +187,7 @@ impl Buffer {
     /// The record of a full name, by halving: each look at a record is counted as a probe, and there are at most as many
     /// as the number of bytes has binary digits, about twenty among ten thousand records. `None` where the records have
     /// no such name. The error is returned where a malformed line was met and nothing was found, and where the record that
-    /// was found cannot be read. Takes no memory.
+    /// was found cannot be read. Takes no memory. As the search of gix-ref's `packed::Buffer::try_find`.
     pub fn try_find_full<L: Ledger>(
         &self,
         name: FullNameRef<'_>,
@@ -202,6 +202,12 @@ impl Buffer {
     }
 
     /// As `try_find_full`, for a caller who does not count.
+    ///
+    /// ```text
+    /// if let Some(record) = packed.try_find_key(FullNameRef::try_from("refs/tags/v1.0")?)? {
+    ///     println!(rt; "{}", record.target())?;
+    /// }
+    /// ```
     pub fn try_find_key(&self, name: FullNameRef<'_>) -> Result<Option<Reference<'_>>, ParseError>
         ensures { Finds (buffer_kind self.now) (buffer_text self.now)
             (full_ref_bytes name.entry) result }
@@ -209,17 +215,18 @@ impl Buffer {
         find_uncounted(self.as_bytes(), self.kind(), name.to_path())
     }
 
-    /// The record of a partial name.
+    /// The record of a partial name. As gix-ref's `packed::Buffer::try_find`.
+    ///
+    /// A name that begins with `refs/`, `main-worktree/` or `worktrees/` is searched by its key: a reference that each
+    /// worktree has for itself has none. Any other name is searched behind `refs/`, `refs/tags/`, `refs/heads/` and
+    /// `refs/remotes/`, in this order (`gitrevisions`). `Parse` as for `try_find_full`; `Memory` where there was no memory
+    /// for such a name.
     ///
     /// ```text
-    /// let packed = Buffer::open(alloc, &mut files, b".git/packed-refs", 32_768, Kind::Sha1)?;
-    /// let tag = packed.try_find(alloc, PartialNameRef::try_from("v1.0")?)?;
+    /// if let Some(tag) = packed.try_find(alloc, PartialNameRef::try_from("v1.0")?)? {
+    ///     println!(rt; "{} {}", tag.target(), tag.name)?; // the id, and refs/tags/v1.0
+    /// }
     /// ```
-    ///
-    /// A name that begins with `refs/`, `main-worktree/` or `worktrees/` is asked for by its
-    /// key: a reference that each worktree has for itself has none. Another is asked for behind `refs/`, `refs/tags/`, `refs/heads/`
-    /// and `refs/remotes/`, in this order (`gitrevisions`). `Parse` as for `try_find_full`; `Memory` where there was no
-    /// memory for a name that is asked for.
     pub fn try_find(
         &self,
         alloc: Global,
@@ -237,7 +244,11 @@ impl Buffer {
     }
 
     /// The record of a partial name that must be there, as `try_find` finds it: `NotFound` where it finds none, and `Find`
-    /// where it fails.
+    /// where it fails. As gix-ref's `packed::Buffer::find`.
+    ///
+    /// ```text
+    /// let tag = packed.find(alloc, PartialNameRef::try_from("v1.0")?)?; // the record of refs/tags/v1.0
+    /// ```
     pub fn find(
         &self,
         alloc: Global,

@@ -16,6 +16,7 @@ use gix_ref_records::packed::header_end::{first_line_behind, read_header_end};
 use parts::{begins_with_prefix, count_line_feeds, cut_line, first_line};
 
 /// The records of a text, and a fault for each line that is no record. A record whose line with `^` is bad is two faults.
+/// As gix-ref's `packed::Iter`.
 #[derive(Debug, Drop)]
 pub struct Iter<'a> {
     rest: &'a [u8],
@@ -36,7 +37,13 @@ impl<'a> Iter<'a> {
     ghost use Rattle.gix_ref_packed.specs.Items.{ItemStep, AreItems, IsHeaderError, unread, unread_text};
 
     /// The records of a whole text, in the order of its lines; lines are numbered from 1, the header's too. The error,
-    /// `Header`, has the first line of a text that begins with `#` and has no header.
+    /// `Header`, has the first line of a text that begins with `#` and has no header. As gix-ref's `packed::Iter::new`.
+    ///
+    /// ```text
+    /// for record in Iter::new(&text, Kind::Sha1)? {
+    ///     println!(rt; "{}", record?.name)?;
+    /// }
+    /// ```
     pub fn new(text: &'a [u8], kind: Kind) -> Result<Iter<'a>, Error<'a>>
         ensures items { IfOk result (λ it. (h : Option Header) × (rest : List _)
             × Heads text.now h rest × EachRunFrom ItemStep it
@@ -117,7 +124,8 @@ impl Buffer {
     ghost use Rattle.gix_ref_packed.specs.Items.{ItemStep, AreItems, AreRecords, unread_buffer, unread_from};
     ghost use Rattle.gix_ref_packed.specs.YetToGive.{IsYet};
 
-    /// The records of the buffer, in the order of their names. Lines are numbered as in the file that was opened.
+    /// The records of the buffer, in the order of their names. Lines are numbered as in the file that was opened. As
+    /// gix-ref's `packed::Buffer::iter`.
     ///
     /// ```text
     /// for record in packed.iter() {
@@ -143,7 +151,7 @@ impl Buffer {
     }
 
     /// The records whose names begin with the prefix, in the order of their names: the first is found by halving, and
-    /// the first other name ends them.
+    /// the first other name ends them. As gix-ref's `packed::Buffer::iter_prefixed`.
     ///
     /// ```text
     /// for tag in packed.iter_prefixed(b"refs/tags/".to_vec(alloc)?) {

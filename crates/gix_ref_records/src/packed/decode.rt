@@ -16,7 +16,7 @@ pub use record_line::{
 
 /// Where the record that the byte is in begins: a line with `^` belongs to the line before it. At the end of a text that
 /// does not end in a newline, where the last record begins; at the end of one that does, 0. The offset is at most the
-/// text's length.
+/// text's length. As gix-ref's private `packed::decode::record_start_at_offset`.
 #[inline(always)]
 pub fn record_start_at_offset(text: &[u8], offset: usize) -> usize
     requires { offset ≤ length text.now }
@@ -31,7 +31,7 @@ pub fn record_start_at_offset(text: &[u8], offset: usize) -> usize
 }
 
 /// The text from the beginning of the record that the byte is in, as `record_start_at_offset` finds it. The offset is at
-/// most the text's length.
+/// most the text's length. As gix-ref's private `packed::decode::record_at_offset`.
 pub fn record_at_offset(text: &[u8], offset: usize) -> &[u8]
     requires { offset ≤ length text.now }
     ensures { (start : _) × StartsRecord text.now start offset

@@ -6,7 +6,7 @@ ghost use Rattle.gix_ref_records.specs.IdDigits.{is_id_if_any};
 use gix_ref_hash::hash::{ObjectId, id_of_digits};
 use gix_ref_name::name::FullNameRef;
 
-/// A record of `packed-refs`, lent from the text.
+/// A record of `packed-refs`, lent from the text. As gix-ref's `packed::Reference`.
 #[derive(Clone, Copy, Debug, PartialEq, Eq)]
 pub struct Reference<'a> {
     /// The full name.
@@ -25,14 +25,20 @@ impl<'a> Reference<'a> {
     ghost use Rattle.gix_ref_name.specs.Names.{full_ref_bytes};
     ghost use Rattle.gix_ref_records.specs.IdDigits.{object_or, ReadsIfAny};
 
-    /// The id.
+    /// The id. As gix-ref's `packed::Reference::target`.
     pub fn target(self) -> ObjectId
         ensures { ReadsId self.entry.target.now result }
     {
         id_of_digits(self.target)
     }
 
-    /// The id of the object that a tag ends at, and the id itself if the record has none.
+    /// The id of the object that a tag ends at, and the id itself if the record has none. As gix-ref's
+    /// `packed::Reference::object`.
+    ///
+    /// ```text
+    /// record.target() // the id of an annotated tag
+    /// record.object() // the id of the commit that it is of
+    /// ```
     pub fn object(self) -> ObjectId
         ensures { ReadsId (object_or self.entry.object self.entry.target.now) result }
     {
@@ -42,7 +48,8 @@ impl<'a> Reference<'a> {
         }
     }
 
-    /// The id of the object that a tag ends at, if the record has it.
+    /// The id of the object that a tag ends at, if the record has it. As `object` of gix-ref's `packed::Reference`, the
+    /// field.
     pub fn peeled(self) -> Option<ObjectId>
         ensures { ReadsIfAny self.entry.object result }
     {
@@ -52,7 +59,7 @@ impl<'a> Reference<'a> {
         }
     }
 
-    /// Whether these are the bytes of the name.
+    /// Whether these are the bytes of the name. As `==` of a record and bytes in gix-ref.
     pub fn eq_bytes(self, bytes: &[u8]) -> bool
         ensures { IsTrue result ↔ (full_ref_bytes self.entry.name ≡ bytes.now) }
     {

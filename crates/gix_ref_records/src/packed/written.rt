@@ -8,7 +8,7 @@ use crate::packed::Reference;
 use std::alloc::{AllocError, Global};
 
 /// Adds the header that is written to a text, with its last space, and LF: 46 bytes. After an error, which says that there
-/// was no memory, the text is as before.
+/// was no memory, the text is as before. As the header that gix-ref's `packed::Transaction::commit` writes.
 pub fn push_header(text: &mut Vec<u8>) -> Result<(), AllocError>
     ensures ok { OnOk result (text.new.items ≡ text.old.items ++ header_text) }
     ensures err { OnErr result (text.new.items ≡ text.old.items) }
@@ -60,7 +60,8 @@ fn push_lines(
 }
 
 /// Adds a record to a text: the digits of its id as they are, its name, and on a second line the digits of the object that
-/// a tag ends at. They are not checked. After an error, which says that there was no memory, the text is as before.
+/// a tag ends at. They are not checked. After an error, which says that there was no memory, the text is as before. As
+/// the records that gix-ref's `packed::Transaction::commit` writes.
 pub fn push_record(
     text: &mut Vec<u8>,
     name: &[u8],
@@ -79,7 +80,8 @@ pub fn push_record(
     Ok(())
 }
 
-/// The text of these records, in their order. The error says that there was no memory for it.
+/// The text of these records, in their order. The error says that there was no memory for it. As the file that `git
+/// pack-refs` writes, without the header.
 pub fn text_of(alloc: Global, records: &[Reference<'_>]) -> Result<Vec<u8>, AllocError>
     ensures { IfOk result (λ text. text.items ≡ written_text (map record_of records.now)) }
 {

@@ -79,6 +79,7 @@ impl<F: Files> Store<F> {
     }
 
     /// As `find`, where these records are asked: a caller with many lookups keeps them, and `packed-refs` is opened at most once.
+    /// Not in gix-ref.
     pub fn find_existing_among(
         &mut self,
         alloc: Global,
@@ -117,7 +118,8 @@ impl<F: Files> Store<F> {
     /// candidates that has a loose file, or else a record in `packed-refs`. `main` is looked for as `refs/main`,
     /// `refs/tags/main`, `refs/heads/main` and `refs/remotes/main`, and then as the loose file `refs/remotes/main/HEAD`; a name
     /// of only `A` to `Z` and underscores as itself first; a name below `refs/`, `main-worktree/` or `worktrees/` as itself,
-    /// and then below `tags/`, `heads/` and `remotes/`. `None` where none is there.
+    /// and then below `tags/`, `heads/` and `remotes/`. `None` where none is there. As gix-ref's
+    /// `file::Store::try_find`.
     ///
     /// A loose reference has the candidate's name, a packed one the name of its record less the namespace. A symbolic target
     /// is less the namespace.
@@ -159,7 +161,16 @@ impl<F: Files> Store<F> {
         self.find_among(alloc, partial, true, &mut Records::Unopened)
     }
 
-    /// As `try_find`, but where no reference is found this is `NotFound`, with the name.
+    /// As `try_find`, but where no reference is found this is `NotFound`, with the name. As gix-ref's
+    /// `file::Store::find`.
+    ///
+    /// ```text
+    /// match store.find(alloc, PartialNameRef::try_from("main")?) {
+    ///     Ok(branch) => println!(rt; "{} {}", branch.target, branch.name)?,
+    ///     Err(existing::Error::NotFound { name }) => println!(rt; "no reference {name}")?,
+    ///     Err(existing::Error::Find(error)) => return Err(error.into()),
+    /// }
+    /// ```
     pub fn find(
         &mut self,
         alloc: Global,
@@ -187,7 +198,8 @@ impl<F: Files> Store<F> {
         }
     }
 
-    /// As `try_find`, among loose files alone: the name is looked for as it is, also with `precompose_unicode`.
+    /// As `try_find`, among loose files alone: the name is looked for as it is, also with `precompose_unicode`. As
+    /// gix-ref's `file::Store::try_find_loose`.
     pub fn try_find_loose(
         &mut self,
         alloc: Global,
@@ -209,7 +221,12 @@ impl<F: Files> Store<F> {
         }
     }
 
-    /// As `find`, among loose files alone.
+    /// As `find`, among loose files alone. As gix-ref's `file::Store::find_loose`.
+    ///
+    /// ```text
+    /// let head = store.find_loose(alloc, PartialNameRef::try_from("HEAD")?)?;
+    /// println!(rt; "{}", head.target)?; // `ref: refs/heads/main`
+    /// ```
     pub fn find_loose(
         &mut self,
         alloc: Global,
@@ -233,8 +250,9 @@ impl<F: Files> Store<F> {
         }
     }
 
-    /// As `try_find`, where the records of this buffer are asked in place of those of the file; none where it is `None`, and
-    /// then the name is looked for as it is. So a caller who holds the buffer opens no file but loose ones.
+    /// As `try_find`, among the records of this buffer and not those of the file. Where it is `None` no records are asked, and
+    /// the name is looked for as it is. So a caller who holds the buffer opens no file but loose ones. As
+    /// gix-ref's `file::Store::try_find_packed`.
     ///
     /// ```text
     /// let packed = store.open_packed_buffer(alloc)?;
@@ -269,7 +287,8 @@ impl<F: Files> Store<F> {
         }
     }
 
-    /// As `find`, where the records of this buffer are asked in place of those of the file; none where it is `None`.
+    /// As `find`, among the records of this buffer and not those of the file; among loose files alone where it is `None`. As
+    /// gix-ref's `file::Store::find_packed`.
     pub fn find_packed(
         &mut self,
         alloc: Global,

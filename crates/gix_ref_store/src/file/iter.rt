@@ -24,7 +24,8 @@ pub mod loose_then_packed {
     pub use gix_ref_listing::error::Error;
 }
 
-/// What the names of a whole listing begin with: `refs/`, or in a namespace nothing.
+/// What the names of a whole listing begin with: `refs/`, or in a namespace nothing. As the prefix of gix-ref's
+/// `Platform::all`.
 pub fn prefix_of_all(namespace: &Option<Namespace>) -> &'static [u8]
     ensures { result.now ≡ prefix_of_all namespace.now }
 {
@@ -43,7 +44,8 @@ pub struct Remaining<'p> {
 
 /// The loose references of a store and those of `packed-refs`, by ascending names, each name once and without the namespace: a
 /// loose reference has precedence over a packed one. The file of a loose reference is read when it is given. A fault is an item
-/// in the place of its reference, and the listing goes on after it. It borrows the store until it is dropped.
+/// in the place of its reference, and the listing goes on after it. It borrows the store until it is dropped. As
+/// gix-ref's `file::iter::LooseThenPacked`.
 #[derive(Drop)]
 pub struct LooseThenPacked<'p, F, R = Remaining<'p>> {
     store: &'p mut Store<F>,
@@ -75,8 +77,8 @@ impl<'p, F: Files> LooseThenPacked<'p, F> {
     ghost use Rattle.gix_ref_store.specs.Listings.{LendsNext, items_left};
 
     /// The next item, where it is a record of `packed-refs`: the record is lent from the buffer, where `next` would make a
-    /// `Reference` of it. `None`, and nothing is taken, where the next item is anything else, and where none is left. Takes no
-    /// memory, and reads no file.
+    /// `Reference` of it. `None` where the next item is anything else, which then stays the next, and at the end. Takes no
+    /// memory, and reads no file. Not in gix-ref.
     ///
     /// ```text
     /// while let Some(own) = items.next_record() {
@@ -98,7 +100,7 @@ impl<'p, F: Files> LooseThenPacked<'p, F> {
 impl<'p, F> LooseThenPacked<'p, F> {
     ghost use Rattle.std.specs.Prelude.{◌≡◌};
 
-    /// Ends the listing, and gives the store back.
+    /// Ends the listing, and gives the store back. Not in gix-ref.
     pub fn into_store(self) -> &'p mut Store<F>
         ensures same_reference { result.ghost_name ≡ self.entry.store.ghost_name }
         ensures same { result.now ≡ self.entry.store.now }
@@ -109,7 +111,7 @@ impl<'p, F> LooseThenPacked<'p, F> {
 }
 
 /// The references of a store among its loose files and the records that its `packed-refs` had when `iter` opened it, for any
-/// number of listings. It borrows the store until it is dropped.
+/// number of listings. It borrows the store until it is dropped. As gix-ref's `file::iter::Platform`.
 #[derive(Drop)]
 pub struct Platform<'s, F, P = Option<Buffer>> {
     store: &'s mut Store<F>,
@@ -124,7 +126,8 @@ impl<'s, F: Files> Platform<'s, F> {
     ghost use Rattle.gix_ref_store.specs.Lookup.{LooksUp};
     ghost use Rattle.gix_ref_store.specs.Listings.{Lists, ListsPseudo, HasRecords, prefix_of_all, platform_store};
 
-    /// The references below `refs/`, or in a namespace all of its references, as `iter_packed` gives them.
+    /// The references below `refs/`, or in a namespace all of its references, as `iter_packed` gives them. As gix-ref's
+    /// `Platform::all`.
     ///
     /// `Memory` where there was no memory for the names of the loose references.
     ///
@@ -147,10 +150,17 @@ impl<'s, F: Files> Platform<'s, F> {
     }
 
     /// The references whose names begin with the prefix, as `iter_prefixed_packed` gives them. The records of the prefix are
-    /// found by halving where `packed-refs` is sorted.
+    /// found by halving where `packed-refs` is sorted. As gix-ref's `Platform::prefixed`.
     ///
     /// `EmptyPrefix` where the prefix is empty and the store is in no namespace; `PrefixNotClean` where it begins with a slash,
     /// has two slashes in a row or a NUL, or a component of it is `.` or `..`; `Memory`.
+    ///
+    /// ```text
+    /// let mut platform = store.iter(alloc)?;
+    /// for tag in platform.prefixed(alloc, b"refs/tags/")? {
+    ///     println!(rt; "{}", tag?.name)?;
+    /// }
+    /// ```
     pub fn prefixed(
         &mut self,
         alloc: Global,
@@ -171,6 +181,7 @@ impl<'s, F: Files> Platform<'s, F> {
     }
 
     /// The pseudo references, as `Store::iter_pseudo` gives them. `Memory` where there was no memory for their names.
+    /// As gix-ref's `Platform::pseudo`.
     pub fn pseudo(&mut self, alloc: Global) -> Result<LooseThenPacked<'_, F>, Error>
         ensures looks_up { IfOk result
             (λ it. LooksUp F.honest F.means (platform_store self.entry.now) it.store.now) }
@@ -280,7 +291,7 @@ impl<F: Files> Store<F> {
     }
 
     /// The references below `refs/`, or in a namespace all of its references: the loose ones, and those of the buffer if one
-    /// is given (`git for-each-ref`). Names are without the namespace.
+    /// is given (`git for-each-ref`). Names are without the namespace. As gix-ref's `file::Store::iter_packed`.
     ///
     /// The folders of the loose references are listed now, one call of files each; a file is read when its reference is given,
     /// and a record is decoded when it is given. A folder that cannot be listed is an item.
@@ -317,7 +328,7 @@ impl<F: Files> Store<F> {
 
     /// As `iter_packed`, of the references whose names begin with the prefix. Of the folders only those are listed that such
     /// names may be in, and of a sorted buffer only the records of the prefix are looked at. The buffer may be one that was read
-    /// for this prefix by `open_packed_prefixed`.
+    /// for this prefix by `open_packed_prefixed`. As gix-ref's `file::Store::iter_prefixed_packed`.
     ///
     /// `EmptyPrefix` where the prefix is empty and the store is in no namespace; `PrefixNotClean` where it begins with a slash,
     /// has two slashes in a row or a NUL, or a component of it is `.` or `..`; `Memory`.
@@ -352,7 +363,7 @@ impl<F: Files> Store<F> {
         }
     }
 
-    /// As `iter_packed`, of the loose references alone.
+    /// As `iter_packed`, of the loose references alone. As gix-ref's `file::Store::loose_iter`.
     pub fn loose_iter(&mut self, alloc: Global) -> Result<LooseThenPacked<'_, F>, Error>
         ensures* rests { sem 𝓛 (RestsIfErr (the_row F.row) self.entry
             (λ it. it.store.ghost_name) result
@@ -367,7 +378,7 @@ impl<F: Files> Store<F> {
         self.iter_packed(alloc, None)
     }
 
-    /// As `iter_prefixed_packed`, of the loose references alone.
+    /// As `iter_prefixed_packed`, of the loose references alone. As gix-ref's `file::Store::loose_iter_prefixed`.
     pub fn loose_iter_prefixed(
         &mut self,
         alloc: Global,
@@ -388,7 +399,8 @@ impl<F: Files> Store<F> {
         self.iter_prefixed_packed(alloc, prefix, None)
     }
 
-    /// Opens `packed-refs`, for listings of the store (`git for-each-ref`): the file is read once, as a whole.
+    /// Opens `packed-refs`, for listings of the store (`git for-each-ref`): the file is read once, as a whole. As
+    /// gix-ref's `file::Store::iter`.
     ///
     /// `PackedOpen` where it cannot be opened or read, begins with `#` and has no header, or has a line that is no record where
     /// the records are to be sorted; `Memory`.
@@ -420,7 +432,7 @@ impl<F: Files> Store<F> {
 
     /// The pseudo references (`git for-each-ref --include-root-refs`): the loose files directly in the git folder, in a namespace
     /// in its folder there, that have their place there and whose names end with `HEAD`, as `FETCH_HEAD` and `ORIG_HEAD`. Names
-    /// are without the namespace.
+    /// are without the namespace. As gix-ref's `file::Store::iter_pseudo`.
     ///
     /// The folder is listed now, by one call of files; a file is read when its reference is given. A folder that cannot be
     /// listed is an item.

@@ -22,7 +22,8 @@ impl<F: Files> Store<F> {
     ghost use Rattle.gix_ref_store.specs.Lookup.{LooksUp};
     ghost use Rattle.gix_ref_store.specs.Reflogs.{reflog_at, is_log_prohibited, ReadsForward, ReadsBackward, IsNoReflog, IsNoReverse, EndsAtErrors};
 
-    /// Whether a reference has a reflog: a file at the path of its log (`git reflog exists`). One call of files.
+    /// Whether a reference has a reflog: a file at the path of its log (`git reflog exists`). One call of files. As
+    /// gix-ref's `file::Store::reflog_exists`.
     ///
     /// `Io` where that cannot be found out, `DeviceName` where a component of the path is the name of a Windows device and
     /// the store prohibits these, `Memory` where there was none for the path.
@@ -50,8 +51,9 @@ impl<F: Files> Store<F> {
         log_exists(alloc, &mut self.files, settings, name)
     }
 
-    /// The lines of the reflog of a reference, oldest first, from the buffer into which the whole log is read in place of what
-    /// was there; `None` where the reference has no log. A line that cannot be decoded is an item with its number.
+    /// The lines of the reflog of a reference, oldest first, from the buffer, whose content is replaced with the whole
+    /// log; `None` where the reference has no log. A line that cannot be decoded is an item with its number. As
+    /// gix-ref's `file::Store::reflog_iter` (`git reflog`).
     ///
     /// `Io` where the log cannot be read, `DeviceName` where a component of its path is the name of a Windows device and the
     /// store prohibits these, `Memory` where there was none for the path or the log.
@@ -95,7 +97,7 @@ impl<F: Files> Store<F> {
 
     /// The lines of the reflog of a reference, newest first, through the buffer, whose length in bytes is the limit of a line
     /// and its line feed; `None` where the reference has no log, whatever the buffer. Reads as much of the file as its lines
-    /// ask for (`git log -g`).
+    /// ask for (`git log -g`). As gix-ref's `file::Store::reflog_iter_rev`.
     ///
     /// `EmptyBuffer` where there is a log and the buffer has no byte, `Io` where the log cannot be opened, `DeviceName` where a
     /// component of its path is the name of a Windows device and the store prohibits these, `Memory` where there was none for
@@ -146,7 +148,8 @@ impl<F: Files> Store<F> {
     }
 }
 
-/// The reflog of a reference: a store, a name, and a buffer for what is read. Each of its calls reads the log anew.
+/// The reflog of a reference: a store, a name, and a buffer for what is read. Each of its calls reads the log anew. As
+/// gix-ref's `file::log::iter::Platform`.
 #[derive(Drop)]
 pub struct Platform<'a, 's, F> {
     /// The store of the reference.
@@ -162,7 +165,8 @@ impl<F: Files> Platform<'_, '_, F> {
     ghost use Rattle.gix_ref_name.specs.Names.{full_ref_bytes};
     ghost use Rattle.gix_ref_store.specs.Reflogs.{reflog_at, is_log_prohibited, ReadsForward, ReadsBackward, IsNoReflog, EndsAtErrors};
 
-    /// The lines of the log, oldest first; `None` where the reference has no log. As `Store::reflog_iter`.
+    /// The lines of the log, oldest first; `None` where the reference has no log. As `Store::reflog_iter`, and as gix-ref's
+    /// `Platform::all`.
     ///
     /// ```text
     /// let mut platform = reference.log_iter(alloc, &mut store);
@@ -181,7 +185,16 @@ impl<F: Files> Platform<'_, '_, F> {
     }
 
     /// The lines of the log, newest first, through 4,096 bytes of the buffer; `None` where the reference has no log. As
-    /// `Store::reflog_iter_rev`.
+    /// `Store::reflog_iter_rev`. As gix-ref's `Platform::rev`.
+    ///
+    /// ```text
+    /// let mut platform = reference.log_iter(alloc, &mut store);
+    /// if let Some(lines) = platform.rev(alloc)? {
+    ///     for line in lines {
+    ///         println!(rt; "{}", line?.new_oid)?; // the newest first
+    ///     }
+    /// }
+    /// ```
     pub fn rev(&mut self, alloc: Global) -> Result<Option<Reverse<'_, F::Reader>>, Error>
         ensures lines { F.honest → IfOk result (ReadsBackward F.Reader.ReadAt
             (reflog_at F.means self.old.store.now (full_ref_bytes self.old.name)) 4096) }

@@ -12,7 +12,8 @@ impl<F> Store<F> {
     ghost use Rattle.gix_ref_store.specs.Store.{files_of, threshold_of, IsSameStore};
 
     /// Keeps a new threshold, in bytes, and returns the one before; it is 32,768 at first. Other stores map `packed-refs` into
-    /// memory from that size on; this one reads it, so the threshold has no other effect.
+    /// memory from that size on; this one reads it, so the threshold has no other effect. As gix-ref's
+    /// `file::Store::set_packed_buffer_mmap_threshold`.
     pub fn set_packed_buffer_mmap_threshold(&mut self, threshold: u64) -> u64
         ensures before { result ≡ threshold_of self.old }
         ensures kept { threshold_of self.new ≡ threshold }
@@ -37,7 +38,16 @@ impl<F: Files> Store<F> {
 
     /// The `packed-refs` of the store in memory; `None` where there is no such file. `Io` where it cannot be read,
     /// `HeaderParsing` where it begins with `#` and has no header, `Iter` at the first line that is no record where the records
-    /// are to be sorted, and `Memory`. The file is read once, as a whole.
+    /// are to be sorted, and `Memory`. The file is read once, as a whole. As gix-ref's
+    /// `file::Store::open_packed_buffer`.
+    ///
+    /// ```text
+    /// if let Some(packed) = store.open_packed_buffer(alloc)? {
+    ///     for record in packed.iter() {
+    ///         println!(rt; "{}", record?.name)?;
+    ///     }
+    /// }
+    /// ```
     pub fn open_packed_buffer(&mut self, alloc: Global) -> Result<Option<Buffer>, Error>
         ensures opened { F.honest → IfOk result (OpensBuffer F.means self.old) }
         ensures refused { F.honest → IfErr result (RefusesBuffer F.means self.old) }
@@ -58,7 +68,8 @@ impl<F: Files> Store<F> {
         )
     }
 
-    /// As `open_packed_buffer`: the file is read anew each time.
+    /// As `open_packed_buffer`: the file is read anew each time. As gix-ref's `file::Store::cached_packed_buffer`,
+    /// which keeps it.
     pub fn cached_packed_buffer(&mut self, alloc: Global) -> Result<Option<Buffer>, Error>
         ensures opened { F.honest → IfOk result (OpensBuffer F.means self.old) }
         ensures refused { F.honest → IfErr result (RefusesBuffer F.means self.old) }
@@ -72,7 +83,7 @@ impl<F: Files> Store<F> {
     /// The records of the `packed-refs` of the store whose names begin with the prefix, for `iter_prefixed_packed` of that
     /// prefix; other records may be among them. `None` where there is no such file. Of a file whose header says `sorted` only
     /// the lines of these records are read, and the few that halving looks at; any other file is read as a whole. The errors are
-    /// those of `open_packed_buffer`.
+    /// those of `open_packed_buffer`. Not in gix-ref.
     ///
     /// ```text
     /// let packed = store.open_packed_prefixed(alloc, b"refs/tags/")?;
@@ -107,6 +118,7 @@ impl<F: Files> Store<F> {
     }
 
     /// Tries to open the `packed-refs` of the store, and keeps nothing of it: the errors are those of `open_packed_buffer`.
+    /// As gix-ref's `file::Store::force_refresh_packed_buffer`.
     pub fn force_refresh_packed_buffer(&mut self, alloc: Global) -> Result<(), Error>
         ensures refused { F.honest → IfErr result (RefusesBuffer F.means self.old) }
         ensures no_fault { OnOk result (F.faults (files_of self.new) ≡ F.faults

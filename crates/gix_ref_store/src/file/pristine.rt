@@ -18,7 +18,8 @@ impl<F: Files> Store<F> {
 
     /// Whether the store is as `git init` makes it: `HEAD` is symbolic to this name, no loose reference below `refs/`, or in a
     /// namespace anywhere in it, can be read, and there is no `packed-refs`. `None` where `HEAD` cannot be read, and where a
-    /// folder could not be listed or a file not be read. The error reports that there was no memory.
+    /// folder could not be listed or a file not be read. The error reports that there was no memory. As gix-ref's
+    /// `file::Store::is_pristine`.
     ///
     /// Reads `HEAD`. Where it is symbolic to the name and there is no `packed-refs`, lists the folders of the loose references,
     /// and reads these up to the first that holds a target.

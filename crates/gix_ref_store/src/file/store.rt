@@ -15,7 +15,7 @@ use thiserror::Error;
 /// The threshold of a new store, in bytes.
 const PACKED_MMAP_THRESHOLD: u64 = 32_768;
 
-/// A store of references in files: loose files below the git folder and the common folder.
+/// A store of references in files: loose files below the git folder and the common folder. As gix-ref's `file::Store`.
 #[derive(Drop)]
 pub struct Store<F> {
     /// When log lines are written.
@@ -63,7 +63,8 @@ impl<F> Store<F> {
     ghost use Rattle.gix_ref_store.specs.Store.{files_of, folders, given_common, kind_of, meaning_of, IsMade, AreDirs, HasNoStore};
 
     /// The store in a git folder that is the common folder too, with the default options. The folder is bytes with
-    /// slashes; `object_hash` is the kind of all ids. `PathNotClean` hands the files back.
+    /// slashes; `object_hash` is the kind of all ids. `PathNotClean` hands the files back. As gix-ref's
+    /// `file::Store::at`.
     ///
     /// ```text
     /// let store = Store::at(Disk::new(rt.clone()?), b".git".to_vec(alloc)?, Kind::Sha1)?;
@@ -76,7 +77,12 @@ impl<F> Store<F> {
         Store::at_opts(files, git_dir, object_hash, Options::default())
     }
 
-    /// As `at`, with options.
+    /// As `at`, with options, and as gix-ref's `file::Store::at_opts`.
+    ///
+    /// ```text
+    /// let options = Options { write_reflog: WriteReflog::Disable, ..Options::default() };
+    /// let store = Store::at_opts(files, b".git".to_vec(alloc)?, Kind::Sha1, options)?;
+    /// ```
     pub fn at_opts(
         files: F,
         git_dir: Vec<u8>,
@@ -92,6 +98,7 @@ impl<F> Store<F> {
 
     /// The store of a linked worktree, whose git folder is `<common_dir>/worktrees/<one component>`, or apart from the
     /// common folder, with the default options (`git worktree`). `PathNotClean` and `FoldersMeet` hand the files back.
+    /// As gix-ref's `file::Store::for_linked_worktree`.
     ///
     /// ```text
     /// let git_dir = b".git/worktrees/fix".to_vec(alloc)?;
@@ -111,7 +118,7 @@ impl<F> Store<F> {
         Store::for_linked_worktree_opts(files, git_dir, common_dir, object_hash, Options::default())
     }
 
-    /// As `for_linked_worktree`, with options.
+    /// As `for_linked_worktree`, with options, and as gix-ref's `file::Store::for_linked_worktree_opts`.
     pub fn for_linked_worktree_opts(
         files: F,
         git_dir: Vec<u8>,
@@ -159,7 +166,7 @@ impl<F> Store<F> {
         })
     }
 
-    /// The files, in place of the store.
+    /// Ends the store, and gives its files back. Not in gix-ref.
     pub fn into_files(self) -> F
         ensures { result ≡ files_of self }
     {
@@ -176,14 +183,15 @@ impl<F> Store<F> {
         files
     }
 
-    /// The git folder, with the files that belong to this worktree alone (`git rev-parse --git-dir`).
+    /// The git folder, with the files that belong to this worktree alone (`git rev-parse --git-dir`). As gix-ref's
+    /// `file::Store::git_dir`.
     pub fn git_dir(&self) -> &[u8]
         ensures { result.now ≡ (folders self.now).git }
     {
         &self.dirs.git_dir
     }
 
-    /// The common folder, where one was given.
+    /// The common folder, where one was given. As gix-ref's `file::Store::common_dir`.
     pub fn common_dir(&self) -> Option<&[u8]>
         ensures { option_map (λ dir. dir.now) result ≡ given_common self.now }
     {
@@ -194,14 +202,15 @@ impl<F> Store<F> {
     }
 
     /// The common folder of all worktrees: the one that was given, else the git folder.
-    /// (`git rev-parse --git-common-dir`)
+    /// (`git rev-parse --git-common-dir`, gix-ref's `file::Store::common_dir_resolved`)
     pub fn common_dir_resolved(&self) -> &[u8]
         ensures { result.now ≡ (folders self.now).common }
     {
         self.dirs.common()
     }
 
-    /// The path of `packed-refs` (`git pack-refs`). The error says that there was no memory for it.
+    /// The path of `packed-refs` (`git pack-refs`). The error says that there was no memory for it. As gix-ref's
+    /// `file::Store::packed_refs_path`.
     pub fn packed_refs_path(&self, alloc: Global) -> Result<Vec<u8>, AllocError>
         ensures { IfOk result (λ path. path.items ≡ packed_refs (folders self.now)) }
     {
@@ -211,6 +220,7 @@ impl<F> Store<F> {
     }
 
     /// The path of the loose file of a name (`git rev-parse --git-path`). The error says that there was no memory for it.
+    /// As gix-ref's private `file::Store::reference_path`.
     pub fn reference_path(
         &self,
         alloc: Global,

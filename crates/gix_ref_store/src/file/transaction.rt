@@ -5,23 +5,22 @@ ghost use Rattle.std.specs.Borrow.{sem, RestsIfErr};
 ghost use Rattle.gix_ref_files.specs.Files.{HasRisen};
 ghost use Rattle.gix_ref_packed.specs.OpenFiles.{HasReadFault};
 ghost use Rattle.gix_ref_transaction.specs.OwnLocks.{paths_of};
-ghost use Rattle.gix_ref_edits.specs.RefEdits.{AreUpdates};
-ghost use Rattle.gix_ref_store.specs.Prepared.{RefusesFrom, PreparesGiven, RollsBackFrom};
+ghost use Rattle.gix_ref_store.specs.Prepared.{RefusesFrom, PreparesGiven, RollsBackFrom, HasRoom};
 
 pub mod commit;
 pub mod prepare;
 
 use crate::file::store::Store;
+use crate::file::transaction::commit::carry_out::EndedEarly;
 use crate::store::WriteReflog;
 use gix_ref_edits::transaction::RefEdit;
 use gix_ref_files::files::Files;
+use gix_ref_files::lock::LockFile;
 use gix_ref_log::actor::SignatureRef;
-use gix_ref_transaction::commit::failure::{failure, take_place};
-use gix_ref_transaction::commit::renames::Unpublished;
-use gix_ref_transaction::paths::Paths;
-use gix_ref_transaction::prepare::carry::{carry_edits, note_writes};
-use gix_ref_transaction::prepare::hold::{Taken, Untaken};
-use gix_ref_transaction::release::{release_locks, remove_locks};
+use gix_ref_transaction::edit::Edit;
+use gix_ref_transaction::prepare::carry::carry_all;
+use gix_ref_transaction::prepare::hold::{HeldLocks, LockFailure};
+use gix_ref_transaction::release::{Remains, release_all};
 use std::alloc::Global;
 use std::fmt;
 use thiserror::Error;
@@ -54,13 +53,11 @@ pub struct Transaction<'s, F: Files> {
 /// The edits of a prepared transaction, and its locks.
 #[derive(Debug, Drop)]
 pub struct Plan {
-    edits: Vec<RefEdit>,
+    packed: Option<LockFile>,
+    edits: Vec<Edit>,
     packed_refs: PackedRefs,
-    paths: Vec<Paths>,
-    left: Vec<Vec<u8>>,
-    pub ghost room: { vec_len paths ≤ vec_capacity left },
-    pub ghost none: { vec_len left ≡ 0 },
-    pub ghost len: { vec_len paths ≡ vec_len edits },
+    remains: Remains,
+    pub ghost room: { HasRoom edits remains },
 }
 
 /// A transaction whose locks are held. It must be spent, by `commit` or `rollback`.
@@ -156,19 +153,18 @@ impl<'s, F: Files> Transaction<'s, F> {
 
 impl<'s, F: Files> Transaction<'s, F> {
     ghost use Rattle.gix_ref_store.specs.contracts.file.store.Store.{the_row};
-    ghost use Rattle.gix_ref_store.specs.PreparedFields.{prepared_edits, prepared_mode, prepared_paths};
+    ghost use Rattle.gix_ref_store.specs.PreparedFields.{held_edits, held_packed, prepared_mode};
 
     /// Checks the edits, splits those that follow symbolic references, and takes the locks of all with their whole texts
     /// (`prepare` of `git update-ref --stdin`). The edits of a prepared transaction are those of the split list: an edit of a
-    /// symbolic reference is of its log alone, and the reference that it leads to has an edit. For now each edit is an update of
-    /// an object or a symbolic target, and no log line is written.
+    /// symbolic reference is of its log alone, and the reference that it leads to has an edit. The lock of `packed-refs` is
+    /// taken too, where that is a file and an edit of a reference, not of its log alone, may have a record in it.
     ///
     /// `Refused` has the first cause that applies, in the order of `prepare::Error`; then all is as before but for
     /// the locks that it names, and folders on the way to locks. Reads one file for each edit, and makes one, and reads one more for
     /// each that follows; `packed-refs` is
     /// opened once, and searched once for each edit whose reference can be in it; the names of the edits are sorted.
     pub fn prepare(self, alloc: Global, edits: Vec<RefEdit>) -> Result<Prepared<'s, F>, Refused>
-        requires { AreUpdates edits.items }
         ensures* rests { sem 𝓛 (RestsIfErr (the_row F.row) self.entry.store
             (λ p. p.store.ghost_name) result
             (λ n. IfErr result (λ r. RefusesFrom F.honest (HasReadFault F.Reader.faults)
@@ -178,31 +174,33 @@ impl<'s, F: Files> Transaction<'s, F> {
         ensures same_reference { IfOk result
             (λ p. p.store.ghost_name ≡ self.entry.store.ghost_name) }
         ensures prepared { IfOk result (λ p. PreparesGiven F.honest F.means F.faults
-            self.entry.store.now p.store.now edits.items (prepared_edits p.plan)
-            (prepared_paths p.plan)) }
+            self.entry.store.now p.store.now edits.items (held_packed p.plan) (held_edits p.plan)) }
         ensures packed_refs { IfOk result (λ p. prepared_mode p.plan ≡ self.entry.packed_refs) }
     {
         let Transaction { store, packed_refs } = self;
         match store.begin(alloc, edits) {
-            Err(untaken) => {
-                let Untaken { error, locks_left } = untaken;
+            Err(failure) => {
+                let LockFailure { error, locks_left } = failure;
                 Err(Refused {
                     error,
                     packed_refs,
                     locks_left,
                 })
             }
-            Ok((edits, taken)) => {
-                let Taken { found, paths, left } = taken;
-                let paths = note_writes(paths, &found);
-                let edits = carry_edits(edits, found);
+            Ok(held) => {
+                let HeldLocks {
+                    packed,
+                    mut edits,
+                    remains,
+                } = held;
+                carry_all(&mut edits);
                 Ok(Prepared {
                     store,
                     plan: Plan {
+                        packed,
                         edits,
                         packed_refs,
-                        paths,
-                        left,
+                        remains,
                     },
                 })
             }
@@ -232,62 +230,70 @@ impl<F: Files> Transaction<'_, F> {
 }
 
 impl<F: Files> Prepared<'_, F> {
-    ghost use Rattle.gix_ref_store.specs.CommitResult.{left_of, mode_of, EveryStopFrom, EveryLossFrom, SettlesFrom, CommitsFrom, FailsFor};
-    ghost use Rattle.gix_ref_transaction.specs.PrepareSteps.{lock_paths};
-    ghost use Rattle.gix_ref_store.specs.PreparedFields.{prepared_edits, prepared_mode, prepared_paths};
+    ghost use Rattle.gix_ref_store.specs.CommitResult.{left_of, mode_of, EveryStopFrom, EveryLossFrom, SettlesFrom, CommitsFrom, FailsFor, NoBadLineFrom};
+    ghost use Rattle.gix_ref_transaction.specs.PrepareSteps.{held_locks};
+    ghost use Rattle.gix_ref_store.specs.PreparedFields.{held_edits, held_packed, prepared_edits, prepared_mode};
     ghost use Rattle.gix_ref_store.specs.Store.{files_of, IsSameStore};
 
-    /// Renames the lock of each reference that changes to its place, in the order of the edits, and removes the other locks.
-    /// At every stop on the way, and after every loss of power, each reference reads as before or as edited: the text of a
-    /// lock was synced by `prepare`, and the folders above a place are synced before the next rename. A commit that succeeds
-    /// leaves all synced. Costs one rename and the syncs of the folders for a reference that changes, and one removal for one
-    /// that has its new object already. (`commit` of `git update-ref --stdin`)
+    /// Carries the edits out: renames the lock of each reference that changes to its place, in the order of the edits; removes the
+    /// logs of deletions; renames the lock of `packed-refs`, with a text without the records of deleted references, to its place, or
+    /// removes that file, where no record is left; removes the loose files of deletions; and removes the other locks. What becomes
+    /// of each log and of `packed-refs` is decided before the first of these, and the new text is in the lock by then.
     ///
-    /// `LockCommit` where a rename or a sync after it failed, `FolderInPlace` where a folder is at the place of a reference. The
-    /// edits before that one are done then, and the locks are removed but for those that are named. `Memory` where there was
-    /// none for the plan of the renames; nothing is done then but the removal of locks. No log line is written yet, so the
-    /// store must write none, and the committer is not looked at.
+    /// At every stop on the way, and after every loss of power, each reference reads as before or as edited, no deletion shows
+    /// before every update, and updates show in their order: texts are synced before they are renamed, and the folders above a
+    /// path before the next step. A commit that succeeds leaves all synced. Costs one call of files and the syncs of the folders
+    /// for each reference and each log that changes, and one removal for each other lock; where a deleted reference has a record,
+    /// `packed-refs` is read and written once. (`commit` of `git update-ref --stdin`)
+    ///
+    /// `LockCommit`, `DeleteReflog`, `PackedTransactionCommit` and `DeleteReference` where a call of files failed in that step, or a
+    /// sync after it; `FolderInPlace` where a folder is at the place of a reference, or of `packed-refs`. The steps before that one
+    /// are done then, and the locks are removed but for those that are named. `PackedTransactionCommit` also where `packed-refs`
+    /// could not be read or has a line that is no record, and `Memory` where there was none for the plan; nothing is done then but
+    /// the removal of locks. No log line is written yet, so the store must write none, and the committer is not looked at.
     pub fn commit(self, alloc: Global, _committer: Option<SignatureRef<'_>>) -> Result<Done, Failed>
         requires quiet { self.store.now.write_reflog ≡ WriteReflog.Disable }
         ensures edits { IfOk result (λ done. done.edits.items ≡ prepared_edits self.entry.plan) }
         ensures packed_refs { mode_of result ≡ prepared_mode self.entry.plan }
         ensures committed { IfOk result (λ done. CommitsFrom F.honest F.means F.faults
-            self.entry.store.now self.exit.0.now (prepared_edits self.entry.plan)
-            (prepared_paths self.entry.plan) (paths_of done.locks_left.items)) }
+            self.entry.store.now self.exit.0.now (held_packed self.entry.plan) (held_edits self.entry.plan) (paths_of done.locks_left.items)) }
         ensures failed { IfErr result (λ f. FailsFor F.honest F.means F.faults self.entry.store.now
-            self.exit.0.now (prepared_edits self.entry.plan) (prepared_paths self.entry.plan)
+            self.exit.0.now (held_packed self.entry.plan) (held_edits self.entry.plan)
+            f.error) }
+        ensures sound { IfErr result (λ f. NoBadLineFrom F.honest F.means F.faults
+            self.entry.store.now (held_packed self.entry.plan) (held_edits self.entry.plan)
             f.error) }
         ensures ended { EveryStopFrom F.honest F.means F.faults self.entry.store.now self.exit.0.now
-            (prepared_edits self.entry.plan) (prepared_paths self.entry.plan) (left_of result) }
+            (held_packed self.entry.plan) (held_edits self.entry.plan) (left_of result) }
         ensures lost { EveryLossFrom F.honest F.means F.faults self.entry.store.now self.exit.0.now
-            (prepared_edits self.entry.plan) (prepared_paths self.entry.plan) }
+            (held_packed self.entry.plan) (held_edits self.entry.plan) }
         ensures settled { OnOk result (SettlesFrom F.honest F.means F.faults self.entry.store.now
-            self.exit.0.now (prepared_edits self.entry.plan) (prepared_paths self.entry.plan)) }
+            self.exit.0.now (held_packed self.entry.plan) (held_edits self.entry.plan)) }
         ensures named { (left_of result ≡ []) ⊎ HasRisen (F.faults (files_of self.entry.store.now))
             (F.faults (files_of self.exit.0.now)) }
         ensures same { IsSameStore self.entry.store.now self.exit.0.now }
     {
         let Prepared { store, plan } = self;
         let Plan {
+            packed,
             edits,
             packed_refs,
-            mut paths,
-            left,
+            remains,
         } = plan;
-        if let Err(Unpublished { at, why }) = store.publish(alloc, &paths) {
-            let place = take_place(alloc, &mut paths, at);
-            let locks_left = release_locks(&mut store.files, at, paths, left);
-            return Err(Failed {
-                error: failure(edits, at, place, why),
-                packed_refs,
-                locks_left,
-            });
-        }
-        let locks_left = release_locks(&mut store.files, edits.len(), paths, left);
+        let remains = match store.carry_out(alloc, edits, packed, remains) {
+            Ok(remains) => remains,
+            Err(EndedEarly { error, left }) => {
+                return Err(Failed {
+                    error,
+                    packed_refs,
+                    locks_left: left,
+                });
+            }
+        };
         Ok(Done {
-            edits,
+            edits: remains.edits,
             packed_refs,
-            locks_left,
+            locks_left: remains.left,
         })
     }
 
@@ -295,23 +301,23 @@ impl<F: Files> Prepared<'_, F> {
     /// be removed is named. Takes no memory. (`abort` of `git update-ref --stdin`)
     pub fn rollback(self) -> RolledBack
         ensures rolled { RollsBackFrom F.honest F.means F.faults self.entry.store.now
-            self.exit.0.now (lock_paths (prepared_paths self.entry.plan))
+            self.exit.0.now (held_locks (held_packed self.entry.plan) (held_edits self.entry.plan))
             (paths_of result.locks_left.items) }
         ensures edits { result.edits.items ≡ prepared_edits self.entry.plan }
         ensures packed_refs { result.packed_refs ≡ prepared_mode self.entry.plan }
     {
         let Prepared { store, plan } = self;
         let Plan {
+            packed,
             edits,
             packed_refs,
-            paths,
-            left,
+            remains,
         } = plan;
-        let locks_left = remove_locks(&mut store.files, paths, left);
+        let remains = release_all(&mut store.files, 0, packed, edits, remains);
         RolledBack {
-            edits,
+            edits: remains.edits,
             packed_refs,
-            locks_left,
+            locks_left: remains.left,
         }
     }
 }

@@ -10,7 +10,7 @@ use Rattle.gix_ref_lookup.specs.declared.find.loose.Loose.TheVariants as loose_f
 use Rattle.gix_ref_theory.specs.Readings.{Store}
 use Rattle.gix_ref_edits.specs.EditValues.{ChangeValue, EditValue, ExpectedValue, edit_value}
 use Rattle.gix_ref_edits.specs.EditValues.ChangeValue.{update, delete}
-use Rattle.gix_ref_edits.specs.EditValues.ExpectedValue.{must_match, may_match}
+use Rattle.gix_ref_edits.specs.EditValues.ExpectedValue.{must_not_exist, must_match, may_match}
 use Rattle.gix_ref_edits.specs.SplitLists.{looked_up, child_list, referent, after_round, children}
 use Rattle.gix_ref_edits.specs.declared.transaction.RefEdit.{RefEdit}
 use Rattle.gix_ref_transaction.specs.Causes.{IsFullTarget, IsOfKind, IsWellNamed, IsWholeTarget}
@@ -72,8 +72,15 @@ abbrev pub expected_in : ChangeValue → ExpectedValue
 expected_in (update mode forced message expected new) = expected
 expected_in (delete expected mode) = expected
 
--- a change is sound: its targets are
+-- a deletion does not expect that there is no reference
+abbrev pub IsPossibleValue : ChangeValue → Type 0
+IsPossibleValue (update mode forced message expected new) = Unit {0}
+IsPossibleValue (delete must_not_exist mode) = ⊥
+IsPossibleValue (delete expected mode) = Unit {0}
+
+-- a change is sound: it can be, and its targets are sound
 pub record IsSoundChange (kind : Kind) (change : ChangeValue) : Type 0 where
+  pub possible : IsPossibleValue change
   pub target : IsFullTarget (new_in change)
   pub new : IsOfKind kind (new_in change)
   pub previous : IsOfKind kind (previous_in (expected_in change))

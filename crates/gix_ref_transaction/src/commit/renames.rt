@@ -1,5 +1,6 @@
 //! The renames of a commit, planned.
 ghost use Rattle.std.specs.Prelude.{◌≡◌, ◌<◌, List, IfOk, length};
+ghost use Rattle.gix_ref_files.specs.Lock.{lock_of};
 ghost use Rattle.gix_ref_files.specs.Steps.{step_of, steps_of};
 ghost use Rattle.gix_ref_files.specs.Steps.Step.{Rename};
 ghost use Rattle.gix_ref_files.specs.DiskSteps.{synced_step, synced_steps};
@@ -8,7 +9,7 @@ ghost use Rattle.gix_ref_files.specs.Settled.{climb};
 ghost use Rattle.gix_ref_lookup.specs.StoreLayout.{root_in};
 ghost use Rattle.gix_ref_transaction.specs.CommitRenames.{renames_of, synced_renames_of, IsStepOf, SayTheirEdits, why_is};
 
-use crate::paths::Paths;
+use crate::edit::Edit;
 use gix_ref_files::files::FileError;
 use gix_ref_files::steps::{Action, Cause, Ended, Planned, Settle};
 use gix_ref_lookup::folders::Dirs;
@@ -35,19 +36,19 @@ pub struct Unpublished {
 }
 
 /// The rename of a lock to its place, and the syncs of the folders above it.
-fn rename_of<'p>(dirs: &Dirs, own: &'p Paths, at: usize) -> Planned<'p, usize>
-    ensures step { step_of result.action ≡ Rename own.now.lock.items own.now.place.items }
-    ensures synced { synced_step result ≡ With (Rename own.now.lock.items own.now.place.items)
-        (climb own.now.place.items (root_in dirs.now own.now.place.items)) }
+fn rename_of<'p>(dirs: &Dirs, own: &'p Edit, at: usize) -> Planned<'p, usize>
+    ensures step { step_of result.action ≡ Rename (lock_of own.now.lock) own.now.lock }
+    ensures synced { synced_step result ≡ With (Rename (lock_of own.now.lock) own.now.lock)
+        (climb own.now.lock (root_in dirs.now own.now.lock)) }
     ensures about { result.about ≡ at }
 {
     Planned {
         action: Action::Rename {
-            from: &own.lock,
-            to: &own.place,
+            from: own.lock.path(),
+            to: own.lock.place(),
         },
         settle: Settle::UpTo {
-            root: dirs.root(&own.place),
+            root: dirs.root(own.lock.place()),
         },
         about: at,
     }
@@ -57,16 +58,16 @@ fn rename_of<'p>(dirs: &Dirs, own: &'p Paths, at: usize) -> Planned<'p, usize>
 pub fn plan_renames<'p>(
     alloc: Global,
     dirs: &Dirs,
-    paths: &'p [Paths],
+    edits: &'p [Edit],
 ) -> Result<Vec<Planned<'p, usize>>, AllocError>
-    ensures steps { IfOk result (λ plan. steps_of plan.items ≡ renames_of paths.now) }
+    ensures steps { IfOk result (λ plan. steps_of plan.items ≡ renames_of edits.now) }
     ensures synced { IfOk result (λ plan. synced_steps plan.items
-        ≡ synced_renames_of dirs.now paths.now) }
-    ensures each { IfOk result (λ plan. SayTheirEdits paths.now plan.items) }
+        ≡ synced_renames_of dirs.now edits.now) }
+    ensures each { IfOk result (λ plan. SayTheirEdits edits.now plan.items) }
 {
-    let mut plan = Vec::with_capacity(alloc, paths.len())?;
-    for (at, own) in paths.iter().enumerate() {
-        if own.writes {
+    let mut plan = Vec::with_capacity(alloc, edits.len())?;
+    for (at, own) in edits.iter().enumerate() {
+        if own.effect.is_write() {
             plan.push(rename_of(dirs, own, at))?;
         }
     }
@@ -86,8 +87,8 @@ fn why_of(cause: Cause) -> Why
 /// Where a run of these renames ended, in the list of edits.
 pub fn where_ended(plan: &[Planned<'_, usize>], ended: Ended) -> Unpublished
     requires { ended.at < length plan.now }
-    ensures at { (paths : List Paths) → SayTheirEdits paths plan.now →
-        IsStepOf paths ended.at result.at }
+    ensures at { (edits : List Edit) → SayTheirEdits edits plan.now →
+        IsStepOf edits ended.at result.at }
     ensures why { result.why ≡ why_is ended.cause }
 {
     Unpublished {

@@ -1,50 +1,35 @@
 //! Edits that carry what was found of them.
-ghost use Rattle.std.specs.Prelude.{◌≡◌, vec_len, length};
-ghost use Rattle.gix_ref_transaction.specs.PrepareSteps.{value_of, lock_paths, place_paths, targets_of, flags_of};
-ghost use Rattle.gix_ref_transaction.specs.CommitRenames.{written_flags};
+ghost use Rattle.std.specs.Prelude.{◌≡◌};
+ghost use Rattle.gix_ref_transaction.specs.PrepareSteps.{value_of, place_paths, targets_of, effects_of, ids_in, updates};
 ghost use Rattle.gix_ref_transaction.specs.CarriedEdits.{IsCarried, AreCarried};
 
-use crate::paths::Paths;
-use crate::prepare::lock::Found;
-use gix_ref_base::target::Target;
-use gix_ref_edits::transaction::{Change, PreviousValue, RefEdit};
+use crate::edit::Edit;
+use gix_ref_edits::transaction::{Change, PreviousValue};
 
 /// The edit whose reference was found expects just that.
-fn carry_edit(edit: &mut RefEdit, was: Option<Target>)
-    ensures { IsCarried edit.old (value_of was) edit.new }
+fn carry(edit: &mut Edit)
+    ensures carried { IsCarried edit.old.update (value_of edit.old.found) edit.new.update }
+    ensures place { edit.new.lock ≡ edit.old.lock }
+    ensures effect { edit.new.effect ≡ edit.old.effect }
+    ensures id { edit.new.packed ≡ edit.old.packed }
 {
-    let Some(target) = was else {
+    let Some(target) = edit.found.take() else {
         return;
     };
-    match &mut edit.change {
+    match &mut edit.update.change {
         Change::Update { expected, .. } => *expected = PreviousValue::MustExistAndMatch(target),
         Change::Delete { expected, .. } => *expected = PreviousValue::MustExistAndMatch(target),
     }
 }
 
 /// Each edit whose reference was found expects just that.
-pub fn carry_edits(mut edits: Vec<RefEdit>, mut found: Vec<Found>) -> Vec<RefEdit>
-    requires { vec_len found ≡ vec_len edits }
-    ensures len { vec_len result ≡ vec_len edits }
-    ensures carried { AreCarried edits.items (targets_of found.items) result.items }
+pub fn carry_all(edits: &mut [Edit])
+    ensures carried { AreCarried (updates edits.old) (targets_of edits.old) (updates edits.new) }
+    ensures places { place_paths edits.new ≡ place_paths edits.old }
+    ensures effects { effects_of edits.new ≡ effects_of edits.old }
+    ensures ids { ids_in edits.new ≡ ids_in edits.old }
 {
-    for i in 0..edits.len() {
-        let was = found[i].target.take();
-        carry_edit(&mut edits[i], was);
+    for edit in edits.iter_mut() {
+        carry(edit);
     }
-    edits
-}
-
-/// Notes of each edit whether it writes its reference.
-pub fn note_writes(mut paths: Vec<Paths>, found: &[Found]) -> Vec<Paths>
-    requires { vec_len paths ≡ length found.now }
-    ensures places { place_paths result.items ≡ place_paths paths.items }
-    ensures locks { lock_paths result.items ≡ lock_paths paths.items }
-    ensures written { written_flags result.items ≡ flags_of found.now }
-    ensures len { vec_len result ≡ vec_len paths }
-{
-    for i in 0..paths.len() {
-        paths[i].writes = found[i].writes;
-    }
-    paths
 }

@@ -1,10 +1,10 @@
 //! What each edit has to meet by itself.
-ghost use Rattle.std.specs.Prelude.{◌≡◌, ◌↔◌, ◌⊎◌, [], IsTrue, OnOk, IfOk, IfErr, Option, Some, None};
+ghost use Rattle.std.specs.Prelude.{◌≡◌, ◌↔◌, ◌⊎◌, [], IsTrue, MatchBool, OnOk, IfOk, IfErr, Option, Some, None};
 ghost use Rattle.std.specs.Option.{option_map};
 ghost use Rattle.gix_ref_hash.specs.Ids.{id_kind, IsWhole};
 ghost use Rattle.gix_ref_name.specs.Names.{full_ref_bytes};
 ghost use Rattle.gix_ref_base.specs.Targets.{target_ref_value};
-ghost use Rattle.gix_ref_transaction.specs.Causes.{IsValidEdit, IsInvalidEdit, IsWellNamed, IsMisnamed, AllValid, IsFirstInvalid, IsFullTarget, IsOfKind, IsWholeTarget, HasKind, IsNotIo, IsDoubling, names_of};
+ghost use Rattle.gix_ref_transaction.specs.Causes.{IsValidEdit, IsInvalidEdit, IsWellNamed, IsMisnamed, AllValid, IsFirstInvalid, IsPossible, IsFullTarget, IsOfKind, IsWholeTarget, HasKind, IsNotIo, IsDoubling, names_of};
 ghost use Rattle.gix_ref_transaction.specs.PrepareSteps.{setting_of};
 ghost use Rattle.gix_ref_edits.specs.DoubledNames.{NoneDoubled};
 ghost use Rattle.gix_ref_base.specs.Locations.{is_safe};
@@ -13,11 +13,26 @@ ghost use Rattle.gix_ref_edits.specs.RefEdits.{name_of, new_of};
 use crate::prepare::Error;
 use gix_ref_base::layout::location_of;
 use gix_ref_base::target::TargetRef;
-use gix_ref_edits::transaction::{EditError, RefEdit, RefEditsExt, SplitError};
+use gix_ref_edits::transaction::{
+    Change, EditError, PreviousValue, RefEdit, RefEditsExt, SplitError,
+};
 use gix_ref_hash::hash::{Kind, ObjectId};
 use gix_ref_lookup::settings::Settings;
 use gix_ref_name::name::FullNameRef;
 use std::alloc::{AllocError, Global};
+
+/// Whether a change can be: a deletion does not expect that there is no reference.
+fn is_possible(change: &Change) -> bool
+    ensures { MatchBool result (IsPossible change.now) (IsPossible change.now → ⊥) }
+{
+    match change {
+        Change::Delete {
+            expected: PreviousValue::MustNotExist,
+            ..
+        } => false,
+        Change::Delete { .. } | Change::Update { .. } => true,
+    }
+}
 
 /// Whether the name of a new symbolic target is a full name.
 fn is_full_target(new: Option<TargetRef<'_>>) -> bool
@@ -108,6 +123,9 @@ fn check_edit(alloc: Global, settings: &Settings<'_>, edit: &RefEdit) -> Result<
     ensures inside { IfErr result IsNotIo }
 {
     check_name(alloc, settings, edit.name.as_ref())?;
+    if !is_possible(&edit.change) {
+        return Err(Error::DeleteMustNotExist);
+    }
     if !is_full_target(edit.change.new_value()) {
         return Err(Error::TargetNotFull);
     }

@@ -8,9 +8,8 @@ use std::alloc::AllocError;
 use std::convert::Infallible;
 use thiserror::Error;
 
-/// The causes of a refusal, in the order in which `prepare` reports them: the first four of each edit by itself, then a name
-/// that two edits have, then `packed-refs` and its records, before it takes any lock; the others edit by edit. `Io` and
-/// `Memory` can come anywhere.
+/// The causes of a refusal, in the order in which `prepare` reports them: the first five of each edit by itself, then the split
+/// list, then the lock of `packed-refs`, that file and its records; the others edit by edit. `Io` and `Memory` can come anywhere.
 #[derive(Debug, Drop, Error)]
 pub enum Error {
     /// The name of an edit neither begins with `refs/` nor has a category, so it may lie where Git keeps something else.
@@ -19,6 +18,9 @@ pub enum Error {
     /// A component of the place of an edit's reference is the name of a Windows device, as `CON`, and the store prohibits these.
     #[error("a component of the name of an edit is the name of a Windows device")]
     DeviceName,
+    /// A deletion expects that there is no reference.
+    #[error("a deletion expects that the reference does not exist")]
+    DeleteMustNotExist,
     /// The new target of an edit is the name of a reference, and no full name.
     #[error("the name of a new symbolic target is no full name")]
     TargetNotFull,
@@ -31,6 +33,9 @@ pub enum Error {
     PreprocessingFailed {
         source: SplitError<Infallible>,
     },
+    /// `packed-refs` may change, and its lock exists already or a file is in the path of it.
+    #[error("packed-refs is locked")]
+    PackedTransactionAcquire,
     /// `packed-refs` could not be opened or read, or it is malformed where it is read as a whole.
     #[error("packed-refs could not be opened: {0}")]
     Packed(packed::buffer::open::Error),
@@ -45,6 +50,11 @@ pub enum Error {
     /// Something is at the path of the edit's lock already.
     #[error("the lock of {full_name} stands already")]
     LockAcquire {
+        full_name: FullName,
+    },
+    /// The reference is not there, and a deletion expects it.
+    #[error("the reference {full_name} does not exist, and is to be deleted")]
+    DeleteReferenceMustExist {
         full_name: FullName,
     },
     /// The reference is not there, and an update expects it. Where it expects no certain target, that is the null id.

@@ -1,8 +1,8 @@
 //! What was found against what an edit expects.
-ghost use Rattle.std.specs.Prelude.{◌≡◌, ◌≢◌, Some, None, MatchResult, MatchBool, IsErrAnd, IsSome};
+ghost use Rattle.std.specs.Prelude.{◌≡◌, ◌≢◌, Some, None, MatchResult, MatchBool, IsErrAnd};
 ghost use Rattle.gix_ref_base.specs.Targets.{target_value};
 ghost use Rattle.gix_ref_edits.specs.RefEdits.{Expects, expected_of, new_of, previous_of};
-ghost use Rattle.gix_ref_transaction.specs.Causes.{required, IsMismatch};
+ghost use Rattle.gix_ref_transaction.specs.Causes.{required, IsMismatch, IsPossible};
 ghost use Rattle.gix_ref_transaction.specs.PrepareSteps.{value_of};
 ghost use Rattle.gix_ref_edits.specs.declared.transaction.PreviousValue.TheVariants.{MustNotExist as must_not_exist};
 
@@ -25,10 +25,14 @@ fn missing(edit: &RefEdit, expected: Target, kind: Kind) -> Result<(), Error>
     requires { required kind (expected_of edit.now.change) ≡ Some (target_value expected) }
     ensures { IsErrAnd result (IsMismatch kind edit.now None) }
 {
-    Err(Error::MustExist {
-        full_name: edit.name.clone()?,
-        expected,
-    })
+    let full_name = edit.name.clone()?;
+    match &edit.change {
+        Change::Update { .. } => Err(Error::MustExist {
+            full_name,
+            expected,
+        }),
+        Change::Delete { .. } => Err(Error::DeleteReferenceMustExist { full_name }),
+    }
 }
 
 /// Another target was found than the one that may be there.
@@ -58,11 +62,12 @@ fn standing(edit: &RefEdit, new: &Target, actual: &Target, kind: Kind) -> Result
     })
 }
 
-/// A target was found where an update expects none: it must be the new one.
+/// A target was found where an edit expects none: it must be the new one of an update.
 fn check_new(edit: &RefEdit, actual: &Target, kind: Kind) -> Result<(), Error>
     requires absent { expected_of edit.now.change ≡ must_not_exist }
-    requires update { IsSome (new_of edit.now.change) }
-    ensures { MatchResult result (λ _. new_of edit.now.change ≡ Some (target_value actual.now))
+    requires possible { IsPossible edit.now.change }
+    ensures { MatchResult result (λ _. Expects must_not_exist (new_of edit.now.change)
+        (Some (target_value actual.now)))
         (IsMismatch kind edit.now (Some (target_value actual.now))) }
 {
     match &edit.change {
@@ -79,7 +84,7 @@ fn check_new(edit: &RefEdit, actual: &Target, kind: Kind) -> Result<(), Error>
 
 /// A target was found.
 fn check_standing(edit: &RefEdit, actual: &Target, kind: Kind) -> Result<(), Error>
-    requires { IsSome (new_of edit.now.change) }
+    requires { IsPossible edit.now.change }
     ensures { MatchResult result (λ _. Expects (expected_of edit.now.change)
         (new_of edit.now.change) (Some (target_value actual.now)))
         (IsMismatch kind edit.now (Some (target_value actual.now))) }
@@ -99,7 +104,7 @@ fn check_standing(edit: &RefEdit, actual: &Target, kind: Kind) -> Result<(), Err
 
 /// Nothing was found.
 fn check_absent(edit: &RefEdit, kind: Kind) -> Result<(), Error>
-    requires { IsSome (new_of edit.now.change) }
+    requires { IsPossible edit.now.change }
     ensures { MatchResult result (λ _. Expects (expected_of edit.now.change)
         (new_of edit.now.change) None) (IsMismatch kind edit.now None) }
 {
@@ -111,9 +116,9 @@ fn check_absent(edit: &RefEdit, kind: Kind) -> Result<(), Error>
     }
 }
 
-/// What was found against what an update expects.
+/// What was found against what an edit expects.
 pub fn check_expected(edit: &RefEdit, found: &Option<Target>, kind: Kind) -> Result<(), Error>
-    requires { IsSome (new_of edit.now.change) }
+    requires { IsPossible edit.now.change }
     ensures { MatchResult result (λ _. Expects (expected_of edit.now.change)
         (new_of edit.now.change) (value_of found.now))
         (IsMismatch kind edit.now (value_of found.now)) }

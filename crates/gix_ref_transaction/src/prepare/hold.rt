@@ -1,222 +1,299 @@
 //! All locks of a transaction, or none.
-ghost use Rattle.std.specs.Prelude.{◌≡◌, ◌≤◌, ◌⊎◌, List, [], true, OnOk, IfOk, IfErr, vec_len, length};
+ghost use Rattle.std.specs.Prelude.{◌≡◌, ◌≤◌, ◌<◌, ◌+◌, ◌⊎◌, ℕ, List, [], true, OnOk, IfOk, IfErr, map, vec_len};
 ghost use Rattle.std.specs.Vec.{vec_capacity};
-ghost use Rattle.gix_ref_files.specs.Files.{disk_of, Leaves, Passes, HasRisen};
-ghost use Rattle.gix_ref_files.specs.Settled.{AllStay};
-ghost use Rattle.gix_ref_theory.specs.OnDisks.{IsAsBefore};
-ghost use Rattle.gix_ref_theory.specs.OnRealTrees.{view_of};
+ghost use Rattle.gix_ref_files.specs.Files.{disk_of, Leaves, HasRisen};
+ghost use Rattle.gix_ref_files.specs.Lock.{lock_of};
+ghost use Rattle.gix_ref_files.specs.Settled.{IsWhole};
 ghost use Rattle.gix_ref_files.specs.Tree.{Path};
 ghost use Rattle.gix_ref_packed.specs.OpenFiles.{HasReadFault};
 ghost use Rattle.gix_ref_lookup.specs.Lookups.{packed_refs_in};
-ghost use Rattle.gix_ref_transaction.specs.OwnLocks.{paths_of, is_in, AddsLocks};
-ghost use Rattle.gix_ref_transaction.specs.Causes.{AllValid, LocksAreApart, IsCounted, IsCountedWith, IsFirstCause, IsIoOrMemory, IsPackedRefusal, IsPackedWell, NoCause, locks_of};
-ghost use Rattle.gix_ref_transaction.specs.PrepareSteps.{setting_of, lock_paths, place_paths, places_of, packed_ids, are_written, targets_of, flags_of, HoldTexts, AreLockable, AreWholeLocks, old_targets};
-ghost use Rattle.gix_ref_edits.specs.RefEdits.{AreUpdates};
+ghost use Rattle.gix_ref_transaction.specs.OwnLocks.{paths_of, is_in, AddsLocks, OnlyLocks};
+ghost use Rattle.gix_ref_transaction.specs.Causes.{AllValid, LocksAreApart, IsCounted, IsCountedWith, IsFirstCause, IsIoOrMemory, IsLockCause, IsPackedLocked, IsPackedRefusal, IsPackedWell, locks_of, packed_taken};
+ghost use Rattle.gix_ref_transaction.specs.PrepareSteps.{setting_of, updates, all_asked, all_given, ids_in, packed_ids, place_paths, places_of, own_locks, packed_places, possible_locks, AreEmpty, AreSettled, AreLockable, AreWholeLocks, IsPackedPlace};
 
-use crate::paths::Paths;
+use crate::edit::Edit;
 use crate::prepare::Error;
-use crate::prepare::lock::{Found, paths_of_edits};
-use crate::prepare::records::find_ids;
+use crate::prepare::packed_lock::take_packed;
+use crate::prepare::records::find_records;
 use crate::prepare::take::take_locks;
-use crate::release::remove_locks;
+use crate::release::{Remains, release_locks, release_packed};
 use gix_ref_edits::transaction::RefEdit;
 use gix_ref_files::files::Files;
-use gix_ref_hash::hash::ObjectId;
+use gix_ref_files::lock::LockFile;
 use gix_ref_lookup::settings::Settings;
 use std::alloc::{AllocError, Global};
 
 /// Why no lock is held, and the locks that could not be removed again.
 #[derive(Debug, Drop)]
-pub struct Untaken {
+pub struct LockFailure {
     pub error: Error,
     pub locks_left: Vec<Vec<u8>>,
 }
 
-/// Locks that are held: their paths, room for the names of those that will not be removed, and what was found.
+/// Edits whose locks are held, and room for what remains of them.
 #[derive(Debug, Drop)]
-pub struct Taken {
-    pub found: Vec<Found>,
-    pub paths: Vec<Paths>,
-    pub left: Vec<Vec<u8>>,
+pub struct HeldEdits {
+    pub edits: Vec<Edit>,
+    pub remains: Remains,
 }
 
-/// What the clean-up wants: the paths of the locks, and room for those that stay.
-pub fn reserve(
+/// All locks of a transaction, held.
+#[derive(Debug, Drop)]
+pub struct HeldLocks {
+    /// The lock of `packed-refs`, where it is held.
+    pub packed: Option<LockFile>,
+    pub edits: Vec<Edit>,
+    /// Room for what remains of them.
+    pub remains: Remains,
+}
+
+/// The edits of a list that are not begun, with the paths of their locks.
+pub fn edits_at(
     alloc: Global,
     settings: &Settings<'_>,
-    edits: &[RefEdit],
-) -> Result<(Vec<Paths>, Vec<Vec<u8>>), AllocError>
-    ensures len { IfOk result (λ r. vec_len r.0 ≡ length edits.now) }
-    ensures places { IfOk result (λ r. place_paths r.0.items ≡ places_of (setting_of settings.now)
-        edits.now) }
-    ensures locks { IfOk result (λ r. lock_paths r.0.items ≡ locks_of (setting_of settings.now)
-        edits.now) }
-    ensures room { IfOk result (λ r. vec_len r.0 ≤ vec_capacity r.1) }
-    ensures none { IfOk result (λ r. r.1.items ≡ []) }
+    given: Vec<RefEdit>,
+) -> Result<Vec<Edit>, AllocError>
+    ensures asked { IfOk result (λ edits. updates edits.items ≡ given.items) }
+    ensures places { IfOk result (λ edits. place_paths edits.items ≡ places_of
+        (setting_of settings.now) given.items) }
 {
-    let paths = paths_of_edits(alloc, settings, edits)?;
-    let left = Vec::with_capacity(alloc, paths.len())?;
-    Ok((paths, left))
+    let mut edits = Vec::with_capacity(alloc, given.len())?;
+    for update in given {
+        edits.push(Edit::at(alloc, settings, update)?)?;
+    }
+    Ok(edits)
 }
 
-/// Takes all locks, or removes those that it took. `packed` has the ids of the edits' records.
+/// Takes all locks, or removes those that it took. Each edit has the id of its record.
 fn hold<F: Files>(
     alloc: Global,
     files: &mut F,
     settings: &Settings<'_>,
-    edits: &[RefEdit],
-    mut paths: Vec<Paths>,
-    packed: &[Option<ObjectId>],
-    left: Vec<Vec<u8>>,
-) -> Result<Taken, Untaken>
-    requires locks { lock_paths paths.items ≡ locks_of (setting_of settings.now) edits.now }
-    requires places { place_paths paths.items ≡ places_of (setting_of settings.now) edits.now }
-    requires apart { LocksAreApart (setting_of settings.now) edits.now }
-    requires updates { AreUpdates edits.now }
-    requires valid { AllValid (setting_of settings.now) settings.now.kind [] edits.now }
-    requires ids { length packed.now ≡ length edits.now }
-    requires room { vec_len paths ≤ vec_capacity left }
-    requires none { left.items ≡ [] }
-    ensures len { IfOk result (λ t. vec_len t.found ≡ length edits.now) }
-    ensures found { F.honest → packed.now ≡ packed_ids (setting_of settings.now)
-        (F.means files.old).tree edits.now →
-        IfOk result (λ t. targets_of t.found.items ≡ old_targets (setting_of settings.now)
-        (F.means files.old).tree edits.now) }
-    ensures written { F.honest → packed.now ≡ packed_ids (setting_of settings.now)
-        (F.means files.old).tree edits.now →
-        IfOk result (λ t. flags_of t.found.items ≡ are_written (setting_of settings.now)
-        (view_of (F.means files.old).tree) edits.now) }
-    ensures paths { IfOk result (λ t. t.paths ≡ paths) }
-    ensures left { IfOk result (λ t. t.left ≡ left) }
-    ensures passed { F.honest → packed.now ≡ packed_ids (setting_of settings.now)
-        (F.means files.old).tree edits.now →
-        OnOk result (NoCause (setting_of settings.now) settings.now.kind (F.means files.old).tree []
-        edits.now) }
-    ensures texts { F.honest → packed.now ≡ packed_ids (setting_of settings.now)
-        (F.means files.old).tree edits.now →
-        OnOk result (HoldTexts (setting_of settings.now) (F.means files.old).tree
-        (F.means files.new).tree edits.now) }
+    mut edits: Vec<Edit>,
+    remains: Remains,
+) -> Result<HeldEdits, LockFailure>
+    requires places { place_paths edits.items ≡ places_of (setting_of settings.now)
+        (updates edits.items) }
+    requires apart { LocksAreApart (setting_of settings.now) (updates edits.items) }
+    requires valid { AllValid (setting_of settings.now) settings.now.kind [] (updates edits.items) }
+    requires room { vec_len edits + vec_len remains.left < vec_capacity remains.left }
+    requires room_for_edits { vec_len edits ≤ vec_capacity remains.edits }
+    requires no_edits { remains.edits.items ≡ [] }
+    requires none { remains.left.items ≡ [] }
+    ensures given { IfOk result (λ held. all_given held.edits.items ≡ all_given edits.items) }
+    ensures remains { IfOk result (λ held. held.remains ≡ remains) }
+    ensures settled { F.honest → ids_in edits.items ≡ packed_ids (setting_of settings.now)
+        (F.means files.old).tree (updates edits.items) →
+        IfOk result (λ held. AreSettled (setting_of settings.now) settings.now.kind
+        (F.means files.old).tree (F.means files.new).tree edits.items held.edits.items) }
     ensures adds { F.honest →
-        OnOk result (AddsLocks (locks_of (setting_of settings.now) edits.now)
-        (locks_of (setting_of settings.now) edits.now) (F.means files.old).tree
+        OnOk result (AddsLocks (locks_of (setting_of settings.now) (updates edits.items))
+        (locks_of (setting_of settings.now) (updates edits.items)) (F.means files.old).tree
         (F.means files.new).tree) }
     ensures lockable { F.honest →
         OnOk result (AreLockable (setting_of settings.now) settings.now.kind
-        (F.means files.old).tree [] edits.now) }
-    ensures refused { F.honest → packed.now ≡ packed_ids (setting_of settings.now)
-        (F.means files.old).tree edits.now →
-        IfErr result (λ u. IsFirstCause (setting_of settings.now) settings.now.kind
-        (F.means files.old).tree [] edits.now u.error) }
+        (F.means files.old).tree [] (updates edits.items)) }
+    ensures refused { F.honest → ids_in edits.items ≡ packed_ids (setting_of settings.now)
+        (F.means files.old).tree (updates edits.items) →
+        IfErr result (λ failure. IsFirstCause (setting_of settings.now) settings.now.kind
+        (F.means files.old).tree [] (updates edits.items) failure.error) }
     ensures as_before { F.honest →
-        IfErr result (λ u. AddsLocks (paths_of u.locks_left.items)
-        (locks_of (setting_of settings.now) edits.now) (F.means files.old).tree
+        IfErr result (λ failure. AddsLocks (paths_of failure.locks_left.items)
+        (locks_of (setting_of settings.now) (updates edits.items)) (F.means files.old).tree
         (F.means files.new).tree) }
-    ensures ours { IfErr result (λ u. (q : Path) → is_in (paths_of u.locks_left.items) q ≡ true →
-        is_in (locks_of (setting_of settings.now) edits.now) q ≡ true) }
-    ensures named { IfErr result (λ u. (u.locks_left.items ≡ []) ⊎ HasRisen (F.faults files.old)
-        (F.faults files.new)) }
+    ensures ours { IfErr result (λ failure. (q : Path) →
+        is_in (paths_of failure.locks_left.items) q ≡ true →
+        is_in (locks_of (setting_of settings.now) (updates edits.items)) q ≡ true) }
+    ensures room { IfErr result (λ failure. vec_len failure.locks_left
+        < vec_capacity failure.locks_left) }
+    ensures named { IfErr result (λ failure. (failure.locks_left.items ≡ []) ⊎ HasRisen
+        (F.faults files.old) (F.faults files.new)) }
     ensures leaves { F.honest → Leaves (F.means files.old) (F.means files.new)
-        (AddsLocks (locks_of (setting_of settings.now) edits.now)
-        (locks_of (setting_of settings.now) edits.now) (F.means files.old).tree) }
+        (AddsLocks (locks_of (setting_of settings.now) (updates edits.items))
+        (locks_of (setting_of settings.now) (updates edits.items)) (F.means files.old).tree) }
     ensures whole { F.honest →
         OnOk result (AreWholeLocks (disk_of (F.means files.new))
-        (locks_of (setting_of settings.now) edits.now)) }
-    ensures passes { F.honest → (staying : List Path) →
-        AllStay (disk_of (F.means files.old)) staying →
-        Passes (F.means files.old) (F.means files.new)
-        (IsAsBefore (places_of (setting_of settings.now) edits.now) staying
-        (disk_of (F.means files.old))) }
+        (locks_of (setting_of settings.now) (updates edits.items))) }
+    ensures wholes { F.honest → (q : Path) (text : List ℕ) →
+        IsWhole (disk_of (F.means files.old)) q text →
+        OnOk result (IsWhole (disk_of (F.means files.new)) q text) }
+    ensures passes { F.honest → OnlyLocks (locks_of (setting_of settings.now)
+        (updates edits.items)) (F.means files.old) (F.means files.new) }
     ensures no_fewer { F.faults files.old ≤ F.faults files.new }
-    ensures counted { IfErr result (λ u. IsCounted (F.faults files.old) (F.faults files.new)
-        u.error) }
+    ensures counted { IfErr result (λ failure. IsCounted (F.faults files.old) (F.faults files.new)
+        failure.error) }
 {
     let mut taken = 0;
-    match take_locks(alloc, files, settings, edits, &paths, packed, &mut taken) {
-        Ok(found) => Ok(Taken { found, paths, left }),
+    match take_locks(alloc, files, settings, &mut edits, &mut taken) {
+        Ok(()) => Ok(HeldEdits { edits, remains }),
         Err(error) => {
-            paths.truncate(taken);
-            let locks_left = remove_locks(files, paths, left);
-            Err(Untaken { error, locks_left })
+            edits.truncate(taken);
+            let remains = release_locks(files, 0, edits, remains);
+            Err(LockFailure {
+                error,
+                locks_left: remains.left,
+            })
         }
     }
 }
 
 /// Finds the records of all edits, and then takes all locks, or removes those that it took.
-pub fn find_and_hold<F: Files>(
+fn find_and_hold<F: Files>(
     alloc: Global,
     files: &mut F,
     settings: &Settings<'_>,
-    edits: &[RefEdit],
-    paths: Vec<Paths>,
-    left: Vec<Vec<u8>>,
-) -> Result<Taken, Untaken>
-    requires locks { lock_paths paths.items ≡ locks_of (setting_of settings.now) edits.now }
-    requires places { place_paths paths.items ≡ places_of (setting_of settings.now) edits.now }
-    requires apart { LocksAreApart (setting_of settings.now) edits.now }
-    requires updates { AreUpdates edits.now }
-    requires valid { AllValid (setting_of settings.now) settings.now.kind [] edits.now }
-    requires room { vec_len paths ≤ vec_capacity left }
-    requires none { left.items ≡ [] }
-    ensures len { IfOk result (λ t. vec_len t.found ≡ length edits.now) }
-    ensures found { F.honest → IsPackedWell settings.now.kind (packed_refs_in settings.now (F.means
-        files.old)) →
-        IfOk result (λ t. targets_of t.found.items ≡ old_targets (setting_of settings.now)
-        (F.means files.old).tree edits.now) }
-    ensures written { F.honest → IsPackedWell settings.now.kind (packed_refs_in settings.now
+    mut edits: Vec<Edit>,
+    remains: Remains,
+) -> Result<HeldEdits, LockFailure>
+    requires places { place_paths edits.items ≡ places_of (setting_of settings.now)
+        (updates edits.items) }
+    requires apart { LocksAreApart (setting_of settings.now) (updates edits.items) }
+    requires valid { AllValid (setting_of settings.now) settings.now.kind [] (updates edits.items) }
+    requires room { vec_len edits + vec_len remains.left < vec_capacity remains.left }
+    requires room_for_edits { vec_len edits ≤ vec_capacity remains.edits }
+    requires no_edits { remains.edits.items ≡ [] }
+    requires none { remains.left.items ≡ [] }
+    ensures asked { IfOk result (λ held. all_asked held.edits.items ≡ all_asked edits.items) }
+    ensures remains { IfOk result (λ held. held.remains ≡ remains) }
+    ensures settled { F.honest → IsPackedWell settings.now.kind (packed_refs_in settings.now
         (F.means files.old)) →
-        IfOk result (λ t. flags_of t.found.items ≡ are_written (setting_of settings.now)
-        (view_of (F.means files.old).tree) edits.now) }
-    ensures paths { IfOk result (λ t. t.paths ≡ paths) }
-    ensures left { IfOk result (λ t. t.left ≡ left) }
-    ensures passed { F.honest → IsPackedWell settings.now.kind (packed_refs_in settings.now (F.means
-        files.old)) →
-        OnOk result (NoCause (setting_of settings.now) settings.now.kind (F.means files.old).tree []
-        edits.now) }
-    ensures texts { F.honest → IsPackedWell settings.now.kind (packed_refs_in settings.now (F.means
-        files.old)) →
-        OnOk result (HoldTexts (setting_of settings.now) (F.means files.old).tree
-        (F.means files.new).tree edits.now) }
+        IfOk result (λ held. AreSettled (setting_of settings.now) settings.now.kind
+        (F.means files.old).tree (F.means files.new).tree edits.items held.edits.items) }
     ensures adds { F.honest →
-        OnOk result (AddsLocks (locks_of (setting_of settings.now) edits.now)
-        (locks_of (setting_of settings.now) edits.now) (F.means files.old).tree
+        OnOk result (AddsLocks (locks_of (setting_of settings.now) (updates edits.items))
+        (locks_of (setting_of settings.now) (updates edits.items)) (F.means files.old).tree
         (F.means files.new).tree) }
     ensures lockable { F.honest →
         OnOk result (AreLockable (setting_of settings.now) settings.now.kind
-        (F.means files.old).tree [] edits.now) }
+        (F.means files.old).tree [] (updates edits.items)) }
     ensures refused { F.honest → IsPackedWell settings.now.kind (packed_refs_in settings.now
         (F.means files.old)) →
-        IfErr result (λ u. IsIoOrMemory u.error ⊎ IsFirstCause (setting_of settings.now)
-        settings.now.kind (F.means files.old).tree [] edits.now u.error) }
-    ensures opened { F.honest → IfErr result (λ u. IsPackedRefusal settings.now.kind
-        ((F.means files.old).tree (setting_of settings.now).packed_path) u.error) }
+        IfErr result (λ failure. IsIoOrMemory failure.error ⊎ IsFirstCause (setting_of settings.now) settings.now.kind
+        (F.means files.old).tree [] (updates edits.items) failure.error) }
+    ensures opened { F.honest → IfErr result (λ failure. IsPackedRefusal settings.now.kind
+        ((F.means files.old).tree (setting_of settings.now).packed_path) failure.error) }
     ensures as_before { F.honest →
-        IfErr result (λ u. AddsLocks (paths_of u.locks_left.items)
-        (locks_of (setting_of settings.now) edits.now) (F.means files.old).tree
+        IfErr result (λ failure. AddsLocks (paths_of failure.locks_left.items)
+        (locks_of (setting_of settings.now) (updates edits.items)) (F.means files.old).tree
         (F.means files.new).tree) }
-    ensures ours { IfErr result (λ u. (q : Path) → is_in (paths_of u.locks_left.items) q ≡ true →
-        is_in (locks_of (setting_of settings.now) edits.now) q ≡ true) }
-    ensures named { IfErr result (λ u. (u.locks_left.items ≡ []) ⊎ HasRisen (F.faults files.old)
-        (F.faults files.new)) }
+    ensures ours { IfErr result (λ failure. (q : Path) →
+        is_in (paths_of failure.locks_left.items) q ≡ true →
+        is_in (locks_of (setting_of settings.now) (updates edits.items)) q ≡ true) }
+    ensures room { IfErr result (λ failure. vec_len failure.locks_left
+        < vec_capacity failure.locks_left) }
+    ensures named { IfErr result (λ failure. (failure.locks_left.items ≡ []) ⊎ HasRisen
+        (F.faults files.old) (F.faults files.new)) }
     ensures leaves { F.honest → Leaves (F.means files.old) (F.means files.new)
-        (AddsLocks (locks_of (setting_of settings.now) edits.now)
-        (locks_of (setting_of settings.now) edits.now) (F.means files.old).tree) }
+        (AddsLocks (locks_of (setting_of settings.now) (updates edits.items))
+        (locks_of (setting_of settings.now) (updates edits.items)) (F.means files.old).tree) }
     ensures whole { F.honest →
         OnOk result (AreWholeLocks (disk_of (F.means files.new))
-        (locks_of (setting_of settings.now) edits.now)) }
-    ensures passes { F.honest → (staying : List Path) →
-        AllStay (disk_of (F.means files.old)) staying →
-        Passes (F.means files.old) (F.means files.new)
-        (IsAsBefore (places_of (setting_of settings.now) edits.now) staying
-        (disk_of (F.means files.old))) }
+        (locks_of (setting_of settings.now) (updates edits.items))) }
+    ensures wholes { F.honest → (q : Path) (text : List ℕ) →
+        IsWhole (disk_of (F.means files.old)) q text →
+        OnOk result (IsWhole (disk_of (F.means files.new)) q text) }
+    ensures passes { F.honest → OnlyLocks (locks_of (setting_of settings.now)
+        (updates edits.items)) (F.means files.old) (F.means files.new) }
     ensures no_fewer { F.faults files.old ≤ F.faults files.new }
-    ensures counted { IfErr result (λ u. IsCountedWith F.honest (HasReadFault F.Reader.faults)
-        (F.faults files.old) (F.faults files.new) u.error) }
+    ensures counted { IfErr result (λ failure. IsCountedWith F.honest (HasReadFault
+        F.Reader.faults) (F.faults files.old) (F.faults files.new) failure.error) }
 {
-    match find_ids(alloc, files, settings, edits) {
-        Ok(ids) => hold(alloc, files, settings, edits, paths, &ids, left),
-        Err(error) => Err(Untaken {
+    match find_records(alloc, files, settings, &mut edits) {
+        Ok(()) => hold(alloc, files, settings, edits, remains),
+        Err(error) => Err(LockFailure {
             error,
-            locks_left: left,
+            locks_left: remains.left,
         }),
+    }
+}
+
+/// Takes the lock of `packed-refs` where it is due, finds the records of all edits, and takes the locks of these; or removes those
+/// that it took.
+pub fn hold_all<F: Files>(
+    alloc: Global,
+    files: &mut F,
+    settings: &Settings<'_>,
+    edits: Vec<Edit>,
+    remains: Remains,
+) -> Result<HeldLocks, LockFailure>
+    requires places { place_paths edits.items ≡ places_of (setting_of settings.now)
+        (updates edits.items) }
+    requires apart { LocksAreApart (setting_of settings.now) (updates edits.items) }
+    requires valid { AllValid (setting_of settings.now) settings.now.kind [] (updates edits.items) }
+    requires room { vec_len edits + vec_len remains.left < vec_capacity remains.left }
+    requires room_for_edits { vec_len edits ≤ vec_capacity remains.edits }
+    requires no_edits { remains.edits.items ≡ [] }
+    requires none { remains.left.items ≡ [] }
+    ensures asked { IfOk result (λ held. all_asked held.edits.items ≡ all_asked edits.items) }
+    ensures remains { IfOk result (λ held. held.remains ≡ remains) }
+    ensures packed { F.honest → IfOk result (λ held. packed_places held.packed ≡ packed_taken
+        (setting_of settings.now) (F.means files.old).tree (updates edits.items)) }
+    ensures place { IfOk result (λ held. IsPackedPlace (setting_of settings.now) held.packed) }
+    ensures empty { F.honest → IfOk result (λ held. AreEmpty (F.means files.new).tree
+        (map lock_of (packed_places held.packed))) }
+    ensures free { F.honest → OnOk result (IsPackedLocked (setting_of settings.now)
+        (F.means files.old).tree (updates edits.items) → ⊥) }
+    ensures settled { F.honest → IsPackedWell settings.now.kind (packed_refs_in settings.now
+        (F.means files.old)) →
+        IfOk result (λ held. AreSettled (setting_of settings.now) settings.now.kind
+        (F.means files.old).tree (F.means files.new).tree edits.items held.edits.items) }
+    ensures adds { F.honest → OnOk result (AddsLocks (own_locks (setting_of settings.now)
+        (F.means files.old).tree (updates edits.items)) (own_locks (setting_of settings.now)
+        (F.means files.old).tree (updates edits.items)) (F.means files.old).tree
+        (F.means files.new).tree) }
+    ensures lockable { F.honest →
+        OnOk result (AreLockable (setting_of settings.now) settings.now.kind
+        (F.means files.old).tree [] (updates edits.items)) }
+    ensures refused { F.honest → IsPackedWell settings.now.kind (packed_refs_in settings.now
+        (F.means files.old)) →
+        IfErr result (λ failure. IsIoOrMemory failure.error ⊎ IsLockCause
+        (setting_of settings.now) settings.now.kind (F.means files.old).tree
+        (updates edits.items) failure.error) }
+    ensures opened { F.honest → IfErr result (λ failure. IsPackedRefusal settings.now.kind
+        ((F.means files.old).tree (setting_of settings.now).packed_path) failure.error) }
+    ensures as_before { F.honest →
+        IfErr result (λ failure. AddsLocks (paths_of failure.locks_left.items)
+        (own_locks (setting_of settings.now) (F.means files.old).tree (updates edits.items))
+        (F.means files.old).tree (F.means files.new).tree) }
+    ensures ours { IfErr result (λ failure. (q : Path) →
+        is_in (paths_of failure.locks_left.items) q ≡ true →
+        is_in (possible_locks (setting_of settings.now) (updates edits.items)) q ≡ true) }
+    ensures named { IfErr result (λ failure. (failure.locks_left.items ≡ []) ⊎ HasRisen
+        (F.faults files.old) (F.faults files.new)) }
+    ensures leaves { F.honest → Leaves (F.means files.old) (F.means files.new)
+        (AddsLocks (own_locks (setting_of settings.now) (F.means files.old).tree
+        (updates edits.items)) (own_locks (setting_of settings.now) (F.means files.old).tree
+        (updates edits.items)) (F.means files.old).tree) }
+    ensures whole { F.honest →
+        OnOk result (AreWholeLocks (disk_of (F.means files.new)) (own_locks
+        (setting_of settings.now) (F.means files.old).tree (updates edits.items))) }
+    ensures passes { F.honest → OnlyLocks (own_locks (setting_of settings.now)
+        (F.means files.old).tree (updates edits.items)) (F.means files.old) (F.means files.new) }
+    ensures no_fewer { F.faults files.old ≤ F.faults files.new }
+    ensures counted { IfErr result (λ failure. IsCountedWith F.honest (HasReadFault
+        F.Reader.faults) (F.faults files.old) (F.faults files.new) failure.error) }
+{
+    let packed = match take_packed(alloc, files, settings, &edits) {
+        Ok(packed) => packed,
+        Err(error) => {
+            return Err(LockFailure {
+                error,
+                locks_left: remains.left,
+            });
+        }
+    };
+    match find_and_hold(alloc, files, settings, edits, remains) {
+        Ok(held) => {
+            let HeldEdits { edits, remains } = held;
+            Ok(HeldLocks {
+                packed,
+                edits,
+                remains,
+            })
+        }
+        Err(mut failure) => {
+            release_packed(files, packed, &mut failure.locks_left);
+            Err(failure)
+        }
     }
 }

@@ -1,5 +1,5 @@
 //! The records of the edits of a transaction in `packed-refs`.
-ghost use Rattle.std.specs.Prelude.{◌≡◌, ◌≤◌, ◌⊎◌, ℕ, List, Option, None, OnOk, IfOk, IfErr, length, vec_len};
+ghost use Rattle.std.specs.Prelude.{◌≡◌, ◌≤◌, ◌⊎◌, ℕ, List, Option, None, OnOk, IfOk, IfErr};
 ghost use Rattle.gix_ref_hash.specs.declared.hash.Kind.{Kind};
 ghost use Rattle.gix_ref_name.specs.Names.{full_ref_bytes};
 ghost use Rattle.gix_ref_base.specs.PackedRecords.{Record, record_named};
@@ -11,17 +11,17 @@ ghost use Rattle.gix_ref_packed.specs.OpenFiles.{HasReadFault};
 ghost use Rattle.gix_ref_lookup.specs.Lookups.{packed_refs_in, ArePackedRecords, AreAsked, AreHonest, IsReady, HasKey};
 ghost use Rattle.gix_ref_transaction.specs.Causes.{id_of_record, packed_id, IsCountedWith, IsIoOrMemory, IsPackedRefusal};
 ghost use Rattle.gix_ref_transaction.specs.PackedCauses.{as_cause, ids_among};
-ghost use Rattle.gix_ref_transaction.specs.PrepareSteps.{setting_of};
+ghost use Rattle.gix_ref_transaction.specs.PrepareSteps.{setting_of, updates, all_asked, ids_in};
 
+use crate::edit::Edit;
 use crate::prepare::Error;
-use gix_ref_edits::transaction::RefEdit;
 use gix_ref_files::files::{Files, ReadAt};
 use gix_ref_hash::hash::ObjectId;
 use gix_ref_lookup::find;
 use gix_ref_lookup::find::records::Records;
 use gix_ref_lookup::settings::Settings;
 use gix_ref_name::name::FullNameRef;
-use std::alloc::{AllocError, Global};
+use std::alloc::Global;
 
 /// How a fault of `packed-refs` in a lookup is reported.
 fn refused(error: find::Error) -> Error
@@ -90,17 +90,18 @@ fn id_of<R: ReadAt + Drop>(
     }
 }
 
-/// The ids of the records of all edits, once `packed-refs` is open.
-fn ids_of<R: ReadAt + Drop>(
+/// Gives each edit the id of its record, once `packed-refs` is open.
+fn find_ids<R: ReadAt + Drop>(
     alloc: Global,
     settings: &Settings<'_>,
-    edits: &[RefEdit],
+    edits: &mut [Edit],
     records: &mut Records<'_, R>,
-) -> Result<Vec<Option<ObjectId>>, Error>
-    requires { IsReady records.now }
-    ensures len { IfOk result (λ ids. vec_len ids ≡ length edits.now) }
+) -> Result<(), Error>
+    requires { IsReady records.old }
+    ensures asked { all_asked edits.new ≡ all_asked edits.old }
     ensures found { (kind : Kind) (rs : List Record) → AreAsked kind None records.old rs →
-        IfOk result (λ ids. ids.items ≡ ids_among (setting_of settings.now) rs edits.now) }
+        OnOk result (ids_in edits.new ≡ ids_among (setting_of settings.now) rs
+        (updates edits.old)) }
     ensures sound { (kind : Kind) (rs : List Record) → AreAsked kind None records.old rs →
         IfErr result IsIoOrMemory }
     ensures refused { AreHonest records.old → (kind : Kind) (packed : Option Content) →
@@ -108,26 +109,25 @@ fn ids_of<R: ReadAt + Drop>(
     ensures counted { (before now : ℕ) →
         IfErr result (IsCountedWith (AreHonest records.old) (HasReadFault R.faults) before now) }
 {
-    let mut ids = Vec::with_capacity(alloc, edits.len())?;
-    for edit in edits {
-        let id = id_of(alloc, settings, edit.name.as_ref(), records)?;
-        ids.push(id).map_err(AllocError::from)?;
+    for edit in edits.iter_mut() {
+        edit.packed = id_of(alloc, settings, edit.update.name.as_ref(), records)?;
     }
-    Ok(ids)
+    Ok(())
 }
 
-/// Opens `packed-refs`, if there is one, and finds the ids of the records of all edits: one search for each edit whose reference
-/// has a key.
-pub fn find_ids<F: Files>(
+/// Opens `packed-refs`, if there is one, and gives each edit the id of its record: one search for each edit whose reference has a
+/// key.
+pub fn find_records<F: Files>(
     alloc: Global,
     files: &mut F,
     settings: &Settings<'_>,
-    edits: &[RefEdit],
-) -> Result<Vec<Option<ObjectId>>, Error>
-    ensures len { IfOk result (λ ids. vec_len ids ≡ length edits.now) }
+    edits: &mut [Edit],
+) -> Result<(), Error>
+    ensures asked { all_asked edits.new ≡ all_asked edits.old }
     ensures found { F.honest → (rs : List Record) →
         ArePackedRecords settings.now.kind (packed_refs_in settings.now (F.means files.old)) rs →
-        IfOk result (λ ids. ids.items ≡ ids_among (setting_of settings.now) rs edits.now) }
+        OnOk result (ids_in edits.new ≡ ids_among (setting_of settings.now) rs
+        (updates edits.old)) }
     ensures sound { F.honest → (rs : List Record) →
         ArePackedRecords settings.now.kind (packed_refs_in settings.now (F.means files.old)) rs →
         IfErr result IsIoOrMemory }
@@ -143,7 +143,7 @@ pub fn find_ids<F: Files>(
 {
     let mut records = Records::Unopened;
     match records.open(alloc, files, *settings) {
-        Ok(()) => ids_of(alloc, settings, edits, &mut records),
+        Ok(()) => find_ids(alloc, settings, edits, &mut records),
         Err(error) => Err(refused(error)),
     }
 }

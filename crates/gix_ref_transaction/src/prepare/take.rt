@@ -1,95 +1,71 @@
 //! All locks of a transaction, one edit after the other.
-ghost use Rattle.std.specs.Prelude.{◌≡◌, ◌≤◌, ◌⊎◌, List, [], ◌∷◌, OnOk, IfOk, IfErr, None, true, length, take, vec_len};
+ghost use Rattle.std.specs.Prelude.{◌≡◌, ◌≤◌, ℕ, List, [], OnOk, IfErr, None, true, length, take};
 ghost use Rattle.gix_ref_files.specs.Tree.{Path};
-ghost use Rattle.gix_ref_files.specs.Files.{disk_of, Leaves, Passes};
-ghost use Rattle.gix_ref_files.specs.Settled.{AllStay};
-ghost use Rattle.gix_ref_theory.specs.OnDisks.{IsAsBefore};
-ghost use Rattle.gix_ref_theory.specs.OnRealTrees.{view_of};
-ghost use Rattle.gix_ref_transaction.specs.OwnLocks.{AddsLocks, is_in};
-ghost use Rattle.gix_ref_transaction.specs.Causes.{AllValid, LocksAreApart, IsCounted, NoCause, IsFirstCause, locks_of};
-ghost use Rattle.gix_ref_transaction.specs.PrepareSteps.{setting_of, lock_paths, place_paths, places_of, packed_ids, are_written, targets_of, flags_of, HoldTexts, AreLockable, AreWholeLocks, old_targets};
-ghost use Rattle.gix_ref_edits.specs.RefEdits.{AreUpdates};
+ghost use Rattle.gix_ref_files.specs.Files.{disk_of, Leaves};
+ghost use Rattle.gix_ref_files.specs.Settled.{IsWhole};
+ghost use Rattle.gix_ref_transaction.specs.OwnLocks.{AddsLocks, OnlyLocks, is_in};
+ghost use Rattle.gix_ref_transaction.specs.Causes.{AllValid, LocksAreApart, IsCounted, IsFirstCause, locks_of};
+ghost use Rattle.gix_ref_transaction.specs.PrepareSteps.{setting_of, updates, place_paths, places_of, all_given, ids_in, packed_ids, AreSettled, AreLockable, AreWholeLocks};
 
-use crate::paths::Paths;
+use crate::edit::Edit;
 use crate::prepare::Error;
-use crate::prepare::lock::{Found, acquire, settle};
-use gix_ref_edits::transaction::RefEdit;
 use gix_ref_files::files::Files;
-use gix_ref_hash::hash::ObjectId;
 use gix_ref_lookup::settings::Settings;
-use std::alloc::{AllocError, Global};
+use std::alloc::Global;
 
-/// Takes the lock of each edit, up to the first that is at fault; `taken` counts them. `packed` has the ids of their records.
+/// Takes the lock of each edit and compares the edit with what there is, up to the first that is at fault; `taken` counts the locks.
+/// Each edit has the id of its record.
 pub fn take_locks<F: Files>(
     alloc: Global,
     files: &mut F,
     settings: &Settings<'_>,
-    edits: &[RefEdit],
-    paths: &[Paths],
-    packed: &[Option<ObjectId>],
+    edits: &mut [Edit],
     taken: &mut usize,
-) -> Result<Vec<Found>, Error>
-    requires locks { lock_paths paths.now ≡ locks_of (setting_of settings.now) edits.now }
-    requires places { place_paths paths.now ≡ places_of (setting_of settings.now) edits.now }
-    requires apart { LocksAreApart (setting_of settings.now) edits.now }
-    requires updates { AreUpdates edits.now }
-    requires valid { AllValid (setting_of settings.now) settings.now.kind [] edits.now }
-    requires ids { length packed.now ≡ length edits.now }
+) -> Result<(), Error>
+    requires places { place_paths edits.old ≡ places_of (setting_of settings.now)
+        (updates edits.old) }
+    requires apart { LocksAreApart (setting_of settings.now) (updates edits.old) }
+    requires valid { AllValid (setting_of settings.now) settings.now.kind [] (updates edits.old) }
     requires none { taken.old ≡ 0 }
-    ensures within { taken.new ≤ length edits.now }
-    ensures len { IfOk result (λ was. vec_len was ≡ length edits.now) }
-    ensures found { F.honest → packed.now ≡ packed_ids (setting_of settings.now)
-        (F.means files.old).tree edits.now →
-        IfOk result (λ was. targets_of was.items ≡ old_targets (setting_of settings.now)
-        (F.means files.old).tree edits.now) }
-    ensures written { F.honest → packed.now ≡ packed_ids (setting_of settings.now)
-        (F.means files.old).tree edits.now →
-        IfOk result (λ was. flags_of was.items ≡ are_written (setting_of settings.now)
-        (view_of (F.means files.old).tree) edits.now) }
-    ensures passed { F.honest → packed.now ≡ packed_ids (setting_of settings.now)
-        (F.means files.old).tree edits.now →
-        OnOk result (NoCause (setting_of settings.now) settings.now.kind (F.means files.old).tree []
-        edits.now) }
-    ensures texts { F.honest → packed.now ≡ packed_ids (setting_of settings.now)
-        (F.means files.old).tree edits.now →
-        OnOk result (HoldTexts (setting_of settings.now) (F.means files.old).tree
-        (F.means files.new).tree edits.now) }
-    ensures every { OnOk result (taken.new ≡ length edits.now) }
+    ensures given { all_given edits.new ≡ all_given edits.old }
+    ensures within { taken.new ≤ length edits.old }
+    ensures every { OnOk result (taken.new ≡ length edits.old) }
+    ensures settled { F.honest → ids_in edits.old ≡ packed_ids (setting_of settings.now)
+        (F.means files.old).tree (updates edits.old) →
+        OnOk result (AreSettled (setting_of settings.now) settings.now.kind
+        (F.means files.old).tree (F.means files.new).tree edits.old edits.new) }
+    ensures refused { F.honest → ids_in edits.old ≡ packed_ids (setting_of settings.now)
+        (F.means files.old).tree (updates edits.old) →
+        IfErr result (IsFirstCause (setting_of settings.now) settings.now.kind
+        (F.means files.old).tree [] (updates edits.old)) }
     ensures lockable { F.honest →
         OnOk result (AreLockable (setting_of settings.now) settings.now.kind
-        (F.means files.old).tree [] edits.now) }
-    ensures refused { F.honest → packed.now ≡ packed_ids (setting_of settings.now)
-        (F.means files.old).tree edits.now →
-        IfErr result (IsFirstCause (setting_of settings.now) settings.now.kind
-        (F.means files.old).tree [] edits.now) }
+        (F.means files.old).tree [] (updates edits.old)) }
     ensures adds { F.honest →
-        AddsLocks (locks_of (setting_of settings.now) (take taken.new edits.now))
-        (locks_of (setting_of settings.now) edits.now) (F.means files.old).tree
+        AddsLocks (locks_of (setting_of settings.now) (take taken.new (updates edits.old)))
+        (locks_of (setting_of settings.now) (updates edits.old)) (F.means files.old).tree
         (F.means files.new).tree }
     ensures free { F.honest → (q : Path) →
-        is_in (locks_of (setting_of settings.now) (take taken.new edits.now)) q ≡ true →
+        is_in (locks_of (setting_of settings.now) (take taken.new (updates edits.old))) q ≡ true →
         (F.means files.old).tree q ≡ None }
     ensures leaves { F.honest → Leaves (F.means files.old) (F.means files.new)
-        (AddsLocks (locks_of (setting_of settings.now) edits.now)
-        (locks_of (setting_of settings.now) edits.now) (F.means files.old).tree) }
+        (AddsLocks (locks_of (setting_of settings.now) (updates edits.old))
+        (locks_of (setting_of settings.now) (updates edits.old)) (F.means files.old).tree) }
     ensures whole { F.honest →
         OnOk result (AreWholeLocks (disk_of (F.means files.new))
-        (locks_of (setting_of settings.now) edits.now)) }
-    ensures passes { F.honest → (staying : List Path) →
-        AllStay (disk_of (F.means files.old)) staying →
-        Passes (F.means files.old) (F.means files.new)
-        (IsAsBefore (places_of (setting_of settings.now) edits.now) staying
-        (disk_of (F.means files.old))) }
+        (locks_of (setting_of settings.now) (updates edits.old))) }
+    ensures wholes { F.honest → (q : Path) (text : List ℕ) →
+        IsWhole (disk_of (F.means files.old)) q text →
+        OnOk result (IsWhole (disk_of (F.means files.new)) q text) }
+    ensures passes { F.honest → OnlyLocks (locks_of (setting_of settings.now)
+        (updates edits.old)) (F.means files.old) (F.means files.new) }
     ensures no_fewer { F.faults files.old ≤ F.faults files.new }
     ensures counted { IfErr result (IsCounted (F.faults files.old) (F.faults files.new)) }
 {
-    let mut found = Vec::new(alloc);
-    for (i, edit) in edits.iter().enumerate() {
-        let path = &paths[i];
-        acquire(files, edit, &path.place, &path.lock)?;
+    for (i, edit) in edits.iter_mut().enumerate() {
+        edit.take(files)?;
         *taken = i + 1;
-        let was = settle(alloc, files, settings, edit, path, packed[i])?;
-        found.push(was).map_err(AllocError::from)?;
+        edit.settle(alloc, files, settings)?;
     }
-    Ok(found)
+    Ok(())
 }

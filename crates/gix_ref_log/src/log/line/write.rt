@@ -103,7 +103,12 @@ fn append_parts(
 
 /// The bytes that a transaction adds to a log: the ids in lower case, the committer without blanks at the ends of name and
 /// email, a tab and the message where that is not empty, and LF. A message with LF is `MessageWithNewlines`, else a trimmed
-/// signature that cannot be written is `SignatureUnwritable`.
+/// signature that cannot be written is `SignatureUnwritable`. As the lines that gix-ref's `file::Store` appends, and
+/// `git update-ref -m`.
+///
+/// ```text
+/// let line = appended_line(alloc, &Kind::Sha1.null(), &new, committer, b"branch: Created")?;
+/// ```
 pub fn appended_line(
     alloc: Global,
     previous: &ObjectId,

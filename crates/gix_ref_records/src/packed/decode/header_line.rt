@@ -79,7 +79,13 @@ pub fn take_header(text: &[u8]) -> Option<(Header, &[u8])>
 
 /// Reads the header at the front of the input, which then begins after it: `# pack-refs with: `, words parted by spaces,
 /// and LF or CRLF. Of `fully-peeled` and `peeled` the last one decides, `sorted` says that the records are sorted, and
-/// other words are ignored. The error, where no header is there, leaves the input where it was.
+/// other words are ignored. The error, where no header is there, leaves the input where it was. As gix-ref's private
+/// `packed::decode::header` (`git pack-refs`).
+///
+/// ```text
+/// let mut text = b"# pack-refs with: peeled fully-peeled sorted \n".as_slice();
+/// let header = header(&mut text)?; // Header { peeled: Peeled::Fully, sorted: true }; the text is empty
+/// ```
 pub fn header(input: &mut &[u8]) -> Result<Header, ()>
     ensures taken { IfOk result (λ h. TakesHeader input.old.now h input.new.now) }
     ensures refused { IfErr result (λ _. (h : Header) (rest : List ℕ)

@@ -1,5 +1,5 @@
 //! What the header of `packed-refs` says (`git pack-refs`).
-/// Which records name the object that a tag ends at.
+/// Which records name the object that a tag ends at. As gix-ref's private `packed::decode::Peeled`.
 #[derive(Clone, Copy, Debug, PartialEq, Eq)]
 pub enum Peeled {
     /// The header says nothing of it.
@@ -10,7 +10,7 @@ pub enum Peeled {
     Fully,
 }
 
-/// What the header says.
+/// What the header says. As gix-ref's private `packed::decode::Header`.
 #[derive(Clone, Copy, Debug, PartialEq, Eq)]
 pub struct Header {
     /// Which records name the object that a tag ends at.

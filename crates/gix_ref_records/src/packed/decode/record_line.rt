@@ -104,7 +104,12 @@ pub fn take_record<'a>(text: &'a [u8], kind: Kind) -> Option<(Reference<'a>, &'a
 
 /// Reads the record at the front of the input, which then begins after it: an id of the kind in hex digits, a space, a
 /// valid full name, and LF or CRLF; where a `^` follows, that, an id of the kind, and LF or CRLF. The error, where no
-/// record is there, leaves the input where it was.
+/// record is there, leaves the input where it was. As gix-ref's private `packed::decode::reference` (`git pack-refs`).
+///
+/// ```text
+/// let mut text = b"1111111111111111111111111111111111111111 refs/heads/a\n".as_slice();
+/// let record = reference(&mut text, Kind::Sha1)?; // of `refs/heads/a`; the text is empty
+/// ```
 pub fn reference<'a>(input: &mut &'a [u8], kind: Kind) -> Result<Reference<'a>, ()>
     ensures taken { IfOk result (λ r. Takes kind input.old.now (record_of r) input.new.now) }
     ensures refused { IfErr result (λ _. (r : Record) (rest : List ℕ)
@@ -121,7 +126,7 @@ pub fn reference<'a>(input: &mut &'a [u8], kind: Kind) -> Result<Reference<'a>, 
 }
 
 /// The bytes in the place of the name, where a record begins; `None` where no line of a record's form is there, or
-/// the name is empty. Neither id nor name is checked.
+/// the name is empty. Neither id nor name is checked. As gix-ref's private `packed::decode::name_at_record_start`.
 pub fn name_at_record_start(text: &[u8], kind: Kind) -> Option<&[u8]>
     ensures { MatchOption result ((name : List ℕ) → name ≢ [] → NameAt kind text.now name → ⊥)
         (λ name. (name.now ≢ []) × NameAt kind text.now name.now) }
@@ -148,7 +153,7 @@ pub fn is_plain(name: &[u8]) -> bool
     least > b'\r'
 }
 
-/// Whether LF follows a name in the text, where the text begins with it; an empty name is none.
+/// Whether LF follows a name in the text, where the text begins with it; an empty name does not count.
 #[inline(always)]
 fn ends_in_line_feed(text: &[u8], name: &[u8]) -> bool
     ensures { OnTrue result ((name.now ≢ []) × (length name.now < length text.now)

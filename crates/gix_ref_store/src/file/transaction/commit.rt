@@ -1,4 +1,5 @@
 //! Committing a prepared transaction, from a store.
-pub(crate) mod publish;
+pub(crate) mod carry_out;
+pub(crate) mod decide;
 
-pub use gix_ref_transaction::commit::Error;
+pub use gix_ref_commit::error::Error;

@@ -2,7 +2,7 @@ use Rattle.std.specs.Prelude.{unwrap_or}
 use Rattle.gix_ref_base.specs.Locations.{location}
 use Rattle.gix_ref_base.specs.Locations.Location.{Common}
 use Rattle.gix_ref_base.proofs.LocationLemmas.{has_paths, paths_are_table, safe_is_tested, tested_is_safe}
-use Rattle.gix_ref_theory.proofs.LockPlaces.{no_lock_below}
+use Rattle.gix_ref_theory.proofs.LockPlaces.{no_lock_below, no_lock_below_packed}
 use Rattle.gix_ref_theory.proofs.PlaceLaws.{laws_hold, one_log}
 use Rattle.gix_ref_theory.proofs.Roots.{in_namespace, places_settle}
 use Rattle.gix_ref_theory.proofs.SharedLogs.{shared_logs}
@@ -31,3 +31,6 @@ returns-clause-settle c = places_settle
 
 pub returns-clause-locks : goal.returns-clause-locks
 returns-clause-locks c = no_lock_below
+
+pub returns-clause-packed_lock : goal.returns-clause-packed_lock
+returns-clause-packed_lock c = no_lock_below_packed

@@ -1,16 +1,19 @@
-use Rattle.std.proofs.Common.{◌≡◌, ◌≤◌, ◌<◌, ◌+◌, ◌⊎◌, inl, inr, ⊎_elim, ℕ, List, [], ◌∷◌, ◌++◌, true, false, not, ◌&&◌, refl, sym, ◌∙◌, ap, subst, arith, is_ok, Vec, vec_len, length, append_assoc}
-use Rattle.std.specs.Prelude.{nat_lt}
-use Rattle.std.specs.declared.alloc.Global.{Global}
-use Rattle.std.specs.Vec.{vec_capacity}
+use Rattle.std.proofs.Common.{◌≡◌, ◌≤◌, ◌<◌, ◌⊎◌, inl, inr, ⊎_elim, ℕ, List, [], ◌∷◌, ◌++◌, Bool, true, false, not, ◌&&◌, if◌then◌else◌, refl, sym, ◌∙◌, ap, subst, arith, reverse, vec_len, length, append_assoc}
+use Rattle.std.specs.Prelude.{nat_lt, nat_eq}
+use Rattle.std.specs.Bool.{OnFalse}
+use Rattle.std.proofs.lemmas.Bool.{eqb-true, eqb-false}
+use Rattle.std.proofs.lemmas.List.{reverse-append, reverse-reverse}
 use Rattle.gix_ref_files.specs.Files.{HasRisen}
+use Rattle.gix_ref_files.specs.Lock.{lock_of}
 use Rattle.gix_ref_files.specs.Tree.{Path}
 use Rattle.gix_ref_transaction.specs.OwnLocks.{paths_of, is_in}
+use Rattle.gix_ref_transaction.specs.Effects.{is_write}
+use Rattle.gix_ref_transaction.specs.CommitRenames.{lock_at, place_at, is_written_at}
+use Rattle.gix_ref_transaction.specs.PrepareSteps.{lock_paths, updates}
+use Rattle.gix_ref_transaction.specs.declared.edit.Edit.{Edit}
 use Rattle.gix_ref_transaction.proofs.Adds.{clash}
-use Rattle.gix_ref_transaction.specs.CommitRenames.{lock_at, is_written_at}
-use Rattle.gix_ref_transaction.specs.PrepareSteps.{lock_paths}
-use Rattle.gix_ref_transaction.specs.declared.paths.Paths.{Paths}
-use Rattle.gix_ref_transaction.proofs.Removing.{path_left, path_here, path_cases, leaves_then, removes_more}
-use Rattle.gix_ref_transaction.proofs.Renames.{flag_there, lock_there, lock_within, released}
+use Rattle.gix_ref_transaction.proofs.Removing.{leaves_then, removes_more, named_cases, named_here, named_kept}
+use Rattle.gix_ref_transaction.proofs.Renames.{flag_there, lock_there, lock_within, place_there, released}
 use Rattle.gix_ref_transaction.proofs.release.release_locks.Goals as goal
 
 rose_on : {A : Type 0} (a b d : ℕ) → b ≤ d → A ⊎ HasRisen a b → A ⊎ HasRisen a d
@@ -23,86 +26,81 @@ rose_before a b d le (inl more) = inl (omega (arith, le, more))
 rose_before a b d le (inr full) = inr full
 
 -- all of them, parted at the one that is released
-parted : (all paths rest : List Paths) (own : Paths) (tail : List Paths) → all ≡ paths ++ tail → paths ≡ rest ++ own ∷ [] → all ≡ rest ++ own ∷ tail
-parted all paths rest own tail whole split = whole ∙ (ap (λ (l : List Paths). l ++ tail) split ∙ append_assoc rest (own ∷ []) tail)
+parted : (all edits rest : List Edit) (own : Edit) (tail : List Edit) → all ≡ edits ++ tail → edits ≡ rest ++ own ∷ [] → all ≡ rest ++ own ∷ tail
+parted all edits rest own tail whole split = whole ∙ (ap (λ (l : List Edit). l ++ tail) split ∙ append_assoc rest (own ∷ []) tail)
 
-pub loop-own-preserved-then-not-release : goal.loop-own-preserved-then-not-release
-loop-own-preserved-then-not-release g c =
-    let x = c.loop-own.invariant in
+-- the count rose where a lock could not be removed
+counted_then : {X : Type 0} (b : Bool) (left left' before : X) (f m n : ℕ) → f ≤ m → m ≤ n → (b ≡ true → left' ≡ left) → (b ≡ false → HasRisen m n) → (left ≡ before) ⊎ HasRisen f m → (left' ≡ before) ⊎ HasRisen f n
+counted_then true left left' before f m n le le' same rose (inl is) = inl (same refl ∙ is)
+counted_then true left left' before f m n le le' same rose (inr more) = rose_on f m n le' (inr more)
+counted_then false left left' before f m n le le' same rose x = inr (rose_before f m n le (rose refl))
+
+gone_here : {P : Type 0} (b : Bool) → (b ≡ true → P) → (b ≡ false → ⊥) → P
+gone_here true done left = done refl
+gone_here false done left = absurd (left refl)
+
+-- the place that is kept
+place_then : (at done : ℕ) (own old new target : List ℕ) → new ≡ (if nat_eq at done then own else old) → (at ≡ done → own ≡ target) → (at < done → old ≡ target) → at ≤ done → new ≡ target
+place_then at done own old new target is here before le = by (nat_eq at done) refl
+  where
+    by : (b : Bool) → nat_eq at done ≡ b → new ≡ target
+    by true same = is ∙ (ap (λ b. if b then own else old) same ∙ here (eqb-true at done same))
+    by false other = is ∙ (ap (λ b. if b then own else old) other ∙ before (omega (arith, le, eqb-false at done other)))
+
+nothing : (xs : List Edit) → length xs ≡ 0 → xs ≡ []
+nothing [] none = refl
+nothing (x ∷ xs) none = absurd (omega (arith, none))
+
+pub loop-edit-preserved : goal.loop-edit-preserved
+loop-edit-preserved g c =
+    let x = c.loop-edit.invariant in
     let first = g.F.Files.means c.args.files.now in
-    let mid = g.F.Files.means c.loop-own.files in
-    let now = g.F.Files.means c.release.new.files in
-    let all = c.args.paths.items in
+    let mid = g.F.Files.means c.loop-edit.files in
+    let now = g.F.Files.means c.release-removed.new.files in
+    let all = c.args.edits.items in
     let rest = c.pop.new.self.items in
-    let own = c.in-Some.own in
-    let split : c.loop-own.paths.items ≡ rest ++ own ∷ [] = c.in-Some.ensures.items in
+    let own = c.in-Some.edit in
+    let lock = lock_of own.lock in
+    let removed = c.release-removed.result in
+    let split : c.loop-edit.edits.items ≡ rest ++ own ∷ [] = c.in-Some.ensures.items in
     let tail = x.front.0 in
-    let whole : all ≡ rest ++ own ∷ tail = parted all c.loop-own.paths.items rest own tail x.front.1 split in
-    let within : is_in (lock_paths all) own.lock.items ≡ true = subst (λ (l : List Paths). is_in (lock_paths l) own.lock.items ≡ true) (sym whole) (lock_within rest own tail) in
-    let len : c.len.result ≡ length rest = omega (arith, c.len.ensures) in
-    let flag : is_written_at all c.len.result ≡ own.writes = ap (λ (l : List Paths). is_written_at l c.len.result) whole ∙ (ap (is_written_at (rest ++ own ∷ tail)) len ∙ flag_there rest own tail) in
-    let at : lock_at all c.len.result ≡ own.lock.items = ap (λ (l : List Paths). lock_at l c.len.result) whole ∙ (ap (lock_at (rest ++ own ∷ tail)) len ∙ lock_there rest own tail) in
-    let room : vec_len c.loop-own.left < vec_capacity c.loop-own.left = omega (arith, x.room, c.in-Some.ensures.len) in
-    let okay : is_ok c.push.result ≡ true = c.push.ensures.succeeds room in
-    let longer : vec_len c.push.new.self ≡ vec_len c.loop-own.left + 1 = rw okay at c.push.ensures.len in
-    let pushed : c.push.new.self.items ≡ c.loop-own.left.items ++ own.lock ∷ [] = rw okay at c.push.ensures.items in
+    let whole : all ≡ rest ++ own ∷ tail = parted all c.loop-edit.edits.items rest own tail x.front.1 split in
+    let within : is_in (lock_paths all) lock ≡ true = subst (λ (l : List Edit). is_in (lock_paths l) lock ≡ true) (sym whole) (lock_within rest own tail) in
+    let len : c.len-at.result ≡ length rest = omega (arith, c.len-at.ensures) in
+    let flag : is_written_at all c.len-at.result ≡ is_write own.effect = ap (λ (l : List Edit). is_written_at l c.len-at.result) whole ∙ (ap (is_written_at (rest ++ own ∷ tail)) len ∙ flag_there rest own tail) in
+    let at : lock_at all c.len-at.result ≡ lock = ap (λ (l : List Edit). lock_at l c.len-at.result) whole ∙ (ap (lock_at (rest ++ own ∷ tail)) len ∙ lock_there rest own tail) in
+    let there : place_at all c.len-at.result ≡ own.lock = ap (λ (l : List Edit). place_at l c.len-at.result) whole ∙ (ap (place_at (rest ++ own ∷ tail)) len ∙ place_there rest own tail) in
+    let names = paths_of c.loop-edit.remains.left.items in
+    let named : paths_of c.add.new.self.left.items ≡ names ++ (if removed then [] else lock ∷ []) = c.add.ensures.left in
     record {
-      no_fewer = omega (arith, x.no_fewer, c.release.ensures.no_fewer);
-      counted = inr (rose_before _ _ _ x.no_fewer c.if-not-release.ensures.counted);
-      room = omega (arith, x.room, c.in-Some.ensures.len, longer, c.push.ensures.capacity);
+      no_fewer = omega (arith, x.no_fewer, c.release-removed.ensures.no_fewer);
+      counted = counted_then removed c.loop-edit.remains.left.items c.add.new.self.left.items c.args.remains.left.items _ _ _ x.no_fewer c.release-removed.ensures.no_fewer c.add.ensures.same
+          (λ kept. subst (λ b. OnFalse b (HasRisen (g.F.Files.faults c.loop-edit.files) (g.F.Files.faults c.release-removed.new.files))) kept c.release-removed.ensures.counted) x.counted;
+      room = omega (arith, x.room, c.in-Some.ensures.len, c.add.ensures.len, c.add.ensures.room);
+      room_for_edits = omega (arith, x.room_for_edits, c.in-Some.ensures.len, c.add.ensures.len_of_edits, c.add.ensures.room_for_edits);
+      len = omega (arith, x.len, c.in-Some.ensures.len, c.add.ensures.len);
+      room_left = omega (arith, x.room_left, c.add.ensures.room);
       bound = omega (arith, x.bound, c.in-Some.ensures.len);
-      renamed = λ all_renamed. c.release.ensures.renamed (subst (λ b. not (nat_lt c.len.result c.args.done && b) ≡ false) flag (all_renamed c.len.result (omega (arith, x.bound, c.in-Some.ensures.len, c.len.ensures)))) ∙ x.renamed all_renamed;
-      front = (own ∷ tail, whole);
-      ours = λ q h. ⊎_elim (λ old. x.ours q old) (λ e. subst (λ (p : Path). is_in (lock_paths all) p ≡ true) e within) (path_cases c.loop-own.left.items own.lock q (subst (λ (l : List (Vec ℕ Global)). is_in (paths_of l) q ≡ true) pushed h));
+      renamed = λ all_renamed. c.release-removed.ensures.renamed (subst (λ b. not (nat_lt c.len-at.result c.args.done && b) ≡ false) flag (all_renamed c.len-at.result (omega (arith, x.bound, c.in-Some.ensures.len, c.len-at.ensures)))) ∙ x.renamed all_renamed;
+      front = (own ∷ tail, whole, c.add.ensures.edits ∙ (ap (λ (l : List _). l ++ own.update ∷ []) x.front.2 ∙ sym (reverse-append (own.update ∷ []) (updates tail))));
+      place = λ some less. place_then c.len-at.result c.args.done own.lock _ _ (place_at all c.args.done) c.add.ensures.place (λ same. sym there ∙ ap (place_at all) same) (λ more. x.place some (omega (arith, more, c.in-Some.ensures.len, c.len-at.ensures))) (omega (arith, less, c.len-at.ensures));
+      ours = λ q h. ⊎_elim (λ old. x.ours q old) (λ e. inr (subst (λ (p : Path). is_in (lock_paths all) p ≡ true) e within)) (named_cases names lock removed q (subst (λ (l : List Path). is_in l q ≡ true) named h));
+      kept = λ q h. subst (λ (l : List Path). is_in l q ≡ true) (sym named) (named_kept names _ q (x.kept q h));
       gone = λ h.
-          let next = c.release.ensures.leaves h in
-          λ j first_le. released all (vec_len c.args.paths) c.args.done c.len.result own.lock.items at mid.tree now.tree next.tree (paths_of c.loop-own.left.items) (paths_of c.push.new.self.items)
-          (λ q h. subst (λ (l : List (Vec ℕ Global)). is_in (paths_of l) q ≡ true) (sym pushed) (path_left c.loop-own.left.items own.lock q h))
-          (λ stays out. clash (subst (λ (l : List (Vec ℕ Global)). is_in (paths_of l) own.lock.items ≡ true) (sym pushed) (path_here c.loop-own.left.items own.lock own.lock.items refl)) out)
+          let next = c.release-removed.ensures.leaves h in
+          λ j first_le. released all (vec_len c.args.edits) c.args.done c.len-at.result lock at mid.tree now.tree next.tree names (paths_of c.add.new.self.left.items)
+          (λ q k. subst (λ (l : List Path). is_in l q ≡ true) (sym named) (named_kept names _ q k))
+          (λ stays out. gone_here removed (λ removed_is. c.release-removed.ensures.gone h (subst (λ b. not (nat_lt c.len-at.result c.args.done && b) ≡ true) flag stays) removed_is)
+          (λ kept. clash (subst (λ (l : List Path). is_in l lock ≡ true) (sym named) (named_here names lock removed kept)) out))
           (λ k le. x.gone h k (omega (arith, le, len, c.in-Some.ensures.len)))
-          j (omega (arith, first_le, c.len.ensures));
-      passes = λ h.
-          removes_more (lock_paths all) own.lock.items first mid now within (x.passes h) (c.release.ensures.passes h);
-      leaves = λ h.
-          let run = x.leaves h in
-          let next = c.release.ensures.leaves h in
-          leaves_then (lock_paths all) own.lock.items first mid now within run next;
+          j (omega (arith, first_le, c.len-at.ensures));
+      passes = λ h. removes_more (lock_paths all) lock first mid now within (x.passes h) (c.release-removed.ensures.passes h);
+      leaves = λ h. leaves_then (lock_paths all) lock first mid now within (x.leaves h) (c.release-removed.ensures.leaves h);
     }
 
-pub loop-own-preserved : goal.loop-own-preserved
-loop-own-preserved g c =
-    let x = c.loop-own.invariant in
-    let first = g.F.Files.means c.args.files.now in
-    let mid = g.F.Files.means c.loop-own.files in
-    let now = g.F.Files.means c.release.new.files in
-    let all = c.args.paths.items in
-    let rest = c.pop.new.self.items in
-    let own = c.in-Some.own in
-    let split : c.loop-own.paths.items ≡ rest ++ own ∷ [] = c.in-Some.ensures.items in
+pub returns-clause-edits : goal.returns-clause-edits
+returns-clause-edits g c =
+    let x = c.loop-edit.invariant in
     let tail = x.front.0 in
-    let whole : all ≡ rest ++ own ∷ tail = parted all c.loop-own.paths.items rest own tail x.front.1 split in
-    let within : is_in (lock_paths all) own.lock.items ≡ true = subst (λ (l : List Paths). is_in (lock_paths l) own.lock.items ≡ true) (sym whole) (lock_within rest own tail) in
-    let len : c.len.result ≡ length rest = omega (arith, c.len.ensures) in
-    let flag : is_written_at all c.len.result ≡ own.writes = ap (λ (l : List Paths). is_written_at l c.len.result) whole ∙ (ap (is_written_at (rest ++ own ∷ tail)) len ∙ flag_there rest own tail) in
-    let at : lock_at all c.len.result ≡ own.lock.items = ap (λ (l : List Paths). lock_at l c.len.result) whole ∙ (ap (lock_at (rest ++ own ∷ tail)) len ∙ lock_there rest own tail) in
-    record {
-      no_fewer = omega (arith, x.no_fewer, c.release.ensures.no_fewer);
-      counted = rose_on _ _ _ c.release.ensures.no_fewer x.counted;
-      room = omega (arith, x.room, c.in-Some.ensures.len);
-      bound = omega (arith, x.bound, c.in-Some.ensures.len);
-      renamed = λ all_renamed. c.release.ensures.renamed (subst (λ b. not (nat_lt c.len.result c.args.done && b) ≡ false) flag (all_renamed c.len.result (omega (arith, x.bound, c.in-Some.ensures.len, c.len.ensures)))) ∙ x.renamed all_renamed;
-      front = (own ∷ tail, whole);
-      ours = x.ours;
-      gone = λ h.
-          let next = c.release.ensures.leaves h in
-          λ j first_le. released all (vec_len c.args.paths) c.args.done c.len.result own.lock.items at mid.tree now.tree next.tree (paths_of c.loop-own.left.items) (paths_of c.loop-own.left.items) (λ q h. h)
-          (λ stays out. c.if-not-release.ensures.gone h (subst (λ b. not (nat_lt c.len.result c.args.done && b) ≡ true) flag stays) refl)
-          (λ k le. x.gone h k (omega (arith, le, len, c.in-Some.ensures.len)))
-          j (omega (arith, first_le, c.len.ensures));
-      passes = λ h.
-          removes_more (lock_paths all) own.lock.items first mid now within (x.passes h) (c.release.ensures.passes h);
-      leaves = λ h.
-          let run = x.leaves h in
-          let next = c.release.ensures.leaves h in
-          leaves_then (lock_paths all) own.lock.items first mid now within run next;
-    }
+    let none : c.loop-edit.edits.items ≡ [] = nothing c.loop-edit.edits.items (omega (arith, c.in_default.ensures.cases.0)) in
+    c.reverse.ensures.items ∙ (ap reverse x.front.2 ∙ (reverse-reverse (updates tail) ∙ ap updates (sym (x.front.1 ∙ ap (λ (l : List Edit). l ++ tail) none))))

@@ -1,34 +1,40 @@
-use Rattle.std.proofs.Common.{◌≡◌, ◌≤◌, ◌<◌, ◌+◌, ◌⊎◌, ℕ, List, [], ◌++◌, true, false, vec_len}
+use Rattle.std.proofs.Common.{◌≡◌, ◌≤◌, ◌<◌, ◌+◌, ◌⊎◌, ℕ, List, ◌++◌, true, false, reverse, vec_len}
 use Rattle.std.specs.Vec.{vec_capacity}
 use Rattle.gix_ref_files.specs.Files.{Leaves, HasRisen}
 use Rattle.gix_ref_files.specs.Tree.{Path, is_file}
-use Rattle.gix_ref_transaction.specs.CommitRenames.{lock_at, stays_at}
-use Rattle.gix_ref_transaction.specs.PrepareSteps.{lock_paths}
+use Rattle.gix_ref_transaction.specs.CommitRenames.{lock_at, place_at, stays_at}
+use Rattle.gix_ref_transaction.specs.PrepareSteps.{lock_paths, updates}
 use Rattle.gix_ref_transaction.specs.OwnLocks.{paths_of, RemovesLocks, OnlyRemoves, is_in}
-use Rattle.gix_ref_transaction.specs.declared.paths.Paths.{Paths}
+use Rattle.gix_ref_transaction.specs.declared.edit.Edit.{Edit}
 use Rattle.gix_ref_transaction.proofs.release.release_locks.Given as goal
 
 -- a lock that is not among the rest is gone, renamed or left
-abbrev pub invariant-loop-own : goal.invariant-loop-own
-invariant-loop-own g l =
+abbrev pub invariant-loop-edit : goal.invariant-loop-edit
+invariant-loop-edit g l =
     let means = g.F.Files.means in
     let faults = g.F.Files.faults in
     let first = means l.fn.files in
     let now = means l.files in
-    let all = l.fn.paths.items in
-    let left = paths_of l.left.items in
+    let all = l.fn.edits.items in
+    let before = paths_of l.fn.remains.left.items in
+    let left = paths_of l.remains.left.items in
     record {
       no_fewer : faults l.fn.files ≤ faults l.files;
-      counted : (l.left.items ≡ []) ⊎ HasRisen (faults l.fn.files) (faults l.files);
-      room : vec_len l.paths + vec_len l.left ≤ vec_capacity l.left;
-      bound : vec_len l.paths ≤ vec_len l.fn.paths;
-      renamed : ((k : ℕ) → k < vec_len l.fn.paths → stays_at all l.done k ≡ false) → l.files ≡ l.fn.files;
-      front : (tail : List Paths) × (all ≡ l.paths.items ++ tail);
-      ours : (q : Path) → is_in left q ≡ true → is_in (lock_paths all) q ≡ true;
-      gone : g.F.Files.honest → (k : ℕ) → vec_len l.paths ≤ k → k < vec_len l.fn.paths → stays_at all l.done k ≡ true → is_in left (lock_at all k) ≡ false → is_file (now.tree (lock_at all k)) ≡ false;
+      counted : (l.remains.left.items ≡ l.fn.remains.left.items) ⊎ HasRisen (faults l.fn.files) (faults l.files);
+      room : vec_len l.edits + vec_len l.remains.left ≤ vec_capacity l.remains.left;
+      room_for_edits : vec_len l.edits + vec_len l.remains.edits ≤ vec_capacity l.remains.edits;
+      len : vec_len l.remains.left + vec_len l.edits ≤ vec_len l.fn.remains.left + vec_len l.fn.edits;
+      room_left : vec_capacity l.remains.left ≡ vec_capacity l.fn.remains.left;
+      bound : vec_len l.edits ≤ vec_len l.fn.edits;
+      renamed : ((k : ℕ) → k < vec_len l.fn.edits → stays_at all l.done k ≡ false) → l.files ≡ l.fn.files;
+      front : (tail : List Edit) × (all ≡ l.edits.items ++ tail) × (l.remains.edits.items ≡ reverse (updates tail));
+      place : l.done < vec_len l.fn.edits → vec_len l.edits ≤ l.done → l.remains.place.items ≡ place_at all l.done;
+      ours : (q : Path) → is_in left q ≡ true → (is_in before q ≡ true) ⊎ (is_in (lock_paths all) q ≡ true);
+      kept : (q : Path) → is_in before q ≡ true → is_in left q ≡ true;
+      gone : g.F.Files.honest → (k : ℕ) → vec_len l.edits ≤ k → k < vec_len l.fn.edits → stays_at all l.done k ≡ true → is_in left (lock_at all k) ≡ false → is_file (now.tree (lock_at all k)) ≡ false;
       passes : g.F.Files.honest → OnlyRemoves (lock_paths all) first now;
       leaves : g.F.Files.honest → Leaves first now (RemovesLocks (lock_paths all) first.tree);
     }
 
-abbrev pub decreases-loop-own : goal.decreases-loop-own
-decreases-loop-own g l = vec_len l.paths
+abbrev pub decreases-loop-edit : goal.decreases-loop-edit
+decreases-loop-edit g l = vec_len l.edits

@@ -1,61 +1,78 @@
 //! The checks and locks of a transaction, from a store.
-ghost use Rattle.std.specs.Prelude.{◌≡◌, ◌≤◌, [], OnOk, IfOk, IfErr, vec_len, length};
+ghost use Rattle.std.specs.Prelude.{◌≡◌, ◌≤◌, ◌+◌, [], IfOk, IfErr, vec_len};
 ghost use Rattle.std.specs.Vec.{vec_capacity};
 ghost use Rattle.gix_ref_packed.specs.OpenFiles.{HasReadFault};
 ghost use Rattle.gix_ref_theory.specs.OnRealTrees.{view_of};
 ghost use Rattle.gix_ref_transaction.specs.OwnLocks.{paths_of};
-ghost use Rattle.gix_ref_edits.specs.RefEdits.{AreUpdates};
-ghost use Rattle.gix_ref_store.specs.Prepared.{RefusesFrom, RefusesSplit, HoldsFrom, SplitsFrom, HasGoodRecords, LosesNothing, tree_of, disk_in};
+ghost use Rattle.gix_ref_store.specs.Prepared.{RefusesFrom, RefusesSplit, HoldsFrom, SplitsFrom, HasGoodRecords, HoldsPacked, LosesNothing, HasRoom, locks_in, tree_of, disk_in};
 ghost use Rattle.gix_ref_store.specs.Store.{files_of, kind_of, meaning_of, with_files};
 ghost use Rattle.gix_ref_transaction.specs.Splits.{IsSplitCause, OnlyReads};
-ghost use Rattle.gix_ref_transaction.specs.PrepareSteps.{are_written, flags_of, targets_of, AreWholeLocks, lock_paths, place_paths, places_of};
-ghost use Rattle.gix_ref_transaction.specs.Causes.{locks_of, AllValid, IsCounted};
+ghost use Rattle.gix_ref_transaction.specs.PrepareSteps.{setting_of, effects_of, effects_on, ids_in, packed_ids, targets_of, updates, AreWholeLocks, place_paths, places_of};
+ghost use Rattle.gix_ref_transaction.specs.Causes.{AllValid, IsCounted};
 
 use crate::file::store::Store;
 use gix_ref_edits::transaction::RefEdit;
 use gix_ref_files::files::Files;
 use gix_ref_lookup::settings::Settings;
+use gix_ref_transaction::edit::Edit;
 use gix_ref_transaction::prepare::Error;
 use gix_ref_transaction::prepare::check::{check_edits, check_names};
-use gix_ref_transaction::prepare::hold::{Taken, Untaken, find_and_hold, reserve};
+use gix_ref_transaction::prepare::hold::{HeldLocks, LockFailure, edits_at, hold_all};
 use gix_ref_transaction::prepare::split::split_edits;
-use std::alloc::Global;
+use gix_ref_transaction::release::Remains;
+use std::alloc::{AllocError, Global};
 
 /// A refusal before any lock was tried.
-fn untouched(alloc: Global, error: Error) -> Untaken
+fn untouched(alloc: Global, error: Error) -> LockFailure
     ensures error { result.error ≡ error }
     ensures none { result.locks_left.items ≡ [] }
 {
-    Untaken {
+    LockFailure {
         error,
         locks_left: Vec::new(alloc),
     }
 }
 
+/// The edits of a split list with the paths of their locks, and room for what remains of them.
+fn begun(
+    alloc: Global,
+    settings: &Settings<'_>,
+    split: Vec<RefEdit>,
+) -> Result<(Vec<Edit>, Remains), AllocError>
+    ensures asked { IfOk result (λ begun. updates begun.0.items ≡ split.items) }
+    ensures places { IfOk result (λ begun. place_paths begun.0.items ≡ places_of
+        (setting_of settings.now) split.items) }
+    ensures room { IfOk result (λ begun. HasRoom begun.0 begun.1) }
+{
+    let remains = Remains::reserve(alloc, split.len(), split.len() + 1)?;
+    let edits = edits_at(alloc, settings, split)?;
+    Ok((edits, remains))
+}
+
 impl<F: Files> Store<F> {
     /// Looks at the names of a split list, finds the records of its edits, and takes their locks with their texts.
-    fn hold_split(&mut self, alloc: Global, edits: &Vec<RefEdit>) -> Result<Taken, Untaken>
-        requires updates { AreUpdates edits.now.items }
-        requires valid { AllValid (meaning_of self.old) (kind_of self.old) [] edits.now.items }
-        ensures refused { IfErr result (λ u. RefusesSplit F.honest (HasReadFault F.Reader.faults)
-            F.means F.faults self.old self.new edits.now.items u.error
-            (paths_of u.locks_left.items)) }
-        ensures held { IfOk result (λ t. HoldsFrom F.honest F.means F.faults self.old self.new
-            edits.now.items (targets_of t.found.items)) }
-        ensures written { F.honest → HasGoodRecords F.means self.old →
-            IfOk result (λ t. flags_of t.found.items ≡ are_written (meaning_of self.old)
-            (view_of (tree_of F.means self.old)) edits.now.items) }
-        ensures lost { F.honest → LosesNothing F.means self.old self.new edits.now.items }
-        ensures whole { F.honest → IfOk result (λ t. AreWholeLocks (disk_in F.means self.new)
-            (locks_of (meaning_of self.old) edits.now.items)) }
-        ensures len { IfOk result (λ t. vec_len t.found ≡ length edits.now.items) }
-        ensures paths { IfOk result (λ t. vec_len t.paths ≡ length edits.now.items) }
-        ensures places { IfOk result (λ t. place_paths t.paths.items ≡ places_of
-            (meaning_of self.old) edits.now.items) }
-        ensures locks { IfOk result (λ t. lock_paths t.paths.items ≡ locks_of
-            (meaning_of self.old) edits.now.items) }
-        ensures room { IfOk result (λ t. vec_len t.paths ≤ vec_capacity t.left) }
-        ensures none { IfOk result (λ t. t.left.items ≡ []) }
+    fn hold_split(&mut self, alloc: Global, split: Vec<RefEdit>) -> Result<HeldLocks, LockFailure>
+        requires valid { AllValid (meaning_of self.old) (kind_of self.old) [] split.items }
+        ensures refused { IfErr result (λ failure. RefusesSplit F.honest (HasReadFault
+            F.Reader.faults) F.means F.faults self.old self.new split.items failure.error
+            (paths_of failure.locks_left.items)) }
+        ensures asked { IfOk result (λ held. updates held.edits.items ≡ split.items) }
+        ensures held { IfOk result (λ held. HoldsFrom F.honest F.means F.faults self.old self.new
+            split.items (targets_of held.edits.items)) }
+        ensures effects { F.honest → HasGoodRecords F.means self.old →
+            IfOk result (λ held. effects_of held.edits.items ≡ effects_on (meaning_of self.old)
+            (view_of (tree_of F.means self.old)) split.items) }
+        ensures ids { F.honest → HasGoodRecords F.means self.old →
+            IfOk result (λ held. ids_in held.edits.items ≡ packed_ids (meaning_of self.old)
+            (tree_of F.means self.old) split.items) }
+        ensures lost { F.honest → LosesNothing F.means self.old self.new split.items }
+        ensures whole { F.honest → IfOk result (λ held. AreWholeLocks (disk_in F.means self.new)
+            (locks_in F.means self.old split.items)) }
+        ensures places { IfOk result (λ held. place_paths held.edits.items ≡ places_of
+            (meaning_of self.old) split.items) }
+        ensures packed { IfOk result (λ held. HoldsPacked F.honest F.means F.faults self.old self.new
+            split.items held.packed) }
+        ensures room { IfOk result (λ held. HasRoom held.edits held.remains) }
     {
         let settings = Settings {
             dirs: &self.dirs,
@@ -64,25 +81,17 @@ impl<F: Files> Store<F> {
             prohibit_windows_device_names: self.prohibit_windows_device_names,
             precompose_unicode: self.precompose_unicode,
         };
-        if let Err(error) = check_names(alloc, edits) {
+        if let Err(error) = check_names(alloc, &split) {
             return Err(untouched(alloc, error));
         }
-        match reserve(alloc, &settings, edits) {
-            Ok((paths, left)) => find_and_hold(
-                alloc,
-                &mut self.files,
-                &settings,
-                edits,
-                paths,
-                left,
-            ),
+        match begun(alloc, &settings, split) {
+            Ok((edits, remains)) => { hold_all(alloc, &mut self.files, &settings, edits, remains) }
             Err(_) => Err(untouched(alloc, Error::Memory)),
         }
     }
 
     /// Checks the edits, and splits those that follow symbolic references.
     fn split(&mut self, alloc: Global, edits: Vec<RefEdit>) -> Result<Vec<RefEdit>, Error>
-        requires { AreUpdates edits.items }
         ensures splits { IfOk result (λ split. SplitsFrom F.honest F.means F.faults self.old
             edits.items split.items) }
         ensures valid { IfOk result (λ split. AllValid (meaning_of self.old) (kind_of self.old) []
@@ -107,40 +116,37 @@ impl<F: Files> Store<F> {
     }
 
     /// Checks the edits, splits those that follow symbolic references, finds the records of all, and takes their locks with their
-    /// texts. The split list is returned with them.
+    /// texts.
     pub(crate) fn begin(
         &mut self,
         alloc: Global,
         edits: Vec<RefEdit>,
-    ) -> Result<(Vec<RefEdit>, Taken), Untaken>
-        requires { AreUpdates edits.items }
-        ensures refused { IfErr result (λ u. RefusesFrom F.honest (HasReadFault F.Reader.faults)
-            F.means F.faults self.old self.new edits.items u.error
-            (paths_of u.locks_left.items)) }
-        ensures splits { IfOk result (λ t. SplitsFrom F.honest F.means F.faults self.old
-            edits.items t.0.items) }
-        ensures held { IfOk result (λ t. HoldsFrom F.honest F.means F.faults self.old self.new
-            t.0.items (targets_of t.1.found.items)) }
-        ensures written { F.honest → HasGoodRecords F.means self.old →
-            IfOk result (λ t. flags_of t.1.found.items ≡ are_written (meaning_of self.old)
-            (view_of (tree_of F.means self.old)) t.0.items) }
-        ensures lost { F.honest → IfOk result (λ t. LosesNothing F.means self.old self.new t.0.items) }
-        ensures whole { F.honest → IfOk result (λ t. AreWholeLocks (disk_in F.means self.new)
-            (locks_of (meaning_of self.old) t.0.items)) }
-        ensures len { IfOk result (λ t. vec_len t.1.found ≡ length t.0.items) }
-        ensures paths { IfOk result (λ t. vec_len t.1.paths ≡ length t.0.items) }
-        ensures places { IfOk result (λ t. place_paths t.1.paths.items ≡ places_of
-            (meaning_of self.old) t.0.items) }
-        ensures locks { IfOk result (λ t. lock_paths t.1.paths.items ≡ locks_of
-            (meaning_of self.old) t.0.items) }
-        ensures room { IfOk result (λ t. vec_len t.1.paths ≤ vec_capacity t.1.left) }
-        ensures none { IfOk result (λ t. t.1.left.items ≡ []) }
+    ) -> Result<HeldLocks, LockFailure>
+        ensures refused { IfErr result (λ failure. RefusesFrom F.honest (HasReadFault
+            F.Reader.faults) F.means F.faults self.old self.new edits.items failure.error
+            (paths_of failure.locks_left.items)) }
+        ensures splits { IfOk result (λ held. SplitsFrom F.honest F.means F.faults self.old
+            edits.items (updates held.edits.items)) }
+        ensures held { IfOk result (λ held. HoldsFrom F.honest F.means F.faults self.old self.new
+            (updates held.edits.items) (targets_of held.edits.items)) }
+        ensures effects { F.honest → HasGoodRecords F.means self.old →
+            IfOk result (λ held. effects_of held.edits.items ≡ effects_on (meaning_of self.old)
+            (view_of (tree_of F.means self.old)) (updates held.edits.items)) }
+        ensures ids { F.honest → HasGoodRecords F.means self.old →
+            IfOk result (λ held. ids_in held.edits.items ≡ packed_ids (meaning_of self.old)
+            (tree_of F.means self.old) (updates held.edits.items)) }
+        ensures lost { F.honest → IfOk result (λ held. LosesNothing F.means self.old self.new
+            (updates held.edits.items)) }
+        ensures whole { F.honest → IfOk result (λ held. AreWholeLocks (disk_in F.means self.new)
+            (locks_in F.means self.old (updates held.edits.items))) }
+        ensures places { IfOk result (λ held. place_paths held.edits.items ≡ places_of
+            (meaning_of self.old) (updates held.edits.items)) }
+        ensures packed { IfOk result (λ held. HoldsPacked F.honest F.means F.faults self.old self.new
+            (updates held.edits.items) held.packed) }
+        ensures room { IfOk result (λ held. HasRoom held.edits held.remains) }
     {
         match self.split(alloc, edits) {
-            Ok(split) => match self.hold_split(alloc, &split) {
-                Ok(taken) => Ok((split, taken)),
-                Err(untaken) => Err(untaken),
-            },
+            Ok(split) => self.hold_split(alloc, split),
             Err(error) => Err(untouched(alloc, error)),
         }
     }

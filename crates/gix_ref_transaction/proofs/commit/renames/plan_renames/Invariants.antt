@@ -7,7 +7,7 @@ use Rattle.gix_ref_transaction.proofs.commit.renames.plan_renames.Given as goal
 -- the renames of the edits so far are planned
 abbrev pub invariant-loop-at : goal.invariant-loop-at
 invariant-loop-at l = record {
-  steps : steps_of l.plan.items ≡ first_renames l.paths l.at;
-  synced : synced_steps l.plan.items ≡ first_synced_renames l.dirs l.paths l.at;
-  each : SayTheirEdits l.paths l.plan.items;
+  steps : steps_of l.plan.items ≡ first_renames l.edits l.at;
+  synced : synced_steps l.plan.items ≡ first_synced_renames l.dirs l.edits l.at;
+  each : SayTheirEdits l.edits l.plan.items;
 }

@@ -24,17 +24,22 @@ returns-in_err-check_name-clause-refused c =
     (λ bad. inr (misnamed (setting_of c.args.settings.now) c.args.settings.now.kind c.args.edit.now _ (rw c.as_ref.ensures at bad)))
     c.in_err-check_name.ensures.refused)
 
+pub returns-then-not-is_possible-clause-refused : goal.returns-then-not-is_possible-clause-refused
+returns-then-not-is_possible-clause-refused c =
+    let named = rw c.as_ref.ensures at c.in_ok-check_name.ensures.named in
+    inr (named, search rules)
+
 pub returns-then-not-is_full_target-clause-refused : goal.returns-then-not-is_full_target-clause-refused
 returns-then-not-is_full_target-clause-refused c =
     let named = rw c.as_ref.ensures at c.in_ok-check_name.ensures.named in
-    inr (named.safe, named.allowed, search rules)
+    inr (named, search rules, search rules)
 
 pub returns-then-not-has_kind-clause-refused : goal.returns-then-not-has_kind-clause-refused
 returns-then-not-has_kind-clause-refused c =
     let named = rw c.as_ref.ensures at c.in_ok-check_name.ensures.named in
-    inr (named.safe, named.allowed, search rules, search rules)
+    inr (named, search rules, search rules, search rules)
 
 pub returns-clause-sound : goal.returns-clause-sound
 returns-clause-sound c =
     let named = rw c.as_ref.ensures at c.in_ok-check_name.ensures.named in
-    record { safe = named.safe; allowed = named.allowed; target = search rules; kinds = search rules; whole = search rules }
+    record { safe = named.safe; allowed = named.allowed; possible = search rules; target = search rules; kinds = search rules; whole = search rules }

@@ -1,148 +1,209 @@
-use Rattle.std.proofs.Common.{◌≡◌, inl, inr, IfOk, OnOk, ap, sym, ◌∙◌, subst, []}
-use Rattle.gix_ref_files.specs.Tree.{Tree}
+use Rattle.std.proofs.Common.{◌≡◌, inl, inr, List, [], ◌++◌, OnOk, ap, sym, ◌∙◌, subst, true, take, drop, length}
 use Rattle.gix_ref_files.specs.Disk.{Disk}
-use Rattle.gix_ref_files.specs.Files.{disk_of, Leaves, Passes}
-use Rattle.gix_ref_files.specs.Settled.{AllStay}
+use Rattle.gix_ref_files.specs.Files.{disk_of, Leaves}
+use Rattle.gix_ref_files.specs.Tree.{Tree}
 use Rattle.gix_ref_files.proofs.Moments.{weaken, joins, passes_weaken, passes_joins}
 use Rattle.gix_ref_lookup.specs.StoreLayout.{folders_of}
+use Rattle.gix_ref_edits.specs.declared.transaction.RefEdit.{RefEdit}
 use Rattle.gix_ref_theory.specs.OnDisks.{IsAsBefore}
-use Rattle.gix_ref_theory.specs.OnRealTrees.{view_of}
-use Rattle.gix_ref_theory.proofs.LockDisks.{as_before}
-use Rattle.gix_ref_transaction.specs.OwnLocks.{paths_of, AddsLocks}
-use Rattle.gix_ref_transaction.specs.Causes.{IsFirstCause, NoCause, locks_of}
-use Rattle.gix_ref_transaction.specs.PrepareSteps.{setting_of, are_written, flags_of, targets_of, old_targets, packed_ids, places_of, AreLockable, HoldTexts}
-use Rattle.gix_ref_transaction.specs.declared.prepare.hold.Untaken.{Untaken}
-use Rattle.gix_ref_transaction.proofs.PackedLemmas.{asked_ids, counted_later, if_err, not_packed, rises_on}
+use Rattle.gix_ref_transaction.specs.OwnLocks.{paths_of, is_in, AddsLocks, OnlyLocks}
+use Rattle.gix_ref_transaction.specs.Causes.{AllValid, IsFirstCause, LocksAreApart, locks_of}
+use Rattle.gix_ref_transaction.specs.PackedCauses.{ids_among}
+use Rattle.gix_ref_transaction.specs.PrepareSteps.{setting_of, all_asked, ids_in, packed_ids, places_of, updates, AreLockable, AreSettled, AreWholeLocks}
+use Rattle.gix_ref_transaction.specs.declared.edit.Edit.{Edit}
+use Rattle.gix_ref_transaction.specs.declared.prepare.hold.HeldEdits.{HeldEdits}
+use Rattle.gix_ref_transaction.specs.declared.prepare.hold.LockFailure.{LockFailure}
+use Rattle.gix_ref_transaction.proofs.PackedLemmas.{asked_alike, asked_ids, asked_over, if_err, if_ok, places_alike, settled_alike, updates_alike}
 use Rattle.gix_ref_transaction.proofs.prepare.hold.find_and_hold.Goals as goal
 
-pub returns-in-Ok-clause-found : goal.returns-in-Ok-clause-found
-returns-in-Ok-clause-found g c h good =
-    let settings = c.args.settings.now in
-    let s = setting_of settings in
-    let edits = c.args.edits.now in
-    let old = g.F.Files.means c.args.files.now in
-    let mid = g.F.Files.means c.find_ids.new.files in
-    let same : mid.tree ≡ old.tree = (c.find_ids.ensures.leaves h).tree in
-    let asked : c.deref.result.now ≡ packed_ids s mid.tree edits =
-    c.deref.ensures.value ∙ asked_ids (folders_of settings.dirs.now settings.namespace.now) settings.kind settings.prohibit_windows_device_names old.tree mid.tree edits good.0 c.in-Ok.ids.items good.1 (c.in-Ok.ensures.found h good.0 good.1) same in
-    subst (λ (T : Tree). IfOk c.hold.result (λ t. targets_of t.found.items ≡ old_targets s T edits)) same (c.hold.ensures.found h asked)
+pub hold-requires-clause-places : goal.hold-requires-clause-places
+hold-requires-clause-places g c =
+    let s = setting_of c.args.settings.now in
+    let given = c.args.edits.items in
+    let found = c.find_records.new.edits in
+    let now = take c.args.edits.len (found ++ drop (length found) given) in
+    let over : now ≡ found = asked_over c.args.edits.len c.deref_mut.result.now found (drop (length found) given) c.find_records.ensures.asked c.deref_mut.ensures.len in
+    let asked : all_asked now ≡ all_asked given = ap all_asked over ∙ (c.find_records.ensures.asked ∙ ap all_asked c.deref_mut.ensures.value) in
+    let U : updates now ≡ updates given = updates_alike given now asked in
+    places_alike given now asked ∙ (c.requires.places ∙ ap (places_of s) (sym U))
 
-pub returns-in-Ok-clause-written : goal.returns-in-Ok-clause-written
-returns-in-Ok-clause-written g c h good =
-    let settings = c.args.settings.now in
-    let s = setting_of settings in
-    let edits = c.args.edits.now in
-    let old = g.F.Files.means c.args.files.now in
-    let mid = g.F.Files.means c.find_ids.new.files in
-    let same : mid.tree ≡ old.tree = (c.find_ids.ensures.leaves h).tree in
-    let asked : c.deref.result.now ≡ packed_ids s mid.tree edits =
-    c.deref.ensures.value ∙ asked_ids (folders_of settings.dirs.now settings.namespace.now) settings.kind settings.prohibit_windows_device_names old.tree mid.tree edits good.0 c.in-Ok.ids.items good.1 (c.in-Ok.ensures.found h good.0 good.1) same in
-    subst (λ (T : Tree). IfOk c.hold.result (λ t. flags_of t.found.items ≡ are_written s (view_of T) edits)) same (c.hold.ensures.written h asked)
+pub hold-requires-clause-apart : goal.hold-requires-clause-apart
+hold-requires-clause-apart g c =
+    let s = setting_of c.args.settings.now in
+    let given = c.args.edits.items in
+    let found = c.find_records.new.edits in
+    let now = take c.args.edits.len (found ++ drop (length found) given) in
+    let over : now ≡ found = asked_over c.args.edits.len c.deref_mut.result.now found (drop (length found) given) c.find_records.ensures.asked c.deref_mut.ensures.len in
+    let asked : all_asked now ≡ all_asked given = ap all_asked over ∙ (c.find_records.ensures.asked ∙ ap all_asked c.deref_mut.ensures.value) in
+    let U : updates now ≡ updates given = updates_alike given now asked in
+    subst (LocksAreApart s) (sym U) c.requires.apart
 
-pub returns-in-Ok-clause-passed : goal.returns-in-Ok-clause-passed
-returns-in-Ok-clause-passed g c h good =
-    let settings = c.args.settings.now in
-    let s = setting_of settings in
-    let edits = c.args.edits.now in
-    let old = g.F.Files.means c.args.files.now in
-    let mid = g.F.Files.means c.find_ids.new.files in
-    let same : mid.tree ≡ old.tree = (c.find_ids.ensures.leaves h).tree in
-    let asked : c.deref.result.now ≡ packed_ids s mid.tree edits =
-    c.deref.ensures.value ∙ asked_ids (folders_of settings.dirs.now settings.namespace.now) settings.kind settings.prohibit_windows_device_names old.tree mid.tree edits good.0 c.in-Ok.ids.items good.1 (c.in-Ok.ensures.found h good.0 good.1) same in
-    subst (λ (T : Tree). OnOk c.hold.result (NoCause s settings.kind T [] edits)) same (c.hold.ensures.passed h asked)
+pub hold-requires-clause-valid : goal.hold-requires-clause-valid
+hold-requires-clause-valid g c =
+    let s = setting_of c.args.settings.now in
+    let given = c.args.edits.items in
+    let found = c.find_records.new.edits in
+    let now = take c.args.edits.len (found ++ drop (length found) given) in
+    let over : now ≡ found = asked_over c.args.edits.len c.deref_mut.result.now found (drop (length found) given) c.find_records.ensures.asked c.deref_mut.ensures.len in
+    let asked : all_asked now ≡ all_asked given = ap all_asked over ∙ (c.find_records.ensures.asked ∙ ap all_asked c.deref_mut.ensures.value) in
+    let U : updates now ≡ updates given = updates_alike given now asked in
+    subst (AllValid s c.args.settings.now.kind []) (sym U) c.requires.valid
 
-pub returns-in-Ok-clause-texts : goal.returns-in-Ok-clause-texts
-returns-in-Ok-clause-texts g c h good =
-    let settings = c.args.settings.now in
-    let s = setting_of settings in
-    let edits = c.args.edits.now in
+pub returns-in-Ok-clause-asked : goal.returns-in-Ok-clause-asked
+returns-in-Ok-clause-asked g c =
+    let s = setting_of c.args.settings.now in
+    let given = c.args.edits.items in
+    let found = c.find_records.new.edits in
+    let now = take c.args.edits.len (found ++ drop (length found) given) in
+    let over : now ≡ found = asked_over c.args.edits.len c.deref_mut.result.now found (drop (length found) given) c.find_records.ensures.asked c.deref_mut.ensures.len in
+    let asked : all_asked now ≡ all_asked given = ap all_asked over ∙ (c.find_records.ensures.asked ∙ ap all_asked c.deref_mut.ensures.value) in
+    let U : updates now ≡ updates given = updates_alike given now asked in
+    if_ok c.hold.result (λ (held : HeldEdits) same. asked_alike now held.edits.items same ∙ asked) c.hold.ensures.given
+
+pub returns-in-Ok-clause-settled : goal.returns-in-Ok-clause-settled
+returns-in-Ok-clause-settled g c h good =
+    let s = setting_of c.args.settings.now in
+    let given = c.args.edits.items in
+    let found = c.find_records.new.edits in
+    let now = take c.args.edits.len (found ++ drop (length found) given) in
+    let over : now ≡ found = asked_over c.args.edits.len c.deref_mut.result.now found (drop (length found) given) c.find_records.ensures.asked c.deref_mut.ensures.len in
+    let asked : all_asked now ≡ all_asked given = ap all_asked over ∙ (c.find_records.ensures.asked ∙ ap all_asked c.deref_mut.ensures.value) in
+    let U : updates now ≡ updates given = updates_alike given now asked in
     let old = g.F.Files.means c.args.files.now in
-    let mid = g.F.Files.means c.find_ids.new.files in
-    let same : mid.tree ≡ old.tree = (c.find_ids.ensures.leaves h).tree in
-    let asked : c.deref.result.now ≡ packed_ids s mid.tree edits =
-    c.deref.ensures.value ∙ asked_ids (folders_of settings.dirs.now settings.namespace.now) settings.kind settings.prohibit_windows_device_names old.tree mid.tree edits good.0 c.in-Ok.ids.items good.1 (c.in-Ok.ensures.found h good.0 good.1) same in
-    subst (λ (T : Tree). OnOk c.hold.result (HoldTexts s T (g.F.Files.means c.hold.new.files).tree edits)) same (c.hold.ensures.texts h asked)
+    let mid = g.F.Files.means c.find_records.new.files in
+    let same : mid.tree ≡ old.tree = (c.find_records.ensures.leaves h).tree in
+    let kind = c.args.settings.now.kind in
+    let last = g.F.Files.means c.hold.new.files in
+    let ids : ids_in now ≡ packed_ids s mid.tree (updates now) =
+    asked_ids (folders_of c.args.settings.now.dirs.now c.args.settings.now.namespace.now) kind c.args.settings.now.prohibit_windows_device_names old.tree mid.tree (updates now) good.0 (ids_in now) good.1
+    (ap ids_in over ∙ (c.in-Ok.ensures.found h good.0 good.1
+    ∙ (ap (λ (l : List Edit). ids_among s good.0 (updates l)) c.deref_mut.ensures.value
+    ∙ ap (ids_among s good.0) (sym U)))) same in
+    if_ok c.hold.result (λ (held : HeldEdits) settled. subst (λ (T : Tree). AreSettled s kind T last.tree given held.edits.items) same (settled_alike s kind mid.tree last.tree now given held.edits.items U settled)) (c.hold.ensures.settled h ids)
 
 pub returns-in-Ok-clause-adds : goal.returns-in-Ok-clause-adds
 returns-in-Ok-clause-adds g c h =
-    let settings = c.args.settings.now in
-    let s = setting_of settings in
-    let edits = c.args.edits.now in
+    let s = setting_of c.args.settings.now in
+    let given = c.args.edits.items in
+    let found = c.find_records.new.edits in
+    let now = take c.args.edits.len (found ++ drop (length found) given) in
+    let over : now ≡ found = asked_over c.args.edits.len c.deref_mut.result.now found (drop (length found) given) c.find_records.ensures.asked c.deref_mut.ensures.len in
+    let asked : all_asked now ≡ all_asked given = ap all_asked over ∙ (c.find_records.ensures.asked ∙ ap all_asked c.deref_mut.ensures.value) in
+    let U : updates now ≡ updates given = updates_alike given now asked in
     let old = g.F.Files.means c.args.files.now in
-    let mid = g.F.Files.means c.find_ids.new.files in
-    let same : mid.tree ≡ old.tree = (c.find_ids.ensures.leaves h).tree in
-    subst (λ (T : Tree). OnOk c.hold.result (AddsLocks (locks_of s edits) (locks_of s edits) T (g.F.Files.means c.hold.new.files).tree)) same (c.hold.ensures.adds h)
+    let mid = g.F.Files.means c.find_records.new.files in
+    let same : mid.tree ≡ old.tree = (c.find_records.ensures.leaves h).tree in
+    let last = g.F.Files.means c.hold.new.files in
+    subst (λ (u : List RefEdit). OnOk c.hold.result (AddsLocks (locks_of s u) (locks_of s u) old.tree last.tree)) U
+    (subst (λ (T : Tree). OnOk c.hold.result (AddsLocks (locks_of s (updates now)) (locks_of s (updates now)) T last.tree)) same (c.hold.ensures.adds h))
 
 pub returns-in-Ok-clause-lockable : goal.returns-in-Ok-clause-lockable
 returns-in-Ok-clause-lockable g c h =
-    let settings = c.args.settings.now in
-    let s = setting_of settings in
-    let edits = c.args.edits.now in
+    let s = setting_of c.args.settings.now in
+    let given = c.args.edits.items in
+    let found = c.find_records.new.edits in
+    let now = take c.args.edits.len (found ++ drop (length found) given) in
+    let over : now ≡ found = asked_over c.args.edits.len c.deref_mut.result.now found (drop (length found) given) c.find_records.ensures.asked c.deref_mut.ensures.len in
+    let asked : all_asked now ≡ all_asked given = ap all_asked over ∙ (c.find_records.ensures.asked ∙ ap all_asked c.deref_mut.ensures.value) in
+    let U : updates now ≡ updates given = updates_alike given now asked in
     let old = g.F.Files.means c.args.files.now in
-    let mid = g.F.Files.means c.find_ids.new.files in
-    let same : mid.tree ≡ old.tree = (c.find_ids.ensures.leaves h).tree in
-    subst (λ (T : Tree). OnOk c.hold.result (AreLockable s settings.kind T [] edits)) same (c.hold.ensures.lockable h)
+    let mid = g.F.Files.means c.find_records.new.files in
+    let same : mid.tree ≡ old.tree = (c.find_records.ensures.leaves h).tree in
+    let kind = c.args.settings.now.kind in
+    subst (λ (u : List RefEdit). OnOk c.hold.result (AreLockable s kind old.tree [] u)) U
+    (subst (λ (T : Tree). OnOk c.hold.result (AreLockable s kind T [] (updates now))) same (c.hold.ensures.lockable h))
 
 pub returns-in-Ok-clause-refused : goal.returns-in-Ok-clause-refused
 returns-in-Ok-clause-refused g c h good =
-    let settings = c.args.settings.now in
-    let s = setting_of settings in
-    let edits = c.args.edits.now in
+    let s = setting_of c.args.settings.now in
+    let given = c.args.edits.items in
+    let found = c.find_records.new.edits in
+    let now = take c.args.edits.len (found ++ drop (length found) given) in
+    let over : now ≡ found = asked_over c.args.edits.len c.deref_mut.result.now found (drop (length found) given) c.find_records.ensures.asked c.deref_mut.ensures.len in
+    let asked : all_asked now ≡ all_asked given = ap all_asked over ∙ (c.find_records.ensures.asked ∙ ap all_asked c.deref_mut.ensures.value) in
+    let U : updates now ≡ updates given = updates_alike given now asked in
     let old = g.F.Files.means c.args.files.now in
-    let mid = g.F.Files.means c.find_ids.new.files in
-    let same : mid.tree ≡ old.tree = (c.find_ids.ensures.leaves h).tree in
-    let asked : c.deref.result.now ≡ packed_ids s mid.tree edits =
-    c.deref.ensures.value ∙ asked_ids (folders_of settings.dirs.now settings.namespace.now) settings.kind settings.prohibit_windows_device_names old.tree mid.tree edits good.0 c.in-Ok.ids.items good.1 (c.in-Ok.ensures.found h good.0 good.1) same in
-    if_err c.hold.result (λ (u : Untaken) told. inr (subst (λ (T : Tree). IsFirstCause s settings.kind T [] edits u.error) same told)) (c.hold.ensures.refused h asked)
-
-pub returns-in-Ok-clause-opened : goal.returns-in-Ok-clause-opened
-returns-in-Ok-clause-opened g c h =
-    let settings = c.args.settings.now in
-    let s = setting_of settings in
-    let edits = c.args.edits.now in
-    let old = g.F.Files.means c.args.files.now in
-    let mid = g.F.Files.means c.find_ids.new.files in
-    let same : mid.tree ≡ old.tree = (c.find_ids.ensures.leaves h).tree in
-    if_err c.hold.result (λ (u : Untaken) told. (not_packed settings.kind (old.tree s.packed_path) _ _ u.error told).0) c.hold.ensures.counted
+    let mid = g.F.Files.means c.find_records.new.files in
+    let same : mid.tree ≡ old.tree = (c.find_records.ensures.leaves h).tree in
+    let kind = c.args.settings.now.kind in
+    let ids : ids_in now ≡ packed_ids s mid.tree (updates now) =
+    asked_ids (folders_of c.args.settings.now.dirs.now c.args.settings.now.namespace.now) kind c.args.settings.now.prohibit_windows_device_names old.tree mid.tree (updates now) good.0 (ids_in now) good.1
+    (ap ids_in over ∙ (c.in-Ok.ensures.found h good.0 good.1
+    ∙ (ap (λ (l : List Edit). ids_among s good.0 (updates l)) c.deref_mut.ensures.value
+    ∙ ap (ids_among s good.0) (sym U)))) same in
+    if_err c.hold.result (λ (failure : LockFailure) first. inr (subst (λ (u : List RefEdit). IsFirstCause s kind old.tree [] u failure.error) U
+    (subst (λ (T : Tree). IsFirstCause s kind T [] (updates now) failure.error) same first))) (c.hold.ensures.refused h ids)
 
 pub returns-in-Ok-clause-as_before : goal.returns-in-Ok-clause-as_before
 returns-in-Ok-clause-as_before g c h =
-    let settings = c.args.settings.now in
-    let s = setting_of settings in
-    let edits = c.args.edits.now in
+    let s = setting_of c.args.settings.now in
+    let given = c.args.edits.items in
+    let found = c.find_records.new.edits in
+    let now = take c.args.edits.len (found ++ drop (length found) given) in
+    let over : now ≡ found = asked_over c.args.edits.len c.deref_mut.result.now found (drop (length found) given) c.find_records.ensures.asked c.deref_mut.ensures.len in
+    let asked : all_asked now ≡ all_asked given = ap all_asked over ∙ (c.find_records.ensures.asked ∙ ap all_asked c.deref_mut.ensures.value) in
+    let U : updates now ≡ updates given = updates_alike given now asked in
     let old = g.F.Files.means c.args.files.now in
-    let mid = g.F.Files.means c.find_ids.new.files in
-    let same : mid.tree ≡ old.tree = (c.find_ids.ensures.leaves h).tree in
-    if_err c.hold.result (λ (u : Untaken) told. subst (λ (T : Tree). AddsLocks (paths_of u.locks_left.items) (locks_of s edits) T (g.F.Files.means c.hold.new.files).tree) same told) (c.hold.ensures.as_before h)
+    let mid = g.F.Files.means c.find_records.new.files in
+    let same : mid.tree ≡ old.tree = (c.find_records.ensures.leaves h).tree in
+    let last = g.F.Files.means c.hold.new.files in
+    if_err c.hold.result (λ (failure : LockFailure) adds. subst (λ (u : List RefEdit). AddsLocks (paths_of failure.locks_left.items) (locks_of s u) old.tree last.tree) U
+    (subst (λ (T : Tree). AddsLocks (paths_of failure.locks_left.items) (locks_of s (updates now)) T last.tree) same adds)) (c.hold.ensures.as_before h)
 
-pub returns-in-Ok-clause-named : goal.returns-in-Ok-clause-named
-returns-in-Ok-clause-named g c = if_err c.hold.result (λ (u : Untaken) told. rises_on _ _ _ c.find_ids.ensures.no_fewer told) c.hold.ensures.named
-
-pub returns-in-Ok-clause-counted : goal.returns-in-Ok-clause-counted
-returns-in-Ok-clause-counted g c =
-    if_err c.hold.result (λ (u : Untaken) told. counted_later g.F.Files.honest _ (g.F.Files.faults c.args.files.now) (g.F.Files.faults c.find_ids.new.files) (g.F.Files.faults c.hold.new.files) u.error c.find_ids.ensures.no_fewer told) c.hold.ensures.counted
+pub returns-in-Ok-clause-ours : goal.returns-in-Ok-clause-ours
+returns-in-Ok-clause-ours g c =
+    let s = setting_of c.args.settings.now in
+    let given = c.args.edits.items in
+    let found = c.find_records.new.edits in
+    let now = take c.args.edits.len (found ++ drop (length found) given) in
+    let over : now ≡ found = asked_over c.args.edits.len c.deref_mut.result.now found (drop (length found) given) c.find_records.ensures.asked c.deref_mut.ensures.len in
+    let asked : all_asked now ≡ all_asked given = ap all_asked over ∙ (c.find_records.ensures.asked ∙ ap all_asked c.deref_mut.ensures.value) in
+    let U : updates now ≡ updates given = updates_alike given now asked in
+    if_err c.hold.result (λ (failure : LockFailure) ours q left. subst (λ (u : List RefEdit). is_in (locks_of s u) q ≡ true) U (ours q left)) c.hold.ensures.ours
 
 pub returns-in-Ok-clause-leaves : goal.returns-in-Ok-clause-leaves
 returns-in-Ok-clause-leaves g c h =
-    let settings = c.args.settings.now in
-    let s = setting_of settings in
-    let edits = c.args.edits.now in
+    let s = setting_of c.args.settings.now in
+    let given = c.args.edits.items in
+    let found = c.find_records.new.edits in
+    let now = take c.args.edits.len (found ++ drop (length found) given) in
+    let over : now ≡ found = asked_over c.args.edits.len c.deref_mut.result.now found (drop (length found) given) c.find_records.ensures.asked c.deref_mut.ensures.len in
+    let asked : all_asked now ≡ all_asked given = ap all_asked over ∙ (c.find_records.ensures.asked ∙ ap all_asked c.deref_mut.ensures.value) in
+    let U : updates now ≡ updates given = updates_alike given now asked in
     let old = g.F.Files.means c.args.files.now in
-    let mid = g.F.Files.means c.find_ids.new.files in
-    let same : mid.tree ≡ old.tree = (c.find_ids.ensures.leaves h).tree in
-    let all = locks_of s edits in
-    joins (weaken (c.find_ids.ensures.leaves h) (λ T is q. inl (ap (λ (R : Tree). R q) is))) (subst (λ (T : Tree). Leaves mid (g.F.Files.means c.hold.new.files) (AddsLocks all all T)) same (c.hold.ensures.leaves h))
+    let mid = g.F.Files.means c.find_records.new.files in
+    let same : mid.tree ≡ old.tree = (c.find_records.ensures.leaves h).tree in
+    let last = g.F.Files.means c.hold.new.files in
+    let all = locks_of s (updates given) in
+    joins (weaken (c.find_records.ensures.leaves h) (λ T is q. inl (ap (λ (R : Tree). R q) is)))
+    (subst (λ (T : Tree). Leaves mid last (AddsLocks all all T)) same
+    (subst (λ (u : List RefEdit). Leaves mid last (AddsLocks (locks_of s u) (locks_of s u) mid.tree)) U (c.hold.ensures.leaves h)))
+
+pub returns-in-Ok-clause-whole : goal.returns-in-Ok-clause-whole
+returns-in-Ok-clause-whole g c h =
+    let s = setting_of c.args.settings.now in
+    let given = c.args.edits.items in
+    let found = c.find_records.new.edits in
+    let now = take c.args.edits.len (found ++ drop (length found) given) in
+    let over : now ≡ found = asked_over c.args.edits.len c.deref_mut.result.now found (drop (length found) given) c.find_records.ensures.asked c.deref_mut.ensures.len in
+    let asked : all_asked now ≡ all_asked given = ap all_asked over ∙ (c.find_records.ensures.asked ∙ ap all_asked c.deref_mut.ensures.value) in
+    let U : updates now ≡ updates given = updates_alike given now asked in
+    let last = g.F.Files.means c.hold.new.files in
+    subst (λ (u : List RefEdit). OnOk c.hold.result (AreWholeLocks (disk_of last) (locks_of s u))) U (c.hold.ensures.whole h)
 
 pub returns-in-Ok-clause-passes : goal.returns-in-Ok-clause-passes
-returns-in-Ok-clause-passes g c h staying stays =
-    let settings = c.args.settings.now in
-    let s = setting_of settings in
-    let edits = c.args.edits.now in
+returns-in-Ok-clause-passes g c h locked staying D own here =
+    let s = setting_of c.args.settings.now in
+    let given = c.args.edits.items in
+    let found = c.find_records.new.edits in
+    let now = take c.args.edits.len (found ++ drop (length found) given) in
+    let over : now ≡ found = asked_over c.args.edits.len c.deref_mut.result.now found (drop (length found) given) c.find_records.ensures.asked c.deref_mut.ensures.len in
+    let asked : all_asked now ≡ all_asked given = ap all_asked over ∙ (c.find_records.ensures.asked ∙ ap all_asked c.deref_mut.ensures.value) in
+    let U : updates now ≡ updates given = updates_alike given now asked in
     let old = g.F.Files.means c.args.files.now in
-    let mid = g.F.Files.means c.find_ids.new.files in
-    let same : mid.tree ≡ old.tree = (c.find_ids.ensures.leaves h).tree in
-    let D = disk_of old in
-    let still : disk_of mid ≡ D = (c.find_ids.ensures.passes h).disk in
-    let first = passes_weaken (c.find_ids.ensures.passes h) (λ (E : Disk) is. subst (IsAsBefore (places_of s edits) staying D) (sym is) (as_before (places_of s edits) staying D stays)) in
-    passes_joins first (subst (λ (E : Disk). Passes mid (g.F.Files.means c.hold.new.files) (IsAsBefore (places_of s edits) staying E)) still
-    (c.hold.ensures.passes h staying (subst (λ (E : Disk). AllStay E staying) (sym still) stays)))
+    let mid = g.F.Files.means c.find_records.new.files in
+    let same : mid.tree ≡ old.tree = (c.find_records.ensures.leaves h).tree in
+    let last = g.F.Files.means c.hold.new.files in
+    let still : disk_of mid ≡ disk_of old = (c.find_records.ensures.passes h).disk in
+    let first = passes_weaken (c.find_records.ensures.passes h) (λ (E : Disk) is. subst (IsAsBefore locked staying D) (sym is) here) in
+    passes_joins first ((subst (λ (u : List RefEdit). OnlyLocks (locks_of s u) mid last) U (c.hold.ensures.passes h)) locked staying D own (subst (IsAsBefore locked staying D) (sym still) here))

@@ -1,14 +1,34 @@
+use Rattle.std.proofs.Common.{◌≡◌, ◌<◌, length, get_or, arith, ap, ◌∙◌}
+use Rattle.std.proofs.Math.Seq.{map-set_same}
+use Rattle.std.proofs.lemmas.Result.{err_from_is_err_and}
 use Rattle.gix_ref_transaction.specs.PrepareSteps.{setting_of}
-use Rattle.gix_ref_transaction.proofs.PackedLemmas.{counted_by, if_err}
+use Rattle.gix_ref_transaction.specs.declared.edit.Edit.{Edit}
+use Rattle.gix_ref_transaction.proofs.PackedLemmas.{counted_by, ids_more}
 use Rattle.gix_ref_transaction.proofs.prepare.records.find_ids.Goals as goal
 
-pub returns-in-Ok-clause-refused : goal.returns-in-Ok-clause-refused
-returns-in-Ok-clause-refused g c h =
-    let settings = c.args.settings.now in
-    c.ids_of.ensures.refused (c.in-Ok.ensures.honest h tt) settings.kind ((g.F.Files.means c.args.files.now).tree (setting_of settings).packed_path)
+pub returns-in_err-edit-clause-refused : goal.returns-in_err-edit-clause-refused
+returns-in_err-edit-clause-refused g c h kind packed =
+    let told = err_from_is_err_and c.from_residual.result c.from_residual.ensures.1 in
+    rw (told.1, told.2) (c.in_err-edit.ensures.refused (c.loop-edit.invariant.honest h) kind packed)
 
-pub returns-in-Ok-clause-counted : goal.returns-in-Ok-clause-counted
-returns-in-Ok-clause-counted g c =
-    let before = g.F.Files.faults c.args.files.now in
-    let now = g.F.Files.faults c.open.new.files in
-    if_err c.ids_of.result (λ e told. counted_by _ _ _ before now e (λ h. c.in-Ok.ensures.honest h tt) told) (c.ids_of.ensures.counted before now)
+pub returns-in_err-edit-clause-counted : goal.returns-in_err-edit-clause-counted
+returns-in_err-edit-clause-counted g c before now =
+    let told = err_from_is_err_and c.from_residual.result c.from_residual.ensures.1 in
+    rw (told.1, told.2) (counted_by _ _ _ before now _ c.loop-edit.invariant.honest (c.in_err-edit.ensures.counted before now))
+
+pub loop-edit-preserved : goal.loop-edit-preserved
+loop-edit-preserved g c =
+    let x = c.loop-edit.invariant in
+    let s = setting_of c.args.settings.now in
+    let edits = c.loop-edit.edits in
+    let i = c.loop-edit.edit-index in
+    let e = get_or edits i c.edit-item.result in
+    let is : e ≡ get_or edits i e = ap (λ d. get_or edits i d) c.edit-item.is in
+    let lt : i < length edits = omega arith in
+    record {
+      ready = c.in_ok-edit.ensures.ready;
+      same = map-set_same (λ (a : Edit). (a.update, a.lock)) edits i _ e (ap (λ (a : Edit). (a.update, a.lock)) is) ∙ x.same;
+      asked = λ kind rs asked. c.in_ok-edit.ensures.asked kind rs (x.asked kind rs asked);
+      honest = λ h. c.in_ok-edit.ensures.honest (x.honest h);
+      found = λ kind rs asked. ids_more s rs c.args.edits.now edits x.same i e lt is _ (x.found kind rs asked) (rw c.as_ref.ensures at (c.in_ok-edit.ensures.found kind rs (x.asked kind rs asked)));
+    }

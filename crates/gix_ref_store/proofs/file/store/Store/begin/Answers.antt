@@ -1,59 +1,120 @@
-use Rattle.std.proofs.Common.{◌≡◌, [], sym, ap, subst, ◌∙◌}
+use Rattle.std.proofs.Common.{◌≡◌, List, [], sym, ap, subst, ◌∙◌, IfOk}
 use Rattle.gix_ref_packed.specs.OpenFiles.{HasReadFault}
 use Rattle.gix_ref_theory.specs.OnRealTrees.{view_of}
+use Rattle.gix_ref_edits.specs.declared.transaction.RefEdit.{RefEdit}
 use Rattle.gix_ref_transaction.specs.Causes.{AllValid, IsCounted}
 use Rattle.gix_ref_transaction.specs.OwnLocks.{paths_of}
-use Rattle.gix_ref_transaction.specs.PrepareSteps.{are_written, flags_of, targets_of}
+use Rattle.gix_ref_transaction.specs.PrepareSteps.{AreWholeLocks, effects_of, effects_on, ids_in, packed_ids, place_paths, places_of, targets_of}
 use Rattle.gix_ref_transaction.specs.Splits.{IsSplitCause}
-use Rattle.gix_ref_store.specs.Prepared.{HasGoodRecords, HoldsFrom, LosesNothing, RefusesFrom, RefusesSplit, tree_of}
-use Rattle.gix_ref_store.specs.Store.{files_of, kind_of, meaning_of}
+use Rattle.gix_ref_transaction.specs.declared.prepare.hold.HeldLocks.{HeldLocks}
+use Rattle.gix_ref_transaction.specs.declared.prepare.hold.LockFailure.{LockFailure}
+use Rattle.gix_ref_transaction.proofs.PackedLemmas.{if_err}
+use Rattle.gix_ref_store.specs.Prepared.{HasGoodRecords, HoldsFrom, HoldsPacked, locks_in, LosesNothing, RefusesFrom, RefusesSplit, SplitsFrom, disk_in, tree_of}
+use Rattle.gix_ref_store.specs.Store.{files_of, kind_of, meaning_of, with_files}
 use Rattle.gix_ref_store.specs.declared.file.store.Store.{Store}
-use Rattle.gix_ref_store.proofs.SplitRuns.{good_on, holds_on, loses_on, refused_before, refused_on, written_on}
+use Rattle.gix_ref_store.proofs.Refusals.{if_asked, if_asked_of}
+use Rattle.gix_ref_store.proofs.SplitRuns.{effects_same, ids_same, good_on, holds_on, locks_same, loses_on, packed_on, refused_before, refused_on}
 use Rattle.gix_ref_store.proofs.file.store.Store.begin.Goals as goal
 
-pub hold_split-requires-clause-valid : goal.hold_split-requires-clause-valid
-hold_split-requires-clause-valid g c =
-    subst (λ (st : Store g.row.F.Denot). AllValid (meaning_of st) (kind_of st) [] c.in-Ok.split.items) (sym c.in-Ok.ensures.same) c.in-Ok.ensures.valid
+pub hold_split-requires : goal.hold_split-requires
+hold_split-requires g c =
+    record { valid = subst (λ (st : Store g.row.F.Denot). AllValid (meaning_of st) (kind_of st) [] c.in-Ok.split.items) (sym c.in-Ok.ensures.same) c.in-Ok.ensures.valid }
 
-pub returns-in-Ok-hold_split-clause-held : goal.returns-in-Ok-hold_split-clause-held
-returns-in-Ok-hold_split-clause-held g c =
+pub returns-in-Ok-clause-splits : goal.returns-in-Ok-clause-splits
+returns-in-Ok-clause-splits g c =
     let F = g.F.Files in
+    let old = c.args.self.now in
     let split = c.in-Ok.split.items in
-    let was = targets_of c.in-Ok-hold_split.taken.found.items in
     let new = c.hold_split.new.self in
-    holds_on F.honest F.means F.faults c.args.self.now (files_of c.split.new.self) c.in-Ok.ensures.reads new split was
-    (subst (λ (st : Store g.row.F.Denot). HoldsFrom F.honest F.means F.faults st new split was) c.in-Ok.ensures.same c.in-Ok-hold_split.ensures.held)
+    if_asked split c.hold_split.result c.hold_split.ensures.asked (λ (held : HeldLocks) (u : List RefEdit). SplitsFrom F.honest F.means F.faults old c.args.edits.items u)
+    (λ held. c.in-Ok.ensures.splits)
 
-pub returns-in-Ok-hold_split-clause-written : goal.returns-in-Ok-hold_split-clause-written
-returns-in-Ok-hold_split-clause-written g c h good =
+pub returns-in-Ok-clause-held : goal.returns-in-Ok-clause-held
+returns-in-Ok-clause-held g c =
     let F = g.F.Files in
+    let old = c.args.self.now in
     let split = c.in-Ok.split.items in
+    let new = c.hold_split.new.self in
+    if_asked_of split c.hold_split.result c.hold_split.ensures.asked (λ (held : HeldLocks) (u : List RefEdit). HoldsFrom F.honest F.means F.faults old new u (targets_of held.edits.items))
+    (λ held. HoldsFrom F.honest F.means F.faults c.split.new.self new split (targets_of held.edits.items))
+    (λ held from. holds_on F.honest F.means F.faults old (files_of c.split.new.self) c.in-Ok.ensures.reads new split (targets_of held.edits.items)
+    (subst (λ (st : Store g.row.F.Denot). HoldsFrom F.honest F.means F.faults st new split (targets_of held.edits.items)) c.in-Ok.ensures.same from))
+    c.hold_split.ensures.held
+
+pub returns-in-Ok-clause-effects : goal.returns-in-Ok-clause-effects
+returns-in-Ok-clause-effects g c h good =
+    let F = g.F.Files in
+    let old = c.args.self.now in
+    let split = c.in-Ok.split.items in
+    let new = c.hold_split.new.self in
     let files = files_of c.split.new.self in
     let reads = c.in-Ok.ensures.reads in
-    let flags = flags_of c.in-Ok-hold_split.taken.found.items in
-    let told = subst (λ (st : Store g.row.F.Denot). F.honest → HasGoodRecords F.means st → flags ≡ are_written (meaning_of st) (view_of (tree_of F.means st)) split) c.in-Ok.ensures.same c.in-Ok-hold_split.ensures.written in
-    told h (good_on F.honest F.means F.faults c.args.self.now files reads h good) ∙ written_on F.honest F.means F.faults c.args.self.now files reads h split
+    let found = subst (λ (st : Store g.row.F.Denot). F.honest → HasGoodRecords F.means st → IfOk c.hold_split.result (λ held. effects_of held.edits.items ≡ effects_on (meaning_of st) (view_of (tree_of F.means st)) split)) c.in-Ok.ensures.same c.hold_split.ensures.effects in
+    if_asked_of split c.hold_split.result c.hold_split.ensures.asked (λ (held : HeldLocks) (u : List RefEdit). effects_of held.edits.items ≡ effects_on (meaning_of old) (view_of (tree_of F.means old)) u)
+    (λ held. effects_of held.edits.items ≡ effects_on (meaning_of old) (view_of (tree_of F.means (with_files old files))) split)
+    (λ held is. is ∙ effects_same F.honest F.means F.faults old files reads h split)
+    (found h (good_on F.honest F.means F.faults old files reads h good))
 
-pub returns-in-Ok-hold_split-clause-lost : goal.returns-in-Ok-hold_split-clause-lost
-returns-in-Ok-hold_split-clause-lost g c h =
+pub returns-in-Ok-clause-ids : goal.returns-in-Ok-clause-ids
+returns-in-Ok-clause-ids g c h good =
     let F = g.F.Files in
+    let old = c.args.self.now in
     let split = c.in-Ok.split.items in
     let new = c.hold_split.new.self in
-    loses_on F.honest F.means F.faults c.args.self.now (files_of c.split.new.self) c.in-Ok.ensures.reads h new split
-    (subst (λ (st : Store g.row.F.Denot). LosesNothing F.means st new split) c.in-Ok.ensures.same (c.hold_split.ensures.lost h))
+    let files = files_of c.split.new.self in
+    let reads = c.in-Ok.ensures.reads in
+    let found = subst (λ (st : Store g.row.F.Denot). F.honest → HasGoodRecords F.means st → IfOk c.hold_split.result (λ held. ids_in held.edits.items ≡ packed_ids (meaning_of st) (tree_of F.means st) split)) c.in-Ok.ensures.same c.hold_split.ensures.ids in
+    if_asked_of split c.hold_split.result c.hold_split.ensures.asked (λ (held : HeldLocks) (u : List RefEdit). ids_in held.edits.items ≡ packed_ids (meaning_of old) (tree_of F.means old) u)
+    (λ held. ids_in held.edits.items ≡ packed_ids (meaning_of old) (tree_of F.means (with_files old files)) split)
+    (λ held is. is ∙ ids_same F.honest F.means F.faults old files reads h split)
+    (found h (good_on F.honest F.means F.faults old files reads h good))
 
-pub returns-in-Err-hold_split-clause-refused : goal.returns-in-Err-hold_split-clause-refused
-returns-in-Err-hold_split-clause-refused g c =
+pub returns-in-Ok-clause-lost : goal.returns-in-Ok-clause-lost
+returns-in-Ok-clause-lost g c h =
     let F = g.F.Files in
+    let old = c.args.self.now in
+    let split = c.in-Ok.split.items in
+    let new = c.hold_split.new.self in
+    if_asked split c.hold_split.result c.hold_split.ensures.asked (λ (held : HeldLocks) (u : List RefEdit). LosesNothing F.means old new u)
+    (λ held. loses_on F.honest F.means F.faults old (files_of c.split.new.self) c.in-Ok.ensures.reads h new split
+    (subst (λ (st : Store g.row.F.Denot). LosesNothing F.means st new split) c.in-Ok.ensures.same (c.hold_split.ensures.lost h)))
+
+pub returns-in-Ok-clause-whole : goal.returns-in-Ok-clause-whole
+returns-in-Ok-clause-whole g c h =
+    let F = g.F.Files in
+    let old = c.args.self.now in
+    let split = c.in-Ok.split.items in
+    let new = c.hold_split.new.self in
+    if_asked_of split c.hold_split.result c.hold_split.ensures.asked (λ (held : HeldLocks) (u : List RefEdit). AreWholeLocks (disk_in F.means new) (locks_in F.means old u))
+    (λ held. AreWholeLocks (disk_in F.means new) (locks_in F.means c.split.new.self split))
+    (λ held whole. subst (AreWholeLocks (disk_in F.means new)) (locks_same F.honest F.means F.faults old (files_of c.split.new.self) c.in-Ok.ensures.reads h split)
+    (subst (λ (st : Store g.row.F.Denot). AreWholeLocks (disk_in F.means new) (locks_in F.means st split)) c.in-Ok.ensures.same whole))
+    (c.hold_split.ensures.whole h)
+
+pub returns-in-Ok-clause-places : goal.returns-in-Ok-clause-places
+returns-in-Ok-clause-places g c =
+    let F = g.F.Files in
+    let old = c.args.self.now in
+    let split = c.in-Ok.split.items in
+    let new = c.hold_split.new.self in
+    if_asked_of split c.hold_split.result c.hold_split.ensures.asked (λ (held : HeldLocks) (u : List RefEdit). place_paths held.edits.items ≡ places_of (meaning_of old) u)
+    (λ held. place_paths held.edits.items ≡ places_of (meaning_of old) split) (λ held are. are)
+    (subst (λ (st : Store g.row.F.Denot). IfOk c.hold_split.result (λ held. place_paths held.edits.items ≡ places_of (meaning_of st) split)) c.in-Ok.ensures.same c.hold_split.ensures.places)
+
+pub returns-in-Ok-clause-refused : goal.returns-in-Ok-clause-refused
+returns-in-Ok-clause-refused g c =
+    let F = g.F.Files in
+    let old = c.args.self.now in
+    let split = c.in-Ok.split.items in
+    let new = c.hold_split.new.self in
     let read = HasReadFault g.F.Reader.ReadAt.faults in
-    let split = c.in-Ok.split.items in
-    let new = c.hold_split.new.self in
-    let error = c.in-Err-hold_split.untaken.error in
-    let left = paths_of c.in-Err-hold_split.untaken.locks_left.items in
     let same = c.in-Ok.ensures.same in
-    refused_on F.honest F.means F.faults c.args.self.now (files_of c.split.new.self) c.in-Ok.ensures.reads read new c.args.edits.items split error left c.in-Ok.ensures.splits
-    (subst (λ (st : Store g.row.F.Denot). RefusesSplit F.honest read F.means F.faults st new split error left) same c.in-Err-hold_split.ensures.refused)
-    (λ h. subst (λ (st : Store g.row.F.Denot). LosesNothing F.means st new split) same (c.hold_split.ensures.lost h))
+    if_err c.hold_split.result (λ (failure : LockFailure) refused.
+    let left = paths_of failure.locks_left.items in
+    refused_on F.honest F.means F.faults old (files_of c.split.new.self) c.in-Ok.ensures.reads read new c.args.edits.items split failure.error left c.in-Ok.ensures.splits
+    (subst (λ (st : Store g.row.F.Denot). RefusesSplit F.honest read F.means F.faults st new split failure.error left) same refused)
+    (λ h. subst (λ (st : Store g.row.F.Denot). LosesNothing F.means st new split) same (c.hold_split.ensures.lost h)))
+    c.hold_split.ensures.refused
 
 pub returns-in-Err-clause-refused : goal.returns-in-Err-clause-refused
 returns-in-Err-clause-refused g c =
@@ -69,3 +130,15 @@ returns-in-Err-clause-refused g c =
     (refused_before F.honest F.means F.faults old files c.in-Err.ensures.reads read given error left (ap paths_of c.untouched.ensures.none)
     (λ h. subst (IsSplitCause (meaning_of old) (kind_of old) (tree_of F.means old) given) (sym is) (c.in-Err.ensures.refused h))
     (subst (IsCounted (F.faults (files_of old)) (F.faults files)) (sym is) c.in-Err.ensures.counted))
+
+pub returns-in-Ok-clause-packed : goal.returns-in-Ok-clause-packed
+returns-in-Ok-clause-packed g c =
+    let F = g.F.Files in
+    let old = c.args.self.now in
+    let split = c.in-Ok.split.items in
+    let new = c.hold_split.new.self in
+    if_asked_of split c.hold_split.result c.hold_split.ensures.asked (λ (held : HeldLocks) (u : List RefEdit). HoldsPacked F.honest F.means F.faults old new u held.packed)
+    (λ held. HoldsPacked F.honest F.means F.faults c.split.new.self new split held.packed)
+    (λ held from. packed_on F.honest F.means F.faults old (files_of c.split.new.self) c.in-Ok.ensures.reads new split held.packed
+    (subst (λ (st : Store g.row.F.Denot). HoldsPacked F.honest F.means F.faults st new split held.packed) c.in-Ok.ensures.same from))
+    c.hold_split.ensures.packed

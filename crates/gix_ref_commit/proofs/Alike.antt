@@ -1,0 +1,127 @@
+-- Edits that carry what was found of them are planned as they were given, and so are those whose logs are decided.
+use Rattle.std.proofs.Common.{◌≡◌, ◌<◌, ℕ, zero, suc, List, [], ◌∷◌, Option, None, length, map, refl, sym, ◌∙◌, ap, subst, arith}
+use Rattle.std.specs.Prelude.{slice_index_or}
+use Rattle.gix_ref_hash.specs.declared.hash.ObjectId.{ObjectId}
+use Rattle.gix_ref_name.specs.Names.{full_bytes}
+use Rattle.gix_ref_name.specs.declared.name.FullName.{FullName}
+use Rattle.gix_ref_base.specs.PackedRecords.{Record}
+use Rattle.gix_ref_base.specs.Targets.{TargetValue}
+use Rattle.gix_ref_files.specs.Tree.{Path}
+use Rattle.gix_ref_theory.specs.Edits as plan
+use Rattle.gix_ref_theory.specs.Readings.{Store}
+use Rattle.gix_ref_edits.specs.RefEdits.{name_of, mode_of, is_of_reference}
+use Rattle.gix_ref_edits.specs.declared.transaction.RefEdit.{RefEdit}
+use Rattle.gix_ref_edits.specs.declared.transaction.RefLog.{RefLog}
+use Rattle.gix_ref_transaction.specs.CarriedEdits.{IsCarried, AreCarried, change_of, edit_of}
+use Rattle.gix_ref_transaction.specs.Causes.{packed_id}
+use Rattle.gix_ref_transaction.specs.CommittedEdits.{planned}
+use Rattle.gix_ref_transaction.specs.PackedCauses.{ids_among}
+use Rattle.gix_ref_transaction.specs.PrepareSteps.{decisions, effect_value, effects_of, ids_in, lock_paths, place_paths, updates}
+use Rattle.gix_ref_files.specs.Lock.{lock_of}
+use Rattle.gix_ref_transaction.specs.declared.edit.Edit.{Edit}
+use Rattle.gix_ref_transaction.specs.declared.edit.Effect.{Effect}
+use Rattle.gix_ref_transaction.specs.CommitRenames.{written_flags}
+use Rattle.gix_ref_transaction.specs.Effects.{is_write}
+use Rattle.gix_ref_commit.specs.LogEffects.{AreLogsOf, IsLogOf, all_but_logs, but_log}
+
+-- one edit
+planned_one : (e f : RefEdit) (found : Option TargetValue) → IsCarried e found f → edit_of f ≡ edit_of e
+planned_one e f found is =
+    ap (λ (n : FullName). record { name = full_bytes n; change = change_of f.change; and_reference = is_of_reference (mode_of f.change); line = None; peeled = None }) is.name
+    ∙ (ap (λ (c : plan.Change). record { name = name_of e; change = c; and_reference = is_of_reference (mode_of f.change); line = None; peeled = None }) is.change
+    ∙ ap (λ (m : RefLog). record { name = name_of e; change = change_of e.change; and_reference = is_of_reference m; line = None; peeled = None }) is.mode)
+
+-- edit by edit
+abbrev pub AllCarried : List RefEdit → List (Option TargetValue) → List RefEdit → Type 0
+AllCarried before found after = (k : ℕ) (d : RefEdit) → k < length before → IsCarried (slice_index_or before k d) (slice_index_or found k None) (slice_index_or after k d)
+
+rest_carried : (e : RefEdit) (before : List RefEdit) (found : List (Option TargetValue)) (f : RefEdit) (after : List RefEdit) → AllCarried (e ∷ before) found (f ∷ after) →
+    (k : ℕ) (d : RefEdit) → k < length before → IsCarried (slice_index_or before k d) (slice_index_or found (suc k) None) (slice_index_or after k d)
+rest_carried e before found f after each k d lt = each (suc k) d (omega (arith, lt))
+
+-- by what was found of each, whatever that is
+abbrev pub AreSame : List RefEdit → List RefEdit → Type 0
+AreSame [] [] = Unit {0}
+AreSame [] (f ∷ after) = ⊥
+AreSame (e ∷ before) [] = ⊥
+AreSame (e ∷ before) (f ∷ after) = ((found : Option TargetValue) × IsCarried e found f) × AreSame before after
+
+same_by : (before after : List RefEdit) (found : ℕ → Option TargetValue) → length after ≡ length before → ((k : ℕ) (d : RefEdit) → k < length before → IsCarried (slice_index_or before k d) (found k) (slice_index_or after k d)) → AreSame before after
+same_by [] [] found len each = tt
+same_by [] (f ∷ after) found len each = absurd (omega (arith, len))
+same_by (e ∷ before) [] found len each = absurd (omega (arith, len))
+same_by (e ∷ before) (f ∷ after) found len each = ((found 0, each 0 e (omega arith)), same_by before after (λ k. found (suc k)) (omega (arith, len)) (λ k d lt. each (suc k) d (omega (arith, lt))))
+
+pub are_same : (before : List RefEdit) (found : List (Option TargetValue)) (after : List RefEdit) → AreCarried before found after → AreSame before after
+are_same before found after carried = same_by before after (λ k. slice_index_or found k None) carried.len carried.each
+
+pub planned_same : (before after : List RefEdit) → AreSame before after → planned after ≡ planned before
+planned_same [] [] same = refl
+planned_same [] (f ∷ after) same = absurd same
+planned_same (e ∷ before) [] same = absurd same
+planned_same (e ∷ before) (f ∷ after) ((found, is), rest) =
+    ap (λ (x : plan.Edit). x ∷ planned after) (planned_one e f found is) ∙ ap (λ (l : List plan.Edit). edit_of e ∷ l) (planned_same before after rest)
+
+pub ids_same : (s : Store) (rs : List Record) (before after : List RefEdit) → AreSame before after → ids_among s rs after ≡ ids_among s rs before
+ids_same s rs [] [] same = refl
+ids_same s rs [] (f ∷ after) same = absurd same
+ids_same s rs (e ∷ before) [] same = absurd same
+ids_same s rs (e ∷ before) (f ∷ after) ((found, is), rest) =
+    ap (λ (n : FullName). packed_id (s.key (full_bytes n)) rs ∷ ids_among s rs after) is.name ∙ ap (λ (l : List (Option ObjectId)). packed_id (s.key (name_of e)) rs ∷ l) (ids_same s rs before after rest)
+
+pub logs_same : (s : Store) (before after : List RefEdit) (ran : List Edit) → AreSame before after → AreLogsOf s after ran → AreLogsOf s before ran
+logs_same s [] [] ran same logs = logs
+logs_same s [] (f ∷ after) ran same logs = absurd same
+logs_same s (e ∷ before) [] ran same logs = absurd same
+logs_same s (e ∷ before) (f ∷ after) [] same logs = absurd logs
+logs_same s (e ∷ before) (f ∷ after) (p ∷ ran) ((found, is), rest) logs = (
+  subst (λ (c : plan.Change). IsLogOf (s.log (name_of e)) c p.log) is.change (subst (λ (n : FullName). IsLogOf (s.log (full_bytes n)) (change_of f.change) p.log) is.name logs.0),
+  logs_same s before after ran rest logs.1,
+)
+
+-- Of edits that are alike but for their logs.
+abbrev Rest : Type 0
+Rest = RefEdit × Path × Option ObjectId × Effect
+
+updates_of : (edits : List Edit) → updates edits ≡ map (λ (r : Rest). r.0) (all_but_logs edits)
+updates_of [] = refl
+updates_of (e ∷ edits) = ap (λ (l : List RefEdit). e.update ∷ l) (updates_of edits)
+
+places_by : (edits : List Edit) → place_paths edits ≡ map (λ (r : Rest). r.1) (all_but_logs edits)
+places_by [] = refl
+places_by (e ∷ edits) = ap (λ (l : List Path). e.lock ∷ l) (places_by edits)
+
+locks_by : (edits : List Edit) → lock_paths edits ≡ map (λ (r : Rest). lock_of r.1) (all_but_logs edits)
+locks_by [] = refl
+locks_by (e ∷ edits) = ap (λ (l : List Path). lock_of e.lock ∷ l) (locks_by edits)
+
+ids_by : (edits : List Edit) → ids_in edits ≡ map (λ (r : Rest). r.2) (all_but_logs edits)
+ids_by [] = refl
+ids_by (e ∷ edits) = ap (λ (l : List (Option ObjectId)). e.packed ∷ l) (ids_by edits)
+
+effects_by : (edits : List Edit) → effects_of edits ≡ map (λ (r : Rest). effect_value r.0.change r.3) (all_but_logs edits)
+effects_by [] = refl
+effects_by (e ∷ edits) = ap (λ l. effect_value e.update.change e.effect ∷ l) (effects_by edits)
+
+flags_by : (edits : List Edit) → written_flags edits ≡ map (λ (r : Rest). is_write r.3) (all_but_logs edits)
+flags_by [] = refl
+flags_by (e ∷ edits) = ap (λ l. is_write e.effect ∷ l) (flags_by edits)
+
+module _ (ran held : List Edit) (alike : all_but_logs ran ≡ all_but_logs held) where
+  pub updates_alike : updates ran ≡ updates held
+  updates_alike = updates_of ran ∙ (ap (map (λ (r : Rest). r.0)) alike ∙ sym (updates_of held))
+
+  pub places_alike : place_paths ran ≡ place_paths held
+  places_alike = places_by ran ∙ (ap (map (λ (r : Rest). r.1)) alike ∙ sym (places_by held))
+
+  pub locks_alike : lock_paths ran ≡ lock_paths held
+  locks_alike = locks_by ran ∙ (ap (map (λ (r : Rest). lock_of r.1)) alike ∙ sym (locks_by held))
+
+  pub ids_alike : ids_in ran ≡ ids_in held
+  ids_alike = ids_by ran ∙ (ap (map (λ (r : Rest). r.2)) alike ∙ sym (ids_by held))
+
+  pub effects_alike : effects_of ran ≡ effects_of held
+  effects_alike = effects_by ran ∙ (ap (map (λ (r : Rest). effect_value r.0.change r.3)) alike ∙ sym (effects_by held))
+
+  pub flags_alike : written_flags ran ≡ written_flags held
+  flags_alike = flags_by ran ∙ (ap (map (λ (r : Rest). is_write r.3)) alike ∙ sym (flags_by held))

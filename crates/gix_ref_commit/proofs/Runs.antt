@@ -1,0 +1,391 @@
+-- The planned steps of a commit carry out the plan of the theory, where `packed-refs` was well formed.
+use Rattle.std.proofs.Common.{◌≡◌, ◌≢◌, ◌⊎◌, inl, inr, ⊎_elim, ℕ, zero, suc, List, [], ◌∷◌, ◌++◌, Bool, true, false, ◌||◌, ◌&&◌, Option, Some, None, IsSome, All, refl, sym, ◌∙◌, ap, subst, length, arith, if◌then◌else◌, map}
+use Rattle.std.specs.Prelude.{bytes_eq, is_some}
+use Rattle.std.specs.List.{list_any}
+use Rattle.gix_ref_hash.specs.declared.hash.Kind.{Kind}
+use Rattle.gix_ref_hash.specs.declared.hash.ObjectId.{ObjectId}
+use Rattle.gix_ref_name.specs.declared.namespace.Namespace.{Namespace}
+use Rattle.gix_ref_base.specs.PackedRecords.{Record, record_named, id_read}
+use Rattle.gix_ref_base.specs.Targets.{TargetValue}
+use Rattle.gix_ref_base.specs.Targets.TargetValue.{object_id}
+use Rattle.gix_ref_files.specs.Tree.{Tree, Path, Content, file_of, is_file}
+use Rattle.gix_ref_files.specs.Tree.Content.{File, Folder}
+use Rattle.gix_ref_files.specs.Disk.{Disk}
+use Rattle.gix_ref_files.specs.Lock.{lock_of}
+use Rattle.gix_ref_theory.specs.Between.{AreEdits, IsEdit, IsPrepared, IsMerged}
+use Rattle.gix_ref_theory.specs.ConcreteStore.{written_id}
+use Rattle.gix_ref_theory.specs.Edits.{Change, Edit, Effect, effect, alters_change, alters_packed, file_of_records}
+use Rattle.gix_ref_theory.specs.Edits.Change.{Update, Delete}
+use Rattle.gix_ref_theory.specs.Edits.Effect.{Writes, Removes, Keeps}
+use Rattle.gix_ref_theory.specs.Edits.Mode.{DeletionsOnly}
+use Rattle.gix_ref_theory.specs.OnRealTrees as tree
+use Rattle.gix_ref_theory.specs.OnRealTrees.{view_of, IsCommitRun}
+use Rattle.gix_ref_theory.specs.OnDisks as disk
+use Rattle.gix_ref_theory.specs.OnDisks.{IsSpokenOf}
+use Rattle.gix_ref_theory.specs.Plan.{plan, line_writes, place_writes, log_removal, place_removal, packed_writes, file_writes}
+use Rattle.gix_ref_theory.specs.Readings.{Store, records_in}
+use Rattle.gix_ref_theory.specs.Views.{View, Write, file_bytes, IsOwnLock, IsSameButLocks}
+use Rattle.gix_ref_theory.proofs.OnDisks.{own_is_lock}
+use Rattle.gix_ref_lookup.specs.StoreLayout.{folders_of, git_options}
+use Rattle.gix_ref_lookup.specs.Lookups.{ArePackedRecords}
+use Rattle.gix_ref_lookup.specs.declared.folders.Dirs.{Dirs}
+use Rattle.gix_ref_lookup.proofs.Laying.{folders_laid}
+use Rattle.gix_ref_rewrite.specs.declared.outcome.Rewrite.{Rewrite}
+use Rattle.gix_ref_rewrite.specs.declared.outcome.Rewrite.TheVariants.{Unchanged, Removed, Text}
+use Rattle.gix_ref_edits.specs.RefEdits.{name_of, new_of, mode_of, is_of_reference}
+use Rattle.gix_ref_edits.specs.declared.transaction.RefEdit.{RefEdit}
+use Rattle.gix_ref_edits.specs.declared.transaction.Change.{Change as GivenChange}
+use Rattle.gix_ref_edits.specs.declared.transaction.Change.TheVariants as given_changes
+use Rattle.gix_ref_transaction.specs.Causes.{ask_packed, has_key, locks_of, packed_taken, IsFullTarget, IsOfKind, IsWholeTarget}
+use Rattle.gix_ref_transaction.specs.CarriedEdits.{change_of, edit_of}
+use Rattle.gix_ref_transaction.specs.CommittedEdits.{planned}
+use Rattle.gix_ref_transaction.specs.OwnLocks.{is_in}
+use Rattle.gix_ref_transaction.specs.PrepareSteps.{effect_on, effect_value, lock_text, own_locks, own_places, packed_places, text_of_new, IsPackedPlace}
+use Rattle.gix_ref_transaction.specs.declared.edit.Edit.{Edit as Own}
+use Rattle.gix_ref_transaction.specs.declared.edit.Effect.{Effect as Decision}
+use Rattle.gix_ref_transaction.specs.declared.edit.Effect.TheVariants as decisions
+use Rattle.gix_ref_transaction.specs.declared.edit.LogEffect.{LogEffect}
+use Rattle.gix_ref_transaction.specs.declared.edit.LogEffect.TheVariants as log_effects
+use Rattle.gix_ref_transaction.proofs.Adds.{clash, is_false, same_view, any_right}
+use Rattle.gix_ref_transaction.proofs.Committing.{update_is, reads_back, id_reads_as_written}
+use Rattle.gix_ref_transaction.proofs.LockRounds.{own_all}
+use Rattle.gix_ref_transaction.proofs.LookupLemmas.{effect_alike}
+use Rattle.gix_ref_transaction.proofs.PackedLemmas.{records_are}
+use Rattle.gix_ref_files.specs.Steps.{Step}
+use Rattle.gix_ref_commit.specs.Entries.{Entry, planned_entries, bare_steps, steps_in, bare}
+use Rattle.gix_ref_commit.specs.LogEffects.{IsLogOf}
+use Rattle.gix_ref_repack.specs.Repacks.{IsRepack, IsNewPacked}
+use Rattle.gix_ref_commit.proofs.Carries as carries
+use Rattle.gix_ref_commit.proofs.Held.{IsReady, IsHeld, AreHeld, held, held_at, edits_apart}
+use Rattle.gix_ref_commit.proofs.OwnPlan.{line_written, log_removed, file_put, file_removed, packed_written, own_plan, IsAsPlanned, AreAsPlanned, plan_is}
+use Rattle.gix_ref_commit.proofs.Placing as placing
+use Rattle.gix_ref_commit.proofs.Placing.{IsLaid}
+
+-- the new text of `packed-refs` is this
+abbrev pub IsText : Rewrite → List ℕ → Type 0
+IsText (Text text) bytes = text.items ≡ bytes
+IsText other bytes = ⊥
+
+-- the steps of entries without their syncs
+bares : (es : List Entry) → map bare (steps_in es) ≡ bare_steps es
+bares [] = refl
+bares (e ∷ es) = ap (λ (l : List Step). bare e.0 ∷ l) (bares es)
+
+-- an update or a deletion
+either_change : (c : GivenChange) → IsSome (new_of c) ⊎ (change_of c ≡ Delete)
+either_change (given_changes.Update log expected new) = inl refl
+either_change (given_changes.Delete expected log) = inr refl
+
+-- Where a deletion alters `packed-refs`, there is one, and its lock was taken.
+module _ (s : Store) (T : Tree) where
+  alters_by : (key : Option (List ℕ)) (c : GivenChange) (records : List Record) → alters_change DeletionsOnly key (change_of c) records ≡ true →
+      (is_some key ≡ true) × ((records ≡ []) → ⊥)
+  alters_by None (given_changes.Update log expected new) records h = clash h refl
+  alters_by None (given_changes.Delete expected log) records h = clash h refl
+  alters_by (Some key) (given_changes.Update log expected new) records h = clash h refl
+  alters_by (Some key) (given_changes.Delete expected log) records h =
+      (refl, λ none. clash h (ap (λ (rs : List Record). is_some (record_named key rs)) none))
+
+  alters_asks : (records : List Record) (given : List RefEdit) → alters_packed s DeletionsOnly records (planned given) ≡ true → (ask_packed s given ≡ true) × ((records ≡ []) → ⊥)
+  alters_asks records [] h = clash h refl
+  alters_asks records (e ∷ given) h = by (is_of_reference (mode_of e.change)) refl (alters_change DeletionsOnly (s.key (name_of e)) (change_of e.change) records) refl h (alters_asks records given)
+    where
+      asked : (b : Bool) → has_key s e ≡ true → (has_key s e || list_any (has_key s) given) ≡ true
+      asked b is = ap (λ x. x || list_any (has_key s) given) is
+
+      later : ask_packed s given ≡ true → (has_key s e || list_any (has_key s) given) ≡ true
+      later is = any_right (has_key s) (e ∷ []) given is
+
+      by : (r : Bool) → is_of_reference (mode_of e.change) ≡ r → (a : Bool) → alters_change DeletionsOnly (s.key (name_of e)) (change_of e.change) records ≡ a →
+          ((r && a) || alters_packed s DeletionsOnly records (planned given)) ≡ true →
+          (alters_packed s DeletionsOnly records (planned given) ≡ true → (ask_packed s given ≡ true) × ((records ≡ []) → ⊥)) → (ask_packed s (e ∷ given) ≡ true) × ((records ≡ []) → ⊥)
+      by true r true a is rest =
+          let here = alters_by (s.key (name_of e)) e.change records a in
+          (asked true (ap (λ x. x && is_some (s.key (name_of e))) r ∙ here.0), here.1)
+      by true r false a is rest = let others = rest is in (later others.0, others.1)
+      by false r a' a is rest = let others = rest is in (later others.0, others.1)
+
+  no_file : is_file (T s.packed_path) ≡ false → records_in s (view_of T s.packed_path) ≡ []
+  no_file none = ap (records_in s) (by (T s.packed_path) none)
+    where
+      by : (node : Option Content) → is_file node ≡ false → file_of node ≡ None
+      by None h = refl
+      by (Some Folder) h = refl
+      by (Some (File bytes)) h = clash refl h
+
+  pub alters_takes : (given : List RefEdit) → alters_packed s DeletionsOnly (records_in s (view_of T s.packed_path)) (planned given) ≡ true → packed_taken s T given ≡ s.packed_path ∷ []
+  alters_takes given h =
+      let asks = alters_asks (records_in s (view_of T s.packed_path)) given h in
+      ap (λ b. if b && is_file (T s.packed_path) then s.packed_path ∷ [] else []) asks.0 ∙ ap (λ b. if b then s.packed_path ∷ [] else []) (there (is_file (T s.packed_path)) refl asks.1)
+    where
+      there : (b : Bool) → is_file (T s.packed_path) ≡ b → ((records_in s (view_of T s.packed_path) ≡ []) → ⊥) → is_file (T s.packed_path) ≡ true
+      there true is some = is
+      there false is some = absurd (some (no_file is))
+
+module _ (dirs : Dirs) (namespace : Option Namespace) (kind : Kind) (prohibits : Bool) (before : Tree) (D : Disk) (given : List RefEdit) (ran : List Own) (packed : Option Path) (rewrite : Rewrite)
+    (laid : IsLaid (placing.s dirs namespace kind prohibits) kind before D given ran packed) (ready : IsReady (placing.s dirs namespace kind prohibits) kind before D.tree given ran) where
+  abbrev pub s : Store
+  s = placing.s dirs namespace kind prohibits
+
+  abbrev pub locked : List Path
+  locked = own_places s before given
+
+  abbrev mine : List Path
+  mine = own_locks s before given
+
+  abbrev pub view : View
+  view = view_of D.tree
+
+  abbrev pub edits : List Edit
+  edits = planned given
+
+  abbrev hold : AreHeld s kind before D.tree given ran
+  hold = held s kind before D.tree given ran ready
+
+  pub edits_are : AreEdits s edits
+  edits_are = edits_apart s kind before D.tree [] given ready.accepted.no_cause laid.references
+
+  no_lock_there : (q p : Path) → ((r : Path) → p ≢ lock_of r) → is_in mine p ≡ false
+  no_lock_there q p plain = is_false (is_in mine p) (λ within. let l = own_is_lock locked p (own_all s before given p within) in plain l.0 l.1)
+
+  -- no file but these locks has changed so far
+  pub same_file : (q : Path) → is_in mine q ≡ false → view q ≡ view_of before q
+  same_file q none = same_view file_of refl mine mine before D.tree q ready.adds none
+
+  same_place : (n : List ℕ) → s.is_reference n ≡ true → view (s.place n) ≡ view_of before (s.place n)
+  same_place n is = same_file (s.place n) (no_lock_there (s.place n) (s.place n) (λ r. (placing.laws dirs namespace kind prohibits).place_is_no_lock n r is))
+
+  pub same_packed : view s.packed_path ≡ view_of before s.packed_path
+  same_packed = same_file s.packed_path (no_lock_there s.packed_path s.packed_path (λ r. (placing.laws dirs namespace kind prohibits).packed_is_no_lock r))
+
+  pub alike : IsSameButLocks locked (view_of before) view
+  alike path n = sym (same_file path (is_false (is_in mine path) (λ within. n (own_all s before given path within))))
+
+  -- One edit: its writes are those of the plan.
+  module _ (e : RefEdit) (p : Own) (h : IsHeld s kind before D.tree e p) (is : s.is_reference (name_of e) ≡ true) where
+    abbrev what : Effect
+    what = effect_on s (view_of before) e
+
+    -- what becomes of its file is as it was decided
+    does_is : effect s DeletionsOnly view (edit_of e) ≡ what
+    does_is = effect_alike s view (view_of before) e (same_place (name_of e) is) same_packed
+
+    text_is : (text : List ℕ) → what ≡ Writes text → text ≡ file_bytes (view (lock_of p.lock))
+    text_is text writes =
+        sym (ap (λ (l : Path). file_bytes (view (lock_of l))) h.place ∙ (ap (λ (c : Option Content). file_bytes (file_of c)) h.text ∙ ap lock_text writes))
+
+    put_is : place_writes (s.place (name_of e)) (effect s DeletionsOnly view (edit_of e)) ≡ file_put view p.lock p.effect
+    put_is =
+        ap (place_writes (s.place (name_of e))) (does_is ∙ sym h.effect)
+        ∙ (ap (λ (l : Path). place_writes l (effect_value p.update.change p.effect)) (sym h.place) ∙ by p.effect h.effect)
+      where
+        by : (f : Decision) → effect_value p.update.change f ≡ what → place_writes p.lock (effect_value p.update.change f) ≡ file_put view p.lock f
+        by decisions.Write same = ap (λ (text : List ℕ). place_writes p.lock (Writes text)) (text_is (text_of_new (new_of p.update.change)) (sym same))
+        by decisions.Remove same = refl
+        by decisions.Keep same = refl
+
+    removal_is : place_removal (s.place (name_of e)) (effect s DeletionsOnly view (edit_of e)) ≡ file_removed p.lock p.effect
+    removal_is =
+        ap (place_removal (s.place (name_of e))) (does_is ∙ sym h.effect)
+        ∙ (ap (λ (l : Path). place_removal l (effect_value p.update.change p.effect)) (sym h.place) ∙ by p.effect)
+      where
+        by : (f : Decision) → place_removal p.lock (effect_value p.update.change f) ≡ file_removed p.lock f
+        by decisions.Write = refl
+        by decisions.Remove = refl
+        by decisions.Keep = refl
+
+    line_is : line_writes (s.log (name_of e)) (change_of e.change) None ≡ line_written p.log
+    line_is = by (change_of e.change) p.log h.log
+      where
+        by : (c : Change) (l : LogEffect) → IsLogOf (s.log (name_of e)) c l → line_writes (s.log (name_of e)) c None ≡ line_written l
+        by Delete (log_effects.Remove log) same = refl
+        by Delete log_effects.Keep same = refl
+        by Delete (log_effects.Append log line) same = absurd same
+        by (Update target) log_effects.Keep same = refl
+        by (Update target) (log_effects.Remove log) same = refl
+        by (Update target) (log_effects.Append log line) same = absurd same
+
+    log_is : log_removal (s.log (name_of e)) (change_of e.change) ≡ log_removed p.log
+    log_is = by (change_of e.change) p.log h.log
+      where
+        by : (c : Change) (l : LogEffect) → IsLogOf (s.log (name_of e)) c l → log_removal (s.log (name_of e)) c ≡ log_removed l
+        by Delete (log_effects.Remove log) same = ap (λ (q : Path). Write.Remove q ∷ []) (sym same)
+        by Delete log_effects.Keep same = absurd same
+        by Delete (log_effects.Append log line) same = absurd same
+        by (Update target) log_effects.Keep same = refl
+        by (Update target) (log_effects.Remove log) same = absurd same
+        by (Update target) (log_effects.Append log line) same = refl
+
+    as_planned : IsAsPlanned s DeletionsOnly view view (edit_of e) p
+    as_planned = record { line = line_is; put = put_is; log = log_is; removal = removal_is }
+
+  all_planned : (some : List RefEdit) (ps : List Own) → All (λ (e : RefEdit). s.is_reference (name_of e) ≡ true) some → AreHeld s kind before D.tree some ps → AreAsPlanned s DeletionsOnly view view (planned some) ps
+  all_planned [] [] are hold' = tt
+  all_planned [] (p ∷ ps) are hold' = absurd hold'
+  all_planned (e ∷ some) [] are hold' = absurd hold'
+  all_planned (e ∷ some) (p ∷ ps) are hold' =
+      (as_planned e p hold'.0 (are 0 e (omega arith)), all_planned some ps (λ k d lt. are (suc k) d (omega (arith, lt))) hold'.1)
+
+  -- What `prepare` has seen to.
+  abbrev At : Edit → Type 0
+  At x = (e : RefEdit) × (p : Own) × IsHeld s kind before D.tree e p × (edit_of e ≡ x)
+
+  at : (x : Edit) → IsEdit x edits → At x
+  at x within = held_at s kind before D.tree given ran hold x within
+
+  allowed : (x : Edit) → IsEdit x edits → s.is_prohibited (s.place x.name) ≡ false
+  allowed x within = let m = at x within in subst (λ (y : Edit). s.is_prohibited (s.place y.name) ≡ false) m.3 m.2.valid.allowed
+
+  -- the target of an update
+  module _ (e : RefEdit) (p : Own) (h : IsHeld s kind before D.tree e p) (t : TargetValue) (updates : change_of e.change ≡ Update t) where
+    is_new : new_of e.change ≡ Some t
+    is_new = ⊎_elim
+        (λ some. let u = update_is e.change some in u.1 ∙ ap Some (inner (sym u.2 ∙ updates)))
+        (λ deletes. absurd (apart (sym deletes ∙ updates)))
+        (either_change e.change)
+      where
+        inner : {x y : TargetValue} → Update x ≡ Update y → x ≡ y
+        inner same = cc
+
+        apart : Delete ≡ Update t → ⊥
+        apart same = cc
+
+    target_reads : s.target_of (s.text_of t) ≡ Some t
+    target_reads =
+        reads_back (folders_of dirs namespace) kind prohibits t (subst IsFullTarget is_new h.valid.target) (subst (IsOfKind kind) is_new h.valid.kinds.0) (subst IsWholeTarget is_new h.valid.whole)
+
+    id_reads : (id : ObjectId) → t ≡ object_id id → id_read (written_id id) ≡ Some id
+    id_reads id same = id_reads_as_written (folders_of dirs namespace) kind prohibits t (subst IsWholeTarget is_new h.valid.whole) id same
+
+  reads : (x : Edit) (t : TargetValue) → IsEdit x edits → x.change ≡ Update t → s.target_of (s.text_of t) ≡ Some t
+  reads x t within is = let m = at x within in target_reads m.0 m.1 m.2 t (ap (λ (y : Edit). y.change) m.3 ∙ is)
+
+  reads_id : (x : Edit) (id : ObjectId) → IsEdit x edits → x.change ≡ Update (object_id id) → id_read (written_id id) ≡ Some id
+  reads_id x id within is = let m = at x within in id_reads m.0 m.1 m.2 (object_id id) (ap (λ (y : Edit). y.change) m.3 ∙ is) id refl
+
+  -- The records of `packed-refs`, and its new text in its lock.
+  module _ (rs : List Record) (are : ArePackedRecords kind (view_of before s.packed_path) rs) (repack : packed ≢ None → IsRepack s kind rs edits rewrite)
+      (text_held : (path : Path) (bytes : List ℕ) → packed ≡ Some path → IsText rewrite bytes → view (lock_of path) ≡ Some bytes) where
+    -- these are the records that are read
+    records : records_in s (view s.packed_path) ≡ rs
+    records = ap (records_in s) same_packed ∙ records_are (folders_of dirs namespace) kind prohibits (view_of before s.packed_path) rs are
+
+    abbrev alters : Bool
+    alters = alters_packed s DeletionsOnly (records_in s (view s.packed_path)) edits
+
+    alters_is : alters_packed s DeletionsOnly rs edits ≡ alters
+    alters_is = ap (λ (l : List Record). alters_packed s DeletionsOnly l edits) (sym records)
+
+    -- the merged records, and the writes of `packed-refs`
+    pub record IsPackedPlan (merged : List Record) : Type 0 where
+      pub is_merged : alters ≡ true → IsMerged s DeletionsOnly edits (records_in s (view s.packed_path)) merged
+      pub reads_back : alters ≡ true → records_in s (file_of_records s merged) ≡ merged
+      pub writes : packed_writes s DeletionsOnly view edits merged ≡ packed_written view packed rewrite
+
+    abbrev written_as : Bool → List Record → List Write
+    written_as b merged = if b then file_writes s.packed_path (file_of_records s merged) else []
+
+    unaltered : alters ≡ false → [] ≡ packed_written view packed rewrite → (merged : List Record) × IsPackedPlan merged
+    unaltered none nothing = (
+      [],
+      record {
+        is_merged = λ some. clash some none;
+        reads_back = λ some. clash some none;
+        writes = ap (λ b. written_as b []) none ∙ nothing;
+      },
+    )
+
+    pub planned_packed : (merged : List Record) × IsPackedPlan merged
+    planned_packed = by packed refl rewrite refl
+      where
+        inner : {x y : Path} → Some x ≡ Some y → x ≡ y
+        inner h = cc
+
+        no_record : packed ≡ None → alters ≡ false
+        no_record none = is_false alters (λ some. no_lock none (alters_takes s before given (ap (λ (l : List Record). alters_packed s DeletionsOnly l edits) (ap (records_in s) (sym same_packed)) ∙ some)))
+          where
+            no_lock : packed ≡ None → packed_taken s before given ≡ s.packed_path ∷ [] → ⊥
+            no_lock h taken = nil_cons (ap packed_places (sym h) ∙ (laid.packed_due ∙ taken))
+              where
+                nil_cons : {x : Path} {xs : List Path} → [] ≡ x ∷ xs → ⊥
+                nil_cons e = cc
+
+        path_is : (path : Path) → packed ≡ Some path → path ≡ s.packed_path
+        path_is path some = place laid.packed_place
+          where
+            place : IsPackedPlace s packed → path ≡ s.packed_path
+            place (inl none) = absurd (differ (sym none ∙ some))
+              where
+                differ : None ≡ Some path → ⊥
+                differ e = cc
+            place (inr same) = inner (sym some ∙ same)
+
+        held_one : (path : Path) → packed ≡ Some path → packed ≢ None
+        held_one path some none = differ (sym some ∙ none)
+          where
+            differ : Some path ≡ None → ⊥
+            differ e = cc
+
+        by : (held' : Option Path) → packed ≡ held' → (r : Rewrite) → rewrite ≡ r → (merged : List Record) × IsPackedPlan merged
+        by None none r is = unaltered (no_record none) (ap (λ (p : Option Path). packed_written view p rewrite) (sym none))
+        by (Some path) some Unchanged is =
+            unaltered (sym alters_is ∙ subst (IsRepack s kind rs edits) is (repack (held_one path some)))
+            (ap (λ (p : Option Path). packed_written view p Unchanged) (sym some) ∙ ap (packed_written view packed) (sym is))
+        by (Some path) some Removed is = let all = subst (IsRepack s kind rs edits) is (repack (held_one path some)) in (
+          [],
+          record {
+            is_merged = λ _. subst (λ (l : List Record). IsMerged s DeletionsOnly edits l []) (sym records) all.1;
+            reads_back = λ _. refl;
+            writes = ap (λ b. written_as b []) (sym alters_is ∙ all.0)
+                ∙ (ap (λ (q : Path). Write.Remove q ∷ []) (sym (path_is path some))
+                ∙ (ap (λ (p : Option Path). packed_written view p Removed) (sym some) ∙ ap (packed_written view packed) (sym is)));
+          },
+        )
+        by (Some path) some (Text text) is =
+            let all = subst (IsRepack s kind rs edits) is (repack (held_one path some)) in
+            let new = all.1 in (
+              new.merged,
+              record {
+                is_merged = λ _. subst (λ (l : List Record). IsMerged s DeletionsOnly edits l new.merged) (sym records) new.is_merged;
+                reads_back = λ _. ap (records_in s) new.is_file ∙ new.reads_back;
+                writes = ap (λ b. written_as b new.merged) (sym alters_is ∙ all.0)
+                    ∙ (ap (file_writes s.packed_path) new.is_file
+                    ∙ (ap (λ (q : Path). Write.Put q text.items ∷ []) (sym (path_is path some))
+                    ∙ (ap (λ (f : Option (List ℕ)). Write.Put path (file_bytes f) ∷ []) (sym (text_held path text.items some (subst (λ (r : Rewrite). IsText r text.items) (sym is) refl)))
+                    ∙ (ap (λ (p : Option Path). packed_written view p (Text text)) (sym some) ∙ ap (packed_written view packed) (sym is)))));
+              },
+            )
+
+    abbrev pub merged : List Record
+    merged = planned_packed.0
+
+    pub prepared : IsPrepared s DeletionsOnly view edits merged
+    prepared = record {
+      apart = edits_are;
+      allowed = allowed;
+      targets_read_back = reads;
+      ids_read_back = reads_id;
+      records_are_merged = planned_packed.1.is_merged;
+      records_read_back = planned_packed.1.reads_back;
+    }
+
+    -- the plan is what its edits say
+    pub plan_are : plan s DeletionsOnly view edits merged ≡ own_plan view ran packed rewrite
+    plan_are = plan_is s DeletionsOnly view view edits merged ran packed rewrite (all_planned given ran laid.references hold) planned_packed.1.writes
+
+    -- its steps carry the plan out, on its tree
+    pub on_tree : tree.CarryOut locked view (bare_steps (planned_entries dirs ran packed rewrite)) (plan s DeletionsOnly view edits merged)
+    on_tree = subst (λ (steps : List Step). tree.CarryOut locked view steps (plan s DeletionsOnly view edits merged)) (bares (planned_entries dirs ran packed rewrite))
+        (subst (λ (ws : List Write). tree.CarryOut locked view (map bare (steps_in (planned_entries dirs ran packed rewrite))) ws) (sym plan_are)
+        (carries.on_trees locked (placing.staying dirs namespace kind prohibits) (placing.texts dirs namespace kind prohibits before D given ran packed rewrite laid) view (steps_in (planned_entries dirs ran packed rewrite)) (own_plan view ran packed rewrite)
+        (placing.texts_in dirs namespace kind prohibits before D given ran packed rewrite laid) (placing.carried dirs namespace kind prohibits before D given ran packed rewrite laid)))
+
+    pub run : IsCommitRun s DeletionsOnly locked edits before D.tree (bare_steps (planned_entries dirs ran packed rewrite))
+    run = record { merged = merged; prepared = prepared; locks = alike; steps_are_planned = on_tree }
+
+    -- and so on its disk
+    pub on_disk : disk.CarryOut (IsSpokenOf locked D) (placing.staying dirs namespace kind prohibits) (placing.texts dirs namespace kind prohibits before D given ran packed rewrite laid)
+        (steps_in (planned_entries dirs ran packed rewrite)) (plan s DeletionsOnly view edits merged)
+    on_disk = subst (λ (ws : List Write). disk.CarryOut (IsSpokenOf locked D) (placing.staying dirs namespace kind prohibits) (placing.texts dirs namespace kind prohibits before D given ran packed rewrite laid) (steps_in (planned_entries dirs ran packed rewrite)) ws) (sym plan_are)
+        (carries.on_disks locked (placing.staying dirs namespace kind prohibits) (IsSpokenOf locked D) (λ p own spoken. spoken.0 own) (placing.texts dirs namespace kind prohibits before D given ran packed rewrite laid) (steps_in (planned_entries dirs ran packed rewrite)) (own_plan view ran packed rewrite)
+        (placing.carried dirs namespace kind prohibits before D given ran packed rewrite laid))

@@ -1,0 +1,6 @@
+pub mod CommittedTrees
+pub mod Decided
+pub mod Entries
+pub mod Failures
+pub mod LogEffects
+pub mod Unfinished

@@ -1,0 +1,42 @@
+-- Where and why the run of a plan ended early.
+use Rattle.std.specs.Prelude.{◌≡◌, ◌≢◌, ℕ, List, ◌∷◌, ◌++◌, get_or}
+use Rattle.gix_ref_files.specs.Tree.{Tree}
+use Rattle.gix_ref_files.specs.Files.{HasRisen}
+use Rattle.gix_ref_files.specs.Steps.{IsAfter, EndsBy}
+use Rattle.gix_ref_files.specs.DiskSteps.{Synced}
+use Rattle.gix_ref_files.specs.declared.files.FileError.TheVariants.{Memory as no_memory}
+use Rattle.gix_ref_files.specs.declared.steps.Cause.{Cause}
+use Rattle.gix_ref_files.specs.declared.steps.Cause.TheVariants.{File, Unexpected, Asked}
+use Rattle.gix_ref_files.specs.declared.steps.Ended.{Ended}
+use Rattle.gix_ref_files.specs.declared.steps.Planned.{Planned}
+use Rattle.gix_ref_commit.specs.Entries.{Entry, bare, bare_steps}
+use Rattle.gix_ref_commit.specs.declared.plan.About.{About}
+use Rattle.gix_ref_commit.specs.declared.run.Unfinished.{Unfinished}
+use Rattle.gix_ref_commit.specs.declared.run.Unfinished.TheVariants.{Memory, Step}
+
+-- A run of these entries ended at one of them: those before it are done, and it ended the run for this cause, which left the tree T.
+pub record EndsAtStep (honest : Type 0) (entries : List Entry) (start T : Tree) (about : About) (cause : Cause) : Type 0 where
+  pub before : List Entry
+  pub step : Synced
+  pub rest : List Entry
+  pub cut : entries ≡ before ++ (step, about) ∷ rest
+  pub ended : honest → (mid : Tree) × IsAfter (bare_steps before) start mid × EndsBy (bare step) cause mid T
+
+abbrev pub EndsIn : (honest : Type 0) → List Entry → (start T : Tree) → Unfinished → Type 0
+EndsIn honest entries start T Memory = Unit {0}
+EndsIn honest entries start T (Step about cause) = EndsAtStep honest entries start T about cause
+
+-- this is the step of the plan at which a run ended
+abbrev pub IsStepAt : List (Planned About) → Ended → Unfinished → Type 0
+IsStepAt plan ended Memory = ⊥
+IsStepAt plan ended (Step about cause) = ((d : Planned About) → (get_or plan ended.at d).about ≡ about) × (cause ≡ ended.cause)
+
+-- a fault of files came with a rise of their count, and is no want of memory
+abbrev pub IsRaisedBy : (before now : ℕ) → Cause → Type 0
+IsRaisedBy before now (File error) = HasRisen before now × (error ≢ no_memory)
+IsRaisedBy before now Unexpected = Unit {0}
+IsRaisedBy before now Asked = Unit {0}
+
+abbrev pub IsRaised : (before now : ℕ) → Unfinished → Type 0
+IsRaised before now Memory = Unit {0}
+IsRaised before now (Step about cause) = IsRaisedBy before now cause

@@ -1,0 +1,42 @@
+//! Why a transaction is not committed.
+use gix_ref_files::files::FileError;
+use gix_ref_name::name::FullName;
+use thiserror::Error;
+
+/// Why a commit ended. As `commit::Error` of gix-ref's `file::transaction`.
+#[derive(Debug, Drop, Error)]
+pub enum Error {
+    /// `packed-refs` could not be changed: a call of files failed where it was read, where its new text was put into its lock,
+    /// or where that was put in place (`Io`); or a line of it is no record (`Iteration`), and then nothing but locks has
+    /// changed.
+    #[error("packed-refs could not be changed: {0}")]
+    PackedTransactionCommit(gix_ref_repack::error::Error),
+    /// A call of files failed where the lock of the reference was renamed to its place, or where the folders above it were
+    /// synced then. The reference reads as before or as edited, the edits before it are done, and none after it is begun.
+    #[error("the lock of {full_name} could not be renamed: {source}")]
+    LockCommit {
+        source: FileError,
+        full_name: FullName,
+    },
+    /// A call of files failed where the loose file of a deleted reference was removed. All updates are done, and so is
+    /// `packed-refs`.
+    #[error("{full_name} could not be removed: {err}")]
+    DeleteReference {
+        full_name: FullName,
+        err: FileError,
+    },
+    /// A call of files failed where the log of a deletion was removed. All updates are done, and no reference is removed yet.
+    #[error("the log of {full_name} could not be removed: {source}")]
+    DeleteReflog {
+        full_name: FullName,
+        source: FileError,
+    },
+    /// A folder is where the loose file of a reference goes.
+    #[error("a folder is in the place of a reference")]
+    FolderInPlace {
+        path: Vec<u8>,
+    },
+    /// A growth of memory was refused. Nothing but locks has changed.
+    #[error("out of memory")]
+    Memory,
+}

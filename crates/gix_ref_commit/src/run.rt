@@ -1,0 +1,79 @@
+//! The run of the plan of a commit.
+ghost use Rattle.std.specs.Prelude.{◌≡◌, ◌≤◌, ◌<◌, OnOk, IfErr, length};
+ghost use Rattle.gix_ref_files.specs.Files.{Leaves, Passes, disk_of};
+ghost use Rattle.gix_ref_files.specs.Steps.{IsAfter, IsLeftBy};
+ghost use Rattle.gix_ref_files.specs.DiskSteps.{IsReachedBy, IsSyncedAfter};
+ghost use Rattle.gix_ref_commit.specs.Entries.{planned_entries, bare_steps, steps_in};
+ghost use Rattle.gix_ref_commit.specs.Unfinished.{EndsIn, IsStepAt, IsRaised};
+
+use crate::plan::{About, plan_commit};
+use gix_ref_files::files::{FileError, Files};
+use gix_ref_files::lock::LockFile;
+use gix_ref_files::steps::{Cause, Ended, Planned, run_steps};
+use gix_ref_lookup::folders::Dirs;
+use gix_ref_rewrite::outcome::Rewrite;
+use gix_ref_transaction::edit::Edit;
+use std::alloc::Global;
+
+/// Why the plan of a commit was not run to its end.
+#[derive(Clone, Copy, Debug, PartialEq, Eq)]
+pub enum Unfinished {
+    /// There was no memory for the plan. Nothing was done.
+    Memory,
+    /// A step ended the run. Those before it are done, and none after it was begun.
+    Step {
+        /// What the step is about.
+        about: About,
+        /// Why it ended the run.
+        cause: Cause,
+    },
+}
+
+/// The step at which a run ended.
+fn step_of_end(plan: &[Planned<'_, About>], ended: Ended) -> Unfinished
+    requires { ended.at < length plan.now }
+    ensures { IsStepAt plan.now ended result }
+{
+    Unfinished::Step {
+        about: plan[ended.at].about,
+        cause: ended.cause,
+    }
+}
+
+/// Plans the steps of a commit and runs them, up to the first that fails or finds something in its way. Takes memory for the
+/// plan alone, before the first step. (`commit` of `git update-ref --stdin`)
+pub fn run_plan<F: Files>(
+    alloc: Global,
+    files: &mut F,
+    dirs: &Dirs,
+    edits: &[Edit],
+    packed: &Option<LockFile>,
+    rewrite: &Rewrite,
+) -> Result<(), Unfinished>
+    ensures done { F.honest → OnOk result
+        (IsAfter (bare_steps (planned_entries dirs.now edits.now packed.now rewrite.now))
+        (F.means files.old).tree (F.means files.new).tree) }
+    ensures synced { F.honest → OnOk result
+        (IsSyncedAfter (steps_in (planned_entries dirs.now edits.now packed.now rewrite.now))
+        (disk_of (F.means files.old)) (disk_of (F.means files.new))) }
+    ensures leaves { F.honest → Leaves (F.means files.old) (F.means files.new)
+        (IsLeftBy (bare_steps (planned_entries dirs.now edits.now packed.now rewrite.now))
+        (F.means files.old).tree) }
+    ensures passes { F.honest → Passes (F.means files.old) (F.means files.new)
+        (IsReachedBy (steps_in (planned_entries dirs.now edits.now packed.now rewrite.now))
+        (disk_of (F.means files.old))) }
+    ensures memory { IfErr result (λ e. e ≡ Unfinished.Memory → files.new ≡ files.old) }
+    ensures ended { IfErr result
+        (EndsIn F.honest (planned_entries dirs.now edits.now packed.now rewrite.now)
+        (F.means files.old).tree (F.means files.new).tree) }
+    ensures no_fewer { F.faults files.old ≤ F.faults files.new }
+    ensures counted { IfErr result (IsRaised (F.faults files.old) (F.faults files.new)) }
+{
+    let Ok(plan) = plan_commit(alloc, dirs, edits, packed, rewrite) else {
+        return Err(Unfinished::Memory);
+    };
+    match run_steps(files, &plan) {
+        Ok(()) => Ok(()),
+        Err(ended) => Err(step_of_end(&plan, ended)),
+    }
+}

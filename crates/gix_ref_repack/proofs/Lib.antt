@@ -1,0 +1,4 @@
+pub mod KeyLemmas
+pub mod Opening
+pub mod RemovalLemmas
+pub mod RepackLemmas

@@ -1,0 +1,52 @@
+-- What an opened `packed-refs` holds, and what it is where it is not opened.
+use Rattle.std.proofs.Common.{◌≡◌, ℕ, List, [], ◌∷◌, Option, Some, None, true, false, refl, sym, ap, ◌∙◌, subst, Result, Ok, Err}
+use Rattle.std.specs.Prelude.{MatchResult}
+use Rattle.gix_ref_hash.specs.declared.hash.Kind.{Kind}
+use Rattle.gix_ref_base.specs.PackedRecords.{Record}
+use Rattle.gix_ref_files.specs.Tree.{Content, is_file, bytes_of}
+use Rattle.gix_ref_files.specs.Tree.Content.{File, Folder}
+use Rattle.gix_ref_theory.specs.OnRealTrees.{file_of}
+use Rattle.gix_ref_packed.specs.Buffers.{HoldsRecords, IsRefusedFile, Opened, buffer_text}
+use Rattle.gix_ref_packed.specs.declared.packed.buffer.Buffer.{Buffer}
+use Rattle.gix_ref_packed.specs.declared.packed.buffer.open.Error.{Error as OpenError}
+use Rattle.gix_ref_packed.specs.declared.packed.buffer.open.Error.TheVariants.{Iter, HeaderParsing, Io as unread, Memory as open_memory}
+use Rattle.gix_ref_packed.proofs.WellFormedLemmas.{opened_holds}
+use Rattle.gix_ref_lookup.specs.Lookups.{ArePackedRecords, IsFaultOrMemory}
+use Rattle.gix_ref_lookup.specs.Lookups as lookups
+use Rattle.gix_ref_lookup.proofs.Opening.{opens_sound}
+use Rattle.gix_ref_repack.specs.Refusals.{IsIoOrMemory, of_opening}
+use Rattle.gix_ref_repack.specs.declared.error.Error.{Error}
+use Rattle.gix_ref_repack.specs.declared.error.Error.TheVariants.{Memory}
+use Rattle.gix_ref_repack.specs.internal.Removals.{finds_some}
+
+-- an opened file of these records holds them
+pub holds : (kind : Kind) (content : Option Content) (rs : List Record) (b : Buffer) → ArePackedRecords kind (file_of content) rs → is_file content ≡ true → Opened kind (bytes_of content) b →
+    HoldsRecords kind rs (buffer_text b)
+holds kind (Some (File bytes)) rs b are a_file opened = opened_holds kind bytes are.0 rs b are.1 opened
+holds kind (Some Folder) rs b are a_file opened = absurd (cc)
+holds kind None rs b are a_file opened = absurd (cc)
+
+finds_none : (keys : List (List ℕ)) → finds_some keys [] ≡ false
+finds_none [] = refl
+finds_none (key ∷ keys) = finds_none keys
+
+-- where there is no file, no key has a record
+pub none_found : (kind : Kind) (content : Option Content) (rs : List Record) (keys : List (List ℕ)) → ArePackedRecords kind (file_of content) rs → is_file content ≡ false → finds_some keys rs ≡ false
+none_found kind (Some (File bytes)) rs keys are no_file = absurd (cc)
+none_found kind (Some Folder) rs keys are no_file = ap (finds_some keys) are ∙ finds_none keys
+none_found kind None rs keys are no_file = ap (finds_some keys) are ∙ finds_none keys
+
+-- a well-formed file is opened, but for a fault or want of memory
+pub sound : (kind : Kind) (content : Option Content) (rs : List Record) (error : OpenError) → ArePackedRecords kind (file_of content) rs → IsRefusedFile kind content error → IsIoOrMemory (of_opening error)
+sound kind content rs error are refused = by error (opens_sound kind content rs error are refused)
+  where
+    by : (e : OpenError) → IsFaultOrMemory (lookups.of_opening e) → IsIoOrMemory (of_opening e)
+    by (unread fault) is = tt
+    by open_memory is = tt
+    by HeaderParsing is = is
+    by (Iter line) is = is
+
+-- want of memory is one of the two
+pub memory_only : {X : Type 0} (P : X → Type 0) (r : Result X Error) → MatchResult r P (λ error. error ≡ Memory) → MatchResult r P IsIoOrMemory
+memory_only P (Ok x) is = is
+memory_only P (Err e) is = subst IsIoOrMemory (sym is) tt

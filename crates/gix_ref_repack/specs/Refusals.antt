@@ -1,0 +1,56 @@
+-- Why there is no new `packed-refs`.
+use Rattle.std.specs.Prelude.{◌≡◌, ◌⊎◌, ℕ, List, true, Option}
+use Rattle.gix_ref_hash.specs.declared.hash.Kind.{Kind}
+use Rattle.gix_ref_files.specs.Files.{HasRisen}
+use Rattle.gix_ref_files.specs.Tree.{Content, is_file, bytes_of}
+use Rattle.gix_ref_files.specs.declared.files.FileError.TheVariants.{Memory as out_of_memory}
+use Rattle.gix_ref_records.specs.OpenedText.{OpensTo, StuckAt}
+use Rattle.gix_ref_packed.specs.Buffers.{IsRefusedFile}
+use Rattle.gix_ref_packed.specs.declared.packed.buffer.open.Error.{Error as OpenError}
+use Rattle.gix_ref_packed.specs.declared.packed.buffer.open.Error.TheVariants.{Iter, HeaderParsing, Io as unread, Memory as open_memory}
+use Rattle.gix_ref_rewrite.specs.declared.error.Error.{Error as RewriteError}
+use Rattle.gix_ref_rewrite.specs.declared.error.Error.TheVariants as rewriting
+use Rattle.gix_ref_repack.specs.declared.error.Error.{Error}
+use Rattle.gix_ref_repack.specs.declared.error.Error.TheVariants.{Commit, Iteration, Io, Memory}
+
+-- how a fault of opening is reported
+abbrev pub of_opening : OpenError → Error
+of_opening HeaderParsing = Iteration 1
+of_opening (Iter line) = Iteration line
+of_opening (unread error) = Io error
+of_opening open_memory = Memory
+
+-- how a fault of a rewrite is reported
+abbrev pub of_rewrite : RewriteError → Error
+of_rewrite (rewriting.Iteration line) = Iteration line
+of_rewrite rewriting.Memory = Memory
+
+-- a fault of files, or no memory
+abbrev pub IsIoOrMemory : Error → Type 0
+IsIoOrMemory (Io error) = Unit {0}
+IsIoOrMemory Memory = Unit {0}
+IsIoOrMemory other = ⊥
+
+-- `Io` is returned only where the count of faults rose, and never for want of memory; `Commit` is not returned
+abbrev pub IsCounted : ℕ → ℕ → Error → Type 0
+IsCounted before now (Io error) = HasRisen before now × (error ≡ out_of_memory → ⊥)
+IsCounted before now (Commit error) = ⊥
+IsCounted before now (Iteration line) = Unit {0}
+IsCounted before now Memory = Unit {0}
+
+-- the file is opened, and in the line of that number no record begins
+abbrev pub IsStuckFile : Kind → Option Content → ℕ → Type 0
+IsStuckFile kind packed line =
+    (is_file packed ≡ true) × (text : List ℕ) × (first : ℕ) × OpensTo kind (bytes_of packed) text first × StuckAt kind first text line
+
+-- the file is not opened, for its header or for the line of that number; or it is opened, and no record begins there
+abbrev pub IsBadLine : Kind → Option Content → ℕ → Type 0
+IsBadLine kind packed line =
+    ((line ≡ 1) × IsRefusedFile kind packed HeaderParsing) ⊎ (IsRefusedFile kind packed (Iter line) ⊎ IsStuckFile kind packed line)
+
+-- `Iteration` reports a bad line of `packed-refs`
+abbrev pub IsRefused : Kind → Option Content → Error → Type 0
+IsRefused kind packed (Iteration line) = IsBadLine kind packed line
+IsRefused kind packed (Commit error) = ⊥
+IsRefused kind packed (Io error) = Unit {0}
+IsRefused kind packed Memory = Unit {0}

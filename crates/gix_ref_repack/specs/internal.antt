@@ -1,0 +1,2 @@
+pub mod RemovedKeys
+pub mod Removals

@@ -1,0 +1,5 @@
+pub mod Laws
+pub mod MergedRecords
+pub mod RecordEdits
+pub mod Rewrites
+pub mod internal

@@ -1,0 +1,4 @@
+pub mod Applying
+pub mod Merging
+pub mod Passing
+pub mod Runs

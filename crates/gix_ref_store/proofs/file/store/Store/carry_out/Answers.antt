@@ -1,0 +1,299 @@
+use Rattle.std.proofs.Common.{◌≡◌, ◌∙◌, ◌<◌, ◌≤◌, ℕ, List, Option, None, false, length, refl, sym, ap, subst, arith}
+use Rattle.std.specs.Prelude.{if◌then◌else◌, vec_len}
+use Rattle.std.proofs.lemmas.List.{length-map}
+use Rattle.gix_ref_files.specs.Files.{disk_of, Leaves, Passes}
+use Rattle.gix_ref_files.specs.DiskSteps.{IsReachedBy, IsSyncedAfter}
+use Rattle.gix_ref_files.specs.Steps.{IsAfter, IsLeftBy}
+use Rattle.gix_ref_files.specs.Tree.{Path, Tree}
+use Rattle.gix_ref_lookup.specs.declared.folders.Dirs.{Dirs}
+use Rattle.gix_ref_edits.specs.declared.transaction.RefEdit.{RefEdit}
+use Rattle.gix_ref_transaction.specs.CommitRenames.{place_at}
+use Rattle.gix_ref_transaction.specs.OwnLocks.{paths_of, OnlyRemoves, RemovesLocks}
+use Rattle.gix_ref_transaction.specs.PrepareSteps.{held_locks, updates}
+use Rattle.gix_ref_transaction.specs.declared.edit.Edit.{Edit}
+use Rattle.gix_ref_commit.specs.Entries.{bare_steps, done_of, planned_entries, steps_in}
+use Rattle.gix_ref_commit.specs.Failures.{AllOfEdits, SaysWhy}
+use Rattle.gix_ref_commit.specs.Unfinished.{EndsIn}
+use Rattle.gix_ref_commit.proofs.Alike.{updates_alike}
+use Rattle.gix_ref_store.specs.Store.{with_files}
+use Rattle.gix_ref_store.specs.declared.file.store.Store.{Store}
+use Rattle.gix_ref_store.proofs.CommitFailures.{all_of_edits, held_less, never_bad, of_no_line, only_locks, raised_wider, run_fails, undecided_fails, undecided_wider}
+use Rattle.gix_ref_store.proofs.Commits.{committed, cut_gone, cut_packed_gone, lost, ran_well, settled, start_edits, start_records, undecided_lost, undecided_well, whole_gone, whole_packed_gone}
+use Rattle.gix_ref_store.proofs.file.store.Store.carry_out.Goals as goal
+
+pub returns-in-Err-clause-failed : goal.returns-in-Err-clause-failed
+returns-in-Err-clause-failed g c =
+    let F = g.F.Files in
+    let start = c.args.self.now in
+    let new = with_files c.decide.new.self c.release_all-remains.new.files in
+    let held = c.args.edits.items in
+    let e = c.release_all-remains.ensures in
+    undecided_fails F.honest F.means F.faults start new c.args.packed held c.decide.new.edits.items c.decide.ensures.alike c.in-Err.error
+    (undecided_wider F.honest F.means F.faults start c.decide.new.self new held c.in-Err.error e.no_fewer c.in-Err.ensures.failed)
+    (λ h empty. only_locks F.honest F.means F.faults start new c.args.packed held c.decide.new.edits.items c.decide.ensures.alike false (F.means c.decide.new.self.files).tree (c.decide.ensures.leaves h empty).tree (e.leaves h).tree)
+
+pub returns-in-Err-clause-sound : goal.returns-in-Err-clause-sound
+returns-in-Err-clause-sound g c old given from h good bad =
+    let F = g.F.Files in
+    let start = c.args.self.now in
+    never_bad F.honest F.means F.faults start c.decide.new.self c.args.edits.items c.in-Err.error c.in-Err.ensures.failed bad h
+    (start_edits F.honest F.means F.faults old start given c.args.packed c.args.edits.items from h good) good.0
+    (start_records F.honest F.means F.faults old start given c.args.packed c.args.edits.items from h good)
+
+pub returns-in-Err-clause-ended : goal.returns-in-Err-clause-ended
+returns-in-Err-clause-ended g c old given from =
+    let F = g.F.Files in
+    let e = c.release_all-remains.ensures in
+    let ran = c.decide.new.edits in
+    undecided_well F.honest F.means F.faults old c.args.self.now given c.args.packed c.args.edits.items from ran.items c.decide.ensures.alike _ (paths_of c.release_all-remains.result.left.items) (F.means c.decide.new.self.files)
+    (λ h. c.decide.ensures.leaves h (from.packed.empty h)) (λ h. c.decide.ensures.passes h (from.packed.empty h))
+    (λ h. e.leaves h) (λ h. e.passes h) (λ h. e.packed_gone h) (λ h k lt. e.gone h k (omega (arith, lt, ran.ok))) e.ours
+
+pub returns-in-Err-clause-lost : goal.returns-in-Err-clause-lost
+returns-in-Err-clause-lost g c old given from h good at_rest =
+    let F = g.F.Files in
+    let e = c.release_all-remains.ensures in
+    let ran = c.decide.new.edits in
+    undecided_lost F.honest F.means F.faults old c.args.self.now given c.args.packed c.args.edits.items from ran.items c.decide.ensures.alike _ (paths_of c.release_all-remains.result.left.items) (F.means c.decide.new.self.files)
+    (λ h. c.decide.ensures.leaves h (from.packed.empty h)) (λ h. c.decide.ensures.passes h (from.packed.empty h))
+    (λ h. e.leaves h) (λ h. e.passes h) (λ h. e.packed_gone h) (λ h k lt. e.gone h k (omega (arith, lt, ran.ok))) e.ours h good at_rest
+
+pub failure-requires : goal.failure-requires
+failure-requires g c =
+    let F = g.F.Files in
+    let ran = c.decide.new.edits in
+    let edits = c.release_all-edits.result.edits in
+    subst (λ n. AllOfEdits n c.in-Err-publish.unfinished) (omega (arith, edits.ok, ap length c.release_all-edits.ensures.edits, length-map ran.items (λ (e : Edit). e.update)))
+    (all_of_edits F.honest c.decide.new.self.dirs ran.items c.args.packed c.in-Ok.decided.rewrite (F.means c.decide.new.self.files).tree (F.means c.publish.new.self.files).tree c.in-Err-publish.unfinished
+    (rw c.deref.ensures.value at c.in-Err-publish.ensures.ended))
+
+pub returns-in-Err-publish-clause-failed : goal.returns-in-Err-publish-clause-failed
+returns-in-Err-publish-clause-failed g c =
+    let F = g.F.Files in
+    let start = c.args.self.now in
+    let new = with_files c.publish.new.self c.release_all-edits.new.files in
+    let held = c.args.edits.items in
+    let ran = c.decide.new.edits in
+    let packed = c.args.packed in
+    let rewrite = c.in-Ok.decided.rewrite in
+    let decided = F.means c.decide.new.self.files in
+    let mid = F.means c.publish.new.self.files in
+    let u = c.in-Err-publish.unfinished in
+    let e = c.release_all-edits.ensures in
+    let renamed = c.is_packed_renamed.result in
+    let alike = c.decide.ensures.alike in
+    let same : c.decide.new.self.dirs ≡ start.dirs = ap (λ (st : Store g.row.F.Denot). st.dirs) c.decide.ensures.same in
+    let ends : EndsIn F.honest (planned_entries start.dirs ran.items packed rewrite) decided.tree mid.tree u =
+    subst (λ (d : Dirs). EndsIn F.honest (planned_entries d ran.items packed rewrite) decided.tree mid.tree u) same (rw c.deref.ensures.value at c.in-Err-publish.ensures.ended) in
+    let less : F.honest → RemovesLocks (held_locks (if renamed then None else packed) ran.items) mid.tree (F.means c.release_all-edits.new.files).tree = λ h. rw c.unless_renamed-packed.ensures at (e.leaves h).tree in
+    let len : c.len.result ≡ length ran.items = omega (arith, c.len.ensures, ran.ok) in
+    let done : c.done-done.result ≡ done_of (length ran.items) u = c.done-done.ensures ∙ ap (λ n. done_of n u) len in
+    let place = c.release_all-edits.result.place.items in
+    let says : SaysWhy (updates held) place c.in-Ok.decided.path.items u c.failure.result =
+    subst (λ (l : List RefEdit). SaysWhy l place c.in-Ok.decided.path.items u c.failure.result) (e.edits ∙ updates_alike ran.items held alike) c.failure.ensures in
+    let here : done_of (length ran.items) u < length ran.items → place ≡ place_at ran.items (done_of (length ran.items) u) =
+    subst (λ n. n < length ran.items → place ≡ place_at ran.items n) done (λ lt. e.place (omega (arith, lt, ran.ok))) in
+    run_fails F.honest F.means F.faults start new packed held ran.items alike c.in-Ok.ensures.logs rewrite c.in-Ok.ensures.repacked decided.tree mid.tree
+    (λ h empty. c.in-Ok.ensures.filled h empty) (λ h. held_less F.honest F.means F.faults start new packed held ran.items alike renamed mid.tree (less h))
+    u c.failure.result place c.in-Ok.decided.path.items ends says
+    (raised_wider (F.faults start.files) (F.faults c.decide.new.self.files) (F.faults c.publish.new.self.files) (F.faults c.release_all-edits.new.files) u c.decide.ensures.no_fewer e.no_fewer c.in-Err-publish.ensures.counted)
+    (λ none h empty.
+    let still : mid.tree ≡ decided.tree = ap (λ files. (F.means files).tree) (c.in-Err-publish.ensures.memory none) in
+    only_locks F.honest F.means F.faults start new packed held ran.items alike renamed decided.tree (c.decide.ensures.leaves h empty).tree
+    (subst (λ (S : Tree). RemovesLocks (held_locks (if renamed then None else packed) ran.items) S (F.means c.release_all-edits.new.files).tree) still (less h)))
+    here c.in-Ok.ensures.path
+
+pub returns-in-Err-publish-clause-sound : goal.returns-in-Err-publish-clause-sound
+returns-in-Err-publish-clause-sound g c old given from h good bad =
+    of_no_line c.release_all-edits.result.edits.items c.release_all-edits.result.place.items c.in-Ok.decided.path.items c.in-Err-publish.unfinished c.failure.result c.failure.ensures bad
+
+pub returns-in-Err-publish-clause-ended : goal.returns-in-Err-publish-clause-ended
+returns-in-Err-publish-clause-ended g c old given from =
+    let F = g.F.Files in
+    let start = c.args.self.now in
+    let held = c.args.edits.items in
+    let ran = c.decide.new.edits in
+    let packed = c.args.packed in
+    let rewrite = c.in-Ok.decided.rewrite in
+    let decided = F.means c.decide.new.self.files in
+    let mid = F.means c.publish.new.self.files in
+    let e = c.release_all-edits.ensures in
+    let left = paths_of c.release_all-edits.result.left.items in
+    let new = with_files c.publish.new.self c.release_all-edits.new.files in
+    let renamed = c.is_packed_renamed.result in
+    let alike = c.decide.ensures.alike in
+    let same : c.decide.new.self.dirs ≡ old.dirs = ap (λ (st : Store g.row.F.Denot). st.dirs) c.decide.ensures.same ∙ from.held.same.dirs in
+    let runs : F.honest → Leaves decided mid (IsLeftBy (bare_steps (planned_entries old.dirs ran.items packed rewrite)) decided.tree) = λ h.
+    subst (λ (d : Dirs). Leaves decided mid (IsLeftBy (bare_steps (planned_entries d ran.items packed rewrite)) decided.tree)) same (rw c.deref.ensures.value at (c.publish.ensures.leaves h)) in
+    let releases : F.honest → Leaves mid (F.means c.release_all-edits.new.files) (RemovesLocks (held_locks (if renamed then None else packed) ran.items) mid.tree) = λ h. rw c.unless_renamed-packed.ensures at (e.leaves h) in
+    let u = c.in-Err-publish.unfinished in
+    let ends : EndsIn F.honest (planned_entries old.dirs ran.items packed rewrite) decided.tree mid.tree u =
+    subst (λ (d : Dirs). EndsIn F.honest (planned_entries d ran.items packed rewrite) decided.tree mid.tree u) same (rw c.deref.ensures.value at c.in-Err-publish.ensures.ended) in
+    let done = c.done-done.result in
+    let len : c.len.result ≡ length ran.items = omega (arith, c.len.ensures, ran.ok) in
+    let done_is : done ≡ done_of (length ran.items) u = c.done-done.ensures ∙ ap (λ n. done_of n u) len in
+    ran_well F.honest F.means F.faults old start given packed held from ran.items alike new left decided
+    (λ h. c.decide.ensures.leaves h (from.packed.empty h)) (λ h. c.decide.ensures.passes h (from.packed.empty h))
+    c.in-Ok.ensures.logs rewrite c.in-Ok.ensures.repacked (λ h. c.in-Ok.ensures.filled h (from.packed.empty h)) (λ h. c.in-Ok.ensures.wholes h (from.packed.empty h))
+    mid renamed runs releases done
+    (λ h. rw c.unless_renamed-packed.ensures at (e.packed_gone h))
+    (λ h text path some. cut_packed_gone F.honest F.means F.faults old start given packed held from ran.items alike new left decided
+    (λ h. c.decide.ensures.leaves h (from.packed.empty h)) (λ h. c.decide.ensures.passes h (from.packed.empty h))
+    c.in-Ok.ensures.logs rewrite c.in-Ok.ensures.repacked (λ h. c.in-Ok.ensures.filled h (from.packed.empty h)) (λ h. c.in-Ok.ensures.wholes h (from.packed.empty h))
+    mid renamed runs releases u ends h (sym c.is_packed_renamed.ensures ∙ text) path some)
+    (λ h k lt. e.gone h k (omega (arith, lt, ran.ok)))
+    (λ h k lt early written. cut_gone F.honest F.means F.faults old start given packed held from ran.items alike new left decided
+    (λ h. c.decide.ensures.leaves h (from.packed.empty h)) (λ h. c.decide.ensures.passes h (from.packed.empty h))
+    c.in-Ok.ensures.logs rewrite c.in-Ok.ensures.repacked (λ h. c.in-Ok.ensures.filled h (from.packed.empty h)) (λ h. c.in-Ok.ensures.wholes h (from.packed.empty h))
+    mid renamed runs releases u ends h k lt (subst (λ n. k < n) done_is early) written)
+    (rw c.unless_renamed-packed.ensures at e.ours)
+
+pub returns-clause-ended : goal.returns-clause-ended
+returns-clause-ended g c old given from =
+    let F = g.F.Files in
+    let start = c.args.self.now in
+    let held = c.args.edits.items in
+    let ran = c.decide.new.edits in
+    let packed = c.args.packed in
+    let rewrite = c.in-Ok.decided.rewrite in
+    let decided = F.means c.decide.new.self.files in
+    let mid = F.means c.publish.new.self.files in
+    let e = c.release_all.ensures in
+    let left = paths_of c.release_all.result.left.items in
+    let new = with_files c.publish.new.self c.release_all.new.files in
+    let renamed = c.is_renamed.result in
+    let alike = c.decide.ensures.alike in
+    let same : c.decide.new.self.dirs ≡ old.dirs = ap (λ (st : Store g.row.F.Denot). st.dirs) c.decide.ensures.same ∙ from.held.same.dirs in
+    let runs : F.honest → Leaves decided mid (IsLeftBy (bare_steps (planned_entries old.dirs ran.items packed rewrite)) decided.tree) = λ h.
+    subst (λ (d : Dirs). Leaves decided mid (IsLeftBy (bare_steps (planned_entries d ran.items packed rewrite)) decided.tree)) same (rw c.deref.ensures.value at (c.publish.ensures.leaves h)) in
+    let releases : F.honest → Leaves mid (F.means c.release_all.new.files) (RemovesLocks (held_locks (if renamed then None else packed) ran.items) mid.tree) = λ h. rw c.unless_renamed-packed-2.ensures at (e.leaves h) in
+    let after : F.honest → IsAfter (bare_steps (planned_entries old.dirs ran.items packed rewrite)) decided.tree mid.tree = λ h.
+    subst (λ (d : Dirs). IsAfter (bare_steps (planned_entries d ran.items packed rewrite)) decided.tree mid.tree) same (rw c.deref.ensures.value at (c.in_default.ensures.done h)) in
+    let done = c.len-done.result in
+    ran_well F.honest F.means F.faults old start given packed held from ran.items alike new left decided
+    (λ h. c.decide.ensures.leaves h (from.packed.empty h)) (λ h. c.decide.ensures.passes h (from.packed.empty h))
+    c.in-Ok.ensures.logs rewrite c.in-Ok.ensures.repacked (λ h. c.in-Ok.ensures.filled h (from.packed.empty h)) (λ h. c.in-Ok.ensures.wholes h (from.packed.empty h))
+    mid renamed runs releases done
+    (λ h. rw c.unless_renamed-packed-2.ensures at (e.packed_gone h))
+    (λ h text path some. whole_packed_gone F.honest F.means F.faults old start given packed held from ran.items alike new left decided
+    (λ h. c.decide.ensures.leaves h (from.packed.empty h)) (λ h. c.decide.ensures.passes h (from.packed.empty h))
+    c.in-Ok.ensures.logs rewrite c.in-Ok.ensures.repacked (λ h. c.in-Ok.ensures.filled h (from.packed.empty h)) (λ h. c.in-Ok.ensures.wholes h (from.packed.empty h))
+    mid renamed runs releases after h (sym c.is_renamed.ensures ∙ text) path some)
+    (λ h k lt. e.gone h k (omega (arith, lt, ran.ok)))
+    (λ h k lt early written. whole_gone F.honest F.means F.faults old start given packed held from ran.items alike new left decided
+    (λ h. c.decide.ensures.leaves h (from.packed.empty h)) (λ h. c.decide.ensures.passes h (from.packed.empty h))
+    c.in-Ok.ensures.logs rewrite c.in-Ok.ensures.repacked (λ h. c.in-Ok.ensures.filled h (from.packed.empty h)) (λ h. c.in-Ok.ensures.wholes h (from.packed.empty h))
+    mid renamed runs releases after h k lt written)
+    (rw c.unless_renamed-packed-2.ensures at e.ours)
+
+pub returns-clause-committed : goal.returns-clause-committed
+returns-clause-committed g c old given from h good =
+    let F = g.F.Files in
+    let start = c.args.self.now in
+    let held = c.args.edits.items in
+    let ran = c.decide.new.edits in
+    let packed = c.args.packed in
+    let rewrite = c.in-Ok.decided.rewrite in
+    let decided = F.means c.decide.new.self.files in
+    let mid = F.means c.publish.new.self.files in
+    let e = c.release_all.ensures in
+    let left = paths_of c.release_all.result.left.items in
+    let new = with_files c.publish.new.self c.release_all.new.files in
+    let renamed = c.is_renamed.result in
+    let alike = c.decide.ensures.alike in
+    let same : c.decide.new.self.dirs ≡ old.dirs = ap (λ (st : Store g.row.F.Denot). st.dirs) c.decide.ensures.same ∙ from.held.same.dirs in
+    let runs : F.honest → Leaves decided mid (IsLeftBy (bare_steps (planned_entries old.dirs ran.items packed rewrite)) decided.tree) = λ h.
+    subst (λ (d : Dirs). Leaves decided mid (IsLeftBy (bare_steps (planned_entries d ran.items packed rewrite)) decided.tree)) same (rw c.deref.ensures.value at (c.publish.ensures.leaves h)) in
+    let releases : F.honest → Leaves mid (F.means c.release_all.new.files) (RemovesLocks (held_locks (if renamed then None else packed) ran.items) mid.tree) = λ h. rw c.unless_renamed-packed-2.ensures at (e.leaves h) in
+    let after : F.honest → IsAfter (bare_steps (planned_entries old.dirs ran.items packed rewrite)) decided.tree mid.tree = λ h.
+    subst (λ (d : Dirs). IsAfter (bare_steps (planned_entries d ran.items packed rewrite)) decided.tree mid.tree) same (rw c.deref.ensures.value at (c.in_default.ensures.done h)) in
+    committed F.honest F.means F.faults old start given packed held from ran.items alike new left decided
+    (λ h. c.decide.ensures.leaves h (from.packed.empty h)) (λ h. c.decide.ensures.passes h (from.packed.empty h))
+    c.in-Ok.ensures.logs rewrite c.in-Ok.ensures.repacked (λ h. c.in-Ok.ensures.filled h (from.packed.empty h)) (λ h. c.in-Ok.ensures.wholes h (from.packed.empty h))
+    mid renamed runs releases h good (after h) ((returns-clause-ended g c old given from).gone h)
+
+pub returns-in-Err-publish-clause-lost : goal.returns-in-Err-publish-clause-lost
+returns-in-Err-publish-clause-lost g c old given from h good at_rest =
+    let F = g.F.Files in
+    let start = c.args.self.now in
+    let held = c.args.edits.items in
+    let ran = c.decide.new.edits in
+    let packed = c.args.packed in
+    let rewrite = c.in-Ok.decided.rewrite in
+    let decided = F.means c.decide.new.self.files in
+    let mid = F.means c.publish.new.self.files in
+    let e = c.release_all-edits.ensures in
+    let left = paths_of c.release_all-edits.result.left.items in
+    let new = with_files c.publish.new.self c.release_all-edits.new.files in
+    let renamed = c.is_packed_renamed.result in
+    let alike = c.decide.ensures.alike in
+    let same : c.decide.new.self.dirs ≡ old.dirs = ap (λ (st : Store g.row.F.Denot). st.dirs) c.decide.ensures.same ∙ from.held.same.dirs in
+    let runs : F.honest → Leaves decided mid (IsLeftBy (bare_steps (planned_entries old.dirs ran.items packed rewrite)) decided.tree) = λ h.
+    subst (λ (d : Dirs). Leaves decided mid (IsLeftBy (bare_steps (planned_entries d ran.items packed rewrite)) decided.tree)) same (rw c.deref.ensures.value at (c.publish.ensures.leaves h)) in
+    let releases : F.honest → Leaves mid (F.means c.release_all-edits.new.files) (RemovesLocks (held_locks (if renamed then None else packed) ran.items) mid.tree) = λ h. rw c.unless_renamed-packed.ensures at (e.leaves h) in
+    let passes : Passes decided mid (IsReachedBy (steps_in (planned_entries old.dirs ran.items packed rewrite)) (disk_of decided)) =
+    subst (λ (d : Dirs). Passes decided mid (IsReachedBy (steps_in (planned_entries d ran.items packed rewrite)) (disk_of decided))) same (rw c.deref.ensures.value at (c.publish.ensures.passes h)) in
+    let only : OnlyRemoves (held_locks (if renamed then None else packed) ran.items) mid (F.means c.release_all-edits.new.files) = rw c.unless_renamed-packed.ensures at (e.passes h) in
+    lost F.honest F.means F.faults old start given packed held from ran.items alike new left decided
+    (λ h. c.decide.ensures.leaves h (from.packed.empty h)) (λ h. c.decide.ensures.passes h (from.packed.empty h))
+    c.in-Ok.ensures.logs rewrite c.in-Ok.ensures.repacked (λ h. c.in-Ok.ensures.filled h (from.packed.empty h)) (λ h. c.in-Ok.ensures.wholes h (from.packed.empty h))
+    mid renamed runs releases h at_rest only good passes
+
+pub returns-clause-lost : goal.returns-clause-lost
+returns-clause-lost g c old given from h good at_rest =
+    let F = g.F.Files in
+    let start = c.args.self.now in
+    let held = c.args.edits.items in
+    let ran = c.decide.new.edits in
+    let packed = c.args.packed in
+    let rewrite = c.in-Ok.decided.rewrite in
+    let decided = F.means c.decide.new.self.files in
+    let mid = F.means c.publish.new.self.files in
+    let e = c.release_all.ensures in
+    let left = paths_of c.release_all.result.left.items in
+    let new = with_files c.publish.new.self c.release_all.new.files in
+    let renamed = c.is_renamed.result in
+    let alike = c.decide.ensures.alike in
+    let same : c.decide.new.self.dirs ≡ old.dirs = ap (λ (st : Store g.row.F.Denot). st.dirs) c.decide.ensures.same ∙ from.held.same.dirs in
+    let runs : F.honest → Leaves decided mid (IsLeftBy (bare_steps (planned_entries old.dirs ran.items packed rewrite)) decided.tree) = λ h.
+    subst (λ (d : Dirs). Leaves decided mid (IsLeftBy (bare_steps (planned_entries d ran.items packed rewrite)) decided.tree)) same (rw c.deref.ensures.value at (c.publish.ensures.leaves h)) in
+    let releases : F.honest → Leaves mid (F.means c.release_all.new.files) (RemovesLocks (held_locks (if renamed then None else packed) ran.items) mid.tree) = λ h. rw c.unless_renamed-packed-2.ensures at (e.leaves h) in
+    let passes : Passes decided mid (IsReachedBy (steps_in (planned_entries old.dirs ran.items packed rewrite)) (disk_of decided)) =
+    subst (λ (d : Dirs). Passes decided mid (IsReachedBy (steps_in (planned_entries d ran.items packed rewrite)) (disk_of decided))) same (rw c.deref.ensures.value at (c.publish.ensures.passes h)) in
+    let only : OnlyRemoves (held_locks (if renamed then None else packed) ran.items) mid (F.means c.release_all.new.files) = rw c.unless_renamed-packed-2.ensures at (e.passes h) in
+    lost F.honest F.means F.faults old start given packed held from ran.items alike new left decided
+    (λ h. c.decide.ensures.leaves h (from.packed.empty h)) (λ h. c.decide.ensures.passes h (from.packed.empty h))
+    c.in-Ok.ensures.logs rewrite c.in-Ok.ensures.repacked (λ h. c.in-Ok.ensures.filled h (from.packed.empty h)) (λ h. c.in-Ok.ensures.wholes h (from.packed.empty h))
+    mid renamed runs releases h at_rest only good passes
+
+pub returns-clause-settled : goal.returns-clause-settled
+returns-clause-settled g c old given from h at_rest =
+    let F = g.F.Files in
+    let start = c.args.self.now in
+    let held = c.args.edits.items in
+    let ran = c.decide.new.edits in
+    let packed = c.args.packed in
+    let rewrite = c.in-Ok.decided.rewrite in
+    let decided = F.means c.decide.new.self.files in
+    let mid = F.means c.publish.new.self.files in
+    let e = c.release_all.ensures in
+    let left = paths_of c.release_all.result.left.items in
+    let new = with_files c.publish.new.self c.release_all.new.files in
+    let renamed = c.is_renamed.result in
+    let alike = c.decide.ensures.alike in
+    let same : c.decide.new.self.dirs ≡ old.dirs = ap (λ (st : Store g.row.F.Denot). st.dirs) c.decide.ensures.same ∙ from.held.same.dirs in
+    let runs : F.honest → Leaves decided mid (IsLeftBy (bare_steps (planned_entries old.dirs ran.items packed rewrite)) decided.tree) = λ h.
+    subst (λ (d : Dirs). Leaves decided mid (IsLeftBy (bare_steps (planned_entries d ran.items packed rewrite)) decided.tree)) same (rw c.deref.ensures.value at (c.publish.ensures.leaves h)) in
+    let releases : F.honest → Leaves mid (F.means c.release_all.new.files) (RemovesLocks (held_locks (if renamed then None else packed) ran.items) mid.tree) = λ h. rw c.unless_renamed-packed-2.ensures at (e.leaves h) in
+    let done : IsSyncedAfter (steps_in (planned_entries old.dirs ran.items packed rewrite)) (disk_of decided) (disk_of mid) =
+    subst (λ (d : Dirs). IsSyncedAfter (steps_in (planned_entries d ran.items packed rewrite)) (disk_of decided) (disk_of mid)) same (rw c.deref.ensures.value at (c.in_default.ensures.synced h)) in
+    let only : OnlyRemoves (held_locks (if renamed then None else packed) ran.items) mid (F.means c.release_all.new.files) = rw c.unless_renamed-packed-2.ensures at (e.passes h) in
+    settled F.honest F.means F.faults old start given packed held from ran.items alike new left decided
+    (λ h. c.decide.ensures.leaves h (from.packed.empty h)) (λ h. c.decide.ensures.passes h (from.packed.empty h))
+    c.in-Ok.ensures.logs rewrite c.in-Ok.ensures.repacked (λ h. c.in-Ok.ensures.filled h (from.packed.empty h)) (λ h. c.in-Ok.ensures.wholes h (from.packed.empty h))
+    mid renamed runs releases h at_rest only done
+    (ap (λ (st : Store g.row.F.Denot). st.dirs) c.publish.ensures.same ∙ ap (λ (st : Store g.row.F.Denot). st.dirs) c.decide.ensures.same)
+    (ap (λ (st : Store g.row.F.Denot). st.namespace) c.publish.ensures.same ∙ ap (λ (st : Store g.row.F.Denot). st.namespace) c.decide.ensures.same)
+
+pub returns-clause-edits : goal.returns-clause-edits
+returns-clause-edits g c = c.release_all.ensures.edits ∙ updates_alike c.decide.new.edits.items c.args.edits.items c.decide.ensures.alike

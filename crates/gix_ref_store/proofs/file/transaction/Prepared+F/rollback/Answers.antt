@@ -1,0 +1,27 @@
+use Rattle.std.proofs.Common.{inl, inr, ⊎_elim, map, refl, sym, ap}
+use Rattle.std.specs.Prelude.{bytes_eq}
+use Rattle.gix_ref_files.specs.Lock.{lock_of}
+use Rattle.gix_ref_transaction.specs.OwnLocks.{paths_of}
+use Rattle.gix_ref_transaction.specs.PrepareSteps.{lock_paths, packed_places}
+use Rattle.gix_ref_transaction.proofs.Adds.{any_cases}
+use Rattle.gix_ref_store.proofs.Releasing.{all_gone}
+use Rattle.gix_ref_store.proofs.file.transaction.Prepared+F.rollback.Goals as goal
+
+pub returns-clause-rolled : goal.returns-clause-rolled
+returns-clause-rolled g c =
+    let F = g.F.Files in
+    let plan = c.args.self.plan in
+    let held = plan.edits.items in
+    let e = c.release_all-remains.ensures in
+    let left = c.release_all-remains.result.left.items in
+    let now = F.means c.release_all-remains.new.files in
+    record {
+      gone = λ h q within out. ⊎_elim (λ mine. e.packed_gone h q mine out)
+          (λ own. all_gone held plan.edits.len (paths_of left) now.tree (sym plan.edits.ok.0) (e.gone h) q own out)
+          (any_cases (λ r. bytes_eq r q) (map lock_of (packed_places plan.packed)) (lock_paths held) within);
+      ours = e.ours;
+      named = ⊎_elim (λ none. inl (ap paths_of none)) (λ risen. inr risen) e.named;
+      leaves = e.leaves;
+      removes = e.passes;
+      same = record { dirs = refl; namespace = refl; of_kind = refl; reflogs = refl; composes = refl; prohibits = refl };
+    }

@@ -1,0 +1,85 @@
+//! A commit from its decisions to the release of its locks, from a store.
+ghost use Rattle.std.specs.Prelude.{◌≡◌, ◌⊎◌, [], OnOk, IfOk, IfErr};
+ghost use Rattle.gix_ref_files.specs.Files.{HasRisen};
+ghost use Rattle.gix_ref_transaction.specs.OwnLocks.{paths_of};
+ghost use Rattle.gix_ref_transaction.specs.PrepareSteps.{updates};
+ghost use Rattle.gix_ref_store.specs.CommitResult.{EveryStopFrom, EveryLossFrom, SettlesFrom, CommitsFrom, FailsFor, NoBadLineFrom};
+ghost use Rattle.gix_ref_store.specs.Decisions.{left_in};
+ghost use Rattle.gix_ref_store.specs.Prepared.{HasRoom};
+ghost use Rattle.gix_ref_store.specs.Store.{files_of, with_files};
+
+use crate::file::store::Store;
+use gix_ref_commit::decide::NewPacked;
+use gix_ref_commit::error::Error;
+use gix_ref_commit::failure::{failure, is_renamed, unless_renamed};
+use gix_ref_files::files::Files;
+use gix_ref_files::lock::LockFile;
+use gix_ref_transaction::edit::Edit;
+use gix_ref_transaction::release::{Remains, release_all};
+use std::alloc::Global;
+
+/// A commit that ended early.
+#[derive(Debug, Drop)]
+pub(crate) struct EndedEarly {
+    /// Why it ended.
+    pub error: Error,
+    /// The paths of locks that could not be removed.
+    pub left: Vec<Vec<u8>>,
+}
+
+impl<F: Files> Store<F> {
+    /// Decides what becomes of logs and of `packed-refs`, runs the steps, and removes the locks that were not renamed.
+    pub(crate) fn carry_out(
+        &mut self,
+        alloc: Global,
+        mut edits: Vec<Edit>,
+        packed: Option<LockFile>,
+        remains: Remains,
+    ) -> Result<Remains, EndedEarly>
+        requires room { HasRoom edits remains }
+        ensures edits { IfOk result (λ r. r.edits.items ≡ updates edits.items) }
+        ensures committed { IfOk result (λ r. CommitsFrom F.honest F.means F.faults self.old self.new
+            packed edits.items (paths_of r.left.items)) }
+        ensures failed { IfErr result (λ e. FailsFor F.honest F.means F.faults self.old self.new
+            packed edits.items e.error) }
+        ensures sound { IfErr result (λ e. NoBadLineFrom F.honest F.means F.faults self.old
+            packed edits.items e.error) }
+        ensures ended { EveryStopFrom F.honest F.means F.faults self.old self.new packed edits.items
+            (left_in result) }
+        ensures lost { EveryLossFrom F.honest F.means F.faults self.old self.new packed edits.items }
+        ensures settled { OnOk result (SettlesFrom F.honest F.means F.faults self.old self.new
+            packed edits.items) }
+        ensures named { (left_in result ≡ []) ⊎ HasRisen (F.faults (files_of self.old))
+            (F.faults (files_of self.new)) }
+        ensures same { self.new ≡ with_files self.old (files_of self.new) }
+    {
+        let NewPacked { rewrite, path } = match self.decide(alloc, &mut edits, &packed) {
+            Ok(decided) => decided,
+            Err(error) => {
+                let remains = release_all(&mut self.files, 0, packed, edits, remains);
+                return Err(EndedEarly {
+                    error,
+                    left: remains.left,
+                });
+            }
+        };
+        if let Err(unfinished) = self.publish(alloc, &edits, &packed, &rewrite) {
+            let done = unfinished.done(edits.len());
+            let packed = unless_renamed(packed, unfinished.is_packed_renamed(&rewrite));
+            let Remains { edits, left, place } = release_all(
+                &mut self.files,
+                done,
+                packed,
+                edits,
+                remains,
+            );
+            return Err(EndedEarly {
+                error: failure(edits, place, path, unfinished),
+                left,
+            });
+        }
+        let done = edits.len();
+        let packed = unless_renamed(packed, is_renamed(&rewrite));
+        Ok(release_all(&mut self.files, done, packed, edits, remains))
+    }
+}

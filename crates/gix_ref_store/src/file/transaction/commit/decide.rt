@@ -1,0 +1,113 @@
+//! What a commit decides before its first write, and the run of its steps, from a store.
+ghost use Rattle.std.specs.Prelude.{◌≡◌, ◌≢◌, ◌≤◌, List, None, OnOk, IfOk, IfErr, map};
+ghost use Rattle.gix_ref_files.specs.DiskSteps.{IsReachedBy, IsSyncedAfter};
+ghost use Rattle.gix_ref_files.specs.Files.{disk_of, Leaves, Passes};
+ghost use Rattle.gix_ref_files.specs.Steps.{IsAfter, IsLeftBy};
+ghost use Rattle.gix_ref_files.specs.Lock.{lock_of};
+ghost use Rattle.gix_ref_files.specs.Tree.{Path};
+ghost use Rattle.gix_ref_transaction.specs.OwnLocks.{OnlyLocks};
+ghost use Rattle.gix_ref_transaction.specs.PrepareSteps.{updates, packed_places, AreWholeLocks};
+ghost use Rattle.gix_ref_commit.specs.Decided.{FillsPacked, IsFilled};
+ghost use Rattle.gix_ref_commit.specs.Entries.{bare_steps, planned_entries, steps_in};
+ghost use Rattle.gix_ref_commit.specs.LogEffects.{AreLogsOf, all_but_logs};
+ghost use Rattle.gix_ref_commit.specs.Unfinished.{EndsIn, IsRaised};
+ghost use Rattle.gix_ref_store.specs.CommitResult.{IsPackedEmpty, RepacksFrom};
+ghost use Rattle.gix_ref_store.specs.Decisions.{IsUndecided};
+ghost use Rattle.gix_ref_store.specs.Store.{files_of, meaning_of, with_files};
+
+use crate::file::store::Store;
+use gix_ref_commit::decide::{NewPacked, decide_logs, decide_packed};
+use gix_ref_commit::error::Error;
+use gix_ref_commit::failure::undecided;
+use gix_ref_commit::run::{Unfinished, run_plan};
+use gix_ref_files::files::Files;
+use gix_ref_files::lock::LockFile;
+use gix_ref_lookup::settings::Settings;
+use gix_ref_rewrite::outcome::Rewrite;
+use gix_ref_transaction::edit::Edit;
+use std::alloc::Global;
+
+impl<F: Files> Store<F> {
+    /// Decides what becomes of the log of each edit, and of `packed-refs`, whose new text is put into its lock. No other file
+    /// changes.
+    pub(crate) fn decide(
+        &mut self,
+        alloc: Global,
+        edits: &mut Vec<Edit>,
+        packed: &Option<LockFile>,
+    ) -> Result<NewPacked, Error>
+        ensures alike { all_but_logs edits.new.items ≡ all_but_logs edits.old.items }
+        ensures logs { OnOk result (AreLogsOf (meaning_of self.old) (updates edits.old.items)
+            edits.new.items) }
+        ensures repacked { IfOk result (λ new. RepacksFrom F.honest F.means F.faults self.old
+            packed.now edits.old.items new.rewrite) }
+        ensures path { IfOk result (λ new. packed.now ≢ None →
+            new.path.items ≡ (meaning_of self.old).packed_path) }
+        ensures filled { F.honest → IsPackedEmpty F.honest F.means F.faults self.old packed.now →
+            IfOk result (λ new. IsFilled packed.now new.rewrite
+            (F.means (files_of self.old)).tree (F.means (files_of self.new)).tree) }
+        ensures leaves { F.honest → IsPackedEmpty F.honest F.means F.faults self.old packed.now →
+            Leaves (F.means (files_of self.old)) (F.means (files_of self.new))
+            (FillsPacked packed.now (F.means (files_of self.old)).tree) }
+        ensures wholes { F.honest → IsPackedEmpty F.honest F.means F.faults self.old packed.now →
+            (locks : List Path) → AreWholeLocks (disk_of (F.means (files_of self.old))) locks →
+            OnOk result (AreWholeLocks (disk_of (F.means (files_of self.new))) locks) }
+        ensures passes { F.honest → IsPackedEmpty F.honest F.means F.faults self.old packed.now →
+            OnlyLocks (map lock_of (packed_places packed.now)) (F.means (files_of self.old))
+            (F.means (files_of self.new)) }
+        ensures no_fewer { F.faults (files_of self.old) ≤ F.faults (files_of self.new) }
+        ensures failed { IfErr result (IsUndecided F.honest F.means F.faults self.old self.new
+            edits.old.items) }
+        ensures same { self.new ≡ with_files self.old (files_of self.new) }
+    {
+        let settings = Settings {
+            dirs: &self.dirs,
+            namespace: &self.namespace,
+            kind: self.object_hash,
+            prohibit_windows_device_names: self.prohibit_windows_device_names,
+            precompose_unicode: self.precompose_unicode,
+        };
+        if decide_logs(alloc, &settings, edits).is_err() {
+            return Err(Error::Memory);
+        }
+        match decide_packed(alloc, &mut self.files, &settings, edits, packed) {
+            Ok(new_packed) => Ok(new_packed),
+            Err(error) => Err(undecided(error)),
+        }
+    }
+    /// Runs the steps of a commit whose logs and `packed-refs` are decided, up to the first that fails or finds something in its
+    /// way.
+    pub(crate) fn publish(
+        &mut self,
+        alloc: Global,
+        edits: &[Edit],
+        packed: &Option<LockFile>,
+        rewrite: &Rewrite,
+    ) -> Result<(), Unfinished>
+        ensures done { F.honest → OnOk result (IsAfter
+            (bare_steps (planned_entries self.old.dirs edits.now packed.now rewrite.now))
+            (F.means (files_of self.old)).tree (F.means (files_of self.new)).tree) }
+        ensures synced { F.honest → OnOk result (IsSyncedAfter
+            (steps_in (planned_entries self.old.dirs edits.now packed.now rewrite.now))
+            (disk_of (F.means (files_of self.old))) (disk_of (F.means (files_of self.new)))) }
+        ensures leaves { F.honest → Leaves (F.means (files_of self.old))
+            (F.means (files_of self.new)) (IsLeftBy
+            (bare_steps (planned_entries self.old.dirs edits.now packed.now rewrite.now))
+            (F.means (files_of self.old)).tree) }
+        ensures passes { F.honest → Passes (F.means (files_of self.old))
+            (F.means (files_of self.new)) (IsReachedBy
+            (steps_in (planned_entries self.old.dirs edits.now packed.now rewrite.now))
+            (disk_of (F.means (files_of self.old)))) }
+        ensures memory { IfErr result (λ e. e ≡ Unfinished.Memory →
+            files_of self.new ≡ files_of self.old) }
+        ensures ended { IfErr result (EndsIn F.honest
+            (planned_entries self.old.dirs edits.now packed.now rewrite.now)
+            (F.means (files_of self.old)).tree (F.means (files_of self.new)).tree) }
+        ensures no_fewer { F.faults (files_of self.old) ≤ F.faults (files_of self.new) }
+        ensures counted { IfErr result (IsRaised (F.faults (files_of self.old))
+            (F.faults (files_of self.new))) }
+        ensures same { self.new ≡ with_files self.old (files_of self.new) }
+    {
+        run_plan(alloc, &mut self.files, &self.dirs, edits, packed, rewrite)
+    }
+}

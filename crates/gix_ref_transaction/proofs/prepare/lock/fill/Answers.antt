@@ -1,8 +1,0 @@
-use Rattle.gix_ref_files.specs.Files.{disk_of}
-use Rattle.gix_ref_theory.proofs.LockDisks.{filled_whole}
-use Rattle.gix_ref_transaction.proofs.prepare.lock.fill.Goals as goal
-
-pub returns-clause-whole : goal.returns-clause-whole
-returns-clause-whole g c h whole =
-    filled_whole (disk_of (g.F.Files.means c.args.files.now)) (disk_of (g.F.Files.means c.write_lock.new.files)) c.args.lock.now c.args.text.now c.in_ok-write_lock.field-0
-    whole (c.in_ok-write_lock.ensures.answer h) (c.in_ok-write_lock.ensures.disk h)

@@ -1,0 +1,17 @@
+use Rattle.std.proofs.Common.{◌≡◌, List, None, take}
+use Rattle.gix_ref_hash.specs.declared.hash.Kind.{Kind}
+use Rattle.gix_ref_base.specs.PackedRecords.{Record}
+use Rattle.gix_ref_lookup.specs.Lookups.{AreAsked, AreHonest, IsReady}
+use Rattle.gix_ref_transaction.specs.PackedCauses.{ids_among}
+use Rattle.gix_ref_transaction.specs.PrepareSteps.{setting_of, all_asked, ids_in, updates}
+use Rattle.gix_ref_transaction.proofs.prepare.records.find_ids.Given as goal
+
+-- the edits that were seen have their ids, among the same records
+abbrev pub invariant-loop-edit : goal.invariant-loop-edit
+invariant-loop-edit g l = record {
+  ready : IsReady l.records;
+  same : all_asked l.edits ≡ all_asked l.fn.edits;
+  asked : (kind : Kind) (rs : List Record) → AreAsked kind None l.fn.records rs → AreAsked kind None l.records rs;
+  honest : AreHonest l.fn.records → AreHonest l.records;
+  found : (kind : Kind) (rs : List Record) → AreAsked kind None l.fn.records rs → ids_in (take l.edit-index l.edits) ≡ ids_among (setting_of l.settings) rs (take l.edit-index (updates l.fn.edits));
+}

@@ -1,0 +1,382 @@
+//! An edit of a transaction, with its lock, what was found of its reference, and what becomes of the loose file.
+ghost use Rattle.std.specs.Prelude.{◌≡◌, ◌≤◌, ◌⊎◌, [], ◌∷◌, OnOk, OnErr, IfOk, IfErr, IsSome, Some, true, false, if◌then◌else◌};
+ghost use Rattle.std.specs.Option.{option_map};
+ghost use Rattle.gix_ref_base.specs.Targets.{target_value};
+ghost use Rattle.gix_ref_base.specs.Targets.TargetValue.{object_id};
+ghost use Rattle.gix_ref_files.specs.Calls.{Unchanged};
+ghost use Rattle.gix_ref_files.specs.DiskCalls.{Untouched};
+ghost use Rattle.gix_ref_files.specs.Files.{disk_of, Leaves, Passes};
+ghost use Rattle.gix_ref_files.specs.Lock.{lock_of, LockingOn};
+ghost use Rattle.gix_ref_files.specs.Settled.{IsWhole};
+ghost use Rattle.gix_ref_files.specs.Tree.{Tree, Path, is_blocked, put};
+ghost use Rattle.gix_ref_files.specs.Tree.Content.{File};
+ghost use Rattle.gix_ref_lookup.specs.StoreLayout.{namespace_text};
+ghost use Rattle.gix_ref_theory.specs.OnRealTrees.{view_of};
+ghost use Rattle.gix_ref_edits.specs.RefEdits.{name_of, new_of, is_of_reference};
+ghost use Rattle.gix_ref_transaction.specs.OwnLocks.{AddsLocks};
+ghost use Rattle.gix_ref_transaction.specs.Causes.{found, found_by, decoded, packed_of, IsCounted, IsNotIo, IsMismatch, IsIoOrMemory, IsPossible};
+ghost use Rattle.gix_ref_transaction.specs.PrepareSteps.{setting_of, value_of, lock_text, effect_value, text_of_new, decision, decision_of, given, is_new, is_damaged, is_undecodable, target_by, IsDecided, IsSomeWhole, IsRefusedLock, IsNewLock, FillsLock, FillingOn};
+
+use crate::prepare::Error;
+use crate::prepare::expect::check_expected;
+use gix_ref_base::target::Target;
+use gix_ref_edits::transaction::{Change, RefEdit, RefLog};
+use gix_ref_files::files::{Create, Files};
+use gix_ref_files::lock::LockFile;
+use gix_ref_hash::hash::ObjectId;
+use gix_ref_lookup::find::loose::{Loose, loose_at};
+use gix_ref_lookup::find::strip;
+use gix_ref_lookup::loose::text_of;
+use gix_ref_lookup::settings::Settings;
+use gix_ref_name::namespace::Namespace;
+use std::alloc::{AllocError, Global};
+
+/// What becomes of the loose file of a reference.
+#[derive(Clone, Copy, Debug, PartialEq, Eq)]
+pub enum Effect {
+    /// It is written: the lock holds its new text, and is renamed to it.
+    Write,
+    /// It is removed.
+    Remove,
+    /// It stays as it is.
+    Keep,
+}
+
+impl Effect {
+    ghost use Rattle.gix_ref_transaction.specs.Effects.{is_write};
+
+    /// Whether the loose file is written.
+    pub fn is_write(self) -> bool
+        ensures { result ≡ is_write self }
+    {
+        match self {
+            Effect::Write => true,
+            Effect::Remove | Effect::Keep => false,
+        }
+    }
+}
+
+/// What becomes of the log of a reference.
+#[derive(Debug, Drop)]
+pub enum LogEffect {
+    /// It stays as it is.
+    Keep,
+    /// This line is added to it. The log is made where it is missing.
+    Append { log: Vec<u8>, line: Vec<u8> },
+    /// It is removed.
+    Remove { log: Vec<u8> },
+}
+
+/// An edit of a transaction.
+#[derive(Debug, Drop)]
+pub struct Edit {
+    /// What is asked for. Once it is prepared, it expects what was found.
+    pub update: RefEdit,
+    /// The place in the list of the edit that it was split from, from 0.
+    pub parent: Option<usize>,
+    /// The file of the lock of its place.
+    pub lock: LockFile,
+    /// The id of the reference's record in `packed-refs`.
+    pub packed: Option<ObjectId>,
+    /// The target that was found: that of the loose file, or else the object of the record.
+    pub found: Option<Target>,
+    /// What becomes of the loose file. It is decided once, as the edit is compared with what was found.
+    pub effect: Effect,
+    /// What becomes of the log. A commit decides it before its first write.
+    pub log: LogEffect,
+}
+
+/// What there is of a reference before its edit.
+#[derive(Debug, Drop)]
+struct Was {
+    /// Its target: that of its loose file, or else the object of its record.
+    target: Option<Target>,
+    /// Whether there is a loose file that holds no target.
+    damaged: bool,
+}
+
+/// The target of the object of a record.
+fn object_of(packed: Option<ObjectId>) -> Option<Target>
+    ensures { value_of result ≡ option_map object_id packed }
+{
+    match packed {
+        Some(id) => Some(Target::Object(id)),
+        None => None,
+    }
+}
+
+/// What there is of a reference, by its loose file and its record.
+fn was_of(loose: Loose, packed: Option<ObjectId>, namespace: &Option<Namespace>) -> Was
+    ensures target { value_of result.target ≡ target_by (namespace_text namespace.now) loose
+        packed }
+    ensures damaged { result.damaged ≡ is_undecodable loose }
+{
+    match loose {
+        Loose::Holds(mut target) => {
+            strip(&mut target, namespace);
+            Was {
+                target: Some(target),
+                damaged: false,
+            }
+        }
+        Loose::Absent => Was {
+            target: object_of(packed),
+            damaged: false,
+        },
+        Loose::Undecodable(_) => Was {
+            target: object_of(packed),
+            damaged: true,
+        },
+    }
+}
+
+/// What there is at a place, whose reference has this id in `packed-refs`: one call of files.
+fn was_at<F: Files>(
+    alloc: Global,
+    files: &mut F,
+    settings: &Settings<'_>,
+    place: &[u8],
+    packed: Option<ObjectId>,
+) -> Result<Was, Error>
+    ensures target { F.honest →
+        IfOk result (λ was. value_of was.target ≡ found_by (setting_of settings.now)
+        (decoded (setting_of settings.now) (view_of (F.means files.old).tree place.now)) packed) }
+    ensures damaged { F.honest →
+        IfOk result (λ was. was.damaged ≡ is_damaged (setting_of settings.now)
+        (view_of (F.means files.old).tree place.now)) }
+    ensures outside { IfErr result IsIoOrMemory }
+    ensures leaves { F.honest → Leaves (F.means files.old) (F.means files.new)
+        (Unchanged (F.means files.old).tree) }
+    ensures passes { F.honest → Passes (F.means files.old) (F.means files.new)
+        (Untouched (disk_of (F.means files.old))) }
+    ensures no_fewer { F.faults files.old ≤ F.faults files.new }
+    ensures counted { IfErr result (IsCounted (F.faults files.old) (F.faults files.new)) }
+{
+    let loose = loose_at(alloc, files, place, settings.kind)?;
+    Ok(was_of(loose, packed, settings.namespace))
+}
+
+/// Whether an update changes the reference: it has not this object already, in a file that can be read.
+fn is_change(new: &Target, was: &Was) -> bool
+    ensures { result ≡ is_new (target_value new.now) (value_of was.now.target) was.now.damaged }
+{
+    if was.damaged {
+        return true;
+    }
+    match (new, &was.target) {
+        (Target::Object(new), Some(Target::Object(old))) => new != old,
+        _ => true,
+    }
+}
+
+/// What an update makes of the loose file, by what there was.
+fn effect_of_update(mode: RefLog, new: &Target, was: &Was) -> Effect
+    ensures { result ≡ (if is_of_reference mode then decision_of (Some (target_value new.now))
+        (value_of was.now.target) was.now.damaged else Effect.Keep) }
+{
+    match mode {
+        RefLog::AndReference => {
+            if is_change(new, was) {
+                Effect::Write
+            } else {
+                Effect::Keep
+            }
+        }
+        RefLog::Only => Effect::Keep,
+    }
+}
+
+/// What a deletion makes of it.
+fn effect_of_deletion(mode: RefLog) -> Effect
+    ensures { result ≡ (if is_of_reference mode then Effect.Remove else Effect.Keep) }
+{
+    match mode {
+        RefLog::AndReference => Effect::Remove,
+        RefLog::Only => Effect::Keep,
+    }
+}
+
+/// What becomes of the loose file, by the change and what there was.
+fn effect_of(change: &Change, was: &Was) -> Effect
+    ensures { result ≡ decision change.now (value_of was.now.target) was.now.damaged }
+{
+    match change {
+        Change::Update { log, new, .. } => effect_of_update(log.mode, new, was),
+        Change::Delete { log, .. } => effect_of_deletion(*log),
+    }
+}
+
+/// The text of the new target of a change.
+fn text_of_change(alloc: Global, change: &Change) -> Result<Vec<u8>, AllocError>
+    ensures { IfOk result (λ text. text.items ≡ text_of_new (new_of change.now)) }
+{
+    match change {
+        Change::Update { new, .. } => text_of(alloc, new),
+        Change::Delete { .. } => Ok(Vec::new(alloc)),
+    }
+}
+
+/// The refusal of an edit whose lock exists already.
+fn standing(edit: &RefEdit) -> Error
+    ensures told { (T : Tree) (lock : Path) → IsSome (T lock) →
+        IsRefusedLock T (name_of edit.now) lock result }
+    ensures inside { IsNotIo result }
+{
+    match edit.name.clone() {
+        Ok(full_name) => Error::LockAcquire { full_name },
+        Err(_) => Error::Memory,
+    }
+}
+
+/// The refusal of an edit with a file in the path of its lock.
+fn blocked(edit: &RefEdit) -> Error
+    ensures told { (T : Tree) (lock : Path) → is_blocked T lock ≡ true →
+        IsRefusedLock T (name_of edit.now) lock result }
+    ensures inside { IsNotIo result }
+{
+    match edit.name.clone() {
+        Ok(full_name) => Error::PathCollision { full_name },
+        Err(_) => Error::Memory,
+    }
+}
+
+/// Puts the text into the lock, which is empty, and syncs it.
+fn fill<F: Files>(files: &mut F, lock: &LockFile, text: &[u8]) -> Result<(), Error>
+    ensures filled { F.honest → (F.means files.old).tree (lock_of lock.now) ≡ Some (File []) →
+        OnOk result ((F.means files.new).tree ≡ put (F.means files.old).tree (lock_of lock.now)
+        (Some (File text.now))) }
+    ensures outside { IfErr result IsIoOrMemory }
+    ensures leaves { F.honest → (F.means files.old).tree (lock_of lock.now) ≡ Some (File []) →
+        Leaves (F.means files.old) (F.means files.new) (FillsLock (F.means files.old).tree
+        (lock_of lock.now)) }
+    ensures whole { F.honest → IsWhole (disk_of (F.means files.old)) (lock_of lock.now) [] →
+        OnOk result (IsWhole (disk_of (F.means files.new)) (lock_of lock.now) text.now) }
+    ensures passes { F.honest → Passes (F.means files.old) (F.means files.new)
+        (FillingOn (disk_of (F.means files.old)) (lock_of lock.now)) }
+    ensures no_fewer { F.faults files.old ≤ F.faults files.new }
+    ensures counted { IfErr result (IsCounted (F.faults files.old) (F.faults files.new)) }
+{
+    lock.write(files, text)?;
+    Ok(())
+}
+
+impl Edit {
+    /// An edit that is not begun, with the paths of its lock.
+    pub fn at(alloc: Global, settings: &Settings<'_>, update: RefEdit) -> Result<Edit, AllocError>
+        ensures update { IfOk result (λ edit. edit.update ≡ update) }
+        ensures place { IfOk result (λ edit. edit.lock ≡ (setting_of settings.now).place
+            (name_of update)) }
+    {
+        let place = settings.place(alloc, update.name.as_ref())?;
+        Ok(Edit {
+            update,
+            parent: None,
+            lock: LockFile::at(place)?,
+            packed: None,
+            found: None,
+            effect: Effect::Keep,
+            log: LogEffect::Keep,
+        })
+    }
+
+    /// Takes the lock. After a refusal it is not taken.
+    pub fn take<F: Files>(&self, files: &mut F) -> Result<(), Error>
+        ensures taken { F.honest → OnOk result (IsNewLock (F.means files.old).tree
+            (lock_of self.now.lock) (F.means files.new).tree) }
+        ensures refused { F.honest → IfErr result (IsRefusedLock (F.means files.old).tree
+            (name_of self.now.update) (lock_of self.now.lock)) }
+        ensures kept { F.honest → OnErr result (AddsLocks [] (lock_of self.now.lock ∷ [])
+            (F.means files.old).tree (F.means files.new).tree) }
+        ensures leaves { F.honest → Leaves (F.means files.old) (F.means files.new)
+            (AddsLocks (lock_of self.now.lock ∷ []) (lock_of self.now.lock ∷ [])
+            (F.means files.old).tree) }
+        ensures whole { F.honest → OnOk result (IsWhole (disk_of (F.means files.new))
+            (lock_of self.now.lock) []) }
+        ensures passes { F.honest → Passes (F.means files.old) (F.means files.new)
+            (LockingOn (disk_of (F.means files.old)) self.now.lock) }
+        ensures no_fewer { F.faults files.old ≤ F.faults files.new }
+        ensures counted { IfErr result (IsCounted (F.faults files.old) (F.faults files.new)) }
+    {
+        match self.lock.take(files) {
+            Ok(Create::Made) => Ok(()),
+            Ok(Create::Standing) => Err(standing(&self.update)),
+            Ok(Create::Blocked) => Err(blocked(&self.update)),
+            Err(error) => Err(Error::from(error)),
+        }
+    }
+
+    /// Keeps what there was, and decides what becomes of the loose file.
+    fn decide(&mut self, was: Was)
+        ensures given { given self.new ≡ given self.old }
+        ensures found { self.new.found ≡ was.target }
+        ensures effect { self.new.effect ≡ decision self.old.update.change (value_of was.target)
+            was.damaged }
+    {
+        self.effect = effect_of(&self.update.change, &was);
+        self.found = was.target;
+    }
+
+    /// Gives the lock, which is empty, the text that is to be written.
+    fn write<F: Files>(&self, alloc: Global, files: &mut F) -> Result<(), Error>
+        ensures filled { F.honest → (F.means files.old).tree (lock_of self.now.lock) ≡ Some
+            (File []) → OnOk result ((F.means files.new).tree ≡ put (F.means files.old).tree
+            (lock_of self.now.lock)
+            (Some (File (lock_text (effect_value self.now.update.change self.now.effect))))) }
+        ensures outside { IfErr result IsIoOrMemory }
+        ensures leaves { F.honest → (F.means files.old).tree (lock_of self.now.lock) ≡ Some
+            (File []) → Leaves (F.means files.old) (F.means files.new)
+            (FillsLock (F.means files.old).tree (lock_of self.now.lock)) }
+        ensures whole { F.honest → IsWhole (disk_of (F.means files.old)) (lock_of self.now.lock)
+            [] → OnOk result (IsSomeWhole (disk_of (F.means files.new)) (lock_of self.now.lock)) }
+        ensures passes { F.honest → Passes (F.means files.old) (F.means files.new)
+            (FillingOn (disk_of (F.means files.old)) (lock_of self.now.lock)) }
+        ensures no_fewer { F.faults files.old ≤ F.faults files.new }
+        ensures counted { IfErr result (IsCounted (F.faults files.old) (F.faults files.new)) }
+    {
+        match self.effect {
+            Effect::Write => {
+                let text = text_of_change(alloc, &self.update.change)?;
+                fill(files, &self.lock, &text)
+            }
+            Effect::Remove | Effect::Keep => Ok(()),
+        }
+    }
+
+    /// Compares what there is with what the edit expects, decides what becomes of the loose file, and gives the lock, which is
+    /// empty, its text. Makes one call of files, and two more for a text.
+    pub fn settle<F: Files>(
+        &mut self,
+        alloc: Global,
+        files: &mut F,
+        settings: &Settings<'_>,
+    ) -> Result<(), Error>
+        requires place { self.old.lock ≡ (setting_of settings.now).place (name_of self.old.update) }
+        requires allowed { (setting_of settings.now).is_prohibited self.old.lock ≡ false }
+        requires possible { IsPossible self.old.update.change }
+        ensures given { given self.new ≡ given self.old }
+        ensures decided { F.honest → self.old.packed ≡ packed_of (setting_of settings.now)
+            (view_of (F.means files.old).tree) (name_of self.old.update) →
+            (F.means files.old).tree (lock_of self.old.lock) ≡ Some (File []) →
+            OnOk result (IsDecided (setting_of settings.now) (F.means files.old).tree
+            (F.means files.new).tree self.old self.new) }
+        ensures refused { F.honest → self.old.packed ≡ packed_of (setting_of settings.now)
+            (view_of (F.means files.old).tree) (name_of self.old.update) →
+            IfErr result (λ error. IsIoOrMemory error ⊎ IsMismatch settings.now.kind self.old.update
+            (found (setting_of settings.now) (view_of (F.means files.old).tree)
+            (name_of self.old.update)) error) }
+        ensures leaves { F.honest → (F.means files.old).tree (lock_of self.old.lock) ≡ Some
+            (File []) → Leaves (F.means files.old) (F.means files.new)
+            (FillsLock (F.means files.old).tree (lock_of self.old.lock)) }
+        ensures whole { F.honest → IsWhole (disk_of (F.means files.old)) (lock_of self.old.lock)
+            [] → OnOk result (IsSomeWhole (disk_of (F.means files.new)) (lock_of self.old.lock)) }
+        ensures passes { F.honest → Passes (F.means files.old) (F.means files.new)
+            (FillingOn (disk_of (F.means files.old)) (lock_of self.old.lock)) }
+        ensures no_fewer { F.faults files.old ≤ F.faults files.new }
+        ensures counted { IfErr result (IsCounted (F.faults files.old) (F.faults files.new)) }
+    {
+        let was = was_at(alloc, files, settings, self.lock.place(), self.packed)?;
+        check_expected(&self.update, &was.target, settings.kind)?;
+        self.decide(was);
+        self.write(alloc, files)
+    }
+}
