@@ -8,24 +8,23 @@ use Rattle.gix_ref_base.specs.Targets.TargetValue.{object_id}
 use Rattle.gix_ref_edits.specs.declared.transaction.PreviousValue.{PreviousValue}
 use Rattle.gix_ref_files.specs.Files.{Meaning, Leaves}
 use Rattle.gix_ref_files.proofs.Moments.{weaken}
-use Rattle.gix_ref_transaction.specs.DirectUpdates.{AreDirectUpdates}
+use Rattle.gix_ref_transaction.specs.Splits.{AreDirect}
 use Rattle.gix_ref_store.specs.Prepared.{HasGoodRecords, tree_of}
 use Rattle.gix_ref_store.specs.Store.{files_of, meaning_of}
 use Rattle.gix_ref_edits.specs.RefEdits.{new_of}
 use Rattle.gix_ref_store.specs.declared.file.store.Store.{Store}
 use Rattle.gix_ref_edits.specs.declared.transaction.RefEdit.{RefEdit}
 use Rattle.gix_ref_program.specs.Updates.{IsStopOf}
-use Rattle.gix_ref_program.specs.Words.{Asked, Update, Line}
+use Rattle.gix_ref_program.specs.Words.{Asked, Update, Delete, Line}
 use Rattle.gix_ref_files.specs.declared.files.ReadAt.{Ghosts}
-use Rattle.gix_ref_program.specs.Runs.{IsExpected, IsEditOf, IsAskedFor, IsNoName, NoEdit, IsOpened, EditOutcome, UpdateOutcome, IsUpdateStop, Ran, CommandRan, LineRan, IsStop, IsStopIn}
+use Rattle.gix_ref_program.specs.Runs.{IsExpected, IsEditOf, IsDeletionEdit, IsAskedFor, IsNoName, NoEdit, IsOpened, EditOutcome, UpdateOutcome, IsUpdateStop, Ran, CommandRan, LineRan, IsStop, IsStopIn}
 use Rattle.gix_ref_program.specs.declared.outcome.Outcome.{Outcome}
 use Rattle.gix_ref_program.specs.declared.outcome.Outcome.TheVariants as outcomes
 use Rattle.gix_ref_program.specs.declared.refusal.Refusal.{Refusal}
 use Rattle.gix_ref_program.specs.declared.refusal.Refusal.TheVariants as refusals
 
-pub one : (edits : List RefEdit) (edit : RefEdit) → edits ≡ edit ∷ [] → IsSome (new_of edit.change) → edit.deref ≡ false → AreDirectUpdates edits
-one edits edit are update no_deref =
-    subst AreDirectUpdates (sym are) (All-cons (λ e. IsSome (new_of e.change) × (e.deref ≡ false)) edit [] (update, no_deref) (All-nil (λ (e : RefEdit). IsSome (new_of e.change) × (e.deref ≡ false))))
+pub one : (edits : List RefEdit) (edit : RefEdit) → edits ≡ edit ∷ [] → edit.deref ≡ false → AreDirect edits
+one edits edit are no_deref = subst AreDirect (sym are) (All-cons (λ (e : RefEdit). e.deref ≡ false) edit [] no_deref (All-nil (λ (e : RefEdit). e.deref ≡ false)))
 
 module _ {F : Type 0} (honest : Type 0) (means : F → Meaning) (faults : F → ℕ) where
   pub update_comes : (read : Type 0) (old new : Store F) (kind : Kind) (asked : Asked) (edit : RefEdit) (outcome : Outcome) → IsAskedFor kind asked edit →
@@ -74,8 +73,29 @@ pub asked_update : (kind : Kind) (name : List ℕ) (id : ObjectId) (old : Option
 asked_update kind name id old expected (Ok edit) is holds = record { expected = expected; is_expected = is; is_edit = holds }
 asked_update kind name id old expected (Err refusal) is holds = no_name name id old refusal holds
 
+-- and those of a deletion
+no_deletion : (name : List ℕ) (old : Option ObjectId) (refusal : Refusal) → IsNoName name refusal → NoEdit (Delete name old) refusal
+no_deletion name old (refusals.Name error) none = none
+no_deletion name old refusals.Memory none = tt
+no_deletion name old refusals.PathNotClean none = absurd none
+no_deletion name old (refusals.Find error) none = absurd none
+no_deletion name old (refusals.List error) none = absurd none
+no_deletion name old (refusals.Log error) none = absurd none
+no_deletion name old (refusals.Update error) none = absurd none
+no_deletion name old refusals.NotFound none = absurd none
+
+pub asked_deletion : (kind : Kind) (name : List ℕ) (old : Option ObjectId) (expected : PreviousValue) (r : Result RefEdit Refusal) → IsExpected kind old expected →
+    MatchResult r (IsDeletionEdit name expected) (IsNoName name) → MatchResult r (IsAskedFor kind (Delete name old)) (NoEdit (Delete name old))
+asked_deletion kind name old expected (Ok edit) is holds = record { expected = expected; is_expected = is; is_edit = holds }
+asked_deletion kind name old expected (Err refusal) is holds = no_deletion name old refusal holds
+
 -- an edit that is asked for follows no symbolic reference
 pub is_direct : (name : List ℕ) (target : TargetValue) (expected : PreviousValue) (Bad : Refusal → Type 0) (r : Result RefEdit Refusal) →
-    MatchResult r (IsEditOf name target expected) Bad → IfOk r (λ e. IsSome (new_of e.change) × (e.deref ≡ false))
-is_direct name target expected Bad (Ok edit) holds = (subst (λ (n : Option TargetValue). IsSome n) (sym holds.new) (search rules), holds.no_deref)
+    MatchResult r (IsEditOf name target expected) Bad → IfOk r (λ e. e.deref ≡ false)
+is_direct name target expected Bad (Ok edit) holds = holds.no_deref
 is_direct name target expected Bad (Err refusal) holds = tt
+
+pub is_direct_deletion : (name : List ℕ) (expected : PreviousValue) (Bad : Refusal → Type 0) (r : Result RefEdit Refusal) →
+    MatchResult r (IsDeletionEdit name expected) Bad → IfOk r (λ e. e.deref ≡ false)
+is_direct_deletion name expected Bad (Ok edit) holds = holds.no_deref
+is_direct_deletion name expected Bad (Err refusal) holds = tt

@@ -10,7 +10,6 @@ use Rattle.gix_ref_transaction.specs.OwnLocks.{AddsLocks, is_in, paths_of}
 use Rattle.gix_ref_transaction.specs.Causes.{names_of}
 use Rattle.gix_ref_transaction.specs.CommittedEdits.{AreCommitted}
 use Rattle.gix_ref_store.specs.CommitResult.{CommitsFrom, EveryStopFrom, EveryLossFrom, SettlesFrom, FailsAt, FailsFor, MeetsFolder, NoBadLineFrom, OnlyItsLocks, left_of}
-use Rattle.gix_ref_transaction.specs.DirectUpdates.{AreDirectUpdates}
 use Rattle.gix_ref_transaction.specs.Splits.{AreDirect}
 use Rattle.gix_ref_store.specs.Prepared.{PreparesFrom, PreparesGiven, HasGoodRecords, RefusesFrom, LosesNothing, IsAtRest, tree_of, disk_in, locks_in, places_in}
 use Rattle.gix_ref_store.specs.Store.{files_of, folders, meaning_of}
@@ -80,36 +79,32 @@ loses_joins first second = record {
   keeps = λ t T le lost. second.keeps t T (omega (arith, le, first.later)) (first.keeps t T le lost);
 }
 
--- none of them follows
-pub follow_none : (edits : List RefEdit) → AreDirectUpdates edits → AreDirect edits
-follow_none edits direct k d lt = (direct k d lt).1
-
 -- a preparation that was refused
-module _ {F : Type 0} (honest : Type 0) (means : F → Meaning) (faults : F → ℕ) (old new : Store F) (edits : List RefEdit) (error : Cause) (left : List Path) (read : Type 0) (direct : AreDirectUpdates edits) (from : RefusesFrom honest read means faults old new edits error left) where
+module _ {F : Type 0} (honest : Type 0) (means : F → Meaning) (faults : F → ℕ) (old new : Store F) (edits : List RefEdit) (error : Cause) (left : List Path) (read : Type 0) (direct : AreDirect edits) (from : RefusesFrom honest read means faults old new edits error left) where
   pub refused_named : AreNamed honest means faults old new edits left
   refused_named = record {
-    ours = subst (λ (tried : List RefEdit). (q : Path) → is_in left q ≡ true → is_in (possible_locks (meaning_of old) tried) q ≡ true) (from.direct (follow_none edits direct)) from.ours;
+    ours = subst (λ (tried : List RefEdit). (q : Path) → is_in left q ≡ true → is_in (possible_locks (meaning_of old) tried) q ≡ true) (from.direct direct) from.ours;
     named = from.named;
   }
 
   pub refused_stops : honest → Leaves (means (files_of old)) (means (files_of new)) (IsStopOf (HasGoodRecords means old) (meaning_of old) edits (tree_of means old))
   refused_stops h =
       weaken (subst (λ (tried : List RefEdit). Leaves (means (files_of old)) (means (files_of new)) (AddsLocks (locks_in means old tried) (locks_in means old tried) (tree_of means old)))
-      (from.direct (follow_none edits direct)) (from.leaves h)) (λ T adds. inl adds)
+      (from.direct direct) (from.leaves h)) (λ T adds. inl adds)
 
   pub refused_loses : honest → Loses (means (files_of old)) (means (files_of new)) (IsLossOf means old edits)
   refused_loses h =
-      let lost = subst (λ (tried : List RefEdit). LosesNothing means old new tried) (from.direct (follow_none edits direct)) (from.lost h) in
+      let lost = subst (λ (tried : List RefEdit). LosesNothing means old new tried) (from.direct direct) (from.lost h) in
       loses_weaken lost.loses (λ T kept. inl kept)
 
 -- edits of which none follows are prepared as they are given
-pub direct_prepared : {F : Type 0} (honest : Type 0) (means : F → Meaning) (faults : F → ℕ) (old new : Store F) (edits : List RefEdit) (packed : Option Path) (after : List Edit) → AreDirectUpdates edits →
+pub direct_prepared : {F : Type 0} (honest : Type 0) (means : F → Meaning) (faults : F → ℕ) (old new : Store F) (edits : List RefEdit) (packed : Option Path) (after : List Edit) → AreDirect edits →
     PreparesGiven honest means faults old new edits packed after → PreparesFrom honest means faults old new edits packed after
 direct_prepared honest means faults old new edits packed after direct given =
-    subst (λ (split : List RefEdit). PreparesFrom honest means faults old new split packed after) (given.splits.direct (follow_none edits direct)) given.prepared
+    subst (λ (split : List RefEdit). PreparesFrom honest means faults old new split packed after) (given.splits.direct direct) given.prepared
 
 -- one that was committed, or whose commit failed
-module _ {F : Type 0} (honest : Type 0) (means : F → Meaning) (faults : F → ℕ) (old mid new : Store F) (edits : List RefEdit) (packed : Option Path) (paths : List Edit) (direct : AreDirectUpdates edits) (from : PreparesFrom honest means faults old mid edits packed paths) where
+module _ {F : Type 0} (honest : Type 0) (means : F → Meaning) (faults : F → ℕ) (old mid new : Store F) (edits : List RefEdit) (packed : Option Path) (paths : List Edit) (direct : AreDirect edits) (from : PreparesFrom honest means faults old mid edits packed paths) where
   pub done : (answer : Result Done Failed) (error : Option UpdateError) (left : List Path) → error ≡ error_of answer → left ≡ left_of answer →
       IfOk answer (λ d. CommitsFrom honest means faults mid new packed paths (paths_of d.locks_left.items)) → honest → HasGoodRecords means old → error ≡ None →
       AreCommitted (meaning_of old) edits (tree_of means old) left (tree_of means new)

@@ -7,7 +7,7 @@ use Rattle.gix_ref_hash.specs.declared.hash.ObjectId.{ObjectId}
 use Rattle.gix_ref_hash.specs.declared.hash.Kind.{Kind}
 use Rattle.gix_ref_hash.specs.declared.hash.Kind.TheVariants as kinds
 use Rattle.gix_ref_hash.proofs.IdLemmas.{reads_whole}
-use Rattle.gix_ref_program.specs.Words.{Asked, Update, Symbolic, Show, Listing, Log, Line, first_is, IsOld, IsUpdate, IsCommand, HasOptions, IsLine, kind_words, asked_of}
+use Rattle.gix_ref_program.specs.Words.{Asked, Update, Symbolic, Delete, Show, Listing, Log, Line, first_is, IsOld, IsUpdate, IsDeletion, IsCommand, HasOptions, IsLine, kind_words, asked_of}
 use Rattle.gix_ref_program.specs.declared.words.Command.{Command}
 
 no_way : {X : Type 0} → true ≡ false → X
@@ -45,9 +45,25 @@ updates words rest None are none = by
     by : (asked : Asked) → IsCommand words asked → ⊥
     by (Update name id old) (after, same, u) = none name id old (subst (λ ws. IsUpdate ws name id old) (tails (sym same ∙ are)) u)
     by (Symbolic name target) same = no_way (ap (bytes_eq (codes "update")) (heads (sym are ∙ same)))
+    by (Delete name old) (after, same, u) = no_way (ap (bytes_eq (codes "update")) (heads (sym are ∙ same)))
     by (Show name) same = no_way (ap (bytes_eq (codes "update")) (heads (sym are ∙ same)))
     by (Listing prefix) same = no_way (ap (bytes_eq (codes "update")) (heads (sym are ∙ same)))
     by (Log name) same = no_way (ap (bytes_eq (codes "update")) (heads (sym are ∙ same)))
+
+-- and one that begins with `delete`
+pub deletions : (words rest : List (List ℕ)) (r : Option Command) → words ≡ codes "delete" ∷ rest →
+    MatchOption r ((name : List ℕ) (old : Option ObjectId) → IsDeletion rest name old → ⊥) (λ command. IsCommand (codes "delete" ∷ rest) (asked_of command)) →
+    MatchOption r ((asked : Asked) → IsCommand words asked → ⊥) (λ command. IsCommand words (asked_of command))
+deletions words rest (Some command) are holds = subst (λ ws. IsCommand ws (asked_of command)) (sym are) holds
+deletions words rest None are none = by
+  where
+    by : (asked : Asked) → IsCommand words asked → ⊥
+    by (Delete name old) (after, same, u) = none name old (subst (λ ws. IsDeletion ws name old) (tails (sym same ∙ are)) u)
+    by (Update name id old) (after, same, u) = no_way (ap (bytes_eq (codes "delete")) (heads (sym are ∙ same)))
+    by (Symbolic name target) same = no_way (ap (bytes_eq (codes "delete")) (heads (sym are ∙ same)))
+    by (Show name) same = no_way (ap (bytes_eq (codes "delete")) (heads (sym are ∙ same)))
+    by (Listing prefix) same = no_way (ap (bytes_eq (codes "delete")) (heads (sym are ∙ same)))
+    by (Log name) same = no_way (ap (bytes_eq (codes "delete")) (heads (sym are ∙ same)))
 
 -- options that begin with `--namespace`
 pub options : (words : List (List ℕ)) (name : List ℕ) (rest : List (List ℕ)) (asked : Asked) → words ≡ codes "--namespace" ∷ (name ∷ rest) → IsCommand rest asked → HasOptions words (Some name) asked
@@ -61,6 +77,7 @@ no_kind rest None asked h = by asked h.command h.is_command h.words_are
     by : (asked : Asked) (command : List (List ℕ)) → IsCommand command asked → codes "--sha256" ∷ rest ≡ command → ⊥
     by (Update name id old) command (after, same, u) is = no_way (ap (bytes_eq (codes "update")) (heads (sym same ∙ sym is)))
     by (Symbolic name target) command same is = no_way (ap (bytes_eq (codes "symbolic")) (heads (sym same ∙ sym is)))
+    by (Delete name old) command (after, same, u) is = no_way (ap (bytes_eq (codes "delete")) (heads (sym same ∙ sym is)))
     by (Show name) command same is = no_way (ap (bytes_eq (codes "show")) (heads (sym same ∙ sym is)))
     by (Listing prefix) command same is = no_way (ap (bytes_eq (codes "list")) (heads (sym same ∙ sym is)))
     by (Log name) command same is = no_way (ap (bytes_eq (codes "log")) (heads (sym same ∙ sym is)))

@@ -39,7 +39,7 @@ use Rattle.gix_ref_log.specs.declared.log.line.Line.{Line as LogLine}
 use Rattle.gix_ref_log.specs.declared.log.iter.error.ReverseError.{ReverseError}
 use Rattle.gix_ref_edits.specs.RefEdits.{name_of, new_of, mode_of, is_forced, message_of, expected_of, matched}
 use Rattle.gix_ref_store.specs.declared.file.store.Store.{Store}
-use Rattle.gix_ref_store.specs.declared.store.WriteReflog.TheVariants.{Disable}
+use Rattle.gix_ref_lines.specs.declared.write_reflog.WriteReflog.TheVariants.{Disable}
 use Rattle.gix_ref_edits.specs.declared.transaction.PreviousValue.{PreviousValue}
 use Rattle.gix_ref_edits.specs.declared.transaction.PreviousValue.TheVariants.{Any, MustNotExist}
 use Rattle.gix_ref_edits.specs.declared.transaction.RefEdit.{RefEdit}
@@ -49,7 +49,7 @@ use Rattle.gix_ref_program.specs.Updates.{IsUpdateError, AreNamed, IsStopOf}
 use Rattle.gix_ref_program.specs.ListPrinting.{list_text}
 use Rattle.gix_ref_program.specs.LogPrinting.{log_text, AreItemsOf}
 use Rattle.gix_ref_program.specs.Printed.{items_status}
-use Rattle.gix_ref_program.specs.Words.{Asked, Update, Symbolic, Show, Listing as AskedListing, Log, Line, IsLine}
+use Rattle.gix_ref_program.specs.Words.{Asked, Update, Symbolic, Delete, Show, Listing as AskedListing, Log, Line, IsLine}
 use Rattle.gix_ref_program.specs.declared.outcome.Outcome.{Outcome}
 use Rattle.gix_ref_program.specs.declared.outcome.Outcome.TheVariants as outcomes
 use Rattle.gix_ref_program.specs.declared.refusal.Refusal.{Refusal}
@@ -78,16 +78,33 @@ pub record IsUpdateOf (kind : Kind) (name : List ℕ) (id : ObjectId) (old : Opt
   pub is_expected : IsExpected kind old expected
   pub is_edit : IsEditOf name (object_id id) expected edit
 
+-- the edit that deletes a reference, with its log
+pub record IsDeletionEdit (name : List ℕ) (expected : PreviousValue) (edit : RefEdit) : Type 0 where
+  pub full : full_error name ≡ None
+  pub name_is : name_of edit ≡ name
+  pub deletes : new_of edit.change ≡ None
+  pub mode : mode_of edit.change ≡ AndReference
+  pub no_deref : edit.deref ≡ false
+  pub expects : expected_of edit.change ≡ expected
+
+-- and the one of a deletion with this OLD
+pub record IsDeletionOf (kind : Kind) (name : List ℕ) (old : Option ObjectId) (edit : RefEdit) : Type 0 where
+  pub expected : PreviousValue
+  pub is_expected : IsExpected kind old expected
+  pub is_edit : IsDeletionEdit name expected edit
+
 -- the edit that a command asks for
 abbrev pub IsAskedFor : Kind → Asked → RefEdit → Type 0
 IsAskedFor kind (Update name id old) edit = IsUpdateOf kind name id old edit
 IsAskedFor kind (Symbolic name target) edit = IsEditOf name (symbolic_name target) Any edit
+IsAskedFor kind (Delete name old) edit = IsDeletionOf kind name old edit
 IsAskedFor kind asked edit = ⊥
 
 -- the rule that its first wrong name breaks
 abbrev pub BreaksRule : Asked → NameError → Type 0
 BreaksRule (Update name id old) error = full_error name ≡ Some error
 BreaksRule (Symbolic name target) error = (full_error name ≡ Some error) ⊎ ((full_error name ≡ None) × (full_error target ≡ Some error))
+BreaksRule (Delete name old) error = full_error name ≡ Some error
 BreaksRule asked error = ⊥
 
 -- the namespace that a NAME expands to
@@ -210,7 +227,7 @@ module _ {F : Type 0} where
     EditOutcome read old new edit (outcomes.Refused refusals.Memory locks) = (new ≡ old) × (locks.items ≡ [])
     EditOutcome read old new edit outcome = ⊥
 
-    -- An update of either kind: the outcome of its edit; or a name is no full name; or there was no memory.
+    -- An update of either kind, or a deletion: the outcome of its edit; or a name is no full name; or there was no memory.
     abbrev pub UpdateOutcome : (read : Type 0) → (old new : Store F) → Kind → Asked → Outcome → Type 0
     UpdateOutcome read old new kind asked (outcomes.Refused (refusals.Name error) locks) = BreaksRule asked error × (new ≡ old) × (locks.items ≡ [])
     UpdateOutcome read old new kind asked (outcomes.Refused refusals.Memory locks) = (new ≡ old) × (locks.items ≡ [])
@@ -277,6 +294,7 @@ module _ {F : Type 0} where
     abbrev pub CommandRan : {R : Type 0} (G : Ghosts R) → (old new : Store F) → Kind → Asked → Ran → Type 0
     CommandRan G old new kind (Update name id before) ran = UpdateRan (HasReadFault G.faults) old new kind (Update name id before) ran
     CommandRan G old new kind (Symbolic name target) ran = UpdateRan (HasReadFault G.faults) old new kind (Symbolic name target) ran
+    CommandRan G old new kind (Delete name before) ran = UpdateRan (HasReadFault G.faults) old new kind (Delete name before) ran
     CommandRan G old new kind (Show name) (Said outcome) = ShowOutcome G old new name outcome
     CommandRan G old new kind (AskedListing prefix) ran = ListRan G old new (prefix_asked old prefix) ran
     CommandRan G old new kind (Log name) ran = LogRan honest means old new name ran
@@ -286,6 +304,7 @@ module _ {F : Type 0} where
     abbrev pub IsStop : Store F → Kind → Asked → Tree → Type 0
     IsStop old kind (Update name id before) T = IsUpdateStop old kind (Update name id before) T
     IsStop old kind (Symbolic name target) T = IsUpdateStop old kind (Symbolic name target) T
+    IsStop old kind (Delete name before) T = IsUpdateStop old kind (Delete name before) T
     IsStop old kind (Show name) T = T ≡ tree_of means old
     IsStop old kind (AskedListing prefix) T = T ≡ tree_of means old
     IsStop old kind (Log name) T = T ≡ tree_of means old

@@ -15,6 +15,7 @@ use Rattle.gix_ref_program.specs.declared.words.Line.{Line as Parsed}
 pub data Asked : Type 0 where
   Update : (name : List ℕ) (id : ObjectId) (old : Option ObjectId) → Asked
   Symbolic : (name target : List ℕ) → Asked
+  Delete : (name : List ℕ) (old : Option ObjectId) → Asked
   Show : (name : List ℕ) → Asked
   Listing : (prefix : Option (List ℕ)) → Asked
   Log : (name : List ℕ) → Asked
@@ -49,15 +50,23 @@ pub record IsUpdate (words : List (List ℕ)) (name : List ℕ) (id : ObjectId) 
   pub expected : IsOld rest old
   pub words_are : words ≡ name ∷ (digits ∷ rest)
 
+-- `NAME [OLD]`, where NAME is not the option `--deref`
+pub record IsDeletion (words : List (List ℕ)) (name : List ℕ) (old : Option ObjectId) : Type 0 where
+  pub rest : List (List ℕ)
+  pub no_option : name ≢ codes "--deref"
+  pub expected : IsOld rest old
+  pub words_are : words ≡ name ∷ rest
+
 -- `[PREFIX]`
 abbrev pub prefix_words : Option (List ℕ) → List (List ℕ)
 prefix_words None = []
 prefix_words (Some prefix) = prefix ∷ []
 
--- `update NAME ID [OLD]`, `symbolic NAME TARGET`, `show NAME`, `list [PREFIX]`, or `log NAME`
+-- `update NAME ID [OLD]`, `symbolic NAME TARGET`, `delete NAME [OLD]`, `show NAME`, `list [PREFIX]`, or `log NAME`
 abbrev pub IsCommand : List (List ℕ) → Asked → Type 0
 IsCommand words (Update name id old) = (rest : List (List ℕ)) × (words ≡ codes "update" ∷ rest) × IsUpdate rest name id old
 IsCommand words (Symbolic name target) = words ≡ codes "symbolic" ∷ (name ∷ (target ∷ []))
+IsCommand words (Delete name old) = (rest : List (List ℕ)) × (words ≡ codes "delete" ∷ rest) × IsDeletion rest name old
 IsCommand words (Show name) = words ≡ codes "show" ∷ (name ∷ [])
 IsCommand words (Listing prefix) = words ≡ codes "list" ∷ prefix_words prefix
 IsCommand words (Log name) = words ≡ codes "log" ∷ (name ∷ [])
@@ -89,6 +98,7 @@ pub record IsLine (words : List (List ℕ)) (line : Line) : Type 0 where
 abbrev pub asked_of : Command → Asked
 asked_of (commands.Update name id old) = Update name.now id old
 asked_of (commands.Symbolic name target) = Symbolic name.now target.now
+asked_of (commands.Delete name old) = Delete name.now old
 asked_of (commands.Show name) = Show name.now
 asked_of (commands.List prefix) = Listing (option_map (λ text. text.now) prefix)
 asked_of (commands.Log name) = Log name.now

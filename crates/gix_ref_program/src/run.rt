@@ -1,5 +1,5 @@
 //! One run of the program, over any files.
-ghost use Rattle.std.specs.Prelude.{◌≡◌, ◌⊎◌, [], ◌∷◌, false, None, IsSome, IfOk, MatchResult};
+ghost use Rattle.std.specs.Prelude.{◌≡◌, ◌⊎◌, [], ◌∷◌, false, None, IfOk, MatchResult};
 ghost use Rattle.std.specs.Option.{option_map};
 ghost use Rattle.gix_ref_hash.specs.declared.hash.Kind.{Kind};
 ghost use Rattle.gix_ref_grammar.specs.NameGrammar.{full_error};
@@ -11,11 +11,10 @@ ghost use Rattle.gix_ref_store.specs.Store.{files_of, meaning_of};
 ghost use Rattle.gix_ref_store.specs.Listings.{AreHeldFor};
 ghost use Rattle.gix_ref_store.specs.Lookup.{LooksUp};
 ghost use Rattle.gix_ref_store.specs.Prepared.{tree_of, HasGoodRecords};
-ghost use Rattle.gix_ref_edits.specs.RefEdits.{new_of};
 ghost use Rattle.gix_ref_files.specs.Calls.{Unchanged};
 ghost use Rattle.gix_ref_files.specs.Files.{Leaves};
 ghost use Rattle.gix_ref_packed.specs.OpenFiles.{HasReadFault};
-ghost use Rattle.gix_ref_program.specs.Runs.{IsExpected, IsEditOf, IsAskedFor, NoNamespace, IsNoName, NoEdit, UpdateRan, IsUpdateStop, IsNoFolder, IsAt, namespace_of, IsOpened, EditOutcome, ShowOutcome, Prints, CommandRan, LogRan, ListRan, ListRanAmong, prefix_asked, IsStop, IsUnopened, LineRan, IsStopIn, RunsWrong, RunsLine};
+ghost use Rattle.gix_ref_program.specs.Runs.{IsExpected, IsEditOf, IsDeletionEdit, IsAskedFor, NoNamespace, IsNoName, NoEdit, UpdateRan, IsUpdateStop, IsNoFolder, IsAt, namespace_of, IsOpened, EditOutcome, ShowOutcome, Prints, CommandRan, LogRan, ListRan, ListRanAmong, prefix_asked, IsStop, IsUnopened, LineRan, IsStopIn, RunsWrong, RunsLine};
 ghost use Rattle.gix_ref_program.specs.Updates.{IsStopOf};
 ghost use Rattle.gix_ref_program.specs.Words.{Asked, Symbolic, texts, line_of, asked_of};
 
@@ -26,7 +25,7 @@ use crate::refusal::Refusal;
 use crate::update::{UpdateReport, update};
 use crate::words::{Command, Line, parse};
 use gix_ref_base::target::Target;
-use gix_ref_edits::transaction::{Change, LogChange, PreviousValue, RefEdit};
+use gix_ref_edits::transaction::{Change, LogChange, PreviousValue, RefEdit, RefLog};
 use gix_ref_files::files::Files;
 use gix_ref_hash::hash::{Kind, ObjectId};
 use gix_ref_name::name::{FullName, FullNameRef, PartialNameRef};
@@ -180,6 +179,23 @@ fn symbolic_edit(alloc: Global, name: &[u8], target: &[u8]) -> Result<RefEdit, R
     }
 }
 
+/// The edit of a deletion.
+fn deletion_edit(alloc: Global, name: &[u8], expected: PreviousValue) -> Result<RefEdit, Refusal>
+    ensures { MatchResult result (IsDeletionEdit name.now expected) (IsNoName name.now) }
+{
+    match full_name(alloc, name) {
+        Ok(name) => Ok(RefEdit {
+            change: Change::Delete {
+                expected,
+                log: RefLog::AndReference,
+            },
+            name,
+            deref: false,
+        }),
+        Err(refusal) => Err(refusal),
+    }
+}
+
 /// A refusal that leaves no lock.
 fn refused(alloc: Global, refusal: Refusal) -> Outcome
     ensures { (locks : _) × (result ≡ Outcome.Refused refusal locks) × (locks.items ≡ []) }
@@ -199,7 +215,7 @@ fn one_edit(alloc: Global, edit: RefEdit) -> Result<Vec<RefEdit>, AllocError>
     Ok(edits)
 }
 
-/// Makes an update.
+/// Makes an update, or a deletion.
 fn make_update<F: Files>(
     alloc: Global,
     store: &mut Store<F>,
@@ -207,7 +223,6 @@ fn make_update<F: Files>(
     edit: RefEdit,
 ) -> (PackedRefs, Outcome)
     requires quiet { store.old.write_reflog ≡ WriteReflog.Disable }
-    requires update { IsSome (new_of edit.change) }
     requires no_deref { edit.deref ≡ false }
     ensures packed_refs { result.0 ≡ packed_refs }
     ensures outcome { EditOutcome F.honest F.means F.faults (HasReadFault F.Reader.faults) store.old store.new edit result.1 }
@@ -323,7 +338,7 @@ fn print_listing<F: Files, W: Write>(
     }
 }
 
-/// Makes an update of either kind, and prints its outcome; a refusal where there is no edit.
+/// Makes an update of either kind, or a deletion, and prints its outcome; a refusal where there is no edit.
 fn print_update<F: Files, W: Write>(
     alloc: Global,
     store: &mut Store<F>,
@@ -332,7 +347,7 @@ fn print_update<F: Files, W: Write>(
     out: &mut W,
 ) -> (PackedRefs, io::Result<u8>)
     requires quiet { store.old.write_reflog ≡ WriteReflog.Disable }
-    requires direct { IfOk edit (λ e. IsSome (new_of e.change) × (e.deref ≡ false)) }
+    requires direct { IfOk edit (λ e. e.deref ≡ false) }
     ensures packed_refs { result.0 ≡ packed_refs }
     ensures prints { (kind : Kind) (asked : Asked) →
         MatchResult edit (IsAskedFor kind asked) (NoEdit asked) →
@@ -381,6 +396,10 @@ fn execute<F: Files, W: Write>(
             let edit = symbolic_edit(alloc, name, target);
             print_update(alloc, store, packed_refs, edit, out)
         }
+        Command::Delete { name, old } => {
+            let edit = deletion_edit(alloc, name, expected(*old, kind));
+            print_update(alloc, store, packed_refs, edit, out)
+        }
     }
 }
 
@@ -415,7 +434,7 @@ fn run_line<F: Files, W: Write>(
     }
 }
 
-/// Does what the words ask for, and prints it: nothing for an update that was made, of an object or a symbolic one; a target and a name for a reference
+/// Does what the words ask for, and prints it: nothing for an update or a deletion that was made; a target and a name for a reference
 /// that is shown; for a reflog, newest first, the ids and the message of each line, or `fault: ` and the variant of the
 /// error; else `refused: ` and the variant of the error, or `wrong words`; and a line for each lock that could not be
 /// removed. The status is 0, 1 for a refusal or a fault, 2 for wrong words; it is an error where the writer failed, or where

@@ -1,11 +1,11 @@
-//! Updates from their preparation to their commit.
+//! Updates and deletions from their preparation to their commit.
 ghost use Rattle.std.specs.Prelude.{◌≡◌, None, IfSome};
 ghost use Rattle.gix_ref_files.specs.Files.{Leaves, Loses};
 ghost use Rattle.gix_ref_packed.specs.OpenFiles.{HasReadFault};
 ghost use Rattle.gix_ref_transaction.specs.OwnLocks.{paths_of};
 ghost use Rattle.gix_ref_transaction.specs.CommittedEdits.{AreCommitted};
 ghost use Rattle.gix_ref_store.specs.CommitResult.{left_of, mode_of};
-ghost use Rattle.gix_ref_transaction.specs.DirectUpdates.{AreDirectUpdates};
+ghost use Rattle.gix_ref_transaction.specs.Splits.{AreDirect};
 ghost use Rattle.gix_ref_store.specs.Prepared.{tree_of, HasGoodRecords, IsAtRest};
 ghost use Rattle.gix_ref_store.specs.Store.{files_of, meaning_of, IsSameStore};
 ghost use Rattle.gix_ref_program.specs.Updates.{IsStopOf, IsLossOf, IsUpdateError, AreNamed, error_of};
@@ -37,7 +37,7 @@ pub struct UpdateReport {
     pub locks_left: Vec<Vec<u8>>,
 }
 
-/// Prepares updates that follow no symbolic reference, and commits them in their order. The store writes no log line.
+/// Prepares updates and deletions that follow no symbolic reference, and commits them in their order. The store writes no log line.
 ///
 /// The result says why they were not made: the first cause against them, or what stopped their commit. Each lock that could
 /// not be removed is named. Costs what `prepare` and `commit` do: three calls of files for `packed-refs` and its lock, or four where
@@ -50,7 +50,7 @@ pub fn update<F: Files>(
     packed_refs: PackedRefs,
     edits: Vec<RefEdit>,
 ) -> UpdateReport
-    requires direct { AreDirectUpdates edits.items }
+    requires direct { AreDirect edits.items }
     requires quiet { store.old.write_reflog ≡ WriteReflog.Disable }
     ensures done { F.honest → HasGoodRecords F.means store.old → result.error ≡ None → AreCommitted (meaning_of store.old)
         edits.items

@@ -1,9 +1,9 @@
 //! The words of the program: `DIR [--sha256] [--namespace NAME] COMMAND`, where a command is `update NAME ID [OLD]`,
-//! `symbolic NAME TARGET`, `show NAME`, `list [PREFIX]` or `log NAME`.
+//! `symbolic NAME TARGET`, `delete NAME [OLD]`, `show NAME`, `list [PREFIX]` or `log NAME`.
 ghost use Rattle.std.specs.Prelude.{◌≡◌, ◌++◌, ℕ, List, MatchOption, Option, codes, ◌∷◌, [], false};
 ghost use Rattle.std.specs.Option.{option_map};
 ghost use Rattle.gix_ref_hash.specs.declared.hash.ObjectId.{ObjectId};
-ghost use Rattle.gix_ref_program.specs.Words.{Asked, Line as AskedLine, texts, first_is, IsOld, IsUpdate, IsCommand, prefix_words, HasOptions, IsLine, kind_words, asked_of, line_of};
+ghost use Rattle.gix_ref_program.specs.Words.{Asked, Line as AskedLine, texts, first_is, IsOld, IsUpdate, IsDeletion, IsCommand, prefix_words, HasOptions, IsLine, kind_words, asked_of, line_of};
 
 use gix_ref_hash::hash::{Kind, ObjectId};
 
@@ -20,6 +20,11 @@ pub enum Command<'w> {
     Symbolic {
         name: &'w [u8],
         target: &'w [u8],
+    },
+    /// `delete NAME [OLD]`
+    Delete {
+        name: &'w [u8],
+        old: Option<ObjectId>,
     },
     /// `show NAME`
     Show {
@@ -93,6 +98,23 @@ fn update_of(words: &[String]) -> Option<Command<'_>>
     })
 }
 
+/// `NAME [OLD]`, where NAME is not the option `--deref`.
+fn deletion_of(words: &[String]) -> Option<Command<'_>>
+    ensures { MatchOption result ((name : List ℕ) (old : Option ObjectId) →
+        IsDeletion (texts words.now) name old → ⊥)
+        (λ command. IsCommand (codes "delete" ∷ texts words.now) (asked_of command)) }
+{
+    let (name, rest) = words.split_first()?;
+    if name.as_bytes() == b"--deref".as_slice() {
+        return None;
+    }
+    let old = old_of(rest)?;
+    Some(Command::Delete {
+        name: name.as_bytes(),
+        old,
+    })
+}
+
 /// `NAME`.
 fn name_of(words: &[String]) -> Option<&[u8]>
     ensures { MatchOption result ((name : List ℕ) → texts words.now ≡ name ∷ [] → ⊥)
@@ -142,6 +164,9 @@ fn command_of(words: &[String]) -> Option<Command<'_>>
     if let Some(rest) = strip_word(words, b"symbolic") {
         let (name, target) = names_of(rest)?;
         return Some(Command::Symbolic { name, target });
+    }
+    if let Some(rest) = strip_word(words, b"delete") {
+        return deletion_of(rest);
     }
     if let Some(rest) = strip_word(words, b"log") {
         return Some(Command::Log {

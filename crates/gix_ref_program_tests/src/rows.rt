@@ -312,6 +312,78 @@ fn symbolic_updates(rt: HostRuntime) {
 }
 
 #[test]
+fn deletions(rt: HostRuntime) {
+    let rows: [Row<'_>; 9] = [
+        Row {
+            meaning: "a branch",
+            before: (A, ONE),
+            words: &["/r", "delete", "refs/heads/a"],
+            printed: Printed::Nothing,
+            after: (A, "-"),
+        },
+        Row {
+            meaning: "a branch at OLD",
+            before: (A, ONE),
+            words: &["/r", "delete", "refs/heads/a", I1],
+            printed: Printed::Nothing,
+            after: (A, "-"),
+        },
+        Row {
+            meaning: "a branch that is elsewhere",
+            before: (A, ONE),
+            words: &["/r", "delete", "refs/heads/a", I2],
+            printed: Printed::Refused("ReferenceOutOfDate"),
+            after: (A, ONE),
+        },
+        Row {
+            meaning: "a branch that must not exist",
+            before: (A, ONE),
+            words: &["/r", "delete", "refs/heads/a", I0],
+            printed: Printed::Refused("DeleteMustNotExist"),
+            after: (A, ONE),
+        },
+        Row {
+            meaning: "no branch at OLD",
+            before: ("", ""),
+            words: &["/r", "delete", "refs/heads/a", I1],
+            printed: Printed::Refused("DeleteReferenceMustExist"),
+            after: (A, "-"),
+        },
+        Row {
+            meaning: "the only record",
+            before: (PACKED, RECORDS),
+            words: &["/r", "delete", "refs/heads/a", I2],
+            printed: Printed::Nothing,
+            after: (PACKED, "-"),
+        },
+        Row {
+            meaning: "another record",
+            before: (PACKED, RECORDS),
+            words: &["/r", "delete", "refs/heads/b"],
+            printed: Printed::Nothing,
+            after: (PACKED, RECORDS),
+        },
+        Row {
+            meaning: "a log",
+            before: ("/r/logs/refs/heads/a", "a line\n"),
+            words: &["/r", "delete", "refs/heads/a"],
+            printed: Printed::Nothing,
+            after: ("/r/logs/refs/heads/a", "-"),
+        },
+        Row {
+            meaning: "a name that is none",
+            before: (A, ONE),
+            words: &["/r", "delete", "refs/heads/a/"],
+            printed: Printed::Refused("EndsWithSlash"),
+            after: (A, ONE),
+        },
+    ];
+    for row in rows {
+        check(&rt, rt.alloc(), row);
+    }
+}
+
+#[test]
 fn shows(rt: HostRuntime) {
     let rows: [Row<'_>; 14] = [
         Row {
@@ -444,7 +516,10 @@ fn refuses(rt: &impl Abort, alloc: Global, words: &[&str], printed: Printed<'_>)
 
 #[test]
 fn wrong_words(rt: HostRuntime) {
-    let lines: [&[&str]; 22] = [
+    let lines: [&[&str]; 25] = [
+        &["/r", "delete"],
+        &["/r", "delete", "--deref", "HEAD"],
+        &["/r", "delete", "refs/heads/a", I1, I2],
         &[],
         &["/r"],
         &["/r", "show"],
@@ -492,7 +567,7 @@ fn wrong_words(rt: HostRuntime) {
         ],
         &["/r", "update", "--deref", "refs/heads/a", I1],
         &["/r", "update", "--deref", I1],
-        &["/r", "delete", "refs/heads/a"],
+        &["/r", "script", "refs/heads/a"],
         &["/r", "--namespace"],
         &["/r", "--namespace", "foo"],
         &["/r", "--sha256", "--sha256", "show", "refs/heads/a"],

@@ -1,7 +1,7 @@
 -- The options of a store.
 use Rattle.std.specs.Prelude.{false}
+use Rattle.gix_ref_lines.specs.declared.write_reflog.WriteReflog.TheVariants.{Normal}
 use Rattle.gix_ref_store.specs.declared.store.Options.{Options}
-use Rattle.gix_ref_store.specs.declared.store.WriteReflog.TheVariants.{Normal}
 
 -- what `Options::default()` returns
 abbrev pub default_options : Options

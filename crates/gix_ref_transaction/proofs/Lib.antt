@@ -13,12 +13,9 @@ pub mod PackedLemmas
 pub mod PackedLocks
 pub mod PackedRelease
 pub mod PackedRuns
-pub mod Released
 pub mod Removing
 pub mod Renames
 pub mod Rounds
-pub mod SettledRuns
 pub mod SplitLemmas
 pub mod SplitValidity
 pub mod Taking
-pub mod Updates

@@ -2,7 +2,6 @@
 //! given up. `gix_ref_store` makes a transaction of them.
 #![tactic(auto)]
 
-pub mod commit;
 pub mod edit;
 pub mod prepare;
 pub mod release;

@@ -1,11 +1,11 @@
 use Rattle.std.proofs.Common.{sym, subst}
 use Rattle.gix_ref_files.specs.Files.{Leaves}
 use Rattle.gix_ref_store.specs.Store.{files_of}
-use Rattle.gix_ref_program.specs.Words.{Update, Symbolic, asked_of}
+use Rattle.gix_ref_program.specs.Words.{Update, Symbolic, Delete, asked_of}
 use Rattle.gix_ref_program.specs.Runs.{Prints, CommandRan, IsStop}
 use Rattle.gix_ref_program.specs.Runs.Ran.{Said}
 use Rattle.gix_ref_program.specs.declared.words.Command.{Command}
-use Rattle.gix_ref_program.proofs.RunLemmas.{asked_update}
+use Rattle.gix_ref_program.proofs.RunLemmas.{asked_deletion, asked_update}
 use Rattle.gix_ref_program.proofs.Printing.{said}
 use Rattle.gix_ref_program.proofs.run.execute.Goals as goal
 
@@ -52,3 +52,21 @@ returns-in-Symbolic-clause-leaves g c h =
     let made = c.print_update-in-Symbolic in
     subst (λ (command : Command). Leaves (F.means (files_of c.args.store.now)) (F.means (files_of made.new.store)) (IsStop F.honest F.means F.faults c.args.store.now kind (asked_of command))) (sym word.is)
     (made.ensures.leaves h kind (Symbolic word.name.now word.target.now) c.symbolic_edit-edit.ensures)
+
+pub returns-in-Delete-clause-prints : goal.returns-in-Delete-clause-prints
+returns-in-Delete-clause-prints g c =
+    let F = g.F.Files in
+    let kind = c.args.line.now.object_hash in
+    let word = c.in-Delete in
+    let made = c.print_update-in-Delete in
+    subst (λ (command : Command). Prints (CommandRan F.honest F.means F.faults g.F.Reader.ReadAt c.args.store.now made.new.store kind (asked_of command)) (g.W.Write.contents c.args.out.now) (g.W.Write.contents made.new.out) made.result.1) (sym word.is)
+    (made.ensures.prints kind (Delete word.name.now word.old) (asked_deletion kind word.name.now word.old c.expected-in-Delete.result c.deletion_edit-edit.result c.expected-in-Delete.ensures c.deletion_edit-edit.ensures))
+
+pub returns-in-Delete-clause-leaves : goal.returns-in-Delete-clause-leaves
+returns-in-Delete-clause-leaves g c h =
+    let F = g.F.Files in
+    let kind = c.args.line.now.object_hash in
+    let word = c.in-Delete in
+    let made = c.print_update-in-Delete in
+    subst (λ (command : Command). Leaves (F.means (files_of c.args.store.now)) (F.means (files_of made.new.store)) (IsStop F.honest F.means F.faults c.args.store.now kind (asked_of command))) (sym word.is)
+    (made.ensures.leaves h kind (Delete word.name.now word.old) (asked_deletion kind word.name.now word.old c.expected-in-Delete.result c.deletion_edit-edit.result c.expected-in-Delete.ensures c.deletion_edit-edit.ensures))

@@ -1,0 +1,6 @@
+pub mod BlockedPaths
+pub mod Deciding
+pub mod LeafSteps
+pub mod LineSteps
+pub mod LogPaths
+pub mod OwnNames

@@ -1,0 +1,106 @@
+-- The folders in a path, one byte after the other, and sets of paths.
+use Rattle.std.proofs.Common.{◌≡◌, ℕ, ◌+◌, ◌<◌, ◌≤◌, suc, List, [], ◌∷◌, ◌++◌, length, take, drop, get_or, map, Bool, true, false, refl, sym, ◌∙◌, ap, append_assoc, arith}
+use Rattle.std.specs.Prelude.{if◌then◌else◌, ◌==◌, ◌||◌, bytes_eq, Vec}
+use Rattle.std.specs.List.{list_any}
+use Rattle.std.specs.Cmp.Lexicographic.{slice_cmp}
+use Rattle.std.specs.Ordering.{is_eq, nat_cmp, match_ordering}
+use Rattle.std.specs.BTreeSet.{insert_key}
+use Rattle.std.specs.declared.alloc.Global.{Global}
+use Rattle.std.specs.declared.cmp.Ordering.{Ordering}
+use Rattle.std.specs.declared.cmp.Ordering.TheVariants.{Less, Equal, Greater}
+use Rattle.std.proofs.lemmas.List.{append-nil, take_more, length-take-le}
+use Rattle.std.proofs.lemmas.Slice.Eq.{bytes_eq-Decides}
+use Rattle.std.proofs.lemmas.Map.Text.{is_eq-slice_cmp}
+use Rattle.std.proofs.Math.Seq.{drop-cons}
+use Rattle.gix_ref_files.specs.Disk.{folder_of, folder_after}
+use Rattle.gix_ref_files.specs.Tree.{Path, fronts, fronts_after}
+use Rattle.gix_ref_lines.specs.internal.SeenLogs.{is_among}
+
+-- the folder of a text with one byte more
+after_snoc : (seen folder : Path) (xs : List ℕ) (c : ℕ) → folder_after seen folder (xs ++ c ∷ []) ≡ (if c == 47 then seen ++ xs else folder_after seen folder xs)
+after_snoc seen folder [] c = ap (λ (l : Path). if c == 47 then l else folder) (sym (append-nil seen))
+after_snoc seen folder (x ∷ xs) c =
+    after_snoc (seen ++ x ∷ []) (if x == 47 then seen else folder) xs c
+    ∙ ap (λ (l : Path). if c == 47 then l else folder_after seen folder (x ∷ xs)) (append_assoc seen (x ∷ []) xs)
+
+folder_snoc : (q : Path) (c : ℕ) → 0 < length q → folder_of (q ++ c ∷ []) ≡ (if c == 47 then q else folder_of q)
+folder_snoc [] c some = absurd (omega arith)
+folder_snoc (b ∷ q) c some = after_snoc (b ∷ []) [] q c
+
+pub folder_next : (p : Path) (i : ℕ) (slash : Bool) → 1 ≤ i → i < length p → (get_or p i 0 == 47) ≡ slash → folder_of (take (i + 1) p) ≡ (if slash then take i p else folder_of (take i p))
+folder_next p i slash some lt is =
+    ap folder_of (take_more p i 0 lt) ∙ folder_snoc (take i p) (get_or p i 0) (let le : i ≤ length p = omega arith in omega (arith, length-take-le i p le))
+    ∙ ap (λ (b : Bool). if b then take i p else folder_of (take i p)) is
+
+pub folder_first : (p : Path) → folder_of (take 1 p) ≡ []
+folder_first [] = refl
+folder_first (b ∷ p) = refl
+
+-- the fronts of a path that are still to come, past the first byte and past the next one
+pub fronts_first : (p : Path) → fronts p ≡ fronts_after (take 1 p) (drop 1 p)
+fronts_first [] = refl
+fronts_first (b ∷ p) = refl
+
+pub fronts_next : (p : Path) (i : ℕ) (slash : Bool) → i < length p → (get_or p i 0 == 47) ≡ slash → fronts_after (take i p) (drop i p) ≡ (if slash then take i p ∷ fronts_after (take (i + 1) p) (drop (i + 1) p) else fronts_after (take (i + 1) p) (drop (i + 1) p))
+fronts_next p i slash lt is =
+    ap (fronts_after (take i p)) (drop-cons p i 0 lt)
+    ∙ (ap (λ (b : Bool). if b then take i p ∷ fronts_after (take i p ++ get_or p i 0 ∷ []) (drop (suc i) p) else fronts_after (take i p ++ get_or p i 0 ∷ []) (drop (suc i) p)) is
+    ∙ (ap (λ (l : Path). if slash then take i p ∷ fronts_after l (drop (suc i) p) else fronts_after l (drop (suc i) p)) (sym (take_more p i 0 lt))
+    ∙ ap (λ (n : ℕ). if slash then take i p ∷ fronts_after (take (i + 1) p) (drop n p) else fronts_after (take (i + 1) p) (drop n p)) (let e : suc i ≡ i + 1 = omega arith in e)))
+
+-- a front that passes is found
+pub found_at : (P : Path → Bool) (p : Path) (i : ℕ) → i < length p → (get_or p i 0 == 47) ≡ true → P (take i p) ≡ true → list_any P (fronts_after (take i p) (drop i p)) ≡ true
+found_at P p i lt is passes =
+    ap (list_any P) (fronts_next p i true lt is)
+    ∙ ap (λ (b : Bool). b || list_any P (fronts_after (take (i + 1) p) (drop (i + 1) p))) passes
+
+-- and one that does not pass is passed over, as is a byte that ends no front
+pub passed_over : (P : Path → Bool) (p : Path) (i : ℕ) → i < length p → (get_or p i 0 == 47) ≡ true → P (take i p) ≡ false → list_any P (fronts_after (take i p) (drop i p)) ≡ list_any P (fronts_after (take (i + 1) p) (drop (i + 1) p))
+passed_over P p i lt is fails =
+    ap (list_any P) (fronts_next p i true lt is)
+    ∙ ap (λ (b : Bool). b || list_any P (fronts_after (take (i + 1) p) (drop (i + 1) p))) fails
+
+pub no_front : (P : Path → Bool) (p : Path) (i : ℕ) → i < length p → (get_or p i 0 == 47) ≡ false → list_any P (fronts_after (take i p) (drop i p)) ≡ list_any P (fronts_after (take (i + 1) p) (drop (i + 1) p))
+no_front P p i lt is = ap (list_any P) (fronts_next p i false lt is)
+
+-- tests that decide the same
+same_test : (a b : Bool) → (a ≡ true → b ≡ true) → (b ≡ true → a ≡ true) → a ≡ b
+same_test true true there back = refl
+same_test true false there back = sym (there refl)
+same_test false true there back = back refl
+same_test false false there back = refl
+
+pub bytes_eq_swaps : (p q : Path) → bytes_eq p q ≡ bytes_eq q p
+bytes_eq_swaps p q = same_test (bytes_eq p q) (bytes_eq q p)
+    (λ is. (bytes_eq-Decides q p).1 (sym ((bytes_eq-Decides p q).0 is)))
+    (λ is. (bytes_eq-Decides p q).1 (sym ((bytes_eq-Decides q p).0 is)))
+
+swap : (a b c : Bool) → (a || (b || c)) ≡ (b || (a || c))
+swap true true c = refl
+swap true false c = refl
+swap false b c = refl
+
+twice : (a b : Bool) → (a || b) ≡ (a || (a || b))
+twice true b = refl
+twice false b = refl
+
+-- whether a path is a key of a set
+pub key_found : (q : Path) (ks : List (Vec ℕ Global)) → list_any (λ (k : Vec ℕ Global). is_eq (slice_cmp nat_cmp q k.items)) ks ≡ is_among (map (λ (k : Vec ℕ Global). k.items) ks) q
+key_found q [] = refl
+key_found q (k ∷ ks) =
+    ap (λ (b : Bool). b || list_any (λ (k : Vec ℕ Global). is_eq (slice_cmp nat_cmp q k.items)) ks) (is_eq-slice_cmp q k.items ∙ bytes_eq_swaps q k.items)
+    ∙ ap (λ (b : Bool). bytes_eq k.items q || b) (key_found q ks)
+
+-- and after one more is put there
+pub key_added : (q : Path) (k : Vec ℕ Global) (ks : List (Vec ℕ Global)) → is_among (map (λ (k : Vec ℕ Global). k.items) (insert_key (λ (x y : Vec ℕ Global). slice_cmp nat_cmp x.items y.items) ks k)) q ≡ (bytes_eq k.items q || is_among (map (λ (k : Vec ℕ Global). k.items) ks) q)
+key_added q k [] = refl
+key_added q k (x ∷ ks) = by (slice_cmp nat_cmp k.items x.items) refl (key_added q k ks)
+  where
+    among : List (Vec ℕ Global) → Bool
+    among ks = is_among (map (λ (k : Vec ℕ Global). k.items) ks) q
+
+    by : (o : Ordering) → slice_cmp nat_cmp k.items x.items ≡ o → among (insert_key (λ (x y : Vec ℕ Global). slice_cmp nat_cmp x.items y.items) ks k) ≡ (bytes_eq k.items q || among ks)
+        → among (match_ordering o (k ∷ x ∷ ks) (x ∷ ks) (x ∷ insert_key (λ (x y : Vec ℕ Global). slice_cmp nat_cmp x.items y.items) ks k)) ≡ (bytes_eq k.items q || (bytes_eq x.items q || among ks))
+    by Less is rest = refl
+    by Equal is rest = twice (bytes_eq x.items q) (among ks) ∙ ap (λ (p : Path). bytes_eq p q || (bytes_eq x.items q || among ks)) (sym ((bytes_eq-Decides k.items x.items).0 (sym (is_eq-slice_cmp k.items x.items) ∙ ap is_eq is)))
+    by Greater is rest = ap (λ (b : Bool). bytes_eq x.items q || b) rest ∙ swap (bytes_eq x.items q) (bytes_eq k.items q) (among ks)

@@ -1,0 +1,21 @@
+use Rattle.std.proofs.Common.{◌≡◌, ◌≤◌, ℕ, get_or}
+use Rattle.gix_ref_files.specs.Calls.{Unchanged}
+use Rattle.gix_ref_files.specs.DiskCalls.{Untouched}
+use Rattle.gix_ref_files.specs.Files.{disk_of, Leaves, Passes}
+use Rattle.gix_ref_transaction.specs.declared.edit.Edit.{Edit}
+use Rattle.gix_ref_lines.specs.AskedEdits.{all_but_logs}
+use Rattle.gix_ref_lines.specs.internal.LineSteps.{log_rules}
+use Rattle.gix_ref_lines.specs.internal.SeenLogs.{paths_in}
+use Rattle.gix_ref_lines.specs.internal.Decided.{IsDecided}
+use Rattle.gix_ref_lines.proofs.decide.decide_logs.Given as goal
+
+-- the logs of the edits before this one are decided, and the others are as they were
+abbrev pub invariant-loop-i : goal.invariant-loop-i
+invariant-loop-i g l = record {
+  but_logs : all_but_logs l.edits ≡ all_but_logs l.fn.edits;
+  rest : (k : ℕ) (d : Edit) → l.i ≤ k → get_or l.edits k d ≡ get_or l.fn.edits k d;
+  leaves : g.F.Files.honest → Leaves (g.F.Files.means l.fn.files) (g.F.Files.means l.files) (Unchanged (g.F.Files.means l.fn.files).tree);
+  passes : g.F.Files.honest → Passes (g.F.Files.means l.fn.files) (g.F.Files.means l.files) (Untouched (disk_of (g.F.Files.means l.fn.files)));
+  no_fewer : g.F.Files.faults l.fn.files ≤ g.F.Files.faults l.files;
+  decided : g.F.Files.honest → IsDecided (log_rules l.rules) (g.F.Files.means l.fn.files).tree l.fn.edits l.i l.edits (paths_in l.due);
+}

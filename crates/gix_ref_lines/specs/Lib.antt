@@ -1,0 +1,5 @@
+pub mod AskedEdits
+pub mod DueLines
+pub mod LineCauses
+pub mod MadeLogs
+pub mod internal

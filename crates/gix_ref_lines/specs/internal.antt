@@ -1,0 +1,4 @@
+pub mod Decided
+pub mod Leaves
+pub mod LineSteps
+pub mod SeenLogs

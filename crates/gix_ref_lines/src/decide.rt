@@ -1,0 +1,172 @@
+//! What a commit decides of the logs of its edits before its first write (`git reflog`, `core.logAllRefUpdates` of `git config`).
+ghost use Rattle.std.specs.Prelude.{◌≡◌, ◌≤◌, OnOk, IfOk, IfErr, vec_items};
+ghost use Rattle.std.specs.Option.{option_map};
+ghost use Rattle.gix_ref_files.specs.Calls.{Unchanged};
+ghost use Rattle.gix_ref_files.specs.DiskCalls.{Untouched};
+ghost use Rattle.gix_ref_files.specs.Files.{disk_of, Leaves, Passes};
+ghost use Rattle.gix_ref_theory.specs.OnRealTrees.{view_of};
+ghost use Rattle.gix_ref_theory.specs.Views.{View};
+ghost use Rattle.gix_ref_lines.specs.AskedEdits.{asked, asked_edit, all_but_logs, but_log, outcome_of, outcomes_of};
+ghost use Rattle.gix_ref_lines.specs.DueLines.{due_line, log_outcome, log_outcomes, outcome_by, log_path, rules_of, with_log};
+ghost use Rattle.gix_ref_lines.specs.LineCauses.{AllPass, IsCounted, IsRefusal, IsRefusalAt, Passes as IsPassed};
+ghost use Rattle.gix_ref_lines.specs.internal.LineSteps.{log_rules, Sees};
+ghost use Rattle.gix_ref_lines.specs.internal.SeenLogs.{paths_in};
+
+use crate::error::Error;
+use crate::leaves::leaves_of;
+use crate::line::line_at;
+use crate::logs::DueLogs;
+use crate::place::place_at;
+use crate::rules::{Rules, message_of};
+use crate::write_reflog::WriteReflog;
+use gix_ref_edits::transaction::Change;
+use gix_ref_files::files::Files;
+use gix_ref_hash::hash::ObjectId;
+use gix_ref_log::actor::SignatureRef;
+use gix_ref_lookup::settings::Settings;
+use gix_ref_transaction::edit::{Edit, LogEffect};
+use std::alloc::Global;
+
+/// The line that is due for an edit, whose log is at this path; `None` where no line is due.
+fn due_line<F: Files>(
+    alloc: Global,
+    files: &mut F,
+    rules: Rules<'_>,
+    due: &mut DueLogs,
+    edit: &Edit,
+    leaf: Option<ObjectId>,
+    path: &[u8],
+) -> Result<Option<Vec<u8>>, Error>
+    requires { path.now ≡ log_path (log_rules rules) (asked_edit edit.now leaf) }
+    ensures line { F.honest → (view : View) →
+        Sees view (F.means files.old).tree (paths_in due.old) →
+        IfOk result (λ line. option_map vec_items line
+        ≡ due_line (log_rules rules.entry) view (asked_edit edit.now leaf)) }
+    ensures passed { F.honest → (view : View) →
+        Sees view (F.means files.old).tree (paths_in due.old) →
+        OnOk result (IsPassed (log_rules rules.entry) view (asked_edit edit.now leaf)) }
+    ensures seen { F.honest → (view : View) →
+        Sees view (F.means files.old).tree (paths_in due.old) →
+        OnOk result (Sees (with_log (log_rules rules.entry) view (asked_edit edit.now leaf))
+        (F.means files.old).tree (paths_in due.new)) }
+    ensures refused { F.honest → (view : View) →
+        Sees view (F.means files.old).tree (paths_in due.old) →
+        IfErr result (IsRefusalAt (log_rules rules.entry) view (asked_edit edit.now leaf)) }
+    ensures leaves { F.honest → Leaves (F.means files.old) (F.means files.new)
+        (Unchanged (F.means files.old).tree) }
+    ensures passes { F.honest → Passes (F.means files.old) (F.means files.new)
+        (Untouched (disk_of (F.means files.old))) }
+    ensures no_fewer { F.faults files.old ≤ F.faults files.new }
+    ensures counted { IfErr result (IsCounted (F.faults files.old) (F.faults files.new)) }
+{
+    let Some(ids) = rules.written_ids(edit, leaf) else {
+        return Ok(None);
+    };
+    let place = place_at(alloc, files, due, path)?;
+    if !rules.has_log(alloc, place.is_log, edit)? {
+        return Ok(None);
+    }
+    let message = message_of(&edit.update.change);
+    let line = line_at(alloc, rules.committer, &ids, message, place, path)?;
+    due.insert(path.to_vec(alloc)?)?;
+    Ok(Some(line))
+}
+
+/// What becomes of the log at this path by a change for which this line is due.
+fn outcome(change: &Change, log: Vec<u8>, line: Option<Vec<u8>>) -> LogEffect
+    ensures { outcome_of result ≡ outcome_by change.now log.items (option_map vec_items line) }
+{
+    match (change, line) {
+        (Change::Delete { .. }, _) => LogEffect::Remove { log },
+        (Change::Update { .. }, Some(line)) => LogEffect::Append { log, line },
+        (Change::Update { .. }, None) => LogEffect::Keep,
+    }
+}
+
+/// Decides what becomes of the log of an edit: that of a deletion is removed, and that of an update gains the line that is due.
+fn decide_log<F: Files>(
+    alloc: Global,
+    files: &mut F,
+    rules: Rules<'_>,
+    due: &mut DueLogs,
+    leaf: Option<ObjectId>,
+    edit: &mut Edit,
+) -> Result<(), Error>
+    ensures but_log { but_log edit.new ≡ but_log edit.old }
+    ensures log { F.honest → (view : View) →
+        Sees view (F.means files.old).tree (paths_in due.old) →
+        OnOk result (outcome_of edit.new.log
+        ≡ log_outcome (log_rules rules.entry) view (asked_edit edit.old leaf)) }
+    ensures passed { F.honest → (view : View) →
+        Sees view (F.means files.old).tree (paths_in due.old) →
+        OnOk result (IsPassed (log_rules rules.entry) view (asked_edit edit.old leaf)) }
+    ensures seen { F.honest → (view : View) →
+        Sees view (F.means files.old).tree (paths_in due.old) →
+        OnOk result (Sees (with_log (log_rules rules.entry) view (asked_edit edit.old leaf))
+        (F.means files.old).tree (paths_in due.new)) }
+    ensures refused { F.honest → (view : View) →
+        Sees view (F.means files.old).tree (paths_in due.old) →
+        IfErr result (IsRefusalAt (log_rules rules.entry) view (asked_edit edit.old leaf)) }
+    ensures leaves { F.honest → Leaves (F.means files.old) (F.means files.new)
+        (Unchanged (F.means files.old).tree) }
+    ensures passes { F.honest → Passes (F.means files.old) (F.means files.new)
+        (Untouched (disk_of (F.means files.old))) }
+    ensures no_fewer { F.faults files.old ≤ F.faults files.new }
+    ensures counted { IfErr result (IsCounted (F.faults files.old) (F.faults files.new)) }
+{
+    let path = rules.settings.log(alloc, edit.update.name.as_ref())?;
+    let line = due_line(alloc, files, rules, due, edit, leaf, &path)?;
+    edit.log = outcome(&edit.update.change, path, line);
+    Ok(())
+}
+
+/// Decides what becomes of the log of each edit of a prepared transaction, before a commit writes anything: that of a deletion is
+/// removed, and that of an update gains the line that is due, if one is. No file changes. As gix-ref's
+/// `file::Store::reflog_create_or_append`, without its writes (`git reflog`, `core.logAllRefUpdates` of `git config`).
+///
+/// The errors are sought edit by edit, and the first is returned: `MissingCommitter`, `MessageWithNewlines` and
+/// `SignatureUnwritable` of a line that is due, `CreateLeadingDirectories` without a source for a file in the path of its log, and
+/// with one for a fault of files; and `Memory`. It makes one call of files for each update that may have a line.
+///
+/// ```text
+/// decide_logs(alloc, files, settings, WriteReflog::Normal, Some(committer), &mut edits)?;
+/// // edits[0].log is `LogEffect::Append { log, line }` where a line is due for the first edit
+/// ```
+pub fn decide_logs<F: Files>(
+    alloc: Global,
+    files: &mut F,
+    settings: &Settings<'_>,
+    write_reflog: WriteReflog,
+    committer: Option<SignatureRef<'_>>,
+    edits: &mut [Edit],
+) -> Result<(), Error>
+    ensures but_logs { all_but_logs edits.new ≡ all_but_logs edits.old }
+    ensures logs { F.honest → OnOk result (outcomes_of edits.new ≡ log_outcomes
+        (rules_of settings.now write_reflog committer.entry)
+        (view_of (F.means files.old).tree) (asked edits.old)) }
+    ensures passed { F.honest → OnOk result (AllPass
+        (rules_of settings.now write_reflog committer.entry)
+        (view_of (F.means files.old).tree) (asked edits.old)) }
+    ensures refused { F.honest → IfErr result (IsRefusal
+        (rules_of settings.now write_reflog committer.entry)
+        (view_of (F.means files.old).tree) (asked edits.old)) }
+    ensures leaves { F.honest → Leaves (F.means files.old) (F.means files.new)
+        (Unchanged (F.means files.old).tree) }
+    ensures passes { F.honest → Passes (F.means files.old) (F.means files.new)
+        (Untouched (disk_of (F.means files.old))) }
+    ensures no_fewer { F.faults files.old ≤ F.faults files.new }
+    ensures counted { IfErr result (IsCounted (F.faults files.old) (F.faults files.new)) }
+{
+    let rules = Rules {
+        settings,
+        write_reflog,
+        committer,
+    };
+    let leaves = leaves_of(alloc, edits)?;
+    let mut due = DueLogs::new(alloc);
+    for i in 0..edits.len() {
+        let leaf = leaves[i].id();
+        decide_log(alloc, files, rules, &mut due, leaf, &mut edits[i])?;
+    }
+    Ok(())
+}

@@ -1,0 +1,15 @@
+//! The log lines of a commit of references, which are decided before the commit writes anything (`git reflog`).
+#![tactic(auto)]
+
+pub mod create_or_update;
+pub mod decide;
+pub mod error;
+pub mod ids;
+pub mod laws;
+mod leaves;
+mod line;
+mod logs;
+mod names;
+mod place;
+mod rules;
+pub mod write_reflog;

@@ -1,0 +1,67 @@
+//! The logs that have a line due, by their paths, and what lies in the path of a log.
+ghost use Rattle.std.specs.Prelude.{◌≡◌, ◌||◌, OnOk, bytes_eq, false};
+ghost use Rattle.std.specs.List.{list_any};
+ghost use Rattle.gix_ref_files.specs.Disk.{folder_of};
+ghost use Rattle.gix_ref_files.specs.Tree.{fronts, Path};
+ghost use Rattle.gix_ref_lines.specs.internal.SeenLogs.{paths_in, is_among};
+
+use std::alloc::{AllocFailed, Global};
+use std::collections::BTreeSet;
+
+/// The logs that have a line due, by their paths.
+#[derive(Drop)]
+pub struct DueLogs {
+    paths: BTreeSet<Vec<u8>>,
+}
+
+impl DueLogs {
+    /// No log.
+    pub fn new(alloc: Global) -> DueLogs
+        ensures { (q : Path) → is_among (paths_in result) q ≡ false }
+    {
+        DueLogs {
+            paths: BTreeSet::new(alloc),
+        }
+    }
+
+    /// Whether the log at this path has a line due.
+    pub fn contains(&self, path: &[u8]) -> bool
+        ensures { result ≡ is_among (paths_in self.now) path.now }
+    {
+        self.paths.contains(path)
+    }
+
+    /// Adds the log at this path.
+    pub fn insert(&mut self, path: Vec<u8>) -> Result<(), AllocFailed<Vec<u8>>>
+        ensures { OnOk result ((q : Path) → is_among (paths_in self.new) q
+            ≡ (bytes_eq path.items q || is_among (paths_in self.old) q)) }
+    {
+        self.paths.insert(path)?;
+        Ok(())
+    }
+
+    /// Whether such a log is in a path, as a file where a folder would be.
+    pub fn is_above(&self, path: &[u8]) -> bool
+        ensures { result ≡ list_any (is_among (paths_in self.now)) (fronts path.now) }
+    {
+        for i in 1..path.len() {
+            if path[i] == b'/' && self.contains(&path[..i]) {
+                return true;
+            }
+        }
+        false
+    }
+}
+
+/// The folder of a path: what is before its last slash, unless that is its first byte.
+pub fn folder(path: &[u8]) -> &[u8]
+    ensures { result.now ≡ folder_of path.now }
+{
+    let mut end = 0;
+    for i in 1..path.len() {
+        if path[i] == b'/' {
+            end = i;
+        }
+    }
+    &path[..end]
+}

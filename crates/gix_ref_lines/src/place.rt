@@ -1,0 +1,73 @@
+//! What there is at the path of a log.
+ghost use Rattle.std.specs.Prelude.{◌≡◌, ◌≤◌, ◌||◌, ℕ, IfOk, IfErr, is_some};
+ghost use Rattle.std.specs.List.{list_any};
+ghost use Rattle.gix_ref_files.specs.Calls.{Unchanged};
+ghost use Rattle.gix_ref_files.specs.DiskCalls.{Untouched};
+ghost use Rattle.gix_ref_files.specs.Files.{count_with, disk_of, Leaves, Passes};
+ghost use Rattle.gix_ref_files.specs.Tree.{fronts, is_blocked};
+ghost use Rattle.gix_ref_theory.specs.OnRealTrees.{view_of};
+ghost use Rattle.gix_ref_lines.specs.LineCauses.{IsCounted};
+ghost use Rattle.gix_ref_lines.specs.internal.LineSteps.{IsFaultAt};
+ghost use Rattle.gix_ref_lines.specs.internal.SeenLogs.{is_among, paths_in};
+
+use crate::create_or_update;
+use crate::error::Error;
+use crate::logs::{DueLogs, folder};
+use gix_ref_files::files::{FileError, Files, Node};
+use std::alloc::Global;
+
+/// What there is at the path of a log.
+#[derive(Clone, Copy, Debug, PartialEq, Eq)]
+pub struct Place {
+    /// Whether the log is there.
+    pub is_log: bool,
+    /// Whether a file is where a folder of its path would be.
+    pub is_blocked: bool,
+}
+
+/// The refusal of a fault in the search for a log.
+fn fault_at(alloc: Global, path: &[u8], fault: FileError) -> Error
+    requires { fault ≡ FileError.Memory → ⊥ }
+    ensures at { IsFaultAt path.now result }
+    ensures counted { (before now : ℕ) → now ≡ count_with fault before → IsCounted before now result }
+{
+    match folder(path).to_vec(alloc) {
+        Ok(reflog_directory) => Error::CreateOrUpdateRefLog(
+            create_or_update::Error::CreateLeadingDirectories {
+                source: Some(fault),
+                reflog_directory,
+            },
+        ),
+        Err(_) => Error::Memory,
+    }
+}
+
+/// What there is at the path of a log, where the logs that have a line due count as files. Makes one call of files.
+pub fn place_at<F: Files>(
+    alloc: Global,
+    files: &mut F,
+    due: &DueLogs,
+    path: &[u8],
+) -> Result<Place, Error>
+    ensures log { F.honest → IfOk result (λ place. place.is_log
+        ≡ (is_some (view_of (F.means files.old).tree path.now)
+        || is_among (paths_in due.now) path.now)) }
+    ensures blocked { F.honest → IfOk result (λ place. place.is_blocked
+        ≡ (is_blocked (F.means files.old).tree path.now
+        || list_any (is_among (paths_in due.now)) (fronts path.now))) }
+    ensures failed { IfErr result (IsFaultAt path.now) }
+    ensures leaves { F.honest → Leaves (F.means files.old) (F.means files.new)
+        (Unchanged (F.means files.old).tree) }
+    ensures passes { F.honest → Passes (F.means files.old) (F.means files.new)
+        (Untouched (disk_of (F.means files.old))) }
+    ensures no_fewer { F.faults files.old ≤ F.faults files.new }
+    ensures counted { IfErr result (IsCounted (F.faults files.old) (F.faults files.new)) }
+{
+    match files.kind(path) {
+        Ok(node) => Ok(Place {
+            is_log: node == Node::File || due.contains(path),
+            is_blocked: node == Node::Blocked || due.is_above(path),
+        }),
+        Err(fault) => Err(fault_at(alloc, path, fault)),
+    }
+}
