@@ -26,7 +26,8 @@ pub fn below_logs(
     namespace: &[u8],
     name: FullNameRef<'_>,
 ) -> Result<Vec<u8>, AllocError>
-    ensures { IfOk result (λ path. path.items ≡ below_logs namespace.now (full_ref_bytes name.entry)) }
+    ensures { IfOk result (λ path. path.items
+        ≡ below_logs namespace.now (full_ref_bytes name.entry)) }
 {
     let own = own_name(location_or_common(name));
     let mut path = Vec::with_capacity(alloc, namespace.len().saturating_add(own.len()))?;

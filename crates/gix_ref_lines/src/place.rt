@@ -29,7 +29,8 @@ pub struct Place {
 fn fault_at(alloc: Global, path: &[u8], fault: FileError) -> Error
     requires { fault ≡ FileError.Memory → ⊥ }
     ensures at { IsFaultAt path.now result }
-    ensures counted { (before now : ℕ) → now ≡ count_with fault before → IsCounted before now result }
+    ensures counted { (before now : ℕ) → now ≡ count_with fault before →
+        IsCounted before now result }
 {
     match folder(path).to_vec(alloc) {
         Ok(reflog_directory) => Error::CreateOrUpdateRefLog(

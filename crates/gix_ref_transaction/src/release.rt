@@ -121,9 +121,10 @@ pub fn release_packed<F: Files>(files: &mut F, packed: Option<LockFile>, left: &
 
 /// Removes the lock at a place of the list, unless it was renamed: another may hold it by now. False where it could not.
 fn release<F: Files>(files: &mut F, done: usize, at: usize, edit: &Edit) -> bool
-    ensures renamed { not (nat_lt at done && is_write edit.now.effect) ≡ false → files.new ≡ files.old }
-    ensures gone { F.honest → not (nat_lt at done && is_write edit.now.effect) ≡ true → IsTrue result →
-        is_file ((F.means files.new).tree (lock_of edit.now.lock)) ≡ false }
+    ensures renamed { not (nat_lt at done && is_write edit.now.effect) ≡ false →
+        files.new ≡ files.old }
+    ensures gone { F.honest → not (nat_lt at done && is_write edit.now.effect) ≡ true →
+        IsTrue result → is_file ((F.means files.new).tree (lock_of edit.now.lock)) ≡ false }
     ensures leaves { F.honest → Leaves (F.means files.old) (F.means files.new)
         (RemovesLocks (lock_of edit.now.lock ∷ []) (F.means files.old).tree) }
     ensures passes { F.honest → Passes (F.means files.old) (F.means files.new)

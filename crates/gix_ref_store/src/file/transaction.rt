@@ -256,7 +256,8 @@ impl<F: Files> Prepared<'_, F> {
         ensures edits { IfOk result (λ done. done.edits.items ≡ prepared_edits self.entry.plan) }
         ensures packed_refs { mode_of result ≡ prepared_mode self.entry.plan }
         ensures committed { IfOk result (λ done. CommitsFrom F.honest F.means F.faults
-            self.entry.store.now self.exit.0.now (held_packed self.entry.plan) (held_edits self.entry.plan) (paths_of done.locks_left.items)) }
+            self.entry.store.now self.exit.0.now (held_packed self.entry.plan)
+            (held_edits self.entry.plan) (paths_of done.locks_left.items)) }
         ensures failed { IfErr result (λ f. FailsFor F.honest F.means F.faults self.entry.store.now
             self.exit.0.now (held_packed self.entry.plan) (held_edits self.entry.plan)
             f.error) }

@@ -38,15 +38,16 @@ impl<F: Files> Store<F> {
     ) -> Result<Remains, EndedEarly>
         requires room { HasRoom edits remains }
         ensures edits { IfOk result (λ r. r.edits.items ≡ updates edits.items) }
-        ensures committed { IfOk result (λ r. CommitsFrom F.honest F.means F.faults self.old self.new
-            packed edits.items (paths_of r.left.items)) }
+        ensures committed { IfOk result (λ r. CommitsFrom F.honest F.means F.faults self.old
+            self.new packed edits.items (paths_of r.left.items)) }
         ensures failed { IfErr result (λ e. FailsFor F.honest F.means F.faults self.old self.new
             packed edits.items e.error) }
         ensures sound { IfErr result (λ e. NoBadLineFrom F.honest F.means F.faults self.old
             packed edits.items e.error) }
         ensures ended { EveryStopFrom F.honest F.means F.faults self.old self.new packed edits.items
             (left_in result) }
-        ensures lost { EveryLossFrom F.honest F.means F.faults self.old self.new packed edits.items }
+        ensures lost { EveryLossFrom F.honest F.means F.faults self.old self.new packed
+            edits.items }
         ensures settled { OnOk result (SettlesFrom F.honest F.means F.faults self.old self.new
             packed edits.items) }
         ensures named { (left_in result ≡ []) ⊎ HasRisen (F.faults (files_of self.old))
