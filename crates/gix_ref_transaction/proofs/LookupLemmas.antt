@@ -147,9 +147,9 @@ module _ (s : Store) where
       by (given.Delete e log) x told = value_is (given.Delete e log) x ∙ (ap (λ y. by_decision y []) told ∙ removed (is_of_reference log))
 
 -- What a lock holds once it got its text: the one of its effect.
-pub filled_with : (T T1 W : Tree) (lock lock' : Path) (what what' : Effect) → T1 ≡ T → lock' ≡ lock → what' ≡ what → T lock ≡ Some (File []) →
-    (T1 lock' ≡ Some (File []) → W ≡ put T1 lock' (Some (File (lock_text what')))) → W ≡ put T lock (Some (File (lock_text what)))
-filled_with T T1 W lock lock' what what' same at is empty fills =
+pub filled_with : (T T' W : Tree) (lock lock' : Path) (what what' : Effect) → T' ≡ T → lock' ≡ lock → what' ≡ what → T lock ≡ Some (File []) →
+    (T' lock' ≡ Some (File []) → W ≡ put T' lock' (Some (File (lock_text what')))) → W ≡ put T lock (Some (File (lock_text what)))
+filled_with T T' W lock lock' what what' same at is empty fills =
     fills (ap (λ (R : Tree). R lock') same ∙ (ap T at ∙ empty))
     ∙ (ap (λ (R : Tree). put R lock' (Some (File (lock_text what')))) same
     ∙ (ap (λ (l : Path). put T l (Some (File (lock_text what')))) at

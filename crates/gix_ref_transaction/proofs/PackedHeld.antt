@@ -21,8 +21,8 @@ use Rattle.gix_ref_transaction.specs.declared.prepare.error.Error.TheVariants.{U
 use Rattle.gix_ref_transaction.proofs.Adds.{any_same, clash}
 use Rattle.gix_ref_transaction.proofs.LookupLemmas.{effect_alike}
 
-module _ (s : Store) (kind : Kind) (T0 T1 : Tree) (off : (q : Path) → q ≢ lock_of s.packed_path → T1 q ≡ T0 q) (packed_lock : s.packed_path ≢ lock_of s.packed_path) where
-  pub same_packed : view_of T1 s.packed_path ≡ view_of T0 s.packed_path
+module _ (s : Store) (kind : Kind) (plain held : Tree) (off : (q : Path) → q ≢ lock_of s.packed_path → held q ≡ plain q) (packed_lock : s.packed_path ≢ lock_of s.packed_path) where
+  pub same_packed : view_of held s.packed_path ≡ view_of plain s.packed_path
   same_packed = ap file_of (off s.packed_path packed_lock)
 
   -- one edit
@@ -30,31 +30,31 @@ module _ (s : Store) (kind : Kind) (T0 T1 : Tree) (off : (q : Path) → q ≢ lo
     abbrev lock : Path
     lock = lock_of (s.place (name_of edit))
 
-    same_way : is_blocked T1 lock ≡ is_blocked T0 lock
-    same_way = any_same (λ f. is_file (T1 f)) (λ f. is_file (T0 f)) (fronts lock)
+    same_way : is_blocked held lock ≡ is_blocked plain lock
+    same_way = any_same (λ f. is_file (held f)) (λ f. is_file (plain f)) (fronts lock)
         (λ f within. ap is_file (off f (λ same. clash (subst (λ (p : Path). is_in (fronts lock) p ≡ true) same within) apart.way)))
 
-    at_lock : T1 lock ≡ T0 lock
+    at_lock : held lock ≡ plain lock
     at_lock = off lock apart.lock
 
-    same_place : view_of T1 (s.place (name_of edit)) ≡ view_of T0 (s.place (name_of edit))
+    same_place : view_of held (s.place (name_of edit)) ≡ view_of plain (s.place (name_of edit))
     same_place = ap file_of (off (s.place (name_of edit)) apart.place)
 
-    same_found : found s (view_of T1) (name_of edit) ≡ found s (view_of T0) (name_of edit)
+    same_found : found s (view_of held) (name_of edit) ≡ found s (view_of plain) (name_of edit)
     same_found =
-        ap (λ (file : Option (List ℕ)). found_by s (decoded s file) (packed_of s (view_of T1) (name_of edit))) same_place
-        ∙ ap (λ (file : Option (List ℕ)). found_by s (decoded s (view_of T0 (s.place (name_of edit)))) (packed_id (s.key (name_of edit)) (records_in s file))) same_packed
+        ap (λ (file : Option (List ℕ)). found_by s (decoded s file) (packed_of s (view_of held) (name_of edit))) same_place
+        ∙ ap (λ (file : Option (List ℕ)). found_by s (decoded s (view_of plain (s.place (name_of edit)))) (packed_id (s.key (name_of edit)) (records_in s file))) same_packed
 
-    same_effect : effect_on s (view_of T1) edit ≡ effect_on s (view_of T0) edit
-    same_effect = effect_alike s (view_of T1) (view_of T0) edit same_place same_packed
+    same_effect : effect_on s (view_of held) edit ≡ effect_on s (view_of plain) edit
+    same_effect = effect_alike s (view_of held) (view_of plain) edit same_place same_packed
 
-    lockable_on : (seen : List RefEdit) → IsLockable s kind T1 seen edit → IsLockable s kind T0 seen edit
+    lockable_on : (seen : List RefEdit) → IsLockable s kind held seen edit → IsLockable s kind plain seen edit
     lockable_on seen can = record { way = sym same_way ∙ can.way; free = sym at_lock ∙ can.free; ours = can.ours }
 
-    passes_on : (seen : List RefEdit) → Passes s kind T1 seen edit → Passes s kind T0 seen edit
+    passes_on : (seen : List RefEdit) → Passes s kind held seen edit → Passes s kind plain seen edit
     passes_on seen passes = (lockable_on seen passes.0, subst (Expects (expected_of edit.change) (new_of edit.change)) same_found passes.1)
 
-    unlockable_on : (seen : List RefEdit) (error : Error) → IsUnlockable s kind T1 seen edit error → IsUnlockable s kind T0 seen edit error
+    unlockable_on : (seen : List RefEdit) (error : Error) → IsUnlockable s kind held seen edit error → IsUnlockable s kind plain seen edit error
     unlockable_on seen (PathCollision name) why = (why.0, sym same_way ∙ why.1)
     unlockable_on seen (LockAcquire name) why = (why.0, ⊎_elim (λ some. inl (subst (λ (n : Option Content). IsSome n) at_lock some)) (λ ours. inr ours) why.1)
     unlockable_on seen (Io error) why = absurd why
@@ -73,7 +73,7 @@ module _ (s : Store) (kind : Kind) (T0 T1 : Tree) (off : (q : Path) → q ≢ lo
     unlockable_on seen (MustNotExist name actual new) why = absurd why
     unlockable_on seen (ReferenceOutOfDate name expected actual) why = absurd why
 
-    fault_on : (seen : List RefEdit) (error : Error) → IsFault s kind T1 seen edit error → IsFault s kind T0 seen edit error
+    fault_on : (seen : List RefEdit) (error : Error) → IsFault s kind held seen edit error → IsFault s kind plain seen edit error
     fault_on seen error (inl outside) = inl outside
     fault_on seen error (inr (inl locked)) = inr (inl (unlockable_on seen error locked))
     fault_on seen error (inr (inr mismatch)) = inr (inr (lockable_on seen mismatch.0, subst (λ (f : Option TargetValue). IsMismatch kind edit f error) same_found mismatch.1))
@@ -88,38 +88,38 @@ module _ (s : Store) (kind : Kind) (T0 T1 : Tree) (off : (q : Path) → q ≢ lo
   others : (e : RefEdit) (some : List RefEdit) → AreApart (e ∷ some) → AreApart some
   others e some apart k d lt = apart (suc k) d (omega (arith, lt))
 
-  pub no_cause_on : (seen some : List RefEdit) → AreApart some → NoCause s kind T1 seen some → NoCause s kind T0 seen some
+  pub no_cause_on : (seen some : List RefEdit) → AreApart some → NoCause s kind held seen some → NoCause s kind plain seen some
   no_cause_on seen [] apart none = tt
   no_cause_on seen (e ∷ some) apart none = (passes_on e (first e some apart) seen none.0, no_cause_on (seen ++ e ∷ []) some (others e some apart) none.1)
 
-  pub first_cause_on : (seen some : List RefEdit) (error : Error) → AreApart some → IsFirstCause s kind T1 seen some error → IsFirstCause s kind T0 seen some error
+  pub first_cause_on : (seen some : List RefEdit) (error : Error) → AreApart some → IsFirstCause s kind held seen some error → IsFirstCause s kind plain seen some error
   first_cause_on seen [] error apart cause = absurd cause
   first_cause_on seen (e ∷ some) error apart (inl here) = inl (fault_on e (first e some apart) seen error here)
   first_cause_on seen (e ∷ some) error apart (inr later) = inr (passes_on e (first e some apart) seen later.0, first_cause_on (seen ++ e ∷ []) some error (others e some apart) later.1)
 
-  pub lockable_all_on : (seen some : List RefEdit) → AreApart some → AreLockable s kind T1 seen some → AreLockable s kind T0 seen some
+  pub lockable_all_on : (seen some : List RefEdit) → AreApart some → AreLockable s kind held seen some → AreLockable s kind plain seen some
   lockable_all_on seen [] apart can = tt
   lockable_all_on seen (e ∷ some) apart can = (lockable_on e (first e some apart) seen can.0, lockable_all_on (seen ++ e ∷ []) some (others e some apart) can.1)
 
-  texts_on : (T : Tree) (some : List RefEdit) → AreApart some → HoldTexts s T1 T some → HoldTexts s T0 T some
+  texts_on : (T : Tree) (some : List RefEdit) → AreApart some → HoldTexts s held T some → HoldTexts s plain T some
   texts_on T [] apart hold = tt
   texts_on T (e ∷ some) apart hold = (hold.0 ∙ ap (λ (w : Effect). Some (File (lock_text w))) (same_effect e (first e some apart)), texts_on T some (others e some apart) hold.1)
 
-  targets_on : (some : List RefEdit) → AreApart some → old_targets s T1 some ≡ old_targets s T0 some
+  targets_on : (some : List RefEdit) → AreApart some → old_targets s held some ≡ old_targets s plain some
   targets_on [] apart = refl
-  targets_on (e ∷ some) apart = ap (λ (f : Option TargetValue). f ∷ old_targets s T1 some) (same_found e (first e some apart)) ∙ ap (λ (l : List (Option TargetValue)). found s (view_of T0) (name_of e) ∷ l) (targets_on some (others e some apart))
+  targets_on (e ∷ some) apart = ap (λ (f : Option TargetValue). f ∷ old_targets s held some) (same_found e (first e some apart)) ∙ ap (λ (l : List (Option TargetValue)). found s (view_of plain) (name_of e) ∷ l) (targets_on some (others e some apart))
 
-  effects_as : (some : List RefEdit) → AreApart some → effects_on s (view_of T1) some ≡ effects_on s (view_of T0) some
+  effects_as : (some : List RefEdit) → AreApart some → effects_on s (view_of held) some ≡ effects_on s (view_of plain) some
   effects_as [] apart = refl
-  effects_as (e ∷ some) apart = ap (λ (w : Effect). w ∷ effects_on s (view_of T1) some) (same_effect e (first e some apart)) ∙ ap (λ (l : List Effect). effect_on s (view_of T0) e ∷ l) (effects_as some (others e some apart))
+  effects_as (e ∷ some) apart = ap (λ (w : Effect). w ∷ effects_on s (view_of held) some) (same_effect e (first e some apart)) ∙ ap (λ (l : List Effect). effect_on s (view_of plain) e ∷ l) (effects_as some (others e some apart))
 
-  ids_on : (some : List RefEdit) → packed_ids s T1 some ≡ packed_ids s T0 some
+  ids_on : (some : List RefEdit) → packed_ids s held some ≡ packed_ids s plain some
   ids_on [] = refl
   ids_on (e ∷ some) =
-      ap (λ (file : Option (List ℕ)). packed_id (s.key (name_of e)) (records_in s file) ∷ packed_ids s T1 some) same_packed
-      ∙ ap (λ l. packed_of s (view_of T0) (name_of e) ∷ l) (ids_on some)
+      ap (λ (file : Option (List ℕ)). packed_id (s.key (name_of e)) (records_in s file) ∷ packed_ids s held some) same_packed
+      ∙ ap (λ l. packed_of s (view_of plain) (name_of e) ∷ l) (ids_on some)
 
-  pub settled_on : (T : Tree) (old new : List Edit) → AreApart (updates old) → AreSettled s kind T1 T old new → AreSettled s kind T0 T old new
+  pub settled_on : (T : Tree) (old new : List Edit) → AreApart (updates old) → AreSettled s kind held T old new → AreSettled s kind plain T old new
   settled_on T old new apart settled = record {
     was = settled.was ∙ targets_on (updates old) apart;
     what = settled.what ∙ effects_as (updates old) apart;
@@ -129,11 +129,11 @@ module _ (s : Store) (kind : Kind) (T0 T1 : Tree) (off : (q : Path) → q ≢ lo
   }
 
 -- elsewhere the tree is as before the lock was taken
-pub off_lock : (s : Store) (T0 T1 : Tree) (packed : Option Path) → IsPackedPlace s packed → TakesPacked T0 packed T1 → (q : Path) → q ≢ lock_of s.packed_path → T1 q ≡ T0 q
-off_lock s T0 T1 None place takes q other = ap (λ (T : Tree). T q) takes
-off_lock s T0 T1 (Some place) (inl none) takes q other = cc
-off_lock s T0 T1 (Some place) (inr is) takes q other =
-    ap (λ (T : Tree). T q) takes.1 ∙ put_other T0 (lock_of place) q (Some (File [])) (λ same. other (sym same ∙ ap lock_of (inner is)))
+pub off_lock : (s : Store) (plain held : Tree) (packed : Option Path) → IsPackedPlace s packed → TakesPacked plain packed held → (q : Path) → q ≢ lock_of s.packed_path → held q ≡ plain q
+off_lock s plain held None place takes q other = ap (λ (T : Tree). T q) takes
+off_lock s plain held (Some place) (inl none) takes q other = cc
+off_lock s plain held (Some place) (inr is) takes q other =
+    ap (λ (T : Tree). T q) takes.1 ∙ put_other plain (lock_of place) q (Some (File [])) (λ same. other (sym same ∙ ap lock_of (inner is)))
   where
     inner : {x y : Path} → Some x ≡ Some y → x ≡ y
     inner e = cc

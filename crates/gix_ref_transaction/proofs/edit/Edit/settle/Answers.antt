@@ -16,7 +16,7 @@ pub returns-clause-decided : goal.returns-clause-decided
 returns-clause-decided g c h asked empty =
     let s = setting_of c.args.settings.now in
     let T = (g.F.Files.means c.args.files.now).tree in
-    let T1 = (g.F.Files.means c.was_at.new.files).tree in
+    let T' = (g.F.Files.means c.was_at.new.files).tree in
     let view = view_of T in
     let old = c.args.self.now in
     let new = c.decide.new.self in
@@ -30,7 +30,7 @@ returns-clause-decided g c h asked empty =
     let told : new.effect ≡ decision old.update.change (found s view name) (is_damaged s (view (s.place name))) =
     c.decide.ensures.effect ∙ (ap (λ w. decision old.update.change w was.damaged) is ∙ ap (decision old.update.change (found s view name)) bad) in
     let what : effect_value old.update.change new.effect ≡ _ = decided_is s view old.update allowed (λ t. refl) new.effect told in
-    let same : T1 ≡ T = (c.was_at.ensures.leaves h).tree in
+    let same : T' ≡ T = (c.was_at.ensures.leaves h).tree in
     let at : lock_of new.lock ≡ lock_of old.lock = ap (λ p. lock_of p.1) c.decide.ensures.given in
     let text : effect_value new.update.change new.effect ≡ _ = ap (λ p. effect_value p.0.change new.effect) c.decide.ensures.given ∙ what in
     on_ok c.write.result
@@ -38,7 +38,7 @@ returns-clause-decided g c h asked empty =
       was = ap value_of c.decide.ensures.found ∙ is;
       what = what;
       expects = subst (λ w. Expects (expected_of old.update.change) (new_of old.update.change) w) is c.in_ok-check_expected.ensures;
-      filled = filled_with T T1 (g.F.Files.means c.write.new.files).tree (lock_of old.lock) (lock_of new.lock) _ _ same at text empty (λ here. fills);
+      filled = filled_with T T' (g.F.Files.means c.write.new.files).tree (lock_of old.lock) (lock_of new.lock) _ _ same at text empty (λ here. fills);
     })
     (c.write.ensures.filled h (ap (λ (R : Tree). R (lock_of new.lock)) same ∙ (ap T at ∙ empty)))
 
