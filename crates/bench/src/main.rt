@@ -3,13 +3,14 @@
 //! `-make` is to write the files that the others read; `tiny` does a little of each.
 //!
 //! The modes `find-hit`, `find-miss` and `open-find` look up names in a repository, `list` and `list-prefix` list its references,
-//! and `log10` and `logall` read a reflog; they print `MODE TURNS NANOSECONDS HITS`.
+//! `log10` and `logall` read a reflog, and `update` and `update-synced` make updates; they print `MODE TURNS NANOSECONDS HITS`.
 #![tactic(auto)]
 
 mod listings;
 mod logs;
 mod lookups;
 mod packed;
+mod updates;
 
 use anyhow::{Context, Result, bail};
 use gix_ref_files::disk::Disk;
@@ -25,6 +26,14 @@ fn tiny(rt: &HostRuntime, folder: &str, turns: u64) -> Result<u64> {
     Ok(packed.saturating_add(logs.unwrap_or(0)))
 }
 
+/// The disk of a mode: that of `update` syncs nothing.
+fn disk_of(rt: &HostRuntime, mode: &str) -> Result<Disk> {
+    if mode == "update" {
+        return Ok(Disk::without_syncs(rt.clone()?));
+    }
+    Ok(Disk::new(rt.clone()?))
+}
+
 /// The work of a mode over a repository; `None` for another mode, or where the repository cannot be read.
 fn repository_hits(rt: &HostRuntime, mode: &str, folder: &str, turns: u64) -> Result<Option<u64>> {
     let alloc = rt.alloc();
@@ -32,7 +41,11 @@ fn repository_hits(rt: &HostRuntime, mode: &str, folder: &str, turns: u64) -> Re
     if found.is_some() {
         return Ok(found);
     }
-    Ok(listings::run(alloc, Disk::new(rt.clone()?), mode, folder, turns))
+    let listed = listings::run(alloc, Disk::new(rt.clone()?), mode, folder, turns);
+    if listed.is_some() {
+        return Ok(listed);
+    }
+    Ok(updates::run(alloc, disk_of(rt, mode)?, mode, folder, turns))
 }
 
 /// The work of a mode.

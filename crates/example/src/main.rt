@@ -31,7 +31,7 @@ fn main(rt: HostRuntime) -> Result<()> {
     let name = FullNameRef::try_from("refs/heads/main").context("a name")?;
     let id = ObjectId::from_hex(b"1111111111111111111111111111111111111111").context("an id")?;
 
-    // Log lines are not written yet, so the store must write none.
+    // This store writes no reflog; for one that does `commit` takes a committer.
     let options = Options {
         write_reflog: WriteReflog::Disable,
         ..Options::default()

@@ -6,6 +6,7 @@ use Rattle.gix_ref_name.specs.Names.{full_bytes}
 use Rattle.gix_ref_name.specs.declared.name.FullName.{FullName}
 use Rattle.gix_ref_base.specs.PackedRecords.{Record}
 use Rattle.gix_ref_base.specs.Targets.{TargetValue}
+use Rattle.gix_ref_base.specs.declared.target.Target.{Target}
 use Rattle.gix_ref_files.specs.Tree.{Path}
 use Rattle.gix_ref_theory.specs.Edits as plan
 use Rattle.gix_ref_theory.specs.Readings.{Store}
@@ -22,7 +23,8 @@ use Rattle.gix_ref_transaction.specs.declared.edit.Edit.{Edit}
 use Rattle.gix_ref_transaction.specs.declared.edit.Effect.{Effect}
 use Rattle.gix_ref_transaction.specs.CommitRenames.{written_flags}
 use Rattle.gix_ref_transaction.specs.Effects.{is_write}
-use Rattle.gix_ref_commit.specs.LogEffects.{AreLogsOf, IsLogOf, all_but_logs, but_log}
+use Rattle.gix_ref_lines.specs.AskedEdits.{all_but_logs, but_log}
+use Rattle.gix_ref_commit.specs.LogEffects.{AreLogsOf, IsLogOf, edit_with, lines_in, with_lines}
 
 -- one edit
 planned_one : (e f : RefEdit) (found : Option TargetValue) → IsCarried e found f → edit_of f ≡ edit_of e
@@ -62,6 +64,18 @@ planned_same (e ∷ before) [] same = absurd same
 planned_same (e ∷ before) (f ∷ after) ((found, is), rest) =
     ap (λ (x : plan.Edit). x ∷ planned after) (planned_one e f found is) ∙ ap (λ (l : List plan.Edit). edit_of e ∷ l) (planned_same before after rest)
 
+-- and with the same lines
+pub lined_same : (before after : List RefEdit) (lines : List (Option (List ℕ))) → AreSame before after → with_lines after lines ≡ with_lines before lines
+lined_same [] [] lines same = refl
+lined_same [] (f ∷ after) lines same = absurd same
+lined_same (e ∷ before) [] lines same = absurd same
+lined_same (e ∷ before) (f ∷ after) [] ((found, is), rest) =
+    ap (λ (x : plan.Edit). record { name = x.name; change = x.change; and_reference = x.and_reference; line = None; peeled = x.peeled } ∷ with_lines after []) (planned_one e f found is)
+    ∙ ap (λ (l : List plan.Edit). edit_with e None ∷ l) (lined_same before after [] rest)
+lined_same (e ∷ before) (f ∷ after) (line ∷ lines) ((found, is), rest) =
+    ap (λ (x : plan.Edit). record { name = x.name; change = x.change; and_reference = x.and_reference; line = line; peeled = x.peeled } ∷ with_lines after lines) (planned_one e f found is)
+    ∙ ap (λ (l : List plan.Edit). edit_with e line ∷ l) (lined_same before after lines rest)
+
 pub ids_same : (s : Store) (rs : List Record) (before after : List RefEdit) → AreSame before after → ids_among s rs after ≡ ids_among s rs before
 ids_same s rs [] [] same = refl
 ids_same s rs [] (f ∷ after) same = absurd same
@@ -81,29 +95,29 @@ logs_same s (e ∷ before) (f ∷ after) (p ∷ ran) ((found, is), rest) logs = 
 
 -- Of edits that are alike but for their logs.
 abbrev Rest : Type 0
-Rest = RefEdit × Path × Option ObjectId × Effect
+Rest = RefEdit × Option ℕ × Path × Option ObjectId × Option Target × Effect
 
 updates_of : (edits : List Edit) → updates edits ≡ map (λ (r : Rest). r.0) (all_but_logs edits)
 updates_of [] = refl
 updates_of (e ∷ edits) = ap (λ (l : List RefEdit). e.update ∷ l) (updates_of edits)
 
-places_by : (edits : List Edit) → place_paths edits ≡ map (λ (r : Rest). r.1) (all_but_logs edits)
+places_by : (edits : List Edit) → place_paths edits ≡ map (λ (r : Rest). r.2) (all_but_logs edits)
 places_by [] = refl
 places_by (e ∷ edits) = ap (λ (l : List Path). e.lock ∷ l) (places_by edits)
 
-locks_by : (edits : List Edit) → lock_paths edits ≡ map (λ (r : Rest). lock_of r.1) (all_but_logs edits)
+locks_by : (edits : List Edit) → lock_paths edits ≡ map (λ (r : Rest). lock_of r.2) (all_but_logs edits)
 locks_by [] = refl
 locks_by (e ∷ edits) = ap (λ (l : List Path). lock_of e.lock ∷ l) (locks_by edits)
 
-ids_by : (edits : List Edit) → ids_in edits ≡ map (λ (r : Rest). r.2) (all_but_logs edits)
+ids_by : (edits : List Edit) → ids_in edits ≡ map (λ (r : Rest). r.3) (all_but_logs edits)
 ids_by [] = refl
 ids_by (e ∷ edits) = ap (λ (l : List (Option ObjectId)). e.packed ∷ l) (ids_by edits)
 
-effects_by : (edits : List Edit) → effects_of edits ≡ map (λ (r : Rest). effect_value r.0.change r.3) (all_but_logs edits)
+effects_by : (edits : List Edit) → effects_of edits ≡ map (λ (r : Rest). effect_value r.0.change r.5) (all_but_logs edits)
 effects_by [] = refl
 effects_by (e ∷ edits) = ap (λ l. effect_value e.update.change e.effect ∷ l) (effects_by edits)
 
-flags_by : (edits : List Edit) → written_flags edits ≡ map (λ (r : Rest). is_write r.3) (all_but_logs edits)
+flags_by : (edits : List Edit) → written_flags edits ≡ map (λ (r : Rest). is_write r.5) (all_but_logs edits)
 flags_by [] = refl
 flags_by (e ∷ edits) = ap (λ l. is_write e.effect ∷ l) (flags_by edits)
 
@@ -112,16 +126,16 @@ module _ (ran held : List Edit) (alike : all_but_logs ran ≡ all_but_logs held)
   updates_alike = updates_of ran ∙ (ap (map (λ (r : Rest). r.0)) alike ∙ sym (updates_of held))
 
   pub places_alike : place_paths ran ≡ place_paths held
-  places_alike = places_by ran ∙ (ap (map (λ (r : Rest). r.1)) alike ∙ sym (places_by held))
+  places_alike = places_by ran ∙ (ap (map (λ (r : Rest). r.2)) alike ∙ sym (places_by held))
 
   pub locks_alike : lock_paths ran ≡ lock_paths held
-  locks_alike = locks_by ran ∙ (ap (map (λ (r : Rest). lock_of r.1)) alike ∙ sym (locks_by held))
+  locks_alike = locks_by ran ∙ (ap (map (λ (r : Rest). lock_of r.2)) alike ∙ sym (locks_by held))
 
   pub ids_alike : ids_in ran ≡ ids_in held
-  ids_alike = ids_by ran ∙ (ap (map (λ (r : Rest). r.2)) alike ∙ sym (ids_by held))
+  ids_alike = ids_by ran ∙ (ap (map (λ (r : Rest). r.3)) alike ∙ sym (ids_by held))
 
   pub effects_alike : effects_of ran ≡ effects_of held
-  effects_alike = effects_by ran ∙ (ap (map (λ (r : Rest). effect_value r.0.change r.3)) alike ∙ sym (effects_by held))
+  effects_alike = effects_by ran ∙ (ap (map (λ (r : Rest). effect_value r.0.change r.5)) alike ∙ sym (effects_by held))
 
   pub flags_alike : written_flags ran ≡ written_flags held
-  flags_alike = flags_by ran ∙ (ap (map (λ (r : Rest). is_write r.3)) alike ∙ sym (flags_by held))
+  flags_alike = flags_by ran ∙ (ap (map (λ (r : Rest). is_write r.5)) alike ∙ sym (flags_by held))

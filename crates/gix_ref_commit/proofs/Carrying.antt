@@ -16,7 +16,7 @@ use Rattle.gix_ref_transaction.specs.declared.edit.Effect.{Effect}
 use Rattle.gix_ref_transaction.specs.declared.edit.Effect.TheVariants as effects
 use Rattle.gix_ref_transaction.specs.declared.edit.LogEffect.{LogEffect}
 use Rattle.gix_ref_transaction.specs.declared.edit.LogEffect.TheVariants as logs
-use Rattle.gix_ref_commit.specs.Entries.{Entry, each, line_for, rename_for, log_removal_for, removal_for, line_entry, rename_entry, log_removal_entry, removal_entry, packed_entries, update_entries, planned_entries, steps_in, syncs_at}
+use Rattle.gix_ref_commit.specs.Entries.{Entry, each, folders_for, folders_entry, line_for, rename_for, log_removal_for, removal_for, line_entry, rename_entry, log_removal_entry, removal_entry, packed_entries, update_entries, planned_entries, steps_in, syncs_at}
 use Rattle.gix_ref_commit.proofs.OwnPlan.{line_written, log_removed, logs_removed, file_put, file_removed, files_removed, packed_written, own_updates, own_plan}
 use Rattle.gix_ref_commit.proofs.Carries.{Carries}
 
@@ -130,6 +130,12 @@ module _ (locked staying : List Path) (dirs : Dirs) where
     line_carried at (logs.Append log line) texts rest ws plain next later =
         (ws, no_own log.items plain.0, refl, (refl, plain.1), later log.items plain.0)
 
+    -- The folders that lead to its log, which are no write.
+    folders_carried : (at : ℕ) (l : LogEffect) (texts : View) (rest : List Synced) (ws : List Write) → Carried texts rest ws → Carried texts (steps_in (folders_for at l) ++ rest) ws
+    folders_carried at logs.Keep texts rest ws next = next
+    folders_carried at (logs.Remove log) texts rest ws next = next
+    folders_carried at (logs.Append log line) texts rest ws next = next
+
     -- A rename, or none.
     rename_carried : (at : ℕ) (e : Edit) (f : Effect) (texts : View) (rest : List Synced) (ws : List Write) → IsPlaced e → HasText texts e.lock f → Carried texts rest ws →
         Carried (changed_at e.lock None (changed_at (lock_of e.lock) None texts)) rest ws → Carried texts (steps_in (rename_for dirs at e.lock f) ++ rest) (file_put first e.lock f ++ ws)
@@ -146,9 +152,10 @@ module _ (locked staying : List Path) (dirs : Dirs) where
     updates_carried at (e ∷ edits) packed rewrite texts rest ws (one, placed) (alone, apart) elsewhere come then =
         subst (λ (l : List Write). Carried texts (steps_in (each (update_entries dirs) at (e ∷ edits)) ++ rest) l) (sym writes_are)
         (subst (λ (l : List Synced). Carried texts l (line_written e.log ++ (file_put first e.lock e.effect ++ (own_updates first edits ++ ws)))) (sym steps_are)
+        (folders_carried at e.log texts (steps_in (line_entry dirs at e) ++ (steps_in (rename_entry dirs at e) ++ others)) (line_written e.log ++ (file_put first e.lock e.effect ++ (own_updates first edits ++ ws)))
         (line_carried at e.log texts (steps_in (rename_entry dirs at e) ++ others) (file_put first e.lock e.effect ++ (own_updates first edits ++ ws)) one.log
         (renamed (λ left later. updates_carried (at + 1) edits packed rewrite left rest ws placed apart (λ path is. (elsewhere path is).1) later then) texts come)
-        (λ p plain. renamed (λ left later. updates_carried (at + 1) edits packed rewrite left rest ws placed apart (λ path is. (elsewhere path is).1) later then) (changed_at p None texts) (plain_stays texts p (e ∷ edits) packed rewrite plain come))))
+        (λ p plain. renamed (λ left later. updates_carried (at + 1) edits packed rewrite left rest ws placed apart (λ path is. (elsewhere path is).1) later then) (changed_at p None texts) (plain_stays texts p (e ∷ edits) packed rewrite plain come)))))
       where
         others : List Synced
         others = steps_in (each (update_entries dirs) (at + 1) edits) ++ rest
@@ -156,10 +163,12 @@ module _ (locked staying : List Path) (dirs : Dirs) where
         writes_are : (line_written e.log ++ (file_put first e.lock e.effect ++ own_updates first edits)) ++ ws ≡ line_written e.log ++ (file_put first e.lock e.effect ++ (own_updates first edits ++ ws))
         writes_are = append_assoc (line_written e.log) (file_put first e.lock e.effect ++ own_updates first edits) ws ∙ ap (λ (l : List Write). line_written e.log ++ l) (append_assoc (file_put first e.lock e.effect) (own_updates first edits) ws)
 
-        steps_are : steps_in ((line_entry dirs at e ++ rename_entry dirs at e) ++ each (update_entries dirs) (at + 1) edits) ++ rest ≡ steps_in (line_entry dirs at e) ++ (steps_in (rename_entry dirs at e) ++ others)
+        steps_are : steps_in ((folders_entry at e ++ (line_entry dirs at e ++ rename_entry dirs at e)) ++ each (update_entries dirs) (at + 1) edits) ++ rest
+            ≡ steps_in (folders_entry at e) ++ (steps_in (line_entry dirs at e) ++ (steps_in (rename_entry dirs at e) ++ others))
         steps_are =
-            steps_apart (line_entry dirs at e ++ rename_entry dirs at e) (each (update_entries dirs) (at + 1) edits) rest
-            ∙ steps_apart (line_entry dirs at e) (rename_entry dirs at e) others
+            steps_apart (folders_entry at e ++ (line_entry dirs at e ++ rename_entry dirs at e)) (each (update_entries dirs) (at + 1) edits) rest
+            ∙ (steps_apart (folders_entry at e) (line_entry dirs at e ++ rename_entry dirs at e) others
+            ∙ ap (λ (l : List Synced). steps_in (folders_entry at e) ++ l) (steps_apart (line_entry dirs at e) (rename_entry dirs at e) others))
 
         renamed : ((left : View) → ToCome left edits packed rewrite → Carried left others (own_updates first edits ++ ws)) → (now : View) → ToCome now (e ∷ edits) packed rewrite →
             Carried now (steps_in (rename_entry dirs at e) ++ others) (file_put first e.lock e.effect ++ (own_updates first edits ++ ws))

@@ -16,6 +16,7 @@ use Rattle.gix_ref_files.specs.declared.steps.Cause.{Cause}
 use Rattle.gix_ref_files.proofs.Moments.{passes_joins, passes_weaken}
 use Rattle.gix_ref_files.proofs.Between.{ended_is_begun}
 use Rattle.gix_ref_theory.specs.Between.{IsEdit}
+use Rattle.gix_ref_theory.specs.Edits.{Edit}
 use Rattle.gix_ref_theory.specs.Edits.Mode.{DeletionsOnly}
 use Rattle.gix_ref_theory.specs.Losses.{IsLostWell}
 use Rattle.gix_ref_theory.specs.OnDisks.{AreWhole, IsWithin, IsSpokenOf}
@@ -38,7 +39,7 @@ use Rattle.gix_ref_rewrite.specs.declared.outcome.Rewrite.{Rewrite}
 use Rattle.gix_ref_edits.specs.declared.transaction.RefEdit.{RefEdit}
 use Rattle.gix_ref_transaction.specs.Causes.{locks_of}
 use Rattle.gix_ref_transaction.specs.CommitRenames.{is_written_at, lock_at, stays_at}
-use Rattle.gix_ref_transaction.specs.CommittedEdits.{planned, AreCommitted}
+use Rattle.gix_ref_transaction.specs.CommittedEdits.{planned}
 use Rattle.gix_ref_transaction.specs.OwnLocks.{is_in, OnlyRemoves, RemovesLocks}
 use Rattle.gix_ref_transaction.specs.PrepareSteps.{own_locks, own_places, packed_locks}
 use Rattle.gix_ref_transaction.specs.declared.edit.Edit.{Edit as Own}
@@ -47,6 +48,8 @@ use Rattle.gix_ref_transaction.proofs.CommitLosses.{are_whole, rest_kept, texts_
 use Rattle.gix_ref_transaction.proofs.LockRounds.{own_all, owned_all}
 use Rattle.gix_ref_transaction.proofs.PackedLocks.{taken_was_free}
 use Rattle.gix_ref_commit.specs.Entries.{Entry, planned_entries, bare, bare_steps, steps_in, done_before, packed_before, renames_packed}
+use Rattle.gix_ref_commit.specs.CommittedTrees.{AreCommitted}
+use Rattle.gix_ref_commit.specs.LogEffects.{lines_in, with_lines}
 use Rattle.gix_ref_repack.specs.Repacks.{IsRepack}
 use Rattle.gix_ref_commit.proofs.Carries as carries
 use Rattle.gix_ref_commit.proofs.Gone.{NoFile, AllMiss, gone_after, none_begun, none_is_no_file, still_none, miss_front, plan_misses}
@@ -71,6 +74,10 @@ module _ (dirs : Dirs) (namespace : Option Namespace) (kind : Kind) (prohibits :
 
   abbrev mine : List Path
   mine = own_locks s before given
+
+  -- its edits, with the lines that logs gain
+  abbrev edits : List Edit
+  edits = with_lines given (lines_in ran)
 
   abbrev all_entries : List Entry
   all_entries = planned_entries dirs ran packed rewrite
@@ -116,27 +123,27 @@ module _ (dirs : Dirs) (namespace : Option Namespace) (kind : Kind) (prohibits :
   -- Where `packed-refs` was well formed.
   module _ (ready : IsReady s kind before D.tree given ran) (rs : List Record) (are : ArePackedRecords kind (view_of before s.packed_path) rs) (repack : packed ≢ None → IsRepack s kind rs (planned given) rewrite)
       (text_held : (path : Path) (bytes : List ℕ) → packed ≡ Some path → IsText rewrite bytes → view_of D.tree (lock_of path) ≡ Some bytes) where
-    abbrev it_runs : IsCommitRun s DeletionsOnly locked (planned given) before D.tree (bare_steps all_entries)
+    abbrev it_runs : IsCommitRun s DeletionsOnly locked edits before D.tree (bare_steps all_entries)
     it_runs = run.run dirs namespace kind prohibits before D given ran packed rewrite laid ready rs are repack text_held
 
     abbrev merged : List Record
     merged = run.merged dirs namespace kind prohibits before D given ran packed rewrite laid ready rs are repack text_held
 
     abbrev all_writes : List Write
-    all_writes = plan s DeletionsOnly (view_of D.tree) (planned given) merged
+    all_writes = plan s DeletionsOnly (view_of D.tree) edits merged
 
     -- at every stop of the run
-    pub stopped : (T : Tree) → IsLeftBy (bare_steps all_entries) D.tree T → IsOldOrNewTree s DeletionsOnly locked (planned given) before T
-    stopped T left = trees.left_well s (placing.laws dirs namespace kind prohibits) DeletionsOnly locked (planned given) before D.tree T (bare_steps all_entries) it_runs left
+    pub stopped : (T : Tree) → IsLeftBy (bare_steps all_entries) D.tree T → IsOldOrNewTree s DeletionsOnly locked edits before T
+    stopped T left = trees.left_well s (placing.laws dirs namespace kind prohibits) DeletionsOnly locked edits before D.tree T (bare_steps all_entries) it_runs left
 
     -- and of the removal of locks behind it
-    pub left_then : (T U : Tree) → IsOldOrNewTree s DeletionsOnly locked (planned given) before T → RemovesLocks mine T U → IsOldOrNewTree s DeletionsOnly locked (planned given) before U
+    pub left_then : (T U : Tree) → IsOldOrNewTree s DeletionsOnly locked edits before T → RemovesLocks mine T U → IsOldOrNewTree s DeletionsOnly locked edits before U
     left_then T U well removes =
         let laws' = placing.laws dirs namespace kind prohibits in
         let apart = run.edits_are dirs namespace kind prohibits before D given ran packed rewrite laid ready in record {
-          between = locks.between s laws' DeletionsOnly locked (view_of before) (planned given) apart (view_of T) (view_of U) (but_locks T U removes) well.between;
-          no_deletion_first = λ keeps. locks.no_deletion_first s laws' DeletionsOnly locked (view_of before) (planned given) apart (view_of T) (view_of U) (but_locks T U removes) (well.no_deletion_first keeps);
-          in_order = λ keeps. locks.in_order s laws' DeletionsOnly locked (view_of before) (planned given) apart (view_of T) (view_of U) (but_locks T U removes) (well.in_order keeps)
+          between = locks.between s laws' DeletionsOnly locked (view_of before) edits apart (view_of T) (view_of U) (but_locks T U removes) well.between;
+          no_deletion_first = λ keeps. locks.no_deletion_first s laws' DeletionsOnly locked (view_of before) edits apart (view_of T) (view_of U) (but_locks T U removes) (well.no_deletion_first keeps);
+          in_order = λ keeps. locks.in_order s laws' DeletionsOnly locked (view_of before) edits apart (view_of T) (view_of U) (but_locks T U removes) (well.in_order keeps)
               (λ seen u later all. subst (IsEdit u) all (edit_behind seen u later))
               (λ x u seen later all he. subst (IsEdit x) all (edit_in_front x seen (u ∷ later) he));
         }
@@ -155,9 +162,9 @@ module _ (dirs : Dirs) (namespace : Option Namespace) (kind : Kind) (prohibits :
 
     -- the whole run commits
     pub commits : (mid now : Tree) (left : List Path) → IsAfter (bare_steps all_entries) D.tree mid → RemovesLocks mine mid now →
-        ((q : Path) → is_in mine q ≡ true → is_in left q ≡ false → is_file (now q) ≡ false) → AreCommitted s given before left now
+        ((q : Path) → is_in mine q ≡ true → is_in left q ≡ false → is_file (now q) ≡ false) → AreCommitted s given (lines_in ran) before left now
     commits mid now left after removes gone staying' cover =
-        headline.committed s (placing.laws dirs namespace kind prohibits) DeletionsOnly locked staying' (planned given) merged (view_of before) (view_of D.tree) (view_of now) (run.prepared dirs namespace kind prohibits before D given ran packed rewrite laid ready rs are repack text_held) (run.alike dirs namespace kind prohibits before D given ran packed rewrite laid ready)
+        headline.committed s (placing.laws dirs namespace kind prohibits) DeletionsOnly locked staying' edits merged (view_of before) (view_of D.tree) (view_of now) (run.prepared dirs namespace kind prohibits before D given ran packed rewrite laid ready rs are repack text_held) (run.alike dirs namespace kind prohibits before D given ran packed rewrite laid ready)
         (λ path other. but_locks mid now removes path other
         ∙ after_alike locked (bare_steps all_entries) all_writes D.tree mid (view_of D.tree) (view_of D.tree) (record { at = λ q. refl }) (λ q m. refl) (run.on_tree dirs namespace kind prohibits before D given ran packed rewrite laid ready rs are repack text_held) after path other)
         (λ path own out.
@@ -165,9 +172,9 @@ module _ (dirs : Dirs) (namespace : Option Namespace) (kind : Kind) (prohibits :
         no_file (now path) (gone path within (is_false (is_in left path) (λ h. out (cover path h)))) ∙ sym (ap file_of (all_free path within)))
 
     -- Losses of power on the way.
-    pub lost_well : IsAllSettled D → (E : Disk) (T : Tree) → IsWithin (IsSpokenOf locked D) all_writes (view_of D.tree) E → Lost E T → IsLostWell s DeletionsOnly locked (planned given) D before T
+    pub lost_well : IsAllSettled D → (E : Disk) (T : Tree) → IsWithin (IsSpokenOf locked D) all_writes (view_of D.tree) E → Lost E T → IsLostWell s DeletionsOnly locked edits D before T
     lost_well settled E T within lost =
-        every_loss_among s (placing.laws dirs namespace kind prohibits) DeletionsOnly locked (planned given) merged before T D E settled (run.prepared dirs namespace kind prohibits before D given ran packed rewrite laid ready rs are repack text_held) (run.alike dirs namespace kind prohibits before D given ran packed rewrite laid ready) within lost
+        every_loss_among s (placing.laws dirs namespace kind prohibits) DeletionsOnly locked edits merged before T D E settled (run.prepared dirs namespace kind prohibits before D given ran packed rewrite laid ready rs are repack text_held) (run.alike dirs namespace kind prohibits before D given ran packed rewrite laid ready) within lost
 
     pub within_run : (first mid now : Meaning) → disk_of first ≡ D → AllStay D staying → Passes first mid (IsReachedBy (steps_in all_entries) (disk_of first)) → OnlyRemoves mine mid now →
         Passes first now (IsWithin (IsSpokenOf locked D) all_writes (view_of D.tree))

@@ -18,7 +18,7 @@ use Rattle.gix_ref_transaction.specs.declared.edit.Effect.{Effect}
 use Rattle.gix_ref_transaction.specs.declared.edit.Effect.TheVariants as effects
 use Rattle.gix_ref_transaction.specs.declared.edit.LogEffect.{LogEffect}
 use Rattle.gix_ref_transaction.specs.declared.edit.LogEffect.TheVariants as logs
-use Rattle.gix_ref_commit.specs.Entries.{Entry, each, line_for, rename_for, log_removal_for, removal_for, line_entry, rename_entry, log_removal_entry, removal_entry, packed_entries, update_entries, planned_entries, bare, bare_steps}
+use Rattle.gix_ref_commit.specs.Entries.{Entry, each, folders_for, folders_entry, line_for, rename_for, log_removal_for, removal_for, line_entry, rename_entry, log_removal_entry, removal_entry, packed_entries, update_entries, planned_entries, bare, bare_steps}
 use Rattle.gix_ref_commit.proofs.Carrying.{IsPlaced, ArePlaced, IsLogPlain, IsPackedPlaced}
 use Rattle.gix_ref_commit.proofs.Renamed.{IsRenameOf, HasRename}
 
@@ -104,6 +104,11 @@ module _ (locked staying : List Path) (dirs : Dirs) (q : Path) where
   abbrev lock : Path
   lock = lock_of q
 
+  folders_miss : (at : ℕ) (l : LogEffect) → AllMiss lock (folders_for at l)
+  folders_miss at logs.Keep = tt
+  folders_miss at (logs.Append log line) = (tt, tt)
+  folders_miss at (logs.Remove log) = tt
+
   line_misses : (at : ℕ) (l : LogEffect) → IsLogPlain staying dirs l → AllMiss lock (line_for dirs at l)
   line_misses at logs.Keep plain = tt
   line_misses at (logs.Append log line) plain = (plain.0 q, tt)
@@ -128,7 +133,8 @@ module _ (locked staying : List Path) (dirs : Dirs) (q : Path) where
   updates_miss at [] placed = tt
   updates_miss at (e ∷ edits) (one, placed) =
       miss_both lock (update_entries dirs at e) (each (update_entries dirs) (at + 1) edits)
-      (miss_both lock (line_entry dirs at e) (rename_entry dirs at e) (line_misses at e.log one.log) (rename_misses at e.lock e.effect one.place.0))
+      (miss_both lock (folders_entry at e) (line_entry dirs at e ++ rename_entry dirs at e) (folders_miss at e.log)
+      (miss_both lock (line_entry dirs at e) (rename_entry dirs at e) (line_misses at e.log one.log) (rename_misses at e.lock e.effect one.place.0)))
       (updates_miss (at + 1) edits placed)
 
   log_removals_miss : (at : ℕ) (edits : List Edit) → AllMiss lock (each (log_removal_entry dirs) at edits)

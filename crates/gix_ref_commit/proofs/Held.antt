@@ -19,7 +19,7 @@ use Rattle.gix_ref_edits.specs.RefEdits.{name_of}
 use Rattle.gix_ref_edits.specs.declared.transaction.RefEdit.{RefEdit}
 use Rattle.gix_ref_transaction.specs.declared.edit.Edit.{Edit as Own}
 use Rattle.gix_ref_transaction.proofs.Adds.{clash, any_left, any_right, in_here}
-use Rattle.gix_ref_commit.specs.LogEffects.{IsLogOf, AreLogsOf}
+use Rattle.gix_ref_commit.specs.LogEffects.{IsLogOf, AreLogsOf, edit_with, line_in, lines_in, with_lines}
 
 -- A transaction as `prepare` gives it, from the tree `before` it to the tree T, and its logs.
 pub record IsReady (s : Store) (kind : Kind) (before T : Tree) (given : List RefEdit) (ran : List Own) : Type 0 where
@@ -71,8 +71,8 @@ module _ (s : Store) (kind : Kind) (before T : Tree) where
   held given ran ready = held_by [] [] given ran ready.accepted.sound ready.accepted.no_cause ready.texts ready.effects ready.places ready.logs
 
   -- each edit of its plan is one of these
-  pub held_at : (given : List RefEdit) (ran : List Own) → AreHeld given ran → (x : Edit) → IsEdit x (planned given) →
-      (e : RefEdit) × (p : Own) × IsHeld e p × (edit_of e ≡ x)
+  pub held_at : (given : List RefEdit) (ran : List Own) → AreHeld given ran → (x : Edit) → IsEdit x (with_lines given (lines_in ran)) →
+      (e : RefEdit) × (p : Own) × IsHeld e p × (edit_with e (line_in p.log) ≡ x)
   held_at [] ran hold x within = absurd within
   held_at (e ∷ given) [] hold x within = absurd hold
   held_at (e ∷ given) (p ∷ ran) hold x (inl here) = (e, p, hold.0, here)

@@ -6,7 +6,9 @@ pub mod Ends
 mod Filling
 pub mod Gone
 pub mod Held
+pub mod Lined
 pub mod Nothing
+pub mod Outcomes
 pub mod OwnPlan
 pub mod Placing
 pub mod PlanRuns

@@ -87,7 +87,7 @@ module _ (dirs : Dirs) (namespace : Option Namespace) (kind : Kind) (prohibits :
   log_plain n Change.Delete (log_effects.Append log line) is same = absurd same
   log_plain n (Change.Update target) log_effects.Keep is same = tt
   log_plain n (Change.Update target) (log_effects.Remove log) is same = absurd same
-  log_plain n (Change.Update target) (log_effects.Append log line) is same = absurd same
+  log_plain n (Change.Update target) (log_effects.Append log line) is same = subst (IsPlain staying dirs) (sym same) (plain_log n is)
 
   module _ (before : Tree) where
     placed : (locked : List Path) (some : List RefEdit) (ps : List Own) → All (λ (e : RefEdit). s.is_reference (name_of e) ≡ true) some → place_paths ps ≡ places_of s some → AreLogsOf s some ps →

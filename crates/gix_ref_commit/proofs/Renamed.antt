@@ -16,7 +16,7 @@ use Rattle.gix_ref_transaction.specs.declared.edit.LogEffect.{LogEffect}
 use Rattle.gix_ref_transaction.specs.declared.edit.LogEffect.TheVariants as logs
 use Rattle.gix_ref_transaction.proofs.Adds.{clash}
 use Rattle.gix_ref_commit.specs.declared.plan.About.{About}
-use Rattle.gix_ref_commit.specs.Entries.{Entry, each, line_for, rename_for, log_removal_for, removal_for, line_entry, rename_entry, log_removal_entry, removal_entry, packed_entry, packed_entries, update_entries, planned_entries, bare, done_before, packed_before, renames_packed}
+use Rattle.gix_ref_commit.specs.Entries.{Entry, each, folders_for, folders_entry, line_for, rename_for, log_removal_for, removal_for, line_entry, rename_entry, log_removal_entry, removal_entry, packed_entry, packed_entries, update_entries, planned_entries, bare, done_before, packed_before, renames_packed}
 
 -- the step renames this lock
 abbrev pub IsRenameOf : Path → Step → Type 0
@@ -75,6 +75,11 @@ module _ (dirs : Dirs) (n : ℕ) where
   abbrev IsAt : ℕ → About → Type 0
   IsAt at about = (done_before n about ≡ at) × (packed_before about ≡ false)
 
+  folders_at : (at : ℕ) (l : LogEffect) → AllAbout (IsAt at) (folders_for at l)
+  folders_at at logs.Keep = tt
+  folders_at at (logs.Append log line) = ((refl, refl), tt)
+  folders_at at (logs.Remove log) = tt
+
   line_at : (at : ℕ) (l : LogEffect) → AllAbout (IsAt at) (line_for dirs at l)
   line_at at logs.Keep = tt
   line_at at (logs.Append log line) = ((refl, refl), tt)
@@ -86,7 +91,9 @@ module _ (dirs : Dirs) (n : ℕ) where
   rename_at at place effects.Keep = tt
 
   update_at : (at : ℕ) (e : Edit) → AllAbout (IsAt at) (update_entries dirs at e)
-  update_at at e = about_both (IsAt at) (line_entry dirs at e) (rename_entry dirs at e) (line_at at e.log) (rename_at at e.lock e.effect)
+  update_at at e =
+      about_both (IsAt at) (folders_entry at e) (line_entry dirs at e ++ rename_entry dirs at e) (folders_at at e.log)
+      (about_both (IsAt at) (line_entry dirs at e) (rename_entry dirs at e) (line_at at e.log) (rename_at at e.lock e.effect))
 
   -- the rename of an edit that is written is among its entries
   renamed_here : (at : ℕ) (place : Path) (f : Effect) → is_write f ≡ true → HasRename (lock_of place) (rename_for dirs at place f)
@@ -94,13 +101,18 @@ module _ (dirs : Dirs) (n : ℕ) where
   renamed_here at place effects.Remove is = clash is refl
   renamed_here at place effects.Keep is = clash is refl
 
+  in_update : (at : ℕ) (e : Edit) → is_write e.effect ≡ true → HasRename (lock_of e.lock) (update_entries dirs at e)
+  in_update at e is =
+      has_right (lock_of e.lock) (folders_entry at e) (line_entry dirs at e ++ rename_entry dirs at e)
+      (has_right (lock_of e.lock) (line_entry dirs at e) (rename_entry dirs at e) (renamed_here at e.lock e.effect is))
+
   -- and so of each
   pub all_renamed : (at : ℕ) (edits : List Edit) (k : ℕ) → is_written_at edits k ≡ true → HasRename (lock_at edits k) (each (update_entries dirs) at edits)
   all_renamed at [] zero is = clash is refl
   all_renamed at [] (suc k) is = clash is refl
   all_renamed at (e ∷ edits) zero is =
       has_left (lock_of e.lock) (update_entries dirs at e) (each (update_entries dirs) (at + 1) edits)
-      (has_right (lock_of e.lock) (line_entry dirs at e) (rename_entry dirs at e) (renamed_here at e.lock e.effect is))
+      (in_update at e is)
   all_renamed at (e ∷ edits) (suc k) is =
       has_right (lock_at edits k) (update_entries dirs at e) (each (update_entries dirs) (at + 1) edits) (all_renamed (at + 1) edits k is)
 
@@ -120,7 +132,7 @@ module _ (dirs : Dirs) (n : ℕ) where
       by : (i : ℕ) → is_written_at (e ∷ edits) i ≡ true → (mid : List Entry) → ((j : ℕ) → i ≡ suc j → is_written_at edits j ≡ true → HasRename (lock_at edits j) mid) →
           HasRename (lock_at (e ∷ edits) i) (update_entries dirs at e ++ mid)
       by zero w mid later =
-          has_left (lock_of e.lock) (update_entries dirs at e) mid (has_right (lock_of e.lock) (line_entry dirs at e) (rename_entry dirs at e) (renamed_here at e.lock e.effect w))
+          has_left (lock_of e.lock) (update_entries dirs at e) mid (in_update at e w)
       by (suc j) w mid later = has_right (lock_at edits j) (update_entries dirs at e) mid (later j refl w)
 
   -- no step before the removals of loose files comes after `packed-refs`
@@ -128,8 +140,15 @@ module _ (dirs : Dirs) (n : ℕ) where
   no_packed_updates at [] = tt
   no_packed_updates at (e ∷ edits) =
       about_both (λ a. packed_before a ≡ false) (update_entries dirs at e) (each (update_entries dirs) (at + 1) edits)
-      (about_both (λ a. packed_before a ≡ false) (line_entry dirs at e) (rename_entry dirs at e) (line e.log) (rename e.effect)) (no_packed_updates (at + 1) edits)
+      (about_both (λ a. packed_before a ≡ false) (folders_entry at e) (line_entry dirs at e ++ rename_entry dirs at e) (folders e.log)
+      (about_both (λ a. packed_before a ≡ false) (line_entry dirs at e) (rename_entry dirs at e) (line e.log) (rename e.effect)))
+      (no_packed_updates (at + 1) edits)
     where
+      folders : (l : LogEffect) → AllAbout (λ a. packed_before a ≡ false) (folders_for at l)
+      folders logs.Keep = tt
+      folders (logs.Append log text) = (refl, tt)
+      folders (logs.Remove log) = tt
+
       line : (l : LogEffect) → AllAbout (λ a. packed_before a ≡ false) (line_for dirs at l)
       line logs.Keep = tt
       line (logs.Append log text) = (refl, tt)

@@ -53,10 +53,11 @@ use Rattle.gix_ref_transaction.proofs.LookupLemmas.{effect_alike}
 use Rattle.gix_ref_transaction.proofs.PackedLemmas.{records_are}
 use Rattle.gix_ref_files.specs.Steps.{Step}
 use Rattle.gix_ref_commit.specs.Entries.{Entry, planned_entries, bare_steps, steps_in, bare}
-use Rattle.gix_ref_commit.specs.LogEffects.{IsLogOf}
+use Rattle.gix_ref_commit.specs.LogEffects.{IsLogOf, edit_with, line_in, lines_in, with_lines}
 use Rattle.gix_ref_repack.specs.Repacks.{IsRepack, IsNewPacked}
 use Rattle.gix_ref_commit.proofs.Carries as carries
 use Rattle.gix_ref_commit.proofs.Held.{IsReady, IsHeld, AreHeld, held, held_at, edits_apart}
+use Rattle.gix_ref_commit.proofs.Lined.{alters_lined, apart_lined, repack_lined}
 use Rattle.gix_ref_commit.proofs.OwnPlan.{line_written, log_removed, file_put, file_removed, packed_written, own_plan, IsAsPlanned, AreAsPlanned, plan_is}
 use Rattle.gix_ref_commit.proofs.Placing as placing
 use Rattle.gix_ref_commit.proofs.Placing.{IsLaid}
@@ -136,14 +137,15 @@ module _ (dirs : Dirs) (namespace : Option Namespace) (kind : Kind) (prohibits :
   abbrev pub view : View
   view = view_of D.tree
 
+  -- its edits, with the lines that logs gain
   abbrev pub edits : List Edit
-  edits = planned given
+  edits = with_lines given (lines_in ran)
 
   abbrev hold : AreHeld s kind before D.tree given ran
   hold = held s kind before D.tree given ran ready
 
   pub edits_are : AreEdits s edits
-  edits_are = edits_apart s kind before D.tree [] given ready.accepted.no_cause laid.references
+  edits_are = apart_lined s given (lines_in ran) (edits_apart s kind before D.tree [] given ready.accepted.no_cause laid.references)
 
   no_lock_there : (q p : Path) → ((r : Path) → p ≢ lock_of r) → is_in mine p ≡ false
   no_lock_there q p plain = is_false (is_in mine p) (λ within. let l = own_is_lock locked p (own_all s before given p within) in plain l.0 l.1)
@@ -194,16 +196,16 @@ module _ (dirs : Dirs) (namespace : Option Namespace) (kind : Kind) (prohibits :
         by decisions.Remove = refl
         by decisions.Keep = refl
 
-    line_is : line_writes (s.log (name_of e)) (change_of e.change) None ≡ line_written p.log
+    line_is : line_writes (s.log (name_of e)) (change_of e.change) (line_in p.log) ≡ line_written p.log
     line_is = by (change_of e.change) p.log h.log
       where
-        by : (c : Change) (l : LogEffect) → IsLogOf (s.log (name_of e)) c l → line_writes (s.log (name_of e)) c None ≡ line_written l
+        by : (c : Change) (l : LogEffect) → IsLogOf (s.log (name_of e)) c l → line_writes (s.log (name_of e)) c (line_in l) ≡ line_written l
         by Delete (log_effects.Remove log) same = refl
         by Delete log_effects.Keep same = refl
         by Delete (log_effects.Append log line) same = absurd same
         by (Update target) log_effects.Keep same = refl
         by (Update target) (log_effects.Remove log) same = refl
-        by (Update target) (log_effects.Append log line) same = absurd same
+        by (Update target) (log_effects.Append log line) same = ap (λ (q : Path). Write.Append q line.items ∷ []) (sym same)
 
     log_is : log_removal (s.log (name_of e)) (change_of e.change) ≡ log_removed p.log
     log_is = by (change_of e.change) p.log h.log
@@ -216,10 +218,10 @@ module _ (dirs : Dirs) (namespace : Option Namespace) (kind : Kind) (prohibits :
         by (Update target) (log_effects.Remove log) same = absurd same
         by (Update target) (log_effects.Append log line) same = refl
 
-    as_planned : IsAsPlanned s DeletionsOnly view view (edit_of e) p
+    as_planned : IsAsPlanned s DeletionsOnly view view (edit_with e (line_in p.log)) p
     as_planned = record { line = line_is; put = put_is; log = log_is; removal = removal_is }
 
-  all_planned : (some : List RefEdit) (ps : List Own) → All (λ (e : RefEdit). s.is_reference (name_of e) ≡ true) some → AreHeld s kind before D.tree some ps → AreAsPlanned s DeletionsOnly view view (planned some) ps
+  all_planned : (some : List RefEdit) (ps : List Own) → All (λ (e : RefEdit). s.is_reference (name_of e) ≡ true) some → AreHeld s kind before D.tree some ps → AreAsPlanned s DeletionsOnly view view (with_lines some (lines_in ps)) ps
   all_planned [] [] are hold' = tt
   all_planned [] (p ∷ ps) are hold' = absurd hold'
   all_planned (e ∷ some) [] are hold' = absurd hold'
@@ -228,7 +230,7 @@ module _ (dirs : Dirs) (namespace : Option Namespace) (kind : Kind) (prohibits :
 
   -- What `prepare` has seen to.
   abbrev At : Edit → Type 0
-  At x = (e : RefEdit) × (p : Own) × IsHeld s kind before D.tree e p × (edit_of e ≡ x)
+  At x = (e : RefEdit) × (p : Own) × IsHeld s kind before D.tree e p × (edit_with e (line_in p.log) ≡ x)
 
   at : (x : Edit) → IsEdit x edits → At x
   at x within = held_at s kind before D.tree given ran hold x within
@@ -264,8 +266,11 @@ module _ (dirs : Dirs) (namespace : Option Namespace) (kind : Kind) (prohibits :
   reads_id x id within is = let m = at x within in id_reads m.0 m.1 m.2 (object_id id) (ap (λ (y : Edit). y.change) m.3 ∙ is) id refl
 
   -- The records of `packed-refs`, and its new text in its lock.
-  module _ (rs : List Record) (are : ArePackedRecords kind (view_of before s.packed_path) rs) (repack : packed ≢ None → IsRepack s kind rs edits rewrite)
+  module _ (rs : List Record) (are : ArePackedRecords kind (view_of before s.packed_path) rs) (repack_given : packed ≢ None → IsRepack s kind rs (planned given) rewrite)
       (text_held : (path : Path) (bytes : List ℕ) → packed ≡ Some path → IsText rewrite bytes → view (lock_of path) ≡ Some bytes) where
+    repack : packed ≢ None → IsRepack s kind rs edits rewrite
+    repack some = repack_lined s kind rs given (lines_in ran) rewrite (repack_given some)
+
     -- these are the records that are read
     records : records_in s (view s.packed_path) ≡ rs
     records = ap (records_in s) same_packed ∙ records_are (folders_of dirs namespace) kind prohibits (view_of before s.packed_path) rs are
@@ -302,7 +307,7 @@ module _ (dirs : Dirs) (namespace : Option Namespace) (kind : Kind) (prohibits :
         inner h = cc
 
         no_record : packed ≡ None → alters ≡ false
-        no_record none = is_false alters (λ some. no_lock none (alters_takes s before given (ap (λ (l : List Record). alters_packed s DeletionsOnly l edits) (ap (records_in s) (sym same_packed)) ∙ some)))
+        no_record none = is_false alters (λ some. no_lock none (alters_takes s before given (ap (λ (l : List Record). alters_packed s DeletionsOnly l (planned given)) (ap (records_in s) (sym same_packed)) ∙ (sym (alters_lined s (records_in s (view s.packed_path)) given (lines_in ran)) ∙ some))))
           where
             no_lock : packed ≡ None → packed_taken s before given ≡ s.packed_path ∷ [] → ⊥
             no_lock h taken = nil_cons (ap packed_places (sym h) ∙ (laid.packed_due ∙ taken))

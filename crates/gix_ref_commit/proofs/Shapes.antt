@@ -2,27 +2,35 @@
 use Rattle.std.proofs.Common.{◌≡◌, ◌⊎◌, inl, inr, ℕ, zero, suc, ◌+◌, ◌<◌, List, [], ◌∷◌, ◌++◌, Option, Some, None, length, refl, sym, ◌∙◌, ap, subst, arith, append_assoc}
 use Rattle.std.proofs.lemmas.List.{append-nil, length-append}
 use Rattle.gix_ref_files.specs.Tree.{Path}
+use Rattle.gix_ref_files.specs.Disk.{folder_of}
 use Rattle.gix_ref_files.specs.Lock.{lock_of}
 use Rattle.gix_ref_files.specs.Steps.{Step}
-use Rattle.gix_ref_files.specs.Steps.Step.{Line, Rename, RemoveFile}
+use Rattle.gix_ref_files.specs.Steps.Step.{Line, MakeFolders, Rename, RemoveFile}
 use Rattle.gix_ref_lookup.specs.declared.folders.Dirs.{Dirs}
 use Rattle.gix_ref_rewrite.specs.declared.outcome.Rewrite.{Rewrite}
 use Rattle.gix_ref_rewrite.specs.declared.outcome.Rewrite.TheVariants.{Unchanged, Removed, Text}
-use Rattle.gix_ref_transaction.specs.CommitRenames.{lock_at, place_at}
+use Rattle.gix_ref_transaction.specs.CommitRenames.{lock_at, log_at, path_in, place_at}
 use Rattle.gix_ref_transaction.specs.declared.edit.Edit.{Edit}
 use Rattle.gix_ref_transaction.specs.declared.edit.Effect.{Effect}
 use Rattle.gix_ref_transaction.specs.declared.edit.Effect.TheVariants as effects
 use Rattle.gix_ref_transaction.specs.declared.edit.LogEffect.{LogEffect}
 use Rattle.gix_ref_transaction.specs.declared.edit.LogEffect.TheVariants as logs
-use Rattle.gix_ref_transaction.proofs.Renames.{lock_there, place_there}
+use Rattle.gix_ref_transaction.proofs.Renames.{lock_there, log_there, place_there}
 use Rattle.gix_ref_commit.specs.declared.plan.About.{About}
 use Rattle.gix_ref_commit.specs.declared.plan.About.TheVariants as about
-use Rattle.gix_ref_commit.specs.Entries.{Entry, each, line_for, rename_for, log_removal_for, removal_for, line_entry, rename_entry, log_removal_entry, removal_entry, packed_entries, update_entries, planned_entries, bare, IsOfEdit}
+use Rattle.gix_ref_commit.specs.Entries.{Entry, each, folders_for, folders_entry, line_for, rename_for, log_removal_for, removal_for, line_entry, rename_entry, log_removal_entry, removal_entry, packed_entries, update_entries, planned_entries, bare, IsOfEdit}
+
+-- a line is added to the log
+abbrev pub HasLine : LogEffect → Type 0
+HasLine (logs.Append log line) = Unit {0}
+HasLine logs.Keep = ⊥
+HasLine (logs.Remove log) = ⊥
 
 module _ (edits : List Edit) (packed : Option Path) where
   -- the step of an entry about this
   abbrev pub HasShape : About → Step → Type 0
-  HasShape (about.Line at) step = (at < length edits) × ((log : Path) × (line : List ℕ) × (step ≡ Line log line))
+  HasShape (about.Folders at) step = (at < length edits) × HasLine (log_at edits at) × (step ≡ MakeFolders (folder_of (path_in (log_at edits at))))
+  HasShape (about.Line at) step = (at < length edits) × HasLine (log_at edits at) × ((line : List ℕ) × (step ≡ Line (path_in (log_at edits at)) line))
   HasShape (about.Rename at) step = (at < length edits) × (step ≡ Rename (lock_at edits at) (place_at edits at))
   HasShape (about.LogRemoval at) step = (at < length edits) × ((p : Path) × (step ≡ RemoveFile p))
   HasShape about.Packed step = (p : Path) × (packed ≡ Some p) × ((step ≡ Rename (lock_of p) p) ⊎ (step ≡ RemoveFile p))
@@ -42,6 +50,7 @@ module _ (edits : List Edit) (packed : Option Path) where
 
   -- so it names one of the edits
   pub names_edit : (a : About) (step : Step) → HasShape a step → IsOfEdit (length edits) a
+  names_edit (about.Folders at) step h = h.0
   names_edit (about.Line at) step h = h.0
   names_edit (about.Rename at) step h = h.0
   names_edit (about.LogRemoval at) step h = h.0
@@ -50,13 +59,14 @@ module _ (edits : List Edit) (packed : Option Path) where
 
   -- an edit at its place of the list
   abbrev IsHere : ℕ → Edit → Type 0
-  IsHere at e = (at < length edits) × (lock_at edits at ≡ lock_of e.lock) × (place_at edits at ≡ e.lock)
+  IsHere at e = (at < length edits) × (lock_at edits at ≡ lock_of e.lock) × (place_at edits at ≡ e.lock) × (log_at edits at ≡ e.log)
 
   here : (seen : List Edit) (e : Edit) (es : List Edit) (at : ℕ) → edits ≡ seen ++ e ∷ es → at ≡ length seen → IsHere at e
   here seen e es at is number = (
     omega (arith, number, ap length is, length-append seen (e ∷ es)),
     ap (λ (l : List Edit). lock_at l at) is ∙ (ap (lock_at (seen ++ e ∷ es)) number ∙ lock_there seen e es),
     ap (λ (l : List Edit). place_at l at) is ∙ (ap (place_at (seen ++ e ∷ es)) number ∙ place_there seen e es),
+    ap (λ (l : List Edit). log_at l at) is ∙ (ap (log_at (seen ++ e ∷ es)) number ∙ log_there seen e es),
   )
 
   each_shaped : (f : ℕ → Edit → List Entry) → ((at : ℕ) (e : Edit) → IsHere at e → AllShaped (f at e)) → (seen es : List Edit) (at : ℕ) → edits ≡ seen ++ es → at ≡ length seen → AllShaped (each f at es)
@@ -66,10 +76,15 @@ module _ (edits : List Edit) (packed : Option Path) where
       (each_shaped f shaped (seen ++ e ∷ []) es (at + 1) (is ∙ sym (append_assoc seen (e ∷ []) es)) (omega (arith, number, length-append seen (e ∷ []))))
 
   module _ (dirs : Dirs) where
-    line_shaped : (at : ℕ) (e : Edit) (l : LogEffect) → IsHere at e → AllShaped (line_for dirs at l)
-    line_shaped at e logs.Keep is = tt
-    line_shaped at e (logs.Append log text) is = ((is.0, (log.items, text.items, refl)), tt)
-    line_shaped at e (logs.Remove log) is = tt
+    folders_shaped : (at : ℕ) (l : LogEffect) → (at < length edits) → log_at edits at ≡ l → AllShaped (folders_for at l)
+    folders_shaped at logs.Keep lt is = tt
+    folders_shaped at (logs.Append log text) lt is = ((lt, subst HasLine (sym is) tt, ap (λ (e : LogEffect). MakeFolders (folder_of (path_in e))) (sym is)), tt)
+    folders_shaped at (logs.Remove log) lt is = tt
+
+    line_shaped : (at : ℕ) (l : LogEffect) → (at < length edits) → log_at edits at ≡ l → AllShaped (line_for dirs at l)
+    line_shaped at logs.Keep lt is = tt
+    line_shaped at (logs.Append log text) lt is = ((lt, subst HasLine (sym is) tt, (text.items, ap (λ (e : LogEffect). Line (path_in e) text.items) (sym is))), tt)
+    line_shaped at (logs.Remove log) lt is = tt
 
     rename_shaped : (at : ℕ) (e : Edit) (f : Effect) → IsHere at e → AllShaped (rename_for dirs at e.lock f)
     rename_shaped at e effects.Write is = ((is.0, ap (λ (l : Path). Rename l e.lock) (sym is.1) ∙ ap (Rename (lock_at edits at)) (sym is.2)), tt)
@@ -98,7 +113,8 @@ module _ (edits : List Edit) (packed : Option Path) where
     pub all_shaped : (rewrite : Rewrite) → AllShaped (planned_entries dirs edits packed rewrite)
     all_shaped rewrite =
         both (each (update_entries dirs) 0 edits) (each (log_removal_entry dirs) 0 edits ++ (packed_entries dirs packed rewrite ++ each (removal_entry dirs) 0 edits))
-        (each_shaped (update_entries dirs) (λ at e is. both (line_entry dirs at e) (rename_entry dirs at e) (line_shaped at e e.log is) (rename_shaped at e e.effect is)) [] edits 0 refl refl)
+        (each_shaped (update_entries dirs) (λ at e is. both (folders_entry at e) (line_entry dirs at e ++ rename_entry dirs at e) (folders_shaped at e.log is.0 is.3)
+        (both (line_entry dirs at e) (rename_entry dirs at e) (line_shaped at e.log is.0 is.3) (rename_shaped at e e.effect is))) [] edits 0 refl refl)
         (both (each (log_removal_entry dirs) 0 edits) (packed_entries dirs packed rewrite ++ each (removal_entry dirs) 0 edits)
         (each_shaped (log_removal_entry dirs) (λ at e is. log_removal_shaped at e e.log is) [] edits 0 refl refl)
         (both (packed_entries dirs packed rewrite) (each (removal_entry dirs) 0 edits) (packed_shaped rewrite)

@@ -1,11 +1,12 @@
 -- The plan of a commit: its steps with their syncs, each with what it is about.
 use Rattle.std.specs.Prelude.{ℕ, ◌+◌, List, [], ◌∷◌, ◌++◌, map, Option, Some, None, Bool, true, false, ◌<◌}
 use Rattle.gix_ref_files.specs.Tree.{Path}
+use Rattle.gix_ref_files.specs.Disk.{folder_of}
 use Rattle.gix_ref_files.specs.Lock.{lock_of}
 use Rattle.gix_ref_files.specs.Settled.{Sync, climb}
 use Rattle.gix_ref_files.specs.Settled.Sync.{OfFile}
 use Rattle.gix_ref_files.specs.Steps.{Step}
-use Rattle.gix_ref_files.specs.Steps.Step.{Line, Rename, RemoveFile}
+use Rattle.gix_ref_files.specs.Steps.Step.{Line, MakeFolders, Rename, RemoveFile}
 use Rattle.gix_ref_files.specs.DiskSteps.{Synced, synced_step}
 use Rattle.gix_ref_files.specs.DiskSteps.Synced.{With}
 use Rattle.gix_ref_files.specs.declared.steps.Planned.{Planned}
@@ -40,6 +41,15 @@ entry_of (Some planned) = entry planned ∷ []
 -- the folders of a path are synced, up to its root
 abbrev pub syncs_at : Dirs → Path → List Sync
 syncs_at dirs path = climb path (root_in dirs path)
+
+-- the folders that lead to a log, which are made before a line is added to it
+abbrev pub folders_for : ℕ → LogEffect → List Entry
+folders_for at (logs.Append log line) = (With (MakeFolders (folder_of log.items)) [], about.Folders at) ∷ []
+folders_for at logs.Keep = []
+folders_for at (logs.Remove log) = []
+
+abbrev pub folders_entry : ℕ → Edit → List Entry
+folders_entry at e = folders_for at e.log
 
 -- the line of a log
 abbrev pub line_for : Dirs → ℕ → LogEffect → List Entry
@@ -93,9 +103,9 @@ abbrev pub each : (ℕ → Edit → List Entry) → ℕ → List Edit → List E
 each f at [] = []
 each f at (e ∷ edits) = f at e ++ each f (at + 1) edits
 
--- the line of an edit, and then its rename: so no reference is changed without its line
+-- the line of an edit, behind the folders that lead to its log, and then its rename: so no reference is changed without its line
 abbrev pub update_entries : Dirs → ℕ → Edit → List Entry
-update_entries dirs at e = line_entry dirs at e ++ rename_entry dirs at e
+update_entries dirs at e = folders_entry at e ++ (line_entry dirs at e ++ rename_entry dirs at e)
 
 -- all of them, in their order
 abbrev pub planned_entries : Dirs → List Edit → Option Path → Rewrite → List Entry
@@ -115,6 +125,7 @@ bare_steps es = map (λ (e : Entry). bare e.0) es
 
 -- the locks of so many edits, of n, were renamed before this step, where they are written
 abbrev pub done_before : ℕ → About → ℕ
+done_before n (about.Folders at) = at
 done_before n (about.Line at) = at
 done_before n (about.Rename at) = at
 done_before n (about.LogRemoval at) = n
@@ -140,6 +151,7 @@ done_of n (AtStep about cause) = done_before n about
 abbrev pub packed_done : Rewrite → Unfinished → Bool
 packed_done rewrite Memory = false
 packed_done rewrite (AtStep (about.Removal at) cause) = renames_packed rewrite
+packed_done rewrite (AtStep (about.Folders at) cause) = false
 packed_done rewrite (AtStep (about.Line at) cause) = false
 packed_done rewrite (AtStep (about.Rename at) cause) = false
 packed_done rewrite (AtStep (about.LogRemoval at) cause) = false
@@ -147,6 +159,7 @@ packed_done rewrite (AtStep about.Packed cause) = false
 
 -- it names one of so many edits, or `packed-refs`
 abbrev pub IsOfEdit : ℕ → About → Type 0
+IsOfEdit n (about.Folders at) = at < n
 IsOfEdit n (about.Line at) = at < n
 IsOfEdit n (about.Rename at) = at < n
 IsOfEdit n (about.LogRemoval at) = at < n

@@ -1,19 +1,24 @@
 -- What a commit reports that ended early.
-use Rattle.std.specs.Prelude.{◌≡◌, ℕ, List, [], get_or}
+use Rattle.std.specs.Prelude.{◌≡◌, ℕ, List, [], Some, None, get_or}
 use Rattle.gix_ref_name.specs.Names.{full_bytes}
 use Rattle.gix_ref_name.specs.declared.name.FullName.{FullName}
+use Rattle.gix_ref_files.specs.Disk.{folder_of}
 use Rattle.gix_ref_files.specs.Tree.{Path}
 use Rattle.gix_ref_files.specs.declared.files.FileError.{FileError}
 use Rattle.gix_ref_files.specs.declared.steps.Cause.TheVariants.{File, Unexpected, Asked}
 use Rattle.gix_ref_edits.specs.declared.transaction.RefEdit.{RefEdit}
+use Rattle.gix_ref_lines.specs.declared.create_or_update.Error.{Error as LogError}
+use Rattle.gix_ref_lines.specs.declared.create_or_update.Error.TheVariants.{CreateLeadingDirectories, Append}
+use Rattle.gix_ref_lines.specs.declared.error.Error.{Error as LinesError}
+use Rattle.gix_ref_lines.specs.declared.error.Error.TheVariants as lines
 use Rattle.gix_ref_repack.specs.declared.error.Error.{Error as RepackError}
 use Rattle.gix_ref_repack.specs.declared.error.Error.TheVariants as repack
 use Rattle.gix_ref_transaction.specs.Causes.{names_of}
 use Rattle.gix_ref_commit.specs.Entries.{IsOfEdit}
 use Rattle.gix_ref_commit.specs.declared.error.Error.{Error}
-use Rattle.gix_ref_commit.specs.declared.error.Error.TheVariants.{PackedTransactionCommit, LockCommit, DeleteReference, DeleteReflog, FolderInPlace, Memory}
+use Rattle.gix_ref_commit.specs.declared.error.Error.TheVariants.{CreateOrUpdateRefLog, PackedTransactionCommit, LockCommit, DeleteReference, DeleteReflog, FolderInPlace, Memory}
 use Rattle.gix_ref_commit.specs.declared.plan.About.{About}
-use Rattle.gix_ref_commit.specs.declared.plan.About.TheVariants.{Line, Rename, LogRemoval, Packed, Removal}
+use Rattle.gix_ref_commit.specs.declared.plan.About.TheVariants.{Folders, Line, Rename, LogRemoval, Packed, Removal}
 use Rattle.gix_ref_commit.specs.declared.run.Unfinished.{Unfinished}
 use Rattle.gix_ref_commit.specs.declared.run.Unfinished.TheVariants.{Memory as no_memory, Step}
 
@@ -26,30 +31,54 @@ abbrev pub AllOfEdits : ℕ → Unfinished → Type 0
 AllOfEdits n no_memory = Unit {0}
 AllOfEdits n (Step about cause) = IsOfEdit n about
 
+-- the error of a line that is not added to this log: a call of files failed where its folders were made, or where it was added
+abbrev pub SaysLogFault : About → (log : Path) → FileError → LogError → Type 0
+SaysLogFault (Folders at) log fault (CreateLeadingDirectories (Some source) folder) = (source ≡ fault) × (folder.items ≡ folder_of log)
+SaysLogFault (Line at) log fault (Append source path) = (source ≡ fault) × (path.items ≡ log)
+SaysLogFault about log fault error = ⊥
+
 -- the error of a step at which a call of files failed with this fault
-abbrev pub SaysFault : List RefEdit → About → FileError → Error → Type 0
-SaysFault edits (Line at) fault (LockCommit source name) = (source ≡ fault) × IsNameAt edits at name
-SaysFault edits (Rename at) fault (LockCommit source name) = (source ≡ fault) × IsNameAt edits at name
-SaysFault edits (LogRemoval at) fault (DeleteReflog name source) = (source ≡ fault) × IsNameAt edits at name
-SaysFault edits Packed fault (PackedTransactionCommit error) = error ≡ repack.Io fault
-SaysFault edits (Removal at) fault (DeleteReference name source) = (source ≡ fault) × IsNameAt edits at name
-SaysFault edits about fault error = ⊥
+abbrev pub SaysFault : List RefEdit → (log : Path) → About → FileError → Error → Type 0
+SaysFault edits log about fault (CreateOrUpdateRefLog error) = SaysLogFault about log fault error
+SaysFault edits log (Rename at) fault (LockCommit source name) = (source ≡ fault) × IsNameAt edits at name
+SaysFault edits log (LogRemoval at) fault (DeleteReflog name source) = (source ≡ fault) × IsNameAt edits at name
+SaysFault edits log Packed fault (PackedTransactionCommit error) = error ≡ repack.Io fault
+SaysFault edits log (Removal at) fault (DeleteReference name source) = (source ≡ fault) × IsNameAt edits at name
+SaysFault edits log about fault error = ⊥
 
 -- the path that is reported where a step found something in its way
-abbrev pub path_told : (place packed : Path) → About → Path
-path_told place packed Packed = packed
-path_told place packed (Line at) = place
-path_told place packed (Rename at) = place
-path_told place packed (LogRemoval at) = place
-path_told place packed (Removal at) = place
+abbrev pub path_told : (place log packed : Path) → About → Path
+path_told place log packed Packed = packed
+path_told place log packed (Folders at) = log
+path_told place log packed (Line at) = log
+path_told place log packed (Rename at) = place
+path_told place log packed (LogRemoval at) = place
+path_told place log packed (Removal at) = place
+
+-- the error of a step that found a file in the path of a log
+abbrev pub SaysFile : (log : Path) → LogError → Type 0
+SaysFile log (CreateLeadingDirectories None folder) = folder.items ≡ folder_of log
+SaysFile log error = ⊥
+
+-- the error of a step that found something in its way: a file in the path of a log, or a folder
+abbrev pub SaysInWay : (place log packed : Path) → About → Error → Type 0
+SaysInWay place log packed (Folders at) (CreateOrUpdateRefLog error) = SaysFile log error
+SaysInWay place log packed (Folders at) error = ⊥
+SaysInWay place log packed about (FolderInPlace path) = path.items ≡ path_told place log packed about
+SaysInWay place log packed about error = ⊥
 
 -- the error of a commit whose plan was not run to its end
-abbrev pub SaysWhy : List RefEdit → (place packed : Path) → Unfinished → Error → Type 0
-SaysWhy edits place packed no_memory Memory = Unit {0}
-SaysWhy edits place packed (Step about (File fault)) error = SaysFault edits about fault error
-SaysWhy edits place packed (Step about Unexpected) (FolderInPlace path) = path.items ≡ path_told place packed about
-SaysWhy edits place packed (Step about Asked) (FolderInPlace path) = path.items ≡ path_told place packed about
-SaysWhy edits place packed unfinished error = ⊥
+abbrev pub SaysWhy : List RefEdit → (place log packed : Path) → Unfinished → Error → Type 0
+SaysWhy edits place log packed no_memory Memory = Unit {0}
+SaysWhy edits place log packed no_memory error = ⊥
+SaysWhy edits place log packed (Step about (File fault)) error = SaysFault edits log about fault error
+SaysWhy edits place log packed (Step about Unexpected) error = SaysInWay place log packed about error
+SaysWhy edits place log packed (Step about Asked) error = SaysInWay place log packed about error
+
+-- the error of a commit that could not decide its log lines
+abbrev pub of_lines : LinesError → Error
+of_lines (lines.CreateOrUpdateRefLog error) = CreateOrUpdateRefLog error
+of_lines lines.Memory = Memory
 
 -- the error of a commit that could not decide what becomes of `packed-refs`
 abbrev pub of_repack : RepackError → Error

@@ -1,4 +1,4 @@
-//! What a commit decides before its first write: what becomes of each log, and of `packed-refs`.
+//! What a commit decides of `packed-refs` before its first write.
 ghost use Rattle.std.specs.Prelude.{◌≡◌, ◌≢◌, ◌≤◌, List, [], ◌∷◌, None, Some, OnOk, IfOk, IfErr, map};
 ghost use Rattle.gix_ref_base.specs.PackedRecords.{Record};
 ghost use Rattle.gix_ref_files.specs.Files.{disk_of, Leaves};
@@ -7,8 +7,6 @@ ghost use Rattle.gix_ref_files.specs.Tree.{Path};
 ghost use Rattle.gix_ref_files.specs.Tree.Content.{File};
 ghost use Rattle.gix_ref_lookup.specs.Lookups.{packed_refs_in, ArePackedRecords};
 ghost use Rattle.gix_ref_theory.specs.Between.{AreEdits};
-ghost use Rattle.gix_ref_edits.specs.RefEdits.{name_of};
-ghost use Rattle.gix_ref_transaction.specs.CarriedEdits.{change_of};
 ghost use Rattle.gix_ref_transaction.specs.CommittedEdits.{planned};
 ghost use Rattle.gix_ref_transaction.specs.OwnLocks.{OnlyLocks};
 ghost use Rattle.gix_ref_transaction.specs.PackedCauses.{ids_among};
@@ -16,18 +14,16 @@ ghost use Rattle.gix_ref_transaction.specs.PrepareSteps.{setting_of, updates, id
 ghost use Rattle.gix_ref_repack.specs.Refusals.{IsCounted, IsIoOrMemory, IsRefused};
 ghost use Rattle.gix_ref_repack.specs.Repacks.{IsRepack};
 ghost use Rattle.gix_ref_commit.specs.Decided.{FillsPacked, IsFilled};
-ghost use Rattle.gix_ref_commit.specs.LogEffects.{IsLogOf, AreLogsOf, but_log, all_but_logs};
 
 use crate::fill::fill;
-use gix_ref_edits::transaction::Change;
 use gix_ref_files::files::Files;
 use gix_ref_files::lock::LockFile;
 use gix_ref_lookup::settings::Settings;
 use gix_ref_repack::error::Error;
 use gix_ref_repack::repack::repack;
 use gix_ref_rewrite::outcome::Rewrite;
-use gix_ref_transaction::edit::{Edit, LogEffect};
-use std::alloc::{AllocError, Global};
+use gix_ref_transaction::edit::Edit;
+use std::alloc::Global;
 
 /// What becomes of `packed-refs`.
 #[derive(Debug, Drop)]
@@ -36,36 +32,6 @@ pub struct NewPacked {
     pub rewrite: Rewrite,
     /// Its path, where its lock is held; empty where it is not.
     pub path: Vec<u8>,
-}
-
-/// What becomes of the log of an edit: that of a deletion is removed.
-fn decide_log(alloc: Global, settings: &Settings<'_>, edit: &mut Edit) -> Result<(), AllocError>
-    ensures but_log { but_log edit.new ≡ but_log edit.old }
-    ensures log { OnOk result (IsLogOf ((setting_of settings.now).log (name_of edit.old.update))
-        (change_of edit.old.update.change) edit.new.log) }
-{
-    edit.log = match &edit.update.change {
-        Change::Delete { .. } => LogEffect::Remove {
-            log: settings.log(alloc, edit.update.name.as_ref())?,
-        },
-        Change::Update { .. } => LogEffect::Keep,
-    };
-    Ok(())
-}
-
-/// What becomes of the logs of edits, where no line is due: those of deletions are removed.
-pub fn decide_logs(
-    alloc: Global,
-    settings: &Settings<'_>,
-    edits: &mut [Edit],
-) -> Result<(), AllocError>
-    ensures but_logs { all_but_logs edits.new ≡ all_but_logs edits.old }
-    ensures logs { OnOk result (AreLogsOf (setting_of settings.now) (updates edits.old) edits.new) }
-{
-    for edit in edits.iter_mut() {
-        decide_log(alloc, settings, edit)?;
-    }
-    Ok(())
 }
 
 /// What becomes of `packed-refs`, whose lock is held and empty. A new text is put into the lock and synced.

@@ -1,5 +1,6 @@
 //! Why a transaction is not committed.
 use gix_ref_files::files::FileError;
+use gix_ref_lines::create_or_update;
 use gix_ref_name::name::FullName;
 use thiserror::Error;
 
@@ -11,6 +12,12 @@ pub enum Error {
     /// changed.
     #[error("packed-refs could not be changed: {0}")]
     PackedTransactionCommit(gix_ref_repack::error::Error),
+    /// A log line could not be added. It was refused before the first write, and nothing but locks has changed: `MissingCommitter`,
+    /// `MessageWithNewlines`, `SignatureUnwritable`, or `CreateLeadingDirectories`. Or a call of files failed where the folders of the
+    /// log were made (`CreateLeadingDirectories` with its source), or where the line was added or synced (`Append`); then the edits
+    /// before this one are done, its reference reads as before, and the log may have any beginning of the line.
+    #[error("{0}")]
+    CreateOrUpdateRefLog(create_or_update::Error),
     /// A call of files failed where the lock of the reference was renamed to its place, or where the folders above it were
     /// synced then. The reference reads as before or as edited, the edits before it are done, and none after it is begun.
     #[error("the lock of {full_name} could not be renamed: {source}")]
@@ -31,8 +38,8 @@ pub enum Error {
         full_name: FullName,
         source: FileError,
     },
-    /// A folder is where the loose file of a reference goes.
-    #[error("a folder is in the place of a reference")]
+    /// A folder is where the loose file of a reference, its log, or `packed-refs` goes.
+    #[error("a folder is in the place of a reference, of its log, or of packed-refs")]
     FolderInPlace {
         path: Vec<u8>,
     },

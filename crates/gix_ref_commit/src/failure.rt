@@ -1,8 +1,10 @@
 //! What a commit reports that ended early.
-ghost use Rattle.std.specs.Prelude.{◌≡◌, ◌<◌, vec_len, if◌then◌else◌, None};
+ghost use Rattle.std.specs.Prelude.{◌≡◌, ◌<◌, ℕ, vec_len, if◌then◌else◌, None, Some};
 ghost use Rattle.gix_ref_commit.specs.Entries.{done_of, packed_done, IsOfEdit};
 ghost use Rattle.gix_ref_commit.specs.Entries.{renames_packed};
-ghost use Rattle.gix_ref_commit.specs.Failures.{SaysWhy, SaysFault, AllOfEdits, of_repack, path_told};
+ghost use Rattle.gix_ref_commit.specs.Failures.{SaysWhy, SaysFault, SaysFile, SaysInWay, SaysLogFault, AllOfEdits, of_lines, of_repack};
+ghost use Rattle.gix_ref_commit.specs.declared.plan.About.TheVariants.{Folders};
+ghost use Rattle.gix_ref_files.specs.Disk.{folder_of};
 
 use crate::error::Error;
 use crate::plan::About;
@@ -11,6 +13,8 @@ use gix_ref_edits::transaction::RefEdit;
 use gix_ref_files::files::FileError;
 use gix_ref_files::lock::LockFile;
 use gix_ref_files::steps::Cause;
+use gix_ref_lines::create_or_update;
+use gix_ref_lines::logs::folder_end;
 use gix_ref_rewrite::outcome::Rewrite;
 
 impl Unfinished {
@@ -48,7 +52,7 @@ impl About {
         ensures { result ≡ done_before edits self }
     {
         match self {
-            About::Line { edit } | About::Rename { edit } => edit,
+            About::Folders { edit } | About::Line { edit } | About::Rename { edit } => edit,
             About::LogRemoval { .. } | About::Packed | About::Removal { .. } => edits,
         }
     }
@@ -71,13 +75,39 @@ pub fn unless_renamed(packed: Option<LockFile>, renamed: bool) -> Option<LockFil
     if renamed { None } else { packed }
 }
 
-/// The error of a step at which a call of files failed.
-fn fault(mut edits: Vec<RefEdit>, about: About, source: FileError) -> Error
+/// The folder of a path.
+fn folder_in(mut path: Vec<u8>) -> Vec<u8>
+    ensures { result.items ≡ folder_of path.items }
+{
+    let end = folder_end(&path);
+    path.truncate(end);
+    path
+}
+
+/// The error of a log whose folders could not be made: by a fault of files, or without one for a file in its path.
+fn no_folders(source: Option<FileError>, log: Vec<u8>) -> create_or_update::Error
+    ensures fault { (told : FileError) → source ≡ Some told → (at : ℕ) →
+        SaysLogFault (Folders at) log.items told result }
+    ensures file { source ≡ None → SaysFile log.items result }
+{
+    create_or_update::Error::CreateLeadingDirectories {
+        source,
+        reflog_directory: folder_in(log),
+    }
+}
+
+/// The error of a step at which a call of files failed; `log` is the path of the log of its edit.
+fn fault(mut edits: Vec<RefEdit>, log: Vec<u8>, about: About, source: FileError) -> Error
     requires { IsOfEdit (vec_len edits) about }
-    ensures { SaysFault edits.items about source result }
+    ensures { SaysFault edits.items log.items about source result }
 {
     match about {
-        About::Line { edit } | About::Rename { edit } => Error::LockCommit {
+        About::Folders { .. } => Error::CreateOrUpdateRefLog(no_folders(Some(source), log)),
+        About::Line { .. } => Error::CreateOrUpdateRefLog(create_or_update::Error::Append {
+            source,
+            reflog_path: log,
+        }),
+        About::Rename { edit } => Error::LockCommit {
             source,
             full_name: edits.swap_remove(edit).name,
         },
@@ -93,38 +123,51 @@ fn fault(mut edits: Vec<RefEdit>, about: About, source: FileError) -> Error
     }
 }
 
-/// The path at which a step found a folder: the place of its edit, or `packed-refs`.
-fn path_at(about: About, place: Vec<u8>, packed: Vec<u8>) -> Vec<u8>
-    ensures { result.items ≡ path_told place.items packed.items about }
+/// The error of a step that found something in its way: a file in the path of a log, or a folder at the place of its edit, at its
+/// log, or at `packed-refs`.
+fn in_way(about: About, place: Vec<u8>, log: Vec<u8>, packed: Vec<u8>) -> Error
+    ensures { SaysInWay place.items log.items packed.items about result }
 {
     match about {
-        About::Packed => packed,
-        About::Line { .. }
-        | About::Rename { .. }
-        | About::LogRemoval { .. }
-        | About::Removal { .. } => place,
+        About::Folders { .. } => Error::CreateOrUpdateRefLog(no_folders(None, log)),
+        About::Line { .. } => Error::FolderInPlace { path: log },
+        About::Packed => Error::FolderInPlace { path: packed },
+        About::Rename { .. } | About::LogRemoval { .. } | About::Removal { .. } => {
+            Error::FolderInPlace { path: place }
+        }
     }
 }
 
-/// The error of a commit that ended at a step, or before its first. `place` is that of the edit at which it ended, `packed` the path
-/// of `packed-refs`.
+/// The error of a commit that ended at a step, or before its first. `place` and `log` are those of the edit at which it ended,
+/// `packed` the path of `packed-refs`.
 pub fn failure(
     edits: Vec<RefEdit>,
     place: Vec<u8>,
+    log: Vec<u8>,
     packed: Vec<u8>,
     unfinished: Unfinished,
 ) -> Error
     requires { AllOfEdits (vec_len edits) unfinished }
-    ensures { SaysWhy edits.items place.items packed.items unfinished result }
+    ensures { SaysWhy edits.items place.items log.items packed.items unfinished result }
 {
     let Unfinished::Step { about, cause } = unfinished else {
         return Error::Memory;
     };
     match cause {
-        Cause::File(source) => fault(edits, about, source),
-        Cause::Unexpected | Cause::Asked => Error::FolderInPlace {
-            path: path_at(about, place, packed),
-        },
+        Cause::File(source) => fault(edits, log, about, source),
+        Cause::Unexpected | Cause::Asked => in_way(about, place, log, packed),
+    }
+}
+
+/// The error of a commit that could not decide its log lines.
+pub fn unlogged(error: gix_ref_lines::error::Error) -> Error
+    ensures { result ≡ of_lines error }
+{
+    match error {
+        gix_ref_lines::error::Error::CreateOrUpdateRefLog(error) => {
+            Error::CreateOrUpdateRefLog(error)
+        }
+        gix_ref_lines::error::Error::Memory => Error::Memory,
     }
 }
 

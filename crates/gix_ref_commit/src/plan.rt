@@ -2,10 +2,11 @@
 //! then the logs of deletions, then `packed-refs`, then the loose files of deletions: so no deletion shows before the updates, and
 //! no old record shows behind a loose file that is gone.
 ghost use Rattle.std.specs.Prelude.{◌≡◌, OnOk, IfOk, ◌++◌};
-ghost use Rattle.gix_ref_commit.specs.Entries.{entry_of, entries, line_entry, rename_entry, log_removal_entry, removal_entry, packed_entry, each, update_entries, planned_entries};
+ghost use Rattle.gix_ref_commit.specs.Entries.{entry_of, entries, folders_entry, line_entry, rename_entry, log_removal_entry, removal_entry, packed_entry, each, update_entries, planned_entries};
 
 use gix_ref_files::lock::LockFile;
 use gix_ref_files::steps::{Action, Planned, Settle};
+use gix_ref_lines::logs::folder;
 use gix_ref_lookup::folders::Dirs;
 use gix_ref_rewrite::outcome::Rewrite;
 use gix_ref_transaction::edit::{Edit, Effect, LogEffect};
@@ -14,7 +15,9 @@ use std::alloc::{AllocError, Global};
 /// What a step of a commit is about.
 #[derive(Clone, Copy, Debug, PartialEq, Eq)]
 pub enum About {
-    /// The log line of the edit at this place of the list, from 0.
+    /// The folders that lead to the log of the edit at this place of the list, from 0.
+    Folders { edit: usize },
+    /// The line that is added to its log.
     Line { edit: usize },
     /// The rename of its lock.
     Rename { edit: usize },
@@ -24,6 +27,20 @@ pub enum About {
     Packed,
     /// The removal of the loose file of the edit at this place.
     Removal { edit: usize },
+}
+
+/// The folders that lead to the log of an edit, if a line is added to it.
+fn folders_step<'p>(at: usize, edit: &'p Edit) -> Option<Planned<'p, About>>
+    ensures { entry_of result ≡ folders_entry at edit.now }
+{
+    match &edit.log {
+        LogEffect::Append { log, .. } => Some(Planned {
+            action: Action::MakeFolders { path: folder(log) },
+            settle: Settle::Nothing,
+            about: About::Folders { edit: at },
+        }),
+        LogEffect::Keep | LogEffect::Remove { .. } => None,
+    }
 }
 
 /// The line that is added to the log of an edit, if one is.
@@ -133,7 +150,7 @@ fn add<'p>(
     Ok(())
 }
 
-/// For each edit its log line, and then its rename.
+/// For each edit the folders of its log, its log line, and then its rename.
 fn add_updates<'p>(
     plan: &mut Vec<Planned<'p, About>>,
     dirs: &Dirs,
@@ -143,6 +160,7 @@ fn add_updates<'p>(
         ≡ entries plan.old.items ++ each (update_entries dirs.now) 0 edits.now) }
 {
     for (at, edit) in edits.iter().enumerate() {
+        add(plan, folders_step(at, edit))?;
         add(plan, line_step(dirs, at, edit))?;
         add(plan, rename_step(dirs, at, edit))?;
     }
@@ -179,8 +197,8 @@ fn add_removals<'p>(
     Ok(())
 }
 
-/// The plan of these edits, where `packed-refs` becomes this: for each edit its log line and then its rename; the removals of
-/// logs; `packed-refs`, if its lock is held; and the removals of loose files. (`git update-ref --stdin`, `commit`)
+/// The plan of these edits, where `packed-refs` becomes this: for each edit its log line, behind the folders of the log,
+/// and then its rename; the removals of logs; `packed-refs`, if its lock is held; and the removals of loose files. (`git update-ref --stdin`, `commit`)
 pub fn plan_commit<'p>(
     alloc: Global,
     dirs: &Dirs,

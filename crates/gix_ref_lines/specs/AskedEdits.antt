@@ -3,9 +3,9 @@
 use Rattle.std.specs.Prelude.{ℕ, ◌+◌, ◌==◌, List, [], ◌∷◌, Bool, false, Option, Some, None, map, if◌then◌else◌}
 use Rattle.gix_ref_hash.specs.declared.hash.ObjectId.{ObjectId}
 use Rattle.gix_ref_base.specs.declared.target.Target.{Target}
+use Rattle.gix_ref_edits.specs.RefEdits.{expected_of, matched}
 use Rattle.gix_ref_edits.specs.declared.transaction.RefEdit.{RefEdit}
 use Rattle.gix_ref_files.specs.Tree.{Path}
-use Rattle.gix_ref_transaction.specs.PrepareSteps.{value_of}
 use Rattle.gix_ref_transaction.specs.declared.edit.Edit.{Edit}
 use Rattle.gix_ref_transaction.specs.declared.edit.Effect.{Effect}
 use Rattle.gix_ref_transaction.specs.declared.edit.LogEffect.{LogEffect}
@@ -26,9 +26,9 @@ leaf_after place next leaf (e ∷ rest) =
     if is_child place e.parent then leaf_after next (next + 1) (expected_id e.update.change) rest
     else leaf_after place (next + 1) leaf rest
 
--- an edit with what its line depends on
+-- a prepared edit with what its line depends on: it expects what was found for it
 abbrev pub asked_edit : Edit → (leaf : Option ObjectId) → Asked
-asked_edit e leaf = record { update = e.update; found = value_of e.found; leaf = leaf }
+asked_edit e leaf = record { update = e.update; found = matched (expected_of e.update.change); leaf = leaf }
 
 -- the edits from this place on; an edit that was not split is its own leaf, and expects nothing of another
 abbrev pub asked_from : ℕ → List Edit → List Asked

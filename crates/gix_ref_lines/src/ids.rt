@@ -1,6 +1,6 @@
 //! The ids of a log line: what was there, and what is there now.
 ghost use Rattle.std.specs.Prelude.{◌≡◌};
-ghost use Rattle.gix_ref_transaction.specs.PrepareSteps.{value_of};
+ghost use Rattle.gix_ref_edits.specs.RefEdits.{expected_of, matched};
 ghost use Rattle.gix_ref_lines.specs.DueLines.{between, expected_id, ids_from, ids_of, ids_of_symbolic, ids_to, object_in, previous_id};
 
 use gix_ref_base::target::Target;
@@ -27,13 +27,13 @@ pub fn expected_id(change: &Change) -> Option<ObjectId>
     }
 }
 
-/// The object that was found, else the one that the leaf expects.
-fn previous_id(found: &Option<Target>, leaf: Option<ObjectId>) -> Option<ObjectId>
-    ensures { result ≡ previous_id (value_of found.now) leaf }
+/// The object that was found, which a prepared edit expects; else the one that the leaf expects.
+fn previous_id(expected: &PreviousValue, leaf: Option<ObjectId>) -> Option<ObjectId>
+    ensures { result ≡ previous_id (matched expected.now) leaf }
 {
-    match found {
-        Some(Target::Object(id)) => Some(*id),
-        Some(Target::Symbolic(_)) | None => leaf,
+    match expected {
+        PreviousValue::MustExistAndMatch(Target::Object(id)) => Some(*id),
+        _ => leaf,
     }
 }
 
@@ -63,32 +63,31 @@ fn ids_from(previous: Option<ObjectId>, new: ObjectId) -> Option<LineIds>
 
 /// The ids of a line of a symbolic update: where the reference was not there, and must match an object if it is, from null to
 /// that object.
-fn ids_of_symbolic(expected: &PreviousValue, found: &Option<Target>) -> Option<LineIds>
-    ensures { result ≡ ids_of_symbolic expected.now (value_of found.now) }
+fn ids_of_symbolic(expected: &PreviousValue) -> Option<LineIds>
+    ensures { result ≡ ids_of_symbolic expected.now (matched expected.now) }
 {
-    match (expected, found) {
-        (PreviousValue::ExistingMustMatch(Target::Object(id)), None) => between(
-            id.kind().null(),
-            *id,
-        ),
+    match expected {
+        PreviousValue::ExistingMustMatch(Target::Object(id)) => between(id.kind().null(), *id),
         _ => None,
     }
 }
 
-/// The ids of the line of an edit, by what was found for it and the object that its leaf expects; `None` where it has no line.
-pub fn ids_of(change: &Change, found: &Option<Target>, leaf: Option<ObjectId>) -> Option<LineIds>
-    ensures { result ≡ ids_of change.now (value_of found.now) leaf }
+/// The ids of the line of a prepared edit, which expects what was found for it, by the object that its leaf expects; `None` where
+/// it has no line.
+pub fn ids_of(change: &Change, leaf: Option<ObjectId>) -> Option<LineIds>
+    ensures { result ≡ ids_of change.now (matched (expected_of change.now)) leaf }
 {
     match change {
         Change::Update {
             new: Target::Object(new),
+            expected,
             ..
-        } => ids_from(previous_id(found, leaf), *new),
+        } => ids_from(previous_id(expected, leaf), *new),
         Change::Update {
             new: Target::Symbolic(_),
             expected,
             ..
-        } => ids_of_symbolic(expected, found),
+        } => ids_of_symbolic(expected),
         Change::Delete { .. } => None,
     }
 }

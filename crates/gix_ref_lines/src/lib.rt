@@ -8,7 +8,7 @@ pub mod ids;
 pub mod laws;
 mod leaves;
 mod line;
-mod logs;
+pub mod logs;
 mod names;
 mod place;
 mod rules;

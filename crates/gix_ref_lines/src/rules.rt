@@ -70,7 +70,7 @@ impl Rules<'_> {
         if is_off(self.write_reflog) {
             return None;
         }
-        ids_of(&edit.update.change, &edit.found, leaf)
+        ids_of(&edit.update.change, leaf)
     }
 
     /// Whether a log that is missing is made.

@@ -131,10 +131,7 @@ pub fn edit(rt: &impl Abort, alloc: Global, settings: &Settings<'_>, given: Give
         name: full_name(rt, alloc, given.name),
         deref: false,
     };
-    let mut edit = Edit::at(alloc, settings, update).expect(rt, "memory");
-    edit.parent = given.parent;
-    edit.found = found_target(rt, alloc, given.found);
-    edit
+    Edit::at(alloc, settings, update, given.parent).expect(rt, "memory")
 }
 
 /// The committer.

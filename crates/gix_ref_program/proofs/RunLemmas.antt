@@ -1,6 +1,5 @@
 -- The outcomes of the parts of a run, put together.
-use Rattle.std.proofs.Common.{rules, ◌≡◌, ◌⊎◌, inl, inr, ⊎_elim, ℕ, List, [], ◌∷◌, false, Option, IsSome, Result, Ok, Err, MatchResult, IfOk, sym, subst}
-use Rattle.std.proofs.lemmas.List.Elements.{All-nil, All-cons}
+use Rattle.std.proofs.Common.{rules, ◌≡◌, ◌⊎◌, inl, inr, ⊎_elim, ℕ, List, [], ◌∷◌, Option, None, Result, Ok, Err, MatchResult, sym, subst}
 use Rattle.gix_ref_hash.specs.declared.hash.Kind.{Kind}
 use Rattle.gix_ref_hash.specs.declared.hash.ObjectId.{ObjectId}
 use Rattle.gix_ref_base.specs.Targets.{TargetValue}
@@ -8,9 +7,8 @@ use Rattle.gix_ref_base.specs.Targets.TargetValue.{object_id}
 use Rattle.gix_ref_edits.specs.declared.transaction.PreviousValue.{PreviousValue}
 use Rattle.gix_ref_files.specs.Files.{Meaning, Leaves}
 use Rattle.gix_ref_files.proofs.Moments.{weaken}
-use Rattle.gix_ref_transaction.specs.Splits.{AreDirect}
-use Rattle.gix_ref_store.specs.Prepared.{HasGoodRecords, tree_of}
-use Rattle.gix_ref_store.specs.Store.{files_of, meaning_of}
+use Rattle.gix_ref_store.specs.Prepared.{tree_of}
+use Rattle.gix_ref_store.specs.Store.{files_of}
 use Rattle.gix_ref_edits.specs.RefEdits.{new_of}
 use Rattle.gix_ref_store.specs.declared.file.store.Store.{Store}
 use Rattle.gix_ref_edits.specs.declared.transaction.RefEdit.{RefEdit}
@@ -23,12 +21,9 @@ use Rattle.gix_ref_program.specs.declared.outcome.Outcome.TheVariants as outcome
 use Rattle.gix_ref_program.specs.declared.refusal.Refusal.{Refusal}
 use Rattle.gix_ref_program.specs.declared.refusal.Refusal.TheVariants as refusals
 
-pub one : (edits : List RefEdit) (edit : RefEdit) → edits ≡ edit ∷ [] → edit.deref ≡ false → AreDirect edits
-one edits edit are no_deref = subst AreDirect (sym are) (All-cons (λ (e : RefEdit). e.deref ≡ false) edit [] no_deref (All-nil (λ (e : RefEdit). e.deref ≡ false)))
-
 module _ {F : Type 0} (honest : Type 0) (means : F → Meaning) (faults : F → ℕ) where
   pub update_comes : (read : Type 0) (old new : Store F) (kind : Kind) (asked : Asked) (edit : RefEdit) (outcome : Outcome) → IsAskedFor kind asked edit →
-      EditOutcome honest means faults read old new edit outcome → UpdateOutcome honest means faults read old new kind asked outcome
+      EditOutcome honest means faults read old new None edit outcome → UpdateOutcome honest means faults read old new kind asked outcome
   update_comes read old new kind asked edit (outcomes.Updated locks) is comes = (edit, is, comes)
   update_comes read old new kind asked edit (outcomes.Refused (refusals.Update error) locks) is comes = (edit, is, comes)
   update_comes read old new kind asked edit (outcomes.Refused refusals.Memory locks) is comes = comes
@@ -42,7 +37,7 @@ module _ {F : Type 0} (honest : Type 0) (means : F → Meaning) (faults : F → 
   update_comes read old new kind asked edit (outcomes.Shown reference) is comes = absurd comes
 
   pub update_stops : (old new : Store F) (kind : Kind) (asked : Asked) (edit : RefEdit) → IsAskedFor kind asked edit →
-      Leaves (means (files_of old)) (means (files_of new)) (λ T. (T ≡ tree_of means old) ⊎ IsStopOf (HasGoodRecords means old) (meaning_of old) (edit ∷ []) (tree_of means old) T) →
+      Leaves (means (files_of old)) (means (files_of new)) (λ T. (T ≡ tree_of means old) ⊎ IsStopOf honest means faults old None (edit ∷ []) T) →
       Leaves (means (files_of old)) (means (files_of new)) (IsUpdateStop honest means faults old kind asked)
   update_stops old new kind asked edit is leaves = weaken leaves (λ T stop. ⊎_elim (λ same. inl same) (λ s. inr (edit, is, s)) stop)
 
@@ -88,14 +83,3 @@ pub asked_deletion : (kind : Kind) (name : List ℕ) (old : Option ObjectId) (ex
     MatchResult r (IsDeletionEdit name expected) (IsNoName name) → MatchResult r (IsAskedFor kind (Delete name old)) (NoEdit (Delete name old))
 asked_deletion kind name old expected (Ok edit) is holds = record { expected = expected; is_expected = is; is_edit = holds }
 asked_deletion kind name old expected (Err refusal) is holds = no_deletion name old refusal holds
-
--- an edit that is asked for follows no symbolic reference
-pub is_direct : (name : List ℕ) (target : TargetValue) (expected : PreviousValue) (Bad : Refusal → Type 0) (r : Result RefEdit Refusal) →
-    MatchResult r (IsEditOf name target expected) Bad → IfOk r (λ e. e.deref ≡ false)
-is_direct name target expected Bad (Ok edit) holds = holds.no_deref
-is_direct name target expected Bad (Err refusal) holds = tt
-
-pub is_direct_deletion : (name : List ℕ) (expected : PreviousValue) (Bad : Refusal → Type 0) (r : Result RefEdit Refusal) →
-    MatchResult r (IsDeletionEdit name expected) Bad → IfOk r (λ e. e.deref ≡ false)
-is_direct_deletion name expected Bad (Ok edit) holds = holds.no_deref
-is_direct_deletion name expected Bad (Err refusal) holds = tt

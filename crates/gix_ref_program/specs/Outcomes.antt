@@ -11,6 +11,8 @@ use Rattle.gix_ref_grammar.specs.declared.name.error.Error as names
 use Rattle.gix_ref_grammar.specs.declared.name.error.Error.TheVariants as name
 use Rattle.gix_ref_transaction.specs.declared.prepare.error.Error as prepares
 use Rattle.gix_ref_transaction.specs.declared.prepare.error.Error.TheVariants as prepare
+use Rattle.gix_ref_lines.specs.declared.create_or_update.Error as lines
+use Rattle.gix_ref_lines.specs.declared.create_or_update.Error.TheVariants as line
 use Rattle.gix_ref_commit.specs.declared.error.Error as commits
 use Rattle.gix_ref_commit.specs.declared.error.Error.TheVariants as commit
 use Rattle.gix_ref_lookup.specs.declared.find.error.Error as finds
@@ -65,7 +67,15 @@ prepare_word (prepare.ReferenceOutOfDate name expected actual) = codes "Referenc
 prepare_word (prepare.Io error) = codes "Io"
 prepare_word prepare.Memory = codes "Memory"
 
+abbrev pub line_word : lines.Error → List ℕ
+line_word (line.CreateLeadingDirectories source folder) = codes "CreateLeadingDirectories"
+line_word (line.Append source path) = codes "Append"
+line_word line.MessageWithNewlines = codes "MessageWithNewlines"
+line_word line.MissingCommitter = codes "MissingCommitter"
+line_word line.SignatureUnwritable = codes "SignatureUnwritable"
+
 abbrev pub commit_word : commits.Error → List ℕ
+commit_word (commit.CreateOrUpdateRefLog error) = line_word error
 commit_word (commit.PackedTransactionCommit error) = codes "PackedTransactionCommit"
 commit_word (commit.LockCommit source name) = codes "LockCommit"
 commit_word (commit.DeleteReference name source) = codes "DeleteReference"

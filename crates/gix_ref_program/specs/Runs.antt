@@ -14,7 +14,7 @@ use Rattle.gix_ref_files.specs.Tree.{Tree}
 use Rattle.gix_ref_files.specs.Files.{Meaning, Leaves, HasRisen}
 use Rattle.gix_ref_transaction.specs.OwnLocks.{paths_of}
 use Rattle.gix_ref_lookup.specs.CleanPaths.{is_clean}
-use Rattle.gix_ref_transaction.specs.CommittedEdits.{AreCommitted}
+use Rattle.gix_ref_log.specs.declared.actor.SignatureRef.{SignatureRef}
 use Rattle.gix_ref_base.specs.PackedRecords.{Record}
 use Rattle.gix_ref_files.specs.declared.files.ReadAt.{Ghosts}
 use Rattle.gix_ref_lookup.specs.Lookups.{IsSound}
@@ -22,7 +22,7 @@ use Rattle.gix_ref_lookup.specs.declared.settings.Settings.{Settings}
 use Rattle.gix_ref_theory.specs.Views.{View}
 use Rattle.gix_ref_lookup.specs.declared.find.records.Records.TheVariants.{Unopened}
 use Rattle.gix_ref_store.specs.Lookup.{AreRecordsIn, FindsAmong, HitsIn, FailsIn, RefusesBuffer, settings_of, view_in}
-use Rattle.gix_ref_store.specs.Prepared.{HasGoodRecords, tree_of}
+use Rattle.gix_ref_store.specs.Prepared.{tree_of}
 use Rattle.gix_ref_store.specs.Store.{files_of, folders, kind_of, meaning_of}
 use Rattle.gix_ref_store.specs.Reflogs.{reflog_at, IsNoReflog}
 use Rattle.gix_ref_store.specs.Listings.{prefix_of_all, AreFirst}
@@ -45,7 +45,7 @@ use Rattle.gix_ref_edits.specs.declared.transaction.PreviousValue.TheVariants.{A
 use Rattle.gix_ref_edits.specs.declared.transaction.RefEdit.{RefEdit}
 use Rattle.gix_ref_edits.specs.declared.transaction.RefLog.TheVariants.{AndReference}
 use Rattle.gix_ref_program.specs.Outcomes.{printed, status_of}
-use Rattle.gix_ref_program.specs.Updates.{IsUpdateError, AreNamed, IsStopOf}
+use Rattle.gix_ref_program.specs.Updates.{IsMade, IsUpdateError, IsStopOf}
 use Rattle.gix_ref_program.specs.ListPrinting.{list_text}
 use Rattle.gix_ref_program.specs.LogPrinting.{log_text, AreItemsOf}
 use Rattle.gix_ref_program.specs.Printed.{items_status}
@@ -217,21 +217,18 @@ module _ {F : Type 0} where
 
   module _ (honest : Type 0) (means : F → Meaning) (faults : F → ℕ) where
     -- An edit: it is committed, but for locks that stay; or it was not made, and locks may stay; or there was no memory for it.
-    abbrev pub EditOutcome : (read : Type 0) → (old new : Store F) → RefEdit → Outcome → Type 0
-    EditOutcome read old new edit (outcomes.Updated locks) =
-        (honest → HasGoodRecords means old → AreCommitted (meaning_of old) (edit ∷ []) (tree_of means old) (paths_of locks.items) (tree_of means new))
-        × AreNamed honest means faults old new (edit ∷ []) (paths_of locks.items)
-    EditOutcome read old new edit (outcomes.Refused (refusals.Update error) locks) =
-        IsUpdateError honest means faults read old new (edit ∷ []) error (paths_of locks.items)
-        × AreNamed honest means faults old new (edit ∷ []) (paths_of locks.items)
-    EditOutcome read old new edit (outcomes.Refused refusals.Memory locks) = (new ≡ old) × (locks.items ≡ [])
-    EditOutcome read old new edit outcome = ⊥
+    abbrev pub EditOutcome : (read : Type 0) → (old new : Store F) → Option SignatureRef → RefEdit → Outcome → Type 0
+    EditOutcome read old new committer edit (outcomes.Updated locks) = IsMade honest means faults old new committer (edit ∷ []) (paths_of locks.items)
+    EditOutcome read old new committer edit (outcomes.Refused (refusals.Update error) locks) =
+        IsUpdateError honest means faults read old new committer (edit ∷ []) error (paths_of locks.items)
+    EditOutcome read old new committer edit (outcomes.Refused refusals.Memory locks) = (new ≡ old) × (locks.items ≡ [])
+    EditOutcome read old new committer edit outcome = ⊥
 
     -- An update of either kind, or a deletion: the outcome of its edit; or a name is no full name; or there was no memory.
     abbrev pub UpdateOutcome : (read : Type 0) → (old new : Store F) → Kind → Asked → Outcome → Type 0
     UpdateOutcome read old new kind asked (outcomes.Refused (refusals.Name error) locks) = BreaksRule asked error × (new ≡ old) × (locks.items ≡ [])
     UpdateOutcome read old new kind asked (outcomes.Refused refusals.Memory locks) = (new ≡ old) × (locks.items ≡ [])
-    UpdateOutcome read old new kind asked outcome = (edit : RefEdit) × IsAskedFor kind asked edit × EditOutcome read old new edit outcome
+    UpdateOutcome read old new kind asked outcome = (edit : RefEdit) × IsAskedFor kind asked edit × EditOutcome read old new None edit outcome
 
     -- and what is printed of it
     abbrev pub UpdateRan : (read : Type 0) → (old new : Store F) → Kind → Asked → Ran → Type 0
@@ -242,7 +239,7 @@ module _ {F : Type 0} where
     abbrev pub IsUpdateStop : Store F → Kind → Asked → Tree → Type 0
     IsUpdateStop old kind asked T =
         (T ≡ tree_of means old)
-        ⊎ ((edit : RefEdit) × IsAskedFor kind asked edit × IsStopOf (HasGoodRecords means old) (meaning_of old) (edit ∷ []) (tree_of means old) T)
+        ⊎ ((edit : RefEdit) × IsAskedFor kind asked edit × IsStopOf honest means faults old None (edit ∷ []) T)
 
     -- A lookup: what it finds is shown; or there is nothing; or it fails; or its name breaks a rule.
     abbrev pub ShowOutcome : {R : Type 0} (G : Ghosts R) → (old new : Store F) → (name : List ℕ) → Outcome → Type 0

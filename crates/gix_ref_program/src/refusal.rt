@@ -1,8 +1,9 @@
 //! Why a command is refused, and the name that is printed of it: the variant of the error.
 ghost use Rattle.std.specs.Prelude.{◌≡◌};
-ghost use Rattle.gix_ref_program.specs.Outcomes.{name_word, prepare_word, commit_word, find_word, open_word, list_word, log_word, word_of};
+ghost use Rattle.gix_ref_program.specs.Outcomes.{name_word, prepare_word, line_word, commit_word, find_word, open_word, list_word, log_word, word_of};
 
 use crate::update::UpdateError;
+use gix_ref_lines::create_or_update;
 use gix_ref_name::name;
 use gix_ref_packed::packed::buffer::open;
 use gix_ref_store::file::transaction::{commit, prepare};
@@ -76,11 +77,25 @@ fn prepare_variant(error: &prepare::Error) -> &'static str
     }
 }
 
-/// The variant of an error of `commit`.
+/// The variant of an error of a log line.
+fn line_variant(error: &create_or_update::Error) -> &'static str
+    ensures { result.now ≡ line_word error.now }
+{
+    match error {
+        create_or_update::Error::CreateLeadingDirectories { .. } => "CreateLeadingDirectories",
+        create_or_update::Error::Append { .. } => "Append",
+        create_or_update::Error::MessageWithNewlines => "MessageWithNewlines",
+        create_or_update::Error::MissingCommitter => "MissingCommitter",
+        create_or_update::Error::SignatureUnwritable => "SignatureUnwritable",
+    }
+}
+
+/// The variant of an error of `commit`; of one of a log line, the variant of that.
 fn commit_variant(error: &commit::Error) -> &'static str
     ensures { result.now ≡ commit_word error.now }
 {
     match error {
+        commit::Error::CreateOrUpdateRefLog(error) => line_variant(error),
         commit::Error::PackedTransactionCommit(_) => "PackedTransactionCommit",
         commit::Error::LockCommit { .. } => "LockCommit",
         commit::Error::DeleteReference { .. } => "DeleteReference",

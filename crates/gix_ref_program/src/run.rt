@@ -1,5 +1,5 @@
 //! One run of the program, over any files.
-ghost use Rattle.std.specs.Prelude.{◌≡◌, ◌⊎◌, [], ◌∷◌, false, None, IfOk, MatchResult};
+ghost use Rattle.std.specs.Prelude.{◌≡◌, ◌⊎◌, [], ◌∷◌, None, IfOk, MatchResult};
 ghost use Rattle.std.specs.Option.{option_map};
 ghost use Rattle.gix_ref_hash.specs.declared.hash.Kind.{Kind};
 ghost use Rattle.gix_ref_grammar.specs.NameGrammar.{full_error};
@@ -7,10 +7,10 @@ ghost use Rattle.gix_ref_name.specs.Names.{full_bytes};
 ghost use Rattle.gix_ref_base.specs.Targets.{target_value};
 ghost use Rattle.gix_ref_base.specs.Targets.TargetValue.{object_id, symbolic_name};
 ghost use Rattle.gix_ref_lookup.specs.StoreLayout.{namespace_text};
-ghost use Rattle.gix_ref_store.specs.Store.{files_of, meaning_of};
+ghost use Rattle.gix_ref_store.specs.Store.{files_of};
 ghost use Rattle.gix_ref_store.specs.Listings.{AreHeldFor};
 ghost use Rattle.gix_ref_store.specs.Lookup.{LooksUp};
-ghost use Rattle.gix_ref_store.specs.Prepared.{tree_of, HasGoodRecords};
+ghost use Rattle.gix_ref_store.specs.Prepared.{tree_of};
 ghost use Rattle.gix_ref_files.specs.Calls.{Unchanged};
 ghost use Rattle.gix_ref_files.specs.Files.{Leaves};
 ghost use Rattle.gix_ref_packed.specs.OpenFiles.{HasReadFault};
@@ -28,6 +28,7 @@ use gix_ref_base::target::Target;
 use gix_ref_edits::transaction::{Change, LogChange, PreviousValue, RefEdit, RefLog};
 use gix_ref_files::files::Files;
 use gix_ref_hash::hash::{Kind, ObjectId};
+use gix_ref_log::actor::SignatureRef;
 use gix_ref_name::name::{FullName, FullNameRef, PartialNameRef};
 use gix_ref_name::namespace::{Namespace, expand};
 use gix_ref_packed::packed::Buffer;
@@ -220,15 +221,15 @@ fn make_update<F: Files>(
     alloc: Global,
     store: &mut Store<F>,
     packed_refs: PackedRefs,
+    committer: Option<SignatureRef<'_>>,
     edit: RefEdit,
 ) -> (PackedRefs, Outcome)
-    requires quiet { store.old.write_reflog ≡ WriteReflog.Disable }
-    requires no_deref { edit.deref ≡ false }
     ensures packed_refs { result.0 ≡ packed_refs }
-    ensures outcome { EditOutcome F.honest F.means F.faults (HasReadFault F.Reader.faults) store.old store.new edit result.1 }
+    ensures outcome { EditOutcome F.honest F.means F.faults (HasReadFault F.Reader.faults) store.old
+        store.new committer.entry edit result.1 }
     ensures leaves { F.honest → Leaves (F.means (files_of store.old)) (F.means (files_of store.new))
-        (λ T. (T ≡ tree_of F.means store.old) ⊎ IsStopOf (HasGoodRecords F.means store.old) (meaning_of store.old) (edit ∷ [])
-        (tree_of F.means store.old) T) }
+        (λ T. (T ≡ tree_of F.means store.old) ⊎ IsStopOf F.honest F.means F.faults store.old
+        committer.entry (edit ∷ []) T) }
 {
     let Ok(edits) = one_edit(alloc, edit) else {
         return (packed_refs, refused(alloc, Refusal::Memory));
@@ -237,7 +238,7 @@ fn make_update<F: Files>(
         error,
         packed_refs,
         locks_left,
-    } = update(alloc, store, packed_refs, edits);
+    } = update(alloc, store, packed_refs, committer, edits);
     let outcome = match error {
         None => Outcome::Updated { locks_left },
         Some(error) => Outcome::Refused {
@@ -346,8 +347,6 @@ fn print_update<F: Files, W: Write>(
     edit: Result<RefEdit, Refusal>,
     out: &mut W,
 ) -> (PackedRefs, io::Result<u8>)
-    requires quiet { store.old.write_reflog ≡ WriteReflog.Disable }
-    requires direct { IfOk edit (λ e. e.deref ≡ false) }
     ensures packed_refs { result.0 ≡ packed_refs }
     ensures prints { (kind : Kind) (asked : Asked) →
         MatchResult edit (IsAskedFor kind asked) (NoEdit asked) →
@@ -360,7 +359,7 @@ fn print_update<F: Files, W: Write>(
 {
     match edit {
         Ok(edit) => {
-            let (packed_refs, outcome) = make_update(alloc, store, packed_refs, edit);
+            let (packed_refs, outcome) = make_update(alloc, store, packed_refs, None, edit);
             (packed_refs, print(alloc, outcome, out))
         }
         Err(refusal) => (packed_refs, print(alloc, refused(alloc, refusal), out)),
@@ -375,7 +374,6 @@ fn execute<F: Files, W: Write>(
     line: &Line<'_>,
     out: &mut W,
 ) -> (PackedRefs, io::Result<u8>)
-    requires quiet { store.old.write_reflog ≡ WriteReflog.Disable }
     ensures packed_refs { result.0 ≡ packed_refs }
     ensures prints { Prints (CommandRan F.honest F.means F.faults F.Reader.ReadAt store.old
         store.new line.now.object_hash (line_of line.now).asked)

@@ -3,18 +3,16 @@ ghost use Rattle.std.specs.Prelude.{◌≡◌, None, IfSome};
 ghost use Rattle.gix_ref_files.specs.Files.{Leaves, Loses};
 ghost use Rattle.gix_ref_packed.specs.OpenFiles.{HasReadFault};
 ghost use Rattle.gix_ref_transaction.specs.OwnLocks.{paths_of};
-ghost use Rattle.gix_ref_transaction.specs.CommittedEdits.{AreCommitted};
 ghost use Rattle.gix_ref_store.specs.CommitResult.{left_of, mode_of};
-ghost use Rattle.gix_ref_transaction.specs.Splits.{AreDirect};
-ghost use Rattle.gix_ref_store.specs.Prepared.{tree_of, HasGoodRecords, IsAtRest};
-ghost use Rattle.gix_ref_store.specs.Store.{files_of, meaning_of, IsSameStore};
-ghost use Rattle.gix_ref_program.specs.Updates.{IsStopOf, IsLossOf, IsUpdateError, AreNamed, error_of};
+ghost use Rattle.gix_ref_store.specs.Prepared.{HasGoodRecords, IsAtRest};
+ghost use Rattle.gix_ref_store.specs.Store.{files_of, IsSameStore};
+ghost use Rattle.gix_ref_program.specs.Updates.{IsMade, IsStopOf, IsLossOf, IsUpdateError, error_of};
 
 use gix_ref_edits::transaction::RefEdit;
 use gix_ref_files::files::Files;
+use gix_ref_log::actor::SignatureRef;
 use gix_ref_store::file::Store;
 use gix_ref_store::file::transaction::{Done, Failed, PackedRefs, Refused, commit, prepare};
-use gix_ref_store::store::WriteReflog;
 use std::alloc::Global;
 
 /// Why an update was not made.
@@ -37,34 +35,32 @@ pub struct UpdateReport {
     pub locks_left: Vec<Vec<u8>>,
 }
 
-/// Prepares updates and deletions that follow no symbolic reference, and commits them in their order. The store writes no log line.
+/// Prepares edits, and commits them in their order, with the log lines that are due.
 ///
 /// The result says why they were not made: the first cause against them, or what stopped their commit. Each lock that could
 /// not be removed is named. Costs what `prepare` and `commit` do: three calls of files for `packed-refs` and its lock, or four where
 /// it exists; five for a reference that changes, the sync of its lock, and one sync for each folder from that of its file up to
-/// the git folder.
+/// the git folder; and for a log line three, its sync, and that of the folders of the log.
 /// (`git update-ref`)
 pub fn update<F: Files>(
     alloc: Global,
     store: &mut Store<F>,
     packed_refs: PackedRefs,
+    committer: Option<SignatureRef<'_>>,
     edits: Vec<RefEdit>,
 ) -> UpdateReport
-    requires direct { AreDirect edits.items }
-    requires quiet { store.old.write_reflog ≡ WriteReflog.Disable }
-    ensures done { F.honest → HasGoodRecords F.means store.old → result.error ≡ None → AreCommitted (meaning_of store.old)
-        edits.items
-        (tree_of F.means store.old) (paths_of result.locks_left.items) (tree_of F.means store.new) }
-    ensures error { IfSome result.error (λ error. IsUpdateError F.honest F.means F.faults (HasReadFault F.Reader.faults) store.old
-        store.new edits.items error (paths_of result.locks_left.items)) }
+    ensures done { result.error ≡ None → IsMade F.honest F.means F.faults store.old store.new
+        committer.entry edits.items (paths_of result.locks_left.items) }
+    ensures error { IfSome result.error (λ error. IsUpdateError F.honest F.means F.faults
+        (HasReadFault F.Reader.faults) store.old store.new committer.entry edits.items error
+        (paths_of result.locks_left.items)) }
     ensures leaves { F.honest → Leaves (F.means (files_of store.old)) (F.means (files_of store.new))
-        (IsStopOf (HasGoodRecords F.means store.old) (meaning_of store.old) edits.items (tree_of F.means store.old)) }
-    ensures lost { F.honest → HasGoodRecords F.means store.old → IsAtRest F.means store.old → Loses (F.means (files_of store.old))
-        (F.means (files_of store.new)) (IsLossOf F.means store.old edits.items) }
+        (IsStopOf F.honest F.means F.faults store.old committer.entry edits.items) }
+    ensures lost { F.honest → HasGoodRecords F.means store.old → IsAtRest F.means store.old →
+        Loses (F.means (files_of store.old)) (F.means (files_of store.new))
+        (IsLossOf F.honest F.means F.faults store.old committer.entry edits.items) }
     ensures settled { F.honest → result.error ≡ None → IsAtRest F.means store.old →
         IsAtRest F.means store.new }
-    ensures named { AreNamed F.honest F.means F.faults store.old store.new edits.items
-        (paths_of result.locks_left.items) }
     ensures packed_refs { result.packed_refs ≡ packed_refs }
     ensures same { IsSameStore store.old store.new }
 {
@@ -85,7 +81,7 @@ pub fn update<F: Files>(
                 locks_left,
             }
         }
-        Ok(prepared) => report_of_commit(prepared.commit(alloc, None)),
+        Ok(prepared) => report_of_commit(prepared.commit(alloc, committer)),
     }
 }
 

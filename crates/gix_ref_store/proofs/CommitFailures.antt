@@ -1,8 +1,11 @@
 -- Why a commit failed, by what it could not decide or by the step at which it ended.
-use Rattle.std.proofs.Common.{◌≡◌, ◌≢◌, inl, inr, ⊎_elim, ◌⊎◌, ℕ, ◌<◌, ◌≤◌, List, [], ◌∷◌, ◌++◌, Bool, true, false, Option, Some, None, map, refl, sym, ◌∙◌, ap, subst, length, arith, get_or}
+use Rattle.std.proofs.Common.{◌≡◌, ◌≢◌, inl, inr, ⊎_elim, ◌⊎◌, ℕ, zero, suc, ◌<◌, ◌≤◌, List, [], ◌∷◌, ◌++◌, Bool, true, false, Option, Some, None, map, refl, sym, ◌∙◌, ap, subst, length, arith, get_or}
 use Rattle.std.specs.Prelude.{bytes_eq, if◌then◌else◌}
 use Rattle.std.proofs.lemmas.List.{length-map}
-use Rattle.gix_ref_files.specs.Files.{Meaning, HasRisen}
+use Rattle.gix_ref_files.specs.DiskCalls.{Untouched}
+use Rattle.gix_ref_files.specs.Files.{Meaning, HasRisen, Passes, disk_of}
+use Rattle.gix_ref_files.proofs.Moments.{passes_joins, passes_weaken}
+use Rattle.gix_ref_theory.specs.OnDisks.{IsAsBefore}
 use Rattle.gix_ref_files.specs.Lock.{lock_of}
 use Rattle.gix_ref_files.specs.Tree.{Tree, Path, Content, is_file, is_folder, put}
 use Rattle.gix_ref_files.specs.Tree.Content.{File, Folder}
@@ -13,8 +16,23 @@ use Rattle.gix_ref_files.proofs.Puts.{put_other}
 use Rattle.gix_ref_lookup.specs.declared.folders.Dirs.{Dirs}
 use Rattle.gix_ref_rewrite.specs.declared.outcome.Rewrite.{Rewrite}
 use Rattle.gix_ref_edits.specs.declared.transaction.RefEdit.{RefEdit}
-use Rattle.gix_ref_transaction.specs.CommitRenames.{place_at}
-use Rattle.gix_ref_transaction.specs.OwnLocks.{is_in, RemovesLocks}
+use Rattle.gix_ref_transaction.specs.CommitRenames.{log_at, path_in, place_at}
+use Rattle.gix_ref_transaction.specs.CarriedEdits.{change_of}
+use Rattle.gix_ref_transaction.specs.declared.edit.LogEffect.{LogEffect}
+use Rattle.gix_ref_transaction.specs.declared.edit.LogEffect.TheVariants as log_effects
+use Rattle.gix_ref_edits.specs.RefEdits.{name_of}
+use Rattle.gix_ref_files.specs.Disk.{folder_of}
+use Rattle.gix_ref_theory.specs.Edits as plan
+use Rattle.gix_ref_theory.specs.Readings as readings
+use Rattle.gix_ref_log.specs.declared.actor.SignatureRef.{SignatureRef}
+use Rattle.gix_ref_lines.specs.AskedEdits.{all_but_logs, asked, but_log, outcomes_of}
+use Rattle.gix_ref_lines.specs.DueLines.{log_outcomes}
+use Rattle.gix_ref_lines.specs.LineCauses.{IsCountedError, IsRefusal, IsCounted as IsLineCounted}
+use Rattle.gix_ref_lines.specs.declared.create_or_update.Error.{Error as LogError}
+use Rattle.gix_ref_lines.specs.declared.create_or_update.Error.TheVariants.{CreateLeadingDirectories, Append, MessageWithNewlines, MissingCommitter, SignatureUnwritable}
+use Rattle.gix_ref_lines.specs.declared.error.Error.{Error as LinesError}
+use Rattle.gix_ref_lines.specs.declared.error.Error.TheVariants as lines
+use Rattle.gix_ref_transaction.specs.OwnLocks.{is_in, OnlyLocks, RemovesLocks}
 use Rattle.gix_ref_transaction.specs.PrepareSteps.{held_locks, lock_paths, packed_places, updates, IsPackedPlace}
 use Rattle.gix_ref_transaction.specs.declared.edit.Edit.{Edit}
 use Rattle.gix_ref_transaction.proofs.Adds.{any_cases, any_left, any_right, clash, in_here}
@@ -30,19 +48,21 @@ use Rattle.gix_ref_transaction.specs.CommittedEdits.{planned}
 use Rattle.gix_ref_transaction.specs.PackedCauses.{ids_among}
 use Rattle.gix_ref_repack.specs.Refusals.{IsCounted, IsIoOrMemory, IsRefused}
 use Rattle.gix_ref_repack.specs.Repacks.{IsRepack}
-use Rattle.gix_ref_commit.specs.Failures.{AllOfEdits, IsNameAt, SaysFault, SaysWhy, of_repack, path_told}
-use Rattle.gix_ref_commit.specs.LogEffects.{AreLogsOf, all_but_logs, but_log}
+use Rattle.gix_ref_commit.specs.Failures.{AllOfEdits, IsNameAt, SaysFault, SaysFile, SaysInWay, SaysLogFault, SaysWhy, of_lines, of_repack}
+use Rattle.gix_ref_commit.specs.LogEffects.{AreLogsOf, IsLogOf}
 use Rattle.gix_ref_commit.specs.Unfinished.{EndsAtStep, EndsIn, IsRaised}
 use Rattle.gix_ref_commit.specs.declared.error.Error.{Error}
-use Rattle.gix_ref_commit.specs.declared.error.Error.TheVariants.{PackedTransactionCommit, LockCommit, DeleteReference, DeleteReflog, FolderInPlace, Memory}
+use Rattle.gix_ref_commit.specs.declared.error.Error.TheVariants.{CreateOrUpdateRefLog, PackedTransactionCommit, LockCommit, DeleteReference, DeleteReflog, FolderInPlace, Memory}
 use Rattle.gix_ref_commit.specs.declared.plan.About.{About}
-use Rattle.gix_ref_commit.specs.declared.plan.About.TheVariants.{Line, Rename, LogRemoval, Packed, Removal}
+use Rattle.gix_ref_commit.specs.declared.plan.About.TheVariants.{Folders, Line, Rename, LogRemoval, Packed, Removal}
 use Rattle.gix_ref_commit.specs.declared.run.Unfinished.{Unfinished}
 use Rattle.gix_ref_commit.specs.declared.run.Unfinished.TheVariants.{Memory as no_memory, Step as AtStep}
 use Rattle.gix_ref_commit.proofs.Alike.{ids_alike, locks_alike, places_alike, updates_alike}
-use Rattle.gix_ref_commit.proofs.Endings.{IsNoLine, MeetsAt, meets, never_asked, no_line}
-use Rattle.gix_ref_commit.proofs.Shapes.{AllShaped, all_shaped, names_edit, shape_at}
-use Rattle.gix_ref_store.specs.CommitResult.{ChangesLocks, FailsAt, FailsFor, IsFault, IsOfBadLine, IsPackedEmpty, MeetsFolder, OnlyItsLocks, RepacksFrom, StopsAt}
+use Rattle.gix_ref_commit.proofs.Endings.{MeetsAt, meets, never_asked}
+use Rattle.gix_ref_commit.proofs.Outcomes.{logs_are}
+use Rattle.gix_ref_commit.proofs.Shapes.{AllShaped, HasLine, HasShape, all_shaped, names_edit, shape_at}
+use Rattle.gix_ref_store.specs.CommitResult.{ChangesLocks, EndsAtLog, FailsAt, FailsFor, FailsForLog, RefusesLine, IsFault, IsOfBadLine, IsPackedEmpty, MeetsFolder, OnlyItsLocks, RepacksFrom, StopsAt}
+use Rattle.gix_ref_store.specs.CommitLines.{line_rules, log_path_at}
 use Rattle.gix_ref_store.specs.Decisions.{IsUndecided}
 use Rattle.gix_ref_store.specs.Prepared.{tree_of}
 use Rattle.gix_ref_store.specs.Store.{files_of, kind_of, meaning_of}
@@ -62,16 +82,50 @@ pub risen_wider : (a b c d : ℕ) → a ≤ b → c ≤ d → HasRisen b c → H
 risen_wider a b c d lower upper (inl more) = inl (omega (arith, lower, upper, more))
 risen_wider a b c d lower upper (inr full) = inr (omega (arith, upper, full))
 
+-- and so of a fault at `packed-refs`
+pub counted_from : (a b c : ℕ) (error : RepackError) → a ≤ b → IsCounted b c error → IsCounted a c error
+counted_from a b c (repack.Io fault) le is = (risen_wider a b c c le (omega arith) is.0, is.1)
+counted_from a b c (repack.Iteration line) le is = tt
+counted_from a b c repack.Memory le is = tt
+counted_from a b c (repack.Commit error) le is = is
+
+-- a call that touches nothing, and then others that take locks alone
+pub only_after : (locks : List Path) (old mid new : Meaning) → Passes old mid (Untouched (disk_of old)) → OnlyLocks locks mid new → OnlyLocks locks old new
+only_after locks old mid new passes only locked staying first own here =
+    let early = passes_weaken passes (λ E same. subst (IsAsBefore locked staying first) (sym same) here) in
+    passes_joins early (only locked staying first own early.disk)
+
 -- An error that a decision returned, by what is said of that of `packed-refs`.
-pub undecided_by : {F : Type 0} (honest : Type 0) (means : F → Meaning) (faults : F → ℕ) (start new : Store F) (held ran : List Edit) (error : RepackError) → all_but_logs ran ≡ all_but_logs held →
+pub undecided_by : {F : Type 0} (honest : Type 0) (means : F → Meaning) (faults : F → ℕ) (start new : Store F) (committer : Option SignatureRef) (held ran : List Edit) (error : RepackError) → all_but_logs ran ≡ all_but_logs held →
     IsCounted (faults (files_of start)) (faults (files_of new)) error → (honest → IsRefused (kind_of start) (tree_of means start (meaning_of start).packed_path) error) →
     (honest → AreEdits (meaning_of start) (planned (updates ran)) → (rs : List Record) → ArePackedRecords (kind_of start) (view_of (tree_of means start) (meaning_of start).packed_path) rs → IsIoOrMemory error) →
-    IsUndecided honest means faults start new held (of_repack error)
-undecided_by honest means faults start new held ran (repack.Io error) alike counted refused sound = counted
-undecided_by honest means faults start new held ran (repack.Iteration line) alike counted refused sound =
+    IsUndecided honest means faults start new committer held (of_repack error)
+undecided_by honest means faults start new committer held ran (repack.Io error) alike counted refused sound = counted
+undecided_by honest means faults start new committer held ran (repack.Iteration line) alike counted refused sound =
     (refused, λ h apart rs are. sound h (subst (λ (l : List RefEdit). AreEdits (meaning_of start) (planned l)) (sym (updates_alike ran held alike)) apart) rs are)
-undecided_by honest means faults start new held ran repack.Memory alike counted refused sound = tt
-undecided_by honest means faults start new held ran (repack.Commit error) alike counted refused sound = counted
+undecided_by honest means faults start new committer held ran repack.Memory alike counted refused sound = tt
+undecided_by honest means faults start new committer held ran (repack.Commit error) alike counted refused sound = counted
+
+-- An error that a decision returned, by what is said of the lines.
+pub unlogged_by : {F : Type 0} (honest : Type 0) (means : F → Meaning) (faults : F → ℕ) (start new : Store F) (committer : Option SignatureRef) (held : List Edit) (error : LinesError) →
+    (honest → IsRefusal (line_rules start committer) (view_of (tree_of means start)) (asked held) error) → IsLineCounted (faults (files_of start)) (faults (files_of new)) error →
+    IsUndecided honest means faults start new committer held (of_lines error)
+unlogged_by honest means faults start new committer held (lines.CreateOrUpdateRefLog error) refused counted = (refused, counted)
+unlogged_by honest means faults start new committer held lines.Memory refused counted = tt
+
+-- the log to which a line is added is that of its edit
+log_path_is : (s : readings.Store) (held ran : List Edit) → AreLogsOf s (updates held) ran → (at : ℕ) → HasLine (log_at ran at) → path_in (log_at ran at) ≡ get_or (map (λ (e : Edit). s.log (name_of e.update)) held) at []
+log_path_is s held [] are zero has = absurd has
+log_path_is s held [] are (suc at) has = absurd has
+log_path_is s [] (p ∷ ran) are at has = absurd are
+log_path_is s (e ∷ held) (p ∷ ran) are zero has = by (change_of e.update.change) p.log are.0 has
+  where
+    by : (c : plan.Change) (l : LogEffect) → IsLogOf (s.log (name_of e.update)) c l → HasLine l → path_in l ≡ s.log (name_of e.update)
+    by (plan.Change.Update target) (log_effects.Append log line) is has = is
+    by plan.Change.Delete (log_effects.Append log line) is has = absurd is
+    by c log_effects.Keep is has = absurd has
+    by c (log_effects.Remove log) is has = absurd has
+log_path_is s (e ∷ held) (p ∷ ran) are (suc at) has = log_path_is s held ran are.1 at has
 
 -- What was decided of `packed-refs` by the edits whose logs were decided before is what becomes of it by those that were given.
 pub repacked_by : {F : Type 0} (honest : Type 0) (means : F → Meaning) (faults : F → ℕ) (start : Store F) (packed : Option Path) (held ran : List Edit) (rewrite : Rewrite) → all_but_logs ran ≡ all_but_logs held →
@@ -81,53 +135,74 @@ repacked_by honest means faults start packed held ran rewrite alike repacks h ap
     (repacks h (subst (λ (l : List RefEdit). AreEdits (meaning_of start) (planned l)) (sym (updates_alike ran held alike)) apart) rs are
     (ids_alike ran held alike ∙ (ids ∙ ap (ids_among (meaning_of start) rs) (sym (updates_alike ran held alike)))) some)
 
+-- what is in the way of a step is no fault of `packed-refs`
+none_in_way : (place log packed : Path) (a : About) (error : RepackError) → SaysInWay place log packed a (PackedTransactionCommit error) → ⊥
+none_in_way place log packed (Folders at) error says = says
+none_in_way place log packed (Line at) error says = says
+none_in_way place log packed (Rename at) error says = says
+none_in_way place log packed (LogRemoval at) error says = says
+none_in_way place log packed Packed error says = says
+none_in_way place log packed (Removal at) error says = says
+
 -- an error of a step is of no line of `packed-refs`
-pub of_no_line : (edits : List RefEdit) (place packed : Path) (u : Unfinished) (error : Error) → SaysWhy edits place packed u error → IsOfBadLine error → ⊥
-of_no_line edits place packed no_memory (PackedTransactionCommit (repack.Iteration line)) says bad = says
-of_no_line edits place packed (AtStep about Unexpected) (PackedTransactionCommit (repack.Iteration line)) says bad = says
-of_no_line edits place packed (AtStep about Asked) (PackedTransactionCommit (repack.Iteration line)) says bad = says
-of_no_line edits place packed (AtStep Packed (Fault fault)) (PackedTransactionCommit (repack.Iteration line)) says bad = differ says
+pub of_no_line : (edits : List RefEdit) (place log packed : Path) (u : Unfinished) (error : Error) → SaysWhy edits place log packed u error → IsOfBadLine error → ⊥
+of_no_line edits place log packed no_memory (PackedTransactionCommit (repack.Iteration line)) says bad = says
+of_no_line edits place log packed (AtStep about Unexpected) (PackedTransactionCommit (repack.Iteration line)) says bad = none_in_way place log packed about (repack.Iteration line) says
+of_no_line edits place log packed (AtStep about Asked) (PackedTransactionCommit (repack.Iteration line)) says bad = none_in_way place log packed about (repack.Iteration line) says
+of_no_line edits place log packed (AtStep Packed (Fault fault)) (PackedTransactionCommit (repack.Iteration line)) says bad = differ says
   where
     differ : repack.Iteration line ≡ repack.Io fault → ⊥
     differ e = cc
-of_no_line edits place packed (AtStep (Line at) (Fault fault)) (PackedTransactionCommit (repack.Iteration line)) says bad = says
-of_no_line edits place packed (AtStep (Rename at) (Fault fault)) (PackedTransactionCommit (repack.Iteration line)) says bad = says
-of_no_line edits place packed (AtStep (LogRemoval at) (Fault fault)) (PackedTransactionCommit (repack.Iteration line)) says bad = says
-of_no_line edits place packed (AtStep (Removal at) (Fault fault)) (PackedTransactionCommit (repack.Iteration line)) says bad = says
-of_no_line edits place packed u (PackedTransactionCommit (repack.Commit error)) says bad = bad
-of_no_line edits place packed u (PackedTransactionCommit (repack.Io error)) says bad = bad
-of_no_line edits place packed u (PackedTransactionCommit repack.Memory) says bad = bad
-of_no_line edits place packed u (LockCommit source name) says bad = bad
-of_no_line edits place packed u (DeleteReference name source) says bad = bad
-of_no_line edits place packed u (DeleteReflog name source) says bad = bad
-of_no_line edits place packed u (FolderInPlace path) says bad = bad
-of_no_line edits place packed u Memory says bad = bad
+of_no_line edits place log packed (AtStep (Folders at) (Fault fault)) (PackedTransactionCommit (repack.Iteration line)) says bad = says
+of_no_line edits place log packed (AtStep (Line at) (Fault fault)) (PackedTransactionCommit (repack.Iteration line)) says bad = says
+of_no_line edits place log packed (AtStep (Rename at) (Fault fault)) (PackedTransactionCommit (repack.Iteration line)) says bad = says
+of_no_line edits place log packed (AtStep (LogRemoval at) (Fault fault)) (PackedTransactionCommit (repack.Iteration line)) says bad = says
+of_no_line edits place log packed (AtStep (Removal at) (Fault fault)) (PackedTransactionCommit (repack.Iteration line)) says bad = says
+of_no_line edits place log packed u (PackedTransactionCommit (repack.Commit error)) says bad = bad
+of_no_line edits place log packed u (PackedTransactionCommit (repack.Io error)) says bad = bad
+of_no_line edits place log packed u (PackedTransactionCommit repack.Memory) says bad = bad
+of_no_line edits place log packed u (CreateOrUpdateRefLog error) says bad = bad
+of_no_line edits place log packed u (LockCommit source name) says bad = bad
+of_no_line edits place log packed u (DeleteReference name source) says bad = bad
+of_no_line edits place log packed u (DeleteReflog name source) says bad = bad
+of_no_line edits place log packed u (FolderInPlace path) says bad = bad
+of_no_line edits place log packed u Memory says bad = bad
 
 -- what was counted is counted afterwards too
-pub undecided_wider : {F : Type 0} (honest : Type 0) (means : F → Meaning) (faults : F → ℕ) (start mid new : Store F) (held : List Edit) (error : Error) → faults (files_of mid) ≤ faults (files_of new) →
-    IsUndecided honest means faults start mid held error → IsUndecided honest means faults start new held error
-undecided_wider honest means faults start mid new held (PackedTransactionCommit (repack.Io fault)) le is = (risen_wider _ _ _ _ (omega arith) le is.0, is.1)
-undecided_wider honest means faults start mid new held (PackedTransactionCommit (repack.Iteration line)) le is = is
-undecided_wider honest means faults start mid new held Memory le is = is
-undecided_wider honest means faults start mid new held (PackedTransactionCommit (repack.Commit error)) le is = is
-undecided_wider honest means faults start mid new held (PackedTransactionCommit repack.Memory) le is = is
-undecided_wider honest means faults start mid new held (LockCommit source name) le is = is
-undecided_wider honest means faults start mid new held (DeleteReference name source) le is = is
-undecided_wider honest means faults start mid new held (DeleteReflog name source) le is = is
-undecided_wider honest means faults start mid new held (FolderInPlace path) le is = is
+log_wider : (a b c : ℕ) (error : LogError) → b ≤ c → IsCountedError a b error → IsCountedError a c error
+log_wider a b c (CreateLeadingDirectories (Some fault) folder) le is = (risen_wider _ _ _ _ (omega arith) le is.0, is.1)
+log_wider a b c (CreateLeadingDirectories None folder) le is = tt
+log_wider a b c (Append source path) le is = is
+log_wider a b c MessageWithNewlines le is = tt
+log_wider a b c MissingCommitter le is = tt
+log_wider a b c SignatureUnwritable le is = tt
+
+pub undecided_wider : {F : Type 0} (honest : Type 0) (means : F → Meaning) (faults : F → ℕ) (start mid new : Store F) (committer : Option SignatureRef) (held : List Edit) (error : Error) → faults (files_of mid) ≤ faults (files_of new) →
+    IsUndecided honest means faults start mid committer held error → IsUndecided honest means faults start new committer held error
+undecided_wider honest means faults start mid new committer held (CreateOrUpdateRefLog error) le is = (is.0, log_wider _ _ _ error le is.1)
+undecided_wider honest means faults start mid new committer held (PackedTransactionCommit (repack.Io fault)) le is = (risen_wider _ _ _ _ (omega arith) le is.0, is.1)
+undecided_wider honest means faults start mid new committer held (PackedTransactionCommit (repack.Iteration line)) le is = is
+undecided_wider honest means faults start mid new committer held (PackedTransactionCommit (repack.Commit error)) le is = is
+undecided_wider honest means faults start mid new committer held (PackedTransactionCommit repack.Memory) le is = is
+undecided_wider honest means faults start mid new committer held (LockCommit source name) le is = is
+undecided_wider honest means faults start mid new committer held (DeleteReference name source) le is = is
+undecided_wider honest means faults start mid new committer held (DeleteReflog name source) le is = is
+undecided_wider honest means faults start mid new committer held (FolderInPlace path) le is = is
+undecided_wider honest means faults start mid new committer held Memory le is = is
 
 -- a bad line is never the cause where `packed-refs` is well formed
-pub never_bad : {F : Type 0} (honest : Type 0) (means : F → Meaning) (faults : F → ℕ) (start mid : Store F) (held : List Edit) (error : Error) → IsUndecided honest means faults start mid held error → IsOfBadLine error → honest →
+pub never_bad : {F : Type 0} (honest : Type 0) (means : F → Meaning) (faults : F → ℕ) (start mid : Store F) (committer : Option SignatureRef) (held : List Edit) (error : Error) → IsUndecided honest means faults start mid committer held error → IsOfBadLine error → honest →
     AreEdits (meaning_of start) (planned (updates held)) → (rs : List Record) → ArePackedRecords (kind_of start) (view_of (tree_of means start) (meaning_of start).packed_path) rs → ⊥
-never_bad honest means faults start mid held (PackedTransactionCommit (repack.Iteration line)) is bad h apart rs are = is.1 h apart rs are
-never_bad honest means faults start mid held (PackedTransactionCommit (repack.Io fault)) is bad h apart rs are = bad
-never_bad honest means faults start mid held (PackedTransactionCommit (repack.Commit error)) is bad h apart rs are = bad
-never_bad honest means faults start mid held (PackedTransactionCommit repack.Memory) is bad h apart rs are = bad
-never_bad honest means faults start mid held Memory is bad h apart rs are = bad
-never_bad honest means faults start mid held (LockCommit source name) is bad h apart rs are = bad
-never_bad honest means faults start mid held (DeleteReference name source) is bad h apart rs are = bad
-never_bad honest means faults start mid held (DeleteReflog name source) is bad h apart rs are = bad
-never_bad honest means faults start mid held (FolderInPlace path) is bad h apart rs are = bad
+never_bad honest means faults start mid committer held (PackedTransactionCommit (repack.Iteration line)) is bad h apart rs are = is.1 h apart rs are
+never_bad honest means faults start mid committer held (PackedTransactionCommit (repack.Io fault)) is bad h apart rs are = bad
+never_bad honest means faults start mid committer held (PackedTransactionCommit (repack.Commit error)) is bad h apart rs are = bad
+never_bad honest means faults start mid committer held (PackedTransactionCommit repack.Memory) is bad h apart rs are = bad
+never_bad honest means faults start mid committer held Memory is bad h apart rs are = bad
+never_bad honest means faults start mid committer held (CreateOrUpdateRefLog error) is bad h apart rs are = bad
+never_bad honest means faults start mid committer held (LockCommit source name) is bad h apart rs are = bad
+never_bad honest means faults start mid committer held (DeleteReference name source) is bad h apart rs are = bad
+never_bad honest means faults start mid committer held (DeleteReflog name source) is bad h apart rs are = bad
+never_bad honest means faults start mid committer held (FolderInPlace path) is bad h apart rs are = bad
 
 -- the rise of a fault at a step, seen from around it
 pub raised_wider : (a b c d : ℕ) (u : Unfinished) → a ≤ b → c ≤ d → IsRaised b c u → IsRaised a d u
@@ -142,7 +217,7 @@ all_of_edits honest dirs ran packed rewrite S T no_memory e = tt
 all_of_edits honest dirs ran packed rewrite S T (AtStep a cause) e =
     names_edit ran packed a (bare e.step) (shape_at ran packed e.before (e.step, a) e.rest (subst (AllShaped ran packed) e.cut (all_shaped ran packed dirs rewrite)))
 
-module _ {F : Type 0} (honest : Type 0) (means : F → Meaning) (faults : F → ℕ) (start new : Store F) (packed : Option Path) (held ran : List Edit) (alike : all_but_logs ran ≡ all_but_logs held) where
+module _ {F : Type 0} (honest : Type 0) (means : F → Meaning) (faults : F → ℕ) (start new : Store F) (committer : Option SignatureRef) (packed : Option Path) (held ran : List Edit) (alike : all_but_logs ran ≡ all_but_logs held) where
   -- the locks that are released are some of those that are held
   pub ran_held : (renamed : Bool) (q : Path) → is_in (held_locks (if renamed then None else packed) ran) q ≡ true → is_in (held_locks packed held) q ≡ true
   ran_held renamed q within = ⊎_elim
@@ -173,7 +248,16 @@ module _ {F : Type 0} (honest : Type 0) (means : F → Meaning) (faults : F → 
           (subst (λ (p : Option Path). is_in (map lock_of (packed_places p)) q ≡ true) (sym is) (in_here (lock_of path) q [] same))) out)
 
   -- what could not be decided
-  pub undecided_fails : (error : Error) → IsUndecided honest means faults start new held error → OnlyItsLocks honest means faults start new packed held → FailsFor honest means faults start new packed held error
+  unlogged_fails : (error : LogError) → IsCountedError (faults (files_of start)) (faults (files_of new)) error → RefusesLine honest means faults start new committer packed held error → FailsForLog honest means faults start new committer packed held error
+  unlogged_fails (CreateLeadingDirectories None folder) counted refused = inl refused
+  unlogged_fails (CreateLeadingDirectories (Some fault) folder) counted refused = (counted, inl refused)
+  unlogged_fails (Append source path) counted refused = absurd counted
+  unlogged_fails MessageWithNewlines counted refused = refused
+  unlogged_fails MissingCommitter counted refused = refused
+  unlogged_fails SignatureUnwritable counted refused = refused
+
+  pub undecided_fails : (error : Error) → IsUndecided honest means faults start new committer held error → OnlyItsLocks honest means faults start new packed held → FailsFor honest means faults start new committer packed held error
+  undecided_fails (CreateOrUpdateRefLog error) is only = unlogged_fails error is.1 (is.0, only)
   undecided_fails (PackedTransactionCommit (repack.Io fault)) is only = (is, inl only)
   undecided_fails (PackedTransactionCommit (repack.Iteration line)) is only = (is.0, only)
   undecided_fails Memory is only = only
@@ -184,43 +268,95 @@ module _ {F : Type 0} (honest : Type 0) (means : F → Meaning) (faults : F → 
   undecided_fails (DeleteReflog name source) is only = absurd is
   undecided_fails (FolderInPlace path) is only = absurd is
 
-  faults_at : (a : About) (fault : FileError) (error : Error) → SaysFault (updates held) a fault error → IsFault honest means faults start new fault → IsNoLine a → IsOfEdit (length held) a → StopsAt honest means faults start new packed held a (Fault fault) →
-      FailsFor honest means faults start new packed held error
-  faults_at (Rename at) fault (PackedTransactionCommit error) is isf some within stop = absurd is
-  faults_at (Rename at) fault (LockCommit source name) is isf some within stop = subst (λ (f : FileError). FailsAt honest means faults start new packed held Rename f (λ k. IsNameAt (updates held) k name)) (sym is.0) (isf, (at, within, is.1, stop))
-  faults_at (Rename at) fault (DeleteReference name source) is isf some within stop = absurd is
-  faults_at (Rename at) fault (DeleteReflog name source) is isf some within stop = absurd is
-  faults_at (Rename at) fault (FolderInPlace path) is isf some within stop = absurd is
-  faults_at (Rename at) fault Memory is isf some within stop = absurd is
-  faults_at (LogRemoval at) fault (PackedTransactionCommit error) is isf some within stop = absurd is
-  faults_at (LogRemoval at) fault (LockCommit source name) is isf some within stop = absurd is
-  faults_at (LogRemoval at) fault (DeleteReference name source) is isf some within stop = absurd is
-  faults_at (LogRemoval at) fault (DeleteReflog name source) is isf some within stop = subst (λ (f : FileError). FailsAt honest means faults start new packed held LogRemoval f (λ k. IsNameAt (updates held) k name)) (sym is.0) (isf, (at, within, is.1, stop))
-  faults_at (LogRemoval at) fault (FolderInPlace path) is isf some within stop = absurd is
-  faults_at (LogRemoval at) fault Memory is isf some within stop = absurd is
-  faults_at Packed fault (PackedTransactionCommit error) is isf some within stop = subst (λ (e : RepackError). FailsFor honest means faults start new packed held (PackedTransactionCommit e)) (sym is) (isf, inr stop)
-  faults_at Packed fault (LockCommit source name) is isf some within stop = absurd is
-  faults_at Packed fault (DeleteReference name source) is isf some within stop = absurd is
-  faults_at Packed fault (DeleteReflog name source) is isf some within stop = absurd is
-  faults_at Packed fault (FolderInPlace path) is isf some within stop = absurd is
-  faults_at Packed fault Memory is isf some within stop = absurd is
-  faults_at (Removal at) fault (PackedTransactionCommit error) is isf some within stop = absurd is
-  faults_at (Removal at) fault (LockCommit source name) is isf some within stop = absurd is
-  faults_at (Removal at) fault (DeleteReference name source) is isf some within stop = subst (λ (f : FileError). FailsAt honest means faults start new packed held Removal f (λ k. IsNameAt (updates held) k name)) (sym is.0) (isf, (at, within, is.1, stop))
-  faults_at (Removal at) fault (DeleteReflog name source) is isf some within stop = absurd is
-  faults_at (Removal at) fault (FolderInPlace path) is isf some within stop = absurd is
-  faults_at (Removal at) fault Memory is isf some within stop = absurd is
-  faults_at (Line at) fault error is isf some within stop = absurd some
+  -- The log of the edit at which the run ended is at the path that is reported.
+  module _ (log : Path) where
+    abbrev IsLogAt : About → Type 0
+    IsLogAt (Folders at) = honest → log ≡ log_path_at start held at
+    IsLogAt (Line at) = honest → log ≡ log_path_at start held at
+    IsLogAt other = Unit {0}
+
+    log_fault : (about : ℕ → About) (at : ℕ) (fault source : FileError) → source ≡ fault → IsFault honest means faults start new fault → StopsAt honest means faults start new committer packed held (about at) (Fault fault) →
+        IsFault honest means faults start new source × StopsAt honest means faults start new committer packed held (about at) (Fault source)
+    log_fault about at fault source same isf stop =
+        (subst (IsFault honest means faults start new) (sym same) isf, subst (λ (f : FileError). StopsAt honest means faults start new committer packed held (about at) (Fault f)) (sym same) stop)
+
+    faults_at_log : (a : About) (fault : FileError) (error : LogError) → SaysLogFault a log fault error → IsFault honest means faults start new fault → IsLogAt a → IsOfEdit (length held) a →
+        StopsAt honest means faults start new committer packed held a (Fault fault) → FailsForLog honest means faults start new committer packed held error
+    faults_at_log (Folders at) fault (CreateLeadingDirectories (Some source) folder) (same, is) isf logged within stop =
+        let on = log_fault Folders at fault source same isf stop in (on.0, inr (at, within, (λ h. is ∙ ap folder_of (logged h)), on.1))
+    faults_at_log (Line at) fault (Append source path) (same, is) isf logged within stop =
+        let on = log_fault Line at fault source same isf stop in (on.0, (at, within, (λ h. is ∙ logged h), on.1))
+    faults_at_log (Folders at) fault (CreateLeadingDirectories None folder) is isf logged within stop = absurd is
+    faults_at_log (Folders at) fault (Append source path) is isf logged within stop = absurd is
+    faults_at_log (Folders at) fault MessageWithNewlines is isf logged within stop = absurd is
+    faults_at_log (Folders at) fault MissingCommitter is isf logged within stop = absurd is
+    faults_at_log (Folders at) fault SignatureUnwritable is isf logged within stop = absurd is
+    faults_at_log (Line at) fault (CreateLeadingDirectories source folder) is isf logged within stop = absurd is
+    faults_at_log (Line at) fault MessageWithNewlines is isf logged within stop = absurd is
+    faults_at_log (Line at) fault MissingCommitter is isf logged within stop = absurd is
+    faults_at_log (Line at) fault SignatureUnwritable is isf logged within stop = absurd is
+    faults_at_log (Rename at) fault error is isf logged within stop = absurd is
+    faults_at_log (LogRemoval at) fault error is isf logged within stop = absurd is
+    faults_at_log Packed fault error is isf logged within stop = absurd is
+    faults_at_log (Removal at) fault error is isf logged within stop = absurd is
+
+    faults_at : (a : About) (fault : FileError) (error : Error) → SaysFault (updates held) log a fault error → IsFault honest means faults start new fault → IsLogAt a → IsOfEdit (length held) a →
+        StopsAt honest means faults start new committer packed held a (Fault fault) → FailsFor honest means faults start new committer packed held error
+    faults_at (Folders at) fault (CreateOrUpdateRefLog error) is isf logged within stop = faults_at_log (Folders at) fault error is isf logged within stop
+    faults_at (Line at) fault (CreateOrUpdateRefLog error) is isf logged within stop = faults_at_log (Line at) fault error is isf logged within stop
+    faults_at (Rename at) fault (CreateOrUpdateRefLog error) is isf logged within stop = faults_at_log (Rename at) fault error is isf logged within stop
+    faults_at (LogRemoval at) fault (CreateOrUpdateRefLog error) is isf logged within stop = faults_at_log (LogRemoval at) fault error is isf logged within stop
+    faults_at Packed fault (CreateOrUpdateRefLog error) is isf logged within stop = faults_at_log Packed fault error is isf logged within stop
+    faults_at (Removal at) fault (CreateOrUpdateRefLog error) is isf logged within stop = faults_at_log (Removal at) fault error is isf logged within stop
+    faults_at (Folders at) fault (PackedTransactionCommit error) is isf logged within stop = absurd is
+    faults_at (Folders at) fault (LockCommit source name) is isf logged within stop = absurd is
+    faults_at (Folders at) fault (DeleteReference name source) is isf logged within stop = absurd is
+    faults_at (Folders at) fault (DeleteReflog name source) is isf logged within stop = absurd is
+    faults_at (Folders at) fault (FolderInPlace path) is isf logged within stop = absurd is
+    faults_at (Folders at) fault Memory is isf logged within stop = absurd is
+    faults_at (Line at) fault (PackedTransactionCommit error) is isf logged within stop = absurd is
+    faults_at (Line at) fault (LockCommit source name) is isf logged within stop = absurd is
+    faults_at (Line at) fault (DeleteReference name source) is isf logged within stop = absurd is
+    faults_at (Line at) fault (DeleteReflog name source) is isf logged within stop = absurd is
+    faults_at (Line at) fault (FolderInPlace path) is isf logged within stop = absurd is
+    faults_at (Line at) fault Memory is isf logged within stop = absurd is
+    faults_at (Rename at) fault (PackedTransactionCommit error) is isf logged within stop = absurd is
+    faults_at (Rename at) fault (LockCommit source name) is isf logged within stop = subst (λ (f : FileError). FailsAt honest means faults start new committer packed held Rename f (λ k. IsNameAt (updates held) k name)) (sym is.0) (isf, (at, within, is.1, stop))
+    faults_at (Rename at) fault (DeleteReference name source) is isf logged within stop = absurd is
+    faults_at (Rename at) fault (DeleteReflog name source) is isf logged within stop = absurd is
+    faults_at (Rename at) fault (FolderInPlace path) is isf logged within stop = absurd is
+    faults_at (Rename at) fault Memory is isf logged within stop = absurd is
+    faults_at (LogRemoval at) fault (PackedTransactionCommit error) is isf logged within stop = absurd is
+    faults_at (LogRemoval at) fault (LockCommit source name) is isf logged within stop = absurd is
+    faults_at (LogRemoval at) fault (DeleteReference name source) is isf logged within stop = absurd is
+    faults_at (LogRemoval at) fault (DeleteReflog name source) is isf logged within stop = subst (λ (f : FileError). FailsAt honest means faults start new committer packed held LogRemoval f (λ k. IsNameAt (updates held) k name)) (sym is.0) (isf, (at, within, is.1, stop))
+    faults_at (LogRemoval at) fault (FolderInPlace path) is isf logged within stop = absurd is
+    faults_at (LogRemoval at) fault Memory is isf logged within stop = absurd is
+    faults_at Packed fault (PackedTransactionCommit error) is isf logged within stop = subst (λ (e : RepackError). FailsFor honest means faults start new committer packed held (PackedTransactionCommit e)) (sym is) (isf, inr stop)
+    faults_at Packed fault (LockCommit source name) is isf logged within stop = absurd is
+    faults_at Packed fault (DeleteReference name source) is isf logged within stop = absurd is
+    faults_at Packed fault (DeleteReflog name source) is isf logged within stop = absurd is
+    faults_at Packed fault (FolderInPlace path) is isf logged within stop = absurd is
+    faults_at Packed fault Memory is isf logged within stop = absurd is
+    faults_at (Removal at) fault (PackedTransactionCommit error) is isf logged within stop = absurd is
+    faults_at (Removal at) fault (LockCommit source name) is isf logged within stop = absurd is
+    faults_at (Removal at) fault (DeleteReference name source) is isf logged within stop = subst (λ (f : FileError). FailsAt honest means faults start new committer packed held Removal f (λ k. IsNameAt (updates held) k name)) (sym is.0) (isf, (at, within, is.1, stop))
+    faults_at (Removal at) fault (DeleteReflog name source) is isf logged within stop = absurd is
+    faults_at (Removal at) fault (FolderInPlace path) is isf logged within stop = absurd is
+    faults_at (Removal at) fault Memory is isf logged within stop = absurd is
 
   -- The run of the steps ended early.
-  module _ (logs : AreLogsOf (meaning_of start) (updates held) ran) (rewrite : Rewrite) (repacked : RepacksFrom honest means faults start packed held rewrite) (filled mid : Tree)
+  module _ (outcomes : honest → outcomes_of ran ≡ log_outcomes (line_rules start committer) (view_of (tree_of means start)) (asked held)) (rewrite : Rewrite) (repacked : RepacksFrom honest means faults start packed held rewrite) (filled mid : Tree)
       (fills : honest → IsPackedEmpty honest means faults start packed → IsFilled packed rewrite (tree_of means start) filled)
       (removes : honest → RemovesLocks (held_locks packed held) mid (tree_of means new)) where
-    stops : (a : About) (cause : Cause) → EndsAtStep honest (planned_entries start.dirs ran packed rewrite) filled mid a cause → StopsAt honest means faults start new packed held a cause
+    abbrev Ends : About → Cause → Type 0
+    Ends a cause = EndsAtStep honest (planned_entries start.dirs ran packed rewrite) filled mid a cause
+
+    stops : (a : About) (cause : Cause) → Ends a cause → StopsAt honest means faults start new committer packed held a cause
     stops a cause ended = record {
       ran = ran;
       alike = alike;
-      logs = logs;
+      logs = outcomes;
       rewrite = rewrite;
       repacked = repacked;
       filled = filled;
@@ -230,85 +366,154 @@ module _ {F : Type 0} (honest : Type 0) (means : F → Meaning) (faults : F → 
       removes = removes;
     }
 
-    no_line_at : (a : About) (cause : Cause) → EndsAtStep honest (planned_entries start.dirs ran packed rewrite) filled mid a cause → IsNoLine a
-    no_line_at a cause e = no_line start.dirs (meaning_of start) (updates held) ran packed rewrite logs e.before (e.step, a) e.rest e.cut
-
     same_length : length ran ≡ length held
     same_length = omega (arith, length-map ran but_log, length-map held but_log, ap length alike)
 
-    edit_at : (a : About) (cause : Cause) → EndsAtStep honest (planned_entries start.dirs ran packed rewrite) filled mid a cause → IsOfEdit (length held) a
-    edit_at a cause e =
-        subst (λ n. IsOfEdit n a) same_length
-        (names_edit ran packed a (bare e.step) (shape_at ran packed e.before (e.step, a) e.rest (subst (AllShaped ran packed) e.cut (all_shaped ran packed start.dirs rewrite))))
+    shape : (a : About) (cause : Cause) (e : Ends a cause) → HasShape ran packed a (bare e.step)
+    shape a cause e = shape_at ran packed e.before (e.step, a) e.rest (subst (AllShaped ran packed) e.cut (all_shaped ran packed start.dirs rewrite))
 
-    folder_at : (a : About) → EndsAtStep honest (planned_entries start.dirs ran packed rewrite) filled mid a Unexpected → honest → MeetsAt ran packed a mid
-    folder_at a e h =
-        let at = e.ended h in
-        meets ran packed a (bare e.step) at.0 mid
-        (shape_at ran packed e.before (e.step, a) e.rest (subst (AllShaped ran packed) e.cut (all_shaped ran packed start.dirs rewrite)))
-        (no_line_at a Unexpected e) at.2
+    edit_at : (a : About) (cause : Cause) → Ends a cause → IsOfEdit (length held) a
+    edit_at a cause e = subst (λ n. IsOfEdit n a) same_length (names_edit ran packed a (bare e.step) (shape a cause e))
 
-    -- a folder that was met is at the path that is reported
-    met : (a : About) (place told path : Path) → EndsAtStep honest (planned_entries start.dirs ran packed rewrite) filled mid a Unexpected → honest → MeetsAt ran packed a mid → path ≡ path_told place told a →
-        (done_before (length ran) a < length ran → place ≡ place_at ran (done_before (length ran) a)) → (packed ≢ None → told ≡ (meaning_of start).packed_path) →
-        MeetsFolder honest means faults start new packed held path
-    met (Rename n) place told path ended h (lt, folder) is here at =
-        let e : path ≡ place_at ran n = is ∙ here lt in
-        inl (
-          n,
-          omega (arith, lt, same_length),
-          e ∙ ap (λ (l : List Path). get_or l n []) (places_alike ran held alike),
-          folder_stays (held_locks packed held) mid (tree_of means new) path (removes h) (ap (λ (p : Path). is_folder (mid p)) e ∙ folder),
-          stops (Rename n) Unexpected ended,
-        )
-    met Packed place told path ended h (p, some, folder) is here at =
-        let e : path ≡ (meaning_of start).packed_path = is ∙ at (λ none. differ (sym some ∙ none)) in
-        inr (
-          e,
-          (λ place_is.
-              folder_stays (held_locks packed held) mid (tree_of means new) path (removes h) (ap (λ (q : Path). is_folder (mid q)) (e ∙ by place_is) ∙ folder)),
-          stops Packed Unexpected ended,
-        )
-      where
-        differ : Some p ≡ None → ⊥
-        differ x = cc
+    -- no step asks for the end
+    never : (a : About) → Ends a Asked → honest → ⊥
+    never a e h = let at = e.ended h in never_asked ran packed a (bare e.step) at.0 mid (shape a Asked e) at.2
 
-        inner : {x y : Path} → Some x ≡ Some y → x ≡ y
-        inner x = cc
+    unasked : (a : About) → Ends a Asked → Ends a Unexpected
+    unasked a e = record { before = e.before; step = e.step; rest = e.rest; cut = e.cut; ended = λ h. absurd (never a e h) }
 
-        by : IsPackedPlace (meaning_of start) packed → (meaning_of start).packed_path ≡ p
-        by (inl none) = absurd (differ (sym some ∙ none))
-        by (inr same) = inner (sym same ∙ some)
-    met (Line n) place told path ended h meets' is here at = absurd meets'
-    met (LogRemoval n) place told path ended h meets' is here at = absurd meets'
-    met (Removal n) place told path ended h meets' is here at = absurd meets'
+    -- the path of a log to which a line is added
+    log_path : honest → (n : ℕ) → HasLine (log_at ran n) → path_in (log_at ran n) ≡ log_path_at start held n
+    log_path h n has = log_path_is (meaning_of start) held ran (logs_are (line_rules start committer) (view_of (tree_of means start)) 0 held ran (outcomes h)) n has
 
-    -- Why a commit failed, by where its steps ended.
-    pub run_fails : (u : Unfinished) (error : Error) (place told : Path) → EndsIn honest (planned_entries start.dirs ran packed rewrite) filled mid u → SaysWhy (updates held) place told u error →
-        IsRaised (faults (files_of start)) (faults (files_of new)) u → (u ≡ no_memory → OnlyItsLocks honest means faults start new packed held) →
-        (done_of (length ran) u < length ran → place ≡ place_at ran (done_of (length ran) u)) → (packed ≢ None → told ≡ (meaning_of start).packed_path) →
-        FailsFor honest means faults start new packed held error
-    run_fails no_memory Memory place told ended says raised only here at = only refl
-    run_fails (AtStep a (Fault fault)) error place told ended says raised only here at =
-        faults_at a fault error says raised (no_line_at a (Fault fault) ended) (edit_at a (Fault fault) ended) (stops a (Fault fault) ended)
-    run_fails (AtStep a Unexpected) (FolderInPlace path) place told ended says raised only here at = λ h. met a place told path.items ended h (folder_at a ended h) says here at
-    run_fails (AtStep a Asked) (FolderInPlace path) place told ended says raised only here at = λ h.
-        let e = ended.ended h in
-        absurd (never_asked ran packed a (bare ended.step) e.0 mid
-        (shape_at ran packed ended.before (ended.step, a) ended.rest (subst (AllShaped ran packed) ended.cut (all_shaped ran packed start.dirs rewrite)))
-        (no_line_at a Asked ended) e.2)
-    run_fails no_memory (PackedTransactionCommit error) place told ended says raised only here at = absurd says
-    run_fails no_memory (LockCommit source name) place told ended says raised only here at = absurd says
-    run_fails no_memory (DeleteReference name source) place told ended says raised only here at = absurd says
-    run_fails no_memory (DeleteReflog name source) place told ended says raised only here at = absurd says
-    run_fails no_memory (FolderInPlace path) place told ended says raised only here at = absurd says
-    run_fails (AtStep a Unexpected) (PackedTransactionCommit error) place told ended says raised only here at = absurd says
-    run_fails (AtStep a Unexpected) (LockCommit source name) place told ended says raised only here at = absurd says
-    run_fails (AtStep a Unexpected) (DeleteReference name source) place told ended says raised only here at = absurd says
-    run_fails (AtStep a Unexpected) (DeleteReflog name source) place told ended says raised only here at = absurd says
-    run_fails (AtStep a Unexpected) Memory place told ended says raised only here at = absurd says
-    run_fails (AtStep a Asked) (PackedTransactionCommit error) place told ended says raised only here at = absurd says
-    run_fails (AtStep a Asked) (LockCommit source name) place told ended says raised only here at = absurd says
-    run_fails (AtStep a Asked) (DeleteReference name source) place told ended says raised only here at = absurd says
-    run_fails (AtStep a Asked) (DeleteReflog name source) place told ended says raised only here at = absurd says
-    run_fails (AtStep a Asked) Memory place told ended says raised only here at = absurd says
+    module _ (place log told : Path) where
+      -- The paths that are reported are those of the edit at which it ended, and of `packed-refs`.
+      pub record IsTold (done : ℕ) : Type 0 where
+        pub here : done < length ran → place ≡ place_at ran done
+        pub logged : done < length ran → log ≡ path_in (log_at ran done)
+        pub at_packed : packed ≢ None → told ≡ (meaning_of start).packed_path
+
+      abbrev ToldAt : About → Type 0
+      ToldAt a = IsTold (done_before (length ran) a)
+
+      log_is : (a : About) (cause : Cause) → Ends a cause → ToldAt a → IsLogAt log a
+      log_is (Folders n) cause e tells = λ h. let sh = shape (Folders n) cause e in tells.logged sh.0 ∙ log_path h n sh.1
+      log_is (Line n) cause e tells = λ h. let sh = shape (Line n) cause e in tells.logged sh.0 ∙ log_path h n sh.1
+      log_is (Rename n) cause e tells = tt
+      log_is (LogRemoval n) cause e tells = tt
+      log_is Packed cause e tells = tt
+      log_is (Removal n) cause e tells = tt
+
+      -- what was met is at the path that is reported
+      met_rename : (n : ℕ) (path : Path) → Ends (Rename n) Unexpected → ToldAt (Rename n) → path ≡ place → honest → MeetsFolder honest means faults start new committer packed held path
+      met_rename n path e tells is h =
+          let at = e.ended h in
+          let meet = meets ran packed (Rename n) (bare e.step) at.0 mid (shape (Rename n) Unexpected e) at.2 in
+          let here : path ≡ place_at ran n = is ∙ tells.here meet.0 in
+          inl (
+            n,
+            omega (arith, meet.0, same_length),
+            here ∙ ap (λ (l : List Path). get_or l n []) (places_alike ran held alike),
+            folder_stays (held_locks packed held) mid (tree_of means new) path (removes h) (ap (λ (p : Path). is_folder (mid p)) here ∙ meet.1),
+            stops (Rename n) Unexpected e,
+          )
+
+      met_line : (n : ℕ) (path : Path) → Ends (Line n) Unexpected → ToldAt (Line n) → path ≡ log → honest → MeetsFolder honest means faults start new committer packed held path
+      met_line n path e tells is h =
+          inr (inl (n, edit_at (Line n) Unexpected e, (λ k. is ∙ log_is (Line n) Unexpected e tells k), stops (Line n) Unexpected e))
+
+      met_packed : (path : Path) → Ends Packed Unexpected → ToldAt Packed → path ≡ told → honest → MeetsFolder honest means faults start new committer packed held path
+      met_packed path e tells is h =
+          let at = e.ended h in
+          let meet = meets ran packed Packed (bare e.step) at.0 mid (shape Packed Unexpected e) at.2 in
+          let here : path ≡ (meaning_of start).packed_path = is ∙ tells.at_packed (λ none. differ meet.0 (sym meet.1 ∙ none)) in
+          inr (inr (
+            here,
+            (λ place_is.
+                folder_stays (held_locks packed held) mid (tree_of means new) path (removes h) (ap (λ (q : Path). is_folder (mid q)) (here ∙ by meet.0 meet.1 place_is) ∙ meet.2)),
+            stops Packed Unexpected e,
+          ))
+        where
+          differ : (p : Path) → Some p ≡ None → ⊥
+          differ p x = cc
+
+          inner : {x y : Path} → Some x ≡ Some y → x ≡ y
+          inner x = cc
+
+          by : (p : Path) → packed ≡ Some p → IsPackedPlace (meaning_of start) packed → (meaning_of start).packed_path ≡ p
+          by p some (inl none) = absurd (differ p (sym some ∙ none))
+          by p some (inr same) = inner (sym same ∙ some)
+
+      met_removal : (a : About) (path : Path) → Ends a Unexpected → (MeetsAt ran packed a mid → ⊥) → honest → MeetsFolder honest means faults start new committer packed held path
+      met_removal a path e never_met h =
+          let at = e.ended h in absurd (never_met (meets ran packed a (bare e.step) at.0 mid (shape a Unexpected e) at.2))
+
+      -- a file in the path of a log
+      in_way_of_log : (n : ℕ) (error : LogError) → Ends (Folders n) Unexpected → ToldAt (Folders n) → SaysFile log error → FailsForLog honest means faults start new committer packed held error
+      in_way_of_log n (CreateLeadingDirectories None folder) e tells says =
+          inr (n, edit_at (Folders n) Unexpected e, (λ h. says ∙ ap folder_of (log_is (Folders n) Unexpected e tells h)), stops (Folders n) Unexpected e)
+      in_way_of_log n (CreateLeadingDirectories (Some fault) folder) e tells says = absurd says
+      in_way_of_log n (Append source path) e tells says = absurd says
+      in_way_of_log n MessageWithNewlines e tells says = absurd says
+      in_way_of_log n MissingCommitter e tells says = absurd says
+      in_way_of_log n SignatureUnwritable e tells says = absurd says
+
+      in_way : (a : About) (error : Error) → Ends a Unexpected → ToldAt a → SaysInWay place log told a error → FailsFor honest means faults start new committer packed held error
+      in_way (Folders n) (CreateOrUpdateRefLog error) e tells says = in_way_of_log n error e tells says
+      in_way (Line n) (FolderInPlace path) e tells says = met_line n path.items e tells says
+      in_way (Rename n) (FolderInPlace path) e tells says = met_rename n path.items e tells says
+      in_way (LogRemoval n) (FolderInPlace path) e tells says = met_removal (LogRemoval n) path.items e (λ none. none)
+      in_way Packed (FolderInPlace path) e tells says = met_packed path.items e tells says
+      in_way (Removal n) (FolderInPlace path) e tells says = met_removal (Removal n) path.items e (λ none. none)
+      in_way (Folders n) (PackedTransactionCommit error) e tells says = absurd says
+      in_way (Folders n) (LockCommit source name) e tells says = absurd says
+      in_way (Folders n) (DeleteReference name source) e tells says = absurd says
+      in_way (Folders n) (DeleteReflog name source) e tells says = absurd says
+      in_way (Folders n) (FolderInPlace path) e tells says = absurd says
+      in_way (Folders n) Memory e tells says = absurd says
+      in_way (Line n) (CreateOrUpdateRefLog error) e tells says = absurd says
+      in_way (Line n) (PackedTransactionCommit error) e tells says = absurd says
+      in_way (Line n) (LockCommit source name) e tells says = absurd says
+      in_way (Line n) (DeleteReference name source) e tells says = absurd says
+      in_way (Line n) (DeleteReflog name source) e tells says = absurd says
+      in_way (Line n) Memory e tells says = absurd says
+      in_way (Rename n) (CreateOrUpdateRefLog error) e tells says = absurd says
+      in_way (Rename n) (PackedTransactionCommit error) e tells says = absurd says
+      in_way (Rename n) (LockCommit source name) e tells says = absurd says
+      in_way (Rename n) (DeleteReference name source) e tells says = absurd says
+      in_way (Rename n) (DeleteReflog name source) e tells says = absurd says
+      in_way (Rename n) Memory e tells says = absurd says
+      in_way (LogRemoval n) (CreateOrUpdateRefLog error) e tells says = absurd says
+      in_way (LogRemoval n) (PackedTransactionCommit error) e tells says = absurd says
+      in_way (LogRemoval n) (LockCommit source name) e tells says = absurd says
+      in_way (LogRemoval n) (DeleteReference name source) e tells says = absurd says
+      in_way (LogRemoval n) (DeleteReflog name source) e tells says = absurd says
+      in_way (LogRemoval n) Memory e tells says = absurd says
+      in_way Packed (CreateOrUpdateRefLog error) e tells says = absurd says
+      in_way Packed (PackedTransactionCommit error) e tells says = absurd says
+      in_way Packed (LockCommit source name) e tells says = absurd says
+      in_way Packed (DeleteReference name source) e tells says = absurd says
+      in_way Packed (DeleteReflog name source) e tells says = absurd says
+      in_way Packed Memory e tells says = absurd says
+      in_way (Removal n) (CreateOrUpdateRefLog error) e tells says = absurd says
+      in_way (Removal n) (PackedTransactionCommit error) e tells says = absurd says
+      in_way (Removal n) (LockCommit source name) e tells says = absurd says
+      in_way (Removal n) (DeleteReference name source) e tells says = absurd says
+      in_way (Removal n) (DeleteReflog name source) e tells says = absurd says
+      in_way (Removal n) Memory e tells says = absurd says
+
+      -- Why a commit failed, by where its steps ended.
+      pub run_fails : (u : Unfinished) (error : Error) → EndsIn honest (planned_entries start.dirs ran packed rewrite) filled mid u → IsTold (done_of (length ran) u) → SaysWhy (updates held) place log told u error →
+          IsRaised (faults (files_of start)) (faults (files_of new)) u → (u ≡ no_memory → OnlyItsLocks honest means faults start new packed held) →
+          FailsFor honest means faults start new committer packed held error
+      run_fails no_memory Memory ended tells says raised only = only refl
+      run_fails no_memory (CreateOrUpdateRefLog error) ended tells says raised only = absurd says
+      run_fails no_memory (PackedTransactionCommit error) ended tells says raised only = absurd says
+      run_fails no_memory (LockCommit source name) ended tells says raised only = absurd says
+      run_fails no_memory (DeleteReference name source) ended tells says raised only = absurd says
+      run_fails no_memory (DeleteReflog name source) ended tells says raised only = absurd says
+      run_fails no_memory (FolderInPlace path) ended tells says raised only = absurd says
+      run_fails (AtStep a (Fault fault)) error ended tells says raised only =
+          faults_at log a fault error says raised (log_is a (Fault fault) ended tells) (edit_at a (Fault fault) ended) (stops a (Fault fault) ended)
+      run_fails (AtStep a Unexpected) error ended tells says raised only = in_way a error ended tells says
+      run_fails (AtStep a Asked) error ended tells says raised only = in_way a error (unasked a ended) tells says

@@ -40,7 +40,7 @@ use Rattle.gix_ref_edits.specs.RefEdits.{name_of}
 use Rattle.gix_ref_edits.specs.declared.transaction.RefEdit.{RefEdit}
 use Rattle.gix_ref_transaction.specs.Causes.{locks_of}
 use Rattle.gix_ref_transaction.specs.CommitRenames.{is_written_at, lock_at, place_at, stays_at}
-use Rattle.gix_ref_transaction.specs.CommittedEdits.{planned, AreCommitted}
+use Rattle.gix_ref_transaction.specs.CommittedEdits.{planned}
 use Rattle.gix_ref_transaction.specs.OwnLocks.{is_in, AddsLocks, IsOurs, OnlyLocks, OnlyRemoves, RemovesLocks}
 use Rattle.gix_ref_transaction.specs.PackedCauses.{ids_among}
 use Rattle.gix_ref_transaction.specs.PrepareSteps.{AreWholeLocks, HoldTexts, held_locks, ids_in, lock_paths, packed_ids, packed_locks, packed_places, updates, IsPackedPlace}
@@ -54,10 +54,13 @@ use Rattle.gix_ref_transaction.proofs.PackedLocks.{taken_was_free}
 use Rattle.gix_ref_transaction.proofs.Removing.{locks_by_places}
 use Rattle.gix_ref_transaction.proofs.Renames.{lock_found}
 use Rattle.gix_ref_repack.specs.Repacks.{IsRepack}
-use Rattle.gix_ref_commit.specs.CommittedTrees.{IsOldOrNew}
+use Rattle.gix_ref_commit.specs.CommittedTrees.{AreCommitted, IsOldOrNew}
 use Rattle.gix_ref_commit.specs.Decided.{FillsPacked, IsFilled}
 use Rattle.gix_ref_commit.specs.Entries.{Entry, bare, bare_steps, done_of, packed_done, planned_entries, renames_packed, steps_in}
-use Rattle.gix_ref_commit.specs.LogEffects.{AreLogsOf, all_but_logs}
+use Rattle.gix_ref_commit.specs.LogEffects.{AreLogsOf, lines_in, with_lines}
+use Rattle.gix_ref_lines.specs.AskedEdits.{all_but_logs, asked, outcomes_of}
+use Rattle.gix_ref_lines.specs.DueLines.{log_outcomes}
+use Rattle.gix_ref_log.specs.declared.actor.SignatureRef.{SignatureRef}
 use Rattle.gix_ref_commit.specs.Unfinished.{EndsIn}
 use Rattle.gix_ref_commit.specs.declared.plan.About.TheVariants as about
 use Rattle.gix_ref_commit.specs.declared.run.Unfinished.{Unfinished}
@@ -67,11 +70,14 @@ use Rattle.gix_ref_commit.proofs.Carrying.{locks_apart}
 use Rattle.gix_ref_commit.proofs.Ends as ends
 use Rattle.gix_ref_commit.proofs.Endings.{lock_is}
 use Rattle.gix_ref_commit.proofs.Held.{IsReady, edits_apart}
+use Rattle.gix_ref_commit.proofs.Lined.{apart_lined}
 use Rattle.gix_ref_commit.proofs.Nothing as nothing
+use Rattle.gix_ref_commit.proofs.Outcomes.{lines_are, logs_are}
 use Rattle.gix_ref_commit.proofs.Placing.{IsLaid}
 use Rattle.gix_ref_commit.proofs.Renamed.{HasRename, packed_renamed_before, packed_renamed_in_all, renamed_before, renamed_in_all}
 use Rattle.gix_ref_commit.proofs.Runs.{IsText}
 use Rattle.gix_ref_store.specs.CommitResult.{EveryLossIsOldOrNew, EveryStopIsOldOrNew, RepacksFrom}
+use Rattle.gix_ref_store.specs.CommitLines.{line_rules, lines_due}
 use Rattle.gix_ref_store.specs.Prepared.{PreparesFrom, HasGoodRecords, tree_of, disk_in, locks_in, places_in, IsAtRest}
 use Rattle.gix_ref_store.specs.Store.{files_of, folders, kind_of, meaning_of, IsSameStore}
 use Rattle.gix_ref_store.specs.declared.file.store.Store.{Store}
@@ -111,7 +117,7 @@ put_adds lock bytes S T mine own free adds q = either_way (bytes_eq lock q)
     (λ other.
     subst (λ (n : Option Content). (n ≡ S q) ⊎ ((S q ≡ None) × IsOurs mine mine q n)) (sym (put_other T lock q (Some (File bytes)) (λ is. clash (is_same_path lock q is) other))) (adds q))
 
-module _ {F : Type 0} (honest : Type 0) (means : F → Meaning) (faults : F → ℕ) (old start : Store F) (given : List RefEdit) (packed : Option Path) (held : List Edit) (from : PreparesFrom honest means faults old start given packed held) where
+module _ {F : Type 0} (honest : Type 0) (means : F → Meaning) (faults : F → ℕ) (old start : Store F) (committer : Option SignatureRef) (given : List RefEdit) (packed : Option Path) (held : List Edit) (from : PreparesFrom honest means faults old start given packed held) where
   abbrev s : readings.Store
   s = meaning_of old
 
@@ -130,6 +136,10 @@ module _ {F : Type 0} (honest : Type 0) (means : F → Meaning) (faults : F → 
   abbrev staying : List Path
   staying = roots (folders old)
 
+  -- the lines that are due as the commit begins
+  abbrev lines : List (Option (List ℕ))
+  lines = lines_due means start committer held
+
   laws : HasLaws s
   laws = laws_hold (folders old) (git_options (kind_of old) old.prohibit_windows_device_names) (folders_laid old.dirs old.namespace)
 
@@ -141,6 +151,9 @@ module _ {F : Type 0} (honest : Type 0) (means : F → Meaning) (faults : F → 
 
   pub edits_are : honest → HasGoodRecords means old → AreEdits s (planned given)
   edits_are h good = edits_apart s (kind_of old) before first.tree [] given (from.held.accepted h good).no_cause are_references
+
+  lined_are : honest → HasGoodRecords means old → AreEdits s (with_lines given lines)
+  lined_are h good = apart_lined s given lines (edits_are h good)
 
   pub planned_is : planned (updates held) ≡ planned given
   planned_is = planned_same given (updates held) (are_same given from.was (updates held) from.carried)
@@ -213,20 +226,20 @@ module _ {F : Type 0} (honest : Type 0) (means : F → Meaning) (faults : F → 
           ∙ ap file_of (put_other first.tree (lock_of at) path (Some (File text))
           (λ same. other (subst (λ (q : Path). IsOwnLock locked q) same (own (lock_of at) (packed_mine h (lock_of at) (subst (λ (p : Option Path). is_in (map lock_of (packed_places p)) (lock_of at) ≡ true) (sym is) (in_here (lock_of at) (lock_of at) [] refl)))))))
 
-  old_or_new : honest → HasGoodRecords means old → (T : Tree) → IsSameButLocks locked (view_of T) (view_of before) → IsOldOrNew s given before T
-  old_or_new h good T alike = nothing.nothing_done s laws locked (planned given) (edits_are h good) before T alike
+  old_or_new : honest → HasGoodRecords means old → (T : Tree) → IsSameButLocks locked (view_of T) (view_of before) → IsOldOrNew s given lines before T
+  old_or_new h good T alike = nothing.nothing_done s laws locked (with_lines given lines) (lined_are h good) before T alike
 
-  filled_well : honest → HasGoodRecords means old → (T : Tree) → FillsPacked packed first.tree T → IsOldOrNew s given before T
+  filled_well : honest → HasGoodRecords means old → (T : Tree) → FillsPacked packed first.tree T → IsOldOrNew s given lines before T
   filled_well h good T fills = old_or_new h good T (λ path other. fills_alike h T fills path other ∙ start_alike h path other)
 
-  pub began : honest → HasGoodRecords means old → IsOldOrNew s given before first.tree
+  pub began : honest → HasGoodRecords means old → IsOldOrNew s given lines before first.tree
   began h good = old_or_new h good first.tree (start_alike h)
 
   -- what losses of power leave before the first write
   pub lost_early : honest → HasGoodRecords means old → IsAllSettled (disk_of first) → (stay : List Path) (E : Disk) (T : Tree) → IsAsBefore locked stay (disk_of first) E → Lost E T →
-      IsLostWell s DeletionsOnly locked (planned given) (disk_of first) before T
+      IsLostWell s DeletionsOnly locked (with_lines given lines) (disk_of first) before T
   lost_early h good settled stay E T among lost =
-      nothing.nothing_lost s laws locked (planned given) (edits_are h good) before (disk_of first) settled (λ path other. sym (start_alike h path other)) stay E T among lost
+      nothing.nothing_lost s laws locked (with_lines given lines) (lined_are h good) before (disk_of first) settled (λ path other. sym (start_alike h path other)) stay E T among lost
 
   pub started : honest → IsAtRest means old → IsAllSettled (disk_of first) × AllStay (disk_of first) staying
   started h at_rest = rest_kept locked staying (disk_in means old) (disk_of first) at_rest.0 ((from.lost h).keeps staying at_rest.1).disk
@@ -282,7 +295,7 @@ module _ {F : Type 0} (honest : Type 0) (means : F → Meaning) (faults : F → 
           (packed_gone : honest → (q : Path) → is_in (map lock_of (packed_places packed)) q ≡ true → is_in left q ≡ false → is_file (now.tree q) ≡ false)
           (locks_gone : honest → (k : ℕ) → k < length ran → stays_at ran 0 k ≡ true → is_in left (lock_at ran k) ≡ false → is_file (now.tree (lock_at ran k)) ≡ false)
           (ours : (q : Path) → is_in left q ≡ true → is_in (held_locks packed ran) q ≡ true) where
-        pub undecided_well : EveryStopIsOldOrNew honest means faults old start new given left
+        pub undecided_well : EveryStopIsOldOrNew honest means faults old start new given lines left
         undecided_well = record {
           began = λ h good. began h good;
           leaves = λ h.
@@ -295,32 +308,38 @@ module _ {F : Type 0} (honest : Type 0) (means : F → Meaning) (faults : F → 
           ours = λ q named. possible false q (ours q named);
         }
 
-        pub undecided_lost : (h : honest) → HasGoodRecords means old → IsAtRest means old → EveryLossIsOldOrNew honest means faults old start new given
+        pub undecided_lost : (h : honest) → HasGoodRecords means old → IsAtRest means old → EveryLossIsOldOrNew honest means faults old start new given lines
         undecided_lost h good at_rest =
             let rest = started h at_rest in
             let same = as_before locked staying (disk_of first) rest.1 in
             let early = alone h locked staying (disk_of first) (λ q within. own q (packed_mine h q within)) same in
             record {
               began = λ T lost. lost_early h good rest.0 staying (disk_of first) T same lost;
-              loses = losses (IsLostWell s DeletionsOnly locked (planned given) (disk_of first) before) (λ E among T lost. lost_early h good rest.0 staying E T among lost)
+              loses = losses (IsLostWell s DeletionsOnly locked (with_lines given lines) (disk_of first) before) (λ E among T lost. lost_early h good rest.0 staying E T among lost)
                   (passes_joins early (only h locked staying [] (disk_of first) (λ q within. own q (ran_mine h false q within)) early.disk));
             }
 
       -- All is decided.
-      module _ (logs : AreLogsOf (meaning_of start) (updates held) ran) (rewrite : Rewrite) (repacks : RepacksFrom honest means faults start packed held rewrite)
+      module _ (outcomes : honest → outcomes_of ran ≡ log_outcomes (line_rules start committer) (view_of first.tree) (asked held)) (rewrite : Rewrite) (repacks : RepacksFrom honest means faults start packed held rewrite)
           (filled : honest → IsFilled packed rewrite first.tree decided.tree) (wholes : honest → (locks : List Path) → AreWholeLocks (disk_of first) locks → AreWholeLocks (disk_of decided) locks) where
         abbrev all_entries : List Entry
         all_entries = planned_entries old.dirs ran packed rewrite
 
-        pub own_logs : AreLogsOf s given ran
-        own_logs = logs_same s given (updates held) ran (are_same given from.was (updates held) from.carried) (subst (λ (m : readings.Store). AreLogsOf m (updates held) ran) meaning_is logs)
+        own_logs : honest → AreLogsOf s given ran
+        own_logs h =
+            logs_same s given (updates held) ran (are_same given from.was (updates held) from.carried)
+            (subst (λ (m : readings.Store). AreLogsOf m (updates held) ran) meaning_is (logs_are (line_rules start committer) (view_of first.tree) 0 held ran (outcomes h)))
+
+        -- the lines that logs gain are those that are due
+        own_lines : honest → lines_in ran ≡ lines
+        own_lines h = lines_are (line_rules start committer) (view_of first.tree) ran (asked held) (outcomes h)
 
         laid : honest → IsLaid s (kind_of old) before (disk_of decided) given ran packed
         laid h = record {
           references = are_references;
           lockable = from.held.lockable h;
           places = places_alike ran held alike ∙ from.places;
-          logs = own_logs;
+          logs = own_logs h;
           packed_place = from.packed.place;
           packed_due = from.packed.due h;
           whole = wholes h mine (from.whole h);
@@ -365,7 +384,7 @@ module _ {F : Type 0} (honest : Type 0) (means : F → Meaning) (faults : F → 
           adds = adds h good;
           effects = effects_alike ran held alike ∙ from.effects h good;
           places = places_alike ran held alike ∙ from.places;
-          logs = own_logs;
+          logs = own_logs h;
         }
 
         -- the new `packed-refs`, where it was well formed
@@ -396,23 +415,30 @@ module _ {F : Type 0} (honest : Type 0) (means : F → Meaning) (faults : F → 
           pub removes : honest → RemovesLocks mine mid.tree now.tree
           removes h = removes_wider (held_locks (if renamed then None else packed) ran) mine mid.tree now.tree (ran_mine h renamed) (releases h).tree
 
-          at_stop : (h : honest) → HasGoodRecords means old → (T : Tree) → IsLeftBy (bare_steps all_entries) decided.tree T → IsOldOrNew s given before T
-          at_stop h good T cut =
+          cut_well : (h : honest) → HasGoodRecords means old → (T : Tree) → IsLeftBy (bare_steps all_entries) decided.tree T → IsOldOrNew s given (lines_in ran) before T
+          cut_well h good T cut =
               ends.stopped old.dirs old.namespace (kind_of old) old.prohibit_windows_device_names before (disk_of decided) given ran packed rewrite (laid h) (ready h good) good.0 good.1 (repack h good) (text_held h) T cut
+
+          at_stop : (h : honest) → HasGoodRecords means old → (T : Tree) → IsLeftBy (bare_steps all_entries) decided.tree T → IsOldOrNew s given lines before T
+          at_stop h good T cut = subst (λ (ls : List (Option (List ℕ))). IsOldOrNew s given ls before T) (own_lines h) (cut_well h good T cut)
+
+          -- and behind it, where locks were removed
+          then_well : (h : honest) → HasGoodRecords means old → (T : Tree) → RemovesLocks mine mid.tree T → IsOldOrNew s given lines before T
+          then_well h good T less = subst (λ (ls : List (Option (List ℕ))). IsOldOrNew s given ls before T) (own_lines h)
+              (ends.left_then old.dirs old.namespace (kind_of old) old.prohibit_windows_device_names before (disk_of decided) given ran packed rewrite (laid h) (ready h good) good.0 good.1 (repack h good) (text_held h)
+              mid.tree T (cut_well h good mid.tree (runs h).tree) less)
 
           pub ran_well : (done : ℕ) →
               (honest → (q : Path) → is_in (map lock_of (packed_places (if renamed then None else packed))) q ≡ true → is_in left q ≡ false → is_file (now.tree q) ≡ false) →
               (honest → renamed ≡ true → (path : Path) → packed ≡ Some path → is_file (now.tree (lock_of path)) ≡ false) →
               (honest → (k : ℕ) → k < length ran → stays_at ran done k ≡ true → is_in left (lock_at ran k) ≡ false → is_file (now.tree (lock_at ran k)) ≡ false) →
               (honest → (k : ℕ) → k < length ran → k < done → is_written_at ran k ≡ true → is_file (now.tree (lock_at ran k)) ≡ false) →
-              ((q : Path) → is_in left q ≡ true → is_in (held_locks (if renamed then None else packed) ran) q ≡ true) → EveryStopIsOldOrNew honest means faults old start new given left
+              ((q : Path) → is_in left q ≡ true → is_in (held_locks (if renamed then None else packed) ran) q ≡ true) → EveryStopIsOldOrNew honest means faults old start new given lines left
           ran_well done packed_gone packed_done locks_gone done_gone ours = record {
             began = λ h good. began h good;
             leaves = λ h.
                 joins (joins (weaken (fills h) (λ T filled good. filled_well h good T filled)) (weaken (runs h) (λ T cut good. at_stop h good T cut)))
-                (weaken (releases h) (λ T less good.
-                ends.left_then old.dirs old.namespace (kind_of old) old.prohibit_windows_device_names before (disk_of decided) given ran packed rewrite (laid h) (ready h good) good.0 good.1 (repack h good) (text_held h)
-                mid.tree T (at_stop h good mid.tree (runs h).tree) (removes_wider (held_locks (if renamed then None else packed) ran) mine mid.tree T (ran_mine h renamed) less)));
+                (weaken (releases h) (λ T less good. then_well h good T (removes_wider (held_locks (if renamed then None else packed) ran) mine mid.tree T (ran_mine h renamed) less)));
             gone = λ h. gone_all now.tree done renamed (packed_gone h) (packed_done h) (locks_gone h) (done_gone h) h;
             ours = λ q named. possible renamed q (ours q named);
           }
@@ -444,16 +470,17 @@ module _ {F : Type 0} (honest : Type 0) (means : F → Meaning) (faults : F → 
               ends.cut_gone old.dirs old.namespace (kind_of old) old.prohibit_windows_device_names before (disk_of decided) given ran packed rewrite (laid h) path e.before (e.step, about.Removal n) e.rest cause at.0 mid.tree now.tree
               e.cut (packed_renamed_before old.dirs (length ran) ran packed rewrite path some text e.before (e.step, about.Removal n) e.rest e.cut refl) at.1 at.2 (removes h)
           cut_packed_gone no_memory e h text path some = clash text refl
+          cut_packed_gone (AtStep (about.Folders n) cause) e h text path some = clash text refl
           cut_packed_gone (AtStep (about.Line n) cause) e h text path some = clash text refl
           cut_packed_gone (AtStep (about.Rename n) cause) e h text path some = clash text refl
           cut_packed_gone (AtStep (about.LogRemoval n) cause) e h text path some = clash text refl
           cut_packed_gone (AtStep about.Packed cause) e h text path some = clash text refl
 
           pub committed : (h : honest) → HasGoodRecords means old → IsAfter (bare_steps all_entries) decided.tree mid.tree →
-              ((q : Path) → is_in mine q ≡ true → is_in left q ≡ false → is_file (now.tree q) ≡ false) → AreCommitted s given before left now.tree
-          committed h good after gone =
-              ends.commits old.dirs old.namespace (kind_of old) old.prohibit_windows_device_names before (disk_of decided) given ran packed rewrite (laid h) (ready h good) good.0 good.1 (repack h good) (text_held h)
-              mid.tree now.tree left after (removes h) gone
+              ((q : Path) → is_in mine q ≡ true → is_in left q ≡ false → is_file (now.tree q) ≡ false) → AreCommitted s given lines before left now.tree
+          committed h good after gone = subst (λ (ls : List (Option (List ℕ))). AreCommitted s given ls before left now.tree) (own_lines h)
+              (ends.commits old.dirs old.namespace (kind_of old) old.prohibit_windows_device_names before (disk_of decided) given ran packed rewrite (laid h) (ready h good) good.0 good.1 (repack h good) (text_held h)
+              mid.tree now.tree left after (removes h) gone)
 
           -- losses of power
           module _ (h : honest) (at_rest : IsAtRest means old) (only : OnlyRemoves (held_locks (if renamed then None else packed) ran) mid now) where
@@ -469,15 +496,16 @@ module _ {F : Type 0} (honest : Type 0) (means : F → Meaning) (faults : F → 
             settled_then : IsAllSettled (disk_of decided) × AllStay (disk_of decided) staying
             settled_then = rest_kept locked staying (disk_of first) (disk_of decided) rest.0 early.disk
 
-            pub lost : HasGoodRecords means old → Passes decided mid (IsReachedBy (steps_in all_entries) (disk_of decided)) → EveryLossIsOldOrNew honest means faults old start new given
+            pub lost : HasGoodRecords means old → Passes decided mid (IsReachedBy (steps_in all_entries) (disk_of decided)) → EveryLossIsOldOrNew honest means faults old start new given lines
             lost good passes = record {
               began = λ T loss. lost_early h good rest.0 staying (disk_of first) T (as_before locked staying (disk_of first) rest.1) loss;
-              loses = losses (IsLostWell s DeletionsOnly locked (planned given) (disk_of first) before)
+              loses = losses (IsLostWell s DeletionsOnly locked (with_lines given lines) (disk_of first) before)
                   (λ E among T loss. ⊎_elim
                   (λ same. lost_early h good rest.0 staying E T same loss)
-                  (λ inside. nothing.lost_before s locked staying (planned given) (disk_of first) (disk_of decided) before T early.disk
+                  (λ inside. nothing.lost_before s locked staying (with_lines given lines) (disk_of first) (disk_of decided) before T early.disk
+                  (subst (λ (ls : List (Option (List ℕ))). IsLostWell s DeletionsOnly locked (with_lines given ls) (disk_of decided) before T) (own_lines h)
                   (ends.lost_well old.dirs old.namespace (kind_of old) old.prohibit_windows_device_names before (disk_of decided) given ran packed rewrite (laid h) (ready h good) good.0 good.1 (repack h good) (text_held h)
-                  settled_then.0 E T inside loss))
+                  settled_then.0 E T inside loss)))
                   among)
                   (passes_joins (passes_weaken early (λ E same. inl same))
                   (passes_weaken

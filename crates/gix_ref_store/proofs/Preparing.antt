@@ -12,6 +12,8 @@ use Rattle.gix_ref_edits.specs.declared.transaction.Change.{Change}
 use Rattle.gix_ref_edits.specs.declared.transaction.Change.TheVariants.{Update, Delete}
 use Rattle.gix_ref_transaction.specs.CarriedEdits.{change_of, AreCarried}
 use Rattle.gix_ref_transaction.proofs.Adds.{clash}
+use Rattle.gix_ref_transaction.specs.Parents.{parents_in, split_parents}
+use Rattle.gix_ref_transaction.specs.Splits.{leads_to, values_of}
 use Rattle.gix_ref_transaction.specs.PrepareSteps.{AreWholeLocks, effects_of, effects_on, ids_in, packed_ids, place_paths, places_of, targets_of, updates}
 use Rattle.gix_ref_transaction.specs.declared.edit.Edit.{Edit}
 use Rattle.gix_ref_store.specs.Prepared.{HasGoodRecords, HoldsFrom, HoldsPacked, LosesNothing, PreparesFrom, PreparesGiven, SplitsFrom, disk_in, locks_in, tree_of}
@@ -23,13 +25,15 @@ pub prepares : {F : Type 0} (honest : Type 0) (means : F → Meaning) (faults : 
     seen ≡ held → length seen ≡ len → SplitsFrom honest means faults old given (updates held) → HoldsFrom honest means faults old new (updates held) (targets_of held) →
     (honest → LosesNothing means old new (updates held)) → (honest → AreWholeLocks (disk_in means new) (locks_in means old (updates held))) →
     HoldsPacked honest means faults old new (updates held) packed → place_paths held ≡ places_of (meaning_of old) (updates held) →
+    (honest → parents_in held ≡ split_parents (leads_to (meaning_of old) (view_of (tree_of means old))) (values_of given)) →
     (honest → HasGoodRecords means old → effects_of held ≡ effects_on (meaning_of old) (view_of (tree_of means old)) (updates held)) →
     (honest → HasGoodRecords means old → ids_in held ≡ packed_ids (meaning_of old) (tree_of means old) (updates held)) →
-    AreCarried (updates seen) (targets_of seen) (updates after) → place_paths after ≡ place_paths seen → effects_of after ≡ effects_of seen → ids_in after ≡ ids_in seen →
+    AreCarried (updates seen) (targets_of seen) (updates after) → place_paths after ≡ place_paths seen → parents_in after ≡ parents_in seen → effects_of after ≡ effects_of seen → ids_in after ≡ ids_in seen →
     PreparesGiven honest means faults old new given packed (take len (after ++ rest))
-prepares honest means faults old new given len packed held seen after rest are all splits holds lost whole holds_packed places effects ids carried same_places same_effects same_ids = record {
+prepares honest means faults old new given len packed held seen after rest are all splits holds lost whole holds_packed places parents effects ids carried same_places same_parents same_effects same_ids = record {
   split = updates held;
   splits = splits;
+  parents = λ h. ap parents_in over ∙ (same_parents ∙ (ap parents_in are ∙ parents h));
   prepared = subst (λ (l : List Edit). PreparesFrom honest means faults old new (updates held) packed l) (sym over) (record {
     was = targets_of held;
     held = holds;

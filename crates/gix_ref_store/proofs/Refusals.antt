@@ -1,5 +1,5 @@
 -- A split list that is refused, or held, from what the search in `packed-refs` and the rounds of the locks say of it.
-use Rattle.std.proofs.Common.{◌≡◌, ◌⊎◌, inl, inr, ⊎_elim, ℕ, List, [], true, Result, Ok, Err, OnOk, IfOk, IfErr, map, Vec, Global, ◌≤◌, ◌∙◌, ap, sym, subst, arith, vec_len, length}
+use Rattle.std.proofs.Common.{◌≡◌, ◌⊎◌, inl, inr, ⊎_elim, ℕ, List, [], true, Option, Result, Ok, Err, OnOk, IfOk, IfErr, map, Vec, Global, ◌≤◌, ◌∙◌, ap, sym, subst, arith, vec_len, length}
 use Rattle.std.proofs.lemmas.List.{length-map}
 use Rattle.gix_ref_transaction.specs.declared.release.Remains.{Remains}
 use Rattle.gix_ref_files.specs.Lock.{lock_of}
@@ -10,9 +10,10 @@ use Rattle.gix_ref_edits.specs.declared.transaction.RefEdit.{RefEdit}
 use Rattle.gix_ref_transaction.specs.Causes.{IsCountedWith, IsIoOrMemory, IsLockCause, IsPackedLocked, IsPackedRefusal, names_of, packed_taken}
 use Rattle.gix_ref_transaction.specs.OwnLocks.{AddsLocks, is_in, paths_of}
 use Rattle.gix_ref_transaction.specs.Causes.{AllValid, NoCause}
+use Rattle.gix_ref_transaction.specs.Parents.{parents_in}
 use Rattle.gix_ref_transaction.specs.PrepareSteps.{AreEmpty, AreLockable, AreSettled, IsPackedPlace, ids_in, packed_ids, packed_places, possible_locks, all_asked, effects_of, effects_on, HoldTexts, old_targets, place_paths, targets_of, updates}
 use Rattle.gix_ref_transaction.specs.declared.edit.Edit.{Edit}
-use Rattle.gix_ref_transaction.proofs.PackedLemmas.{places_alike, updates_alike}
+use Rattle.gix_ref_transaction.proofs.PackedLemmas.{parents_alike, places_alike, updates_alike}
 use Rattle.gix_ref_theory.specs.OnRealTrees.{view_of}
 use Rattle.gix_ref_transaction.specs.declared.prepare.hold.HeldLocks.{HeldLocks}
 use Rattle.gix_ref_transaction.specs.declared.prepare.hold.LockFailure.{LockFailure}
@@ -56,6 +57,13 @@ module _ (begun : List Edit) (split : List RefEdit) (asked : updates begun ≡ s
     where
       by : (q : Result HeldLocks LockFailure) → IfOk q (λ held. all_asked held.edits.items ≡ all_asked begun) → IfOk q (λ held. place_paths held.edits.items ≡ places)
       by (Ok held) same = places_alike begun held.edits.items same ∙ are
+      by (Err failure) same = tt
+
+  pub held_parents : (parents : List (Option ℕ)) → parents_in begun ≡ parents → IfOk r (λ held. parents_in held.edits.items ≡ parents)
+  held_parents parents are = by r same_asked
+    where
+      by : (q : Result HeldLocks LockFailure) → IfOk q (λ held. all_asked held.edits.items ≡ all_asked begun) → IfOk q (λ held. parents_in held.edits.items ≡ parents)
+      by (Ok held) same = parents_alike begun held.edits.items same ∙ are
       by (Err failure) same = tt
 
   module _ {F : Type 0} (honest : Type 0) (means : F → Meaning) (faults : F → ℕ) (old new : Store F)
@@ -123,7 +131,7 @@ pub held_room : (begun : Vec Edit Global) (remains : Remains) (r : Result HeldLo
 held_room begun remains (Err failure) room same is = tt
 held_room begun remains (Ok held) room same is =
     let len : vec_len held.edits ≡ vec_len begun =
-    omega (arith, held.edits.ok, begun.ok, length-map {B = RefEdit × Path} held.edits.items (λ (e : Edit). (e.update, e.lock)), length-map {B = RefEdit × Path} begun.items (λ (e : Edit). (e.update, e.lock)), ap length same) in
+    omega (arith, held.edits.ok, begun.ok, length-map {B = RefEdit × Path × Option ℕ} held.edits.items (λ (e : Edit). (e.update, e.lock, e.parent)), length-map {B = RefEdit × Path × Option ℕ} begun.items (λ (e : Edit). (e.update, e.lock, e.parent)), ap length same) in
     subst (HasRoom held.edits) (sym is) (record {
       locks = omega (arith, len, room.locks);
       edits = omega (arith, len, room.edits);

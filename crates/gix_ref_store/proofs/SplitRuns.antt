@@ -1,5 +1,5 @@
 -- A `prepare` that first read files for its splits, from the store with which it began.
-use Rattle.std.proofs.Common.{◌≡◌, ◌⊎◌, inl, inr, ⊎_elim, ℕ, List, [], true, Option, All, refl, sym, ◌∙◌, ap, subst, arith, Result, Ok, Err, IfOk, IfErr, OnOk, Vec, Global}
+use Rattle.std.proofs.Common.{◌≡◌, ◌⊎◌, inl, inr, ⊎_elim, ℕ, List, [], true, Option, All, refl, sym, ◌∙◌, ap, subst, arith, Result, Ok, Err, IfOk, IfErr, OnOk}
 use Rattle.gix_ref_base.specs.Targets.{TargetValue}
 use Rattle.gix_ref_files.specs.Disk.{Disk}
 use Rattle.gix_ref_files.specs.Tree.{Tree, Path}
@@ -17,6 +17,7 @@ use Rattle.gix_ref_transaction.specs.OwnLocks.{AddsLocks, is_in}
 use Rattle.gix_ref_transaction.specs.PrepareSteps.{packed_ids, AreLockable, effects_on, HoldTexts, old_targets, own_locks, own_places}
 use Rattle.gix_ref_transaction.specs.Splits.{AreDirect, AreSplit, CanFollow, IsFirstMisnamed, IsSplitCause, IsTooLong, OnlyReads, all_rounds}
 use Rattle.gix_ref_transaction.specs.declared.prepare.error.Error.{Error}
+use Rattle.gix_ref_transaction.specs.declared.prepare.split.SplitEdits.{SplitEdits}
 use Rattle.gix_ref_transaction.proofs.PackedLemmas.{counted_later, counted_on, not_packed, rises_on}
 use Rattle.gix_ref_store.specs.Prepared.{HasGoodRecords, HoldsFrom, HoldsPacked, KeepsAll, LosesNothing, RefusesFrom, RefusesSplit, SplitsFrom, disk_in, locks_in, places_in, tree_of}
 use Rattle.gix_ref_store.specs.Store.{files_of, kind_of, meaning_of, with_files}
@@ -146,14 +147,14 @@ module _ {F : Type 0} (honest : Type 0) (means : F → Meaning) (faults : F → 
 
 -- The split list of edits, from what the splits say of it.
 module _ {F : Type 0} (honest : Type 0) (means : F → Meaning) (faults : F → ℕ) (old : Store F) (given : List RefEdit) (valid : AllValid (meaning_of old) (kind_of old) [] given) where
-  pub splits_from : (r : Result (Vec RefEdit Global) Error) →
-      (honest → IfOk r (λ split. AreSplit (meaning_of old) (view_of (tree_of means old)) given split.items)) →
+  pub splits_from : (r : Result SplitEdits Error) →
+      (honest → IfOk r (λ split. AreSplit (meaning_of old) (view_of (tree_of means old)) given split.edits.items)) →
       (honest → OnOk r (All (CanFollow (meaning_of old)) (all_rounds (meaning_of old) (view_of (tree_of means old)) given))) →
-      (AreUpdates given → IfOk r (λ split. AreUpdates split.items)) → (AreDirect given → IfOk r (λ split. split.items ≡ given)) → IfOk r (λ split. SplitsFrom honest means faults old given split.items)
+      (AreUpdates given → IfOk r (λ split. AreUpdates split.edits.items)) → (AreDirect given → IfOk r (λ split. split.edits.items ≡ given)) → IfOk r (λ split. SplitsFrom honest means faults old given split.edits.items)
   splits_from (Ok split) is can updates direct = record { is = is; can_follow = can; valid = valid; updates = updates; direct = direct }
   splits_from (Err error) is can updates direct = tt
 
-  pub split_cause : (r : Result (Vec RefEdit Global) Error) →
+  pub split_cause : (r : Result SplitEdits Error) →
       IfErr r (λ error. IsIoOrMemory error ⊎ (IsFirstMisnamed (meaning_of old) (all_rounds (meaning_of old) (view_of (tree_of means old)) given) error ⊎ IsTooLong (meaning_of old) (view_of (tree_of means old)) given error)) →
       IfErr r (IsSplitCause (meaning_of old) (kind_of old) (tree_of means old) given)
   split_cause (Ok split) refused = tt

@@ -1,12 +1,12 @@
 -- What `commit` returns and leaves.
-use Rattle.std.specs.Prelude.{◌≡◌, ◌≢◌, ◌<◌, ◌⊎◌, ℕ, List, [], true, false, Option, None, Result, Ok, Err, map, length}
+use Rattle.std.specs.Prelude.{◌≡◌, ◌≢◌, ◌<◌, ◌⊎◌, ℕ, List, [], true, false, Option, Some, None, Result, Ok, Err, map, length}
 use Rattle.gix_ref_base.specs.PackedRecords.{Record}
 use Rattle.gix_ref_files.specs.Tree.{Tree, Path, is_file, is_folder}
 use Rattle.gix_ref_files.specs.declared.files.FileError.{FileError}
 use Rattle.gix_ref_files.specs.declared.files.FileError.TheVariants.{Memory as no_memory}
 use Rattle.gix_ref_files.specs.declared.steps.Cause.{Cause}
 use Rattle.gix_ref_files.specs.declared.steps.Cause.TheVariants.{File, Unexpected}
-use Rattle.gix_ref_files.specs.Disk.{Lost}
+use Rattle.gix_ref_files.specs.Disk.{Lost, folder_of}
 use Rattle.gix_ref_files.specs.Files.{Meaning, Leaves, Loses, HasRisen}
 use Rattle.gix_ref_files.specs.Lock.{lock_of}
 use Rattle.gix_ref_lookup.specs.Lookups.{ArePackedRecords}
@@ -17,25 +17,32 @@ use Rattle.gix_ref_theory.specs.Losses.{IsLostWell}
 use Rattle.gix_ref_theory.specs.OnRealTrees.{view_of}
 use Rattle.gix_ref_edits.specs.declared.transaction.RefEdit.{RefEdit}
 use Rattle.gix_ref_transaction.specs.CommitRenames.{place_at}
-use Rattle.gix_ref_transaction.specs.CommittedEdits.{planned, AreCommitted}
+use Rattle.gix_ref_transaction.specs.CommittedEdits.{planned}
 use Rattle.gix_ref_transaction.specs.OwnLocks.{is_in, paths_of, RemovesLocks}
 use Rattle.gix_ref_transaction.specs.PackedCauses.{ids_among}
 use Rattle.gix_ref_transaction.specs.PrepareSteps.{AreEmpty, held_locks, ids_in, packed_places, possible_locks, updates, IsPackedPlace}
 use Rattle.gix_ref_transaction.specs.declared.edit.Edit.{Edit}
+use Rattle.gix_ref_log.specs.declared.actor.SignatureRef.{SignatureRef}
+use Rattle.gix_ref_lines.specs.AskedEdits.{all_but_logs, asked, outcomes_of}
+use Rattle.gix_ref_lines.specs.DueLines.{log_outcomes}
+use Rattle.gix_ref_lines.specs.LineCauses.{FirstFails}
+use Rattle.gix_ref_lines.specs.declared.create_or_update.Error.{Error as LogError}
+use Rattle.gix_ref_lines.specs.declared.create_or_update.Error.TheVariants.{CreateLeadingDirectories, Append}
 use Rattle.gix_ref_repack.specs.Refusals.{IsBadLine}
 use Rattle.gix_ref_repack.specs.Repacks.{IsRepack}
 use Rattle.gix_ref_repack.specs.declared.error.Error.{Error as RepackError}
 use Rattle.gix_ref_repack.specs.declared.error.Error.TheVariants as repack
-use Rattle.gix_ref_commit.specs.CommittedTrees.{IsOldOrNew}
+use Rattle.gix_ref_commit.specs.CommittedTrees.{AreCommitted, IsOldOrNew}
 use Rattle.gix_ref_commit.specs.Decided.{IsFilled}
 use Rattle.gix_ref_commit.specs.Entries.{planned_entries}
 use Rattle.gix_ref_commit.specs.Failures.{IsNameAt}
-use Rattle.gix_ref_commit.specs.LogEffects.{AreLogsOf, all_but_logs}
+use Rattle.gix_ref_commit.specs.LogEffects.{with_lines}
 use Rattle.gix_ref_commit.specs.Unfinished.{EndsAtStep}
 use Rattle.gix_ref_commit.specs.declared.error.Error.{Error}
-use Rattle.gix_ref_commit.specs.declared.error.Error.TheVariants.{PackedTransactionCommit, LockCommit, DeleteReference, DeleteReflog, FolderInPlace, Memory}
+use Rattle.gix_ref_commit.specs.declared.error.Error.TheVariants.{CreateOrUpdateRefLog, PackedTransactionCommit, LockCommit, DeleteReference, DeleteReflog, FolderInPlace, Memory}
 use Rattle.gix_ref_commit.specs.declared.plan.About.{About}
-use Rattle.gix_ref_commit.specs.declared.plan.About.TheVariants.{Line, Rename, LogRemoval, Packed, Removal}
+use Rattle.gix_ref_commit.specs.declared.plan.About.TheVariants.{Folders, Line, Rename, LogRemoval, Packed, Removal}
+use Rattle.gix_ref_store.specs.CommitLines.{line_rules, lines_due, log_path_at}
 use Rattle.gix_ref_store.specs.Prepared.{PreparesFrom, HasGoodRecords, tree_of, disk_in, IsAtRest, locks_in, places_in}
 use Rattle.gix_ref_store.specs.Store.{files_of, kind_of, meaning_of}
 use Rattle.gix_ref_store.specs.declared.file.store.Store.{Store}
@@ -65,24 +72,24 @@ ChangesLocks locks before T = (q : Path) → is_in locks q ≡ false → T q ≡
 module _ {F : Type 0} (honest : Type 0) (means : F → Meaning) (faults : F → ℕ) where
   -- A commit, from the store `start` with these edits of a `prepare` that began with the store `old`: where `packed-refs` was well
   -- formed, every stop leaves each reference as before or as edited; of the locks only those stay that are named, and one is named only where a fault came.
-  pub record EveryStopIsOldOrNew (old start new : Store F) (given : List RefEdit) (left : List Path) : Type 0 where
+  pub record EveryStopIsOldOrNew (old start new : Store F) (given : List RefEdit) (lines : List (Option (List ℕ))) (left : List Path) : Type 0 where
     -- the tree with which it begins, which a stop before its first change leaves
-    pub began : honest → HasGoodRecords means old → IsOldOrNew (meaning_of old) given (tree_of means old) (tree_of means start)
-    pub leaves : honest → Leaves (means (files_of start)) (means (files_of new)) (λ T. HasGoodRecords means old → IsOldOrNew (meaning_of old) given (tree_of means old) T)
+    pub began : honest → HasGoodRecords means old → IsOldOrNew (meaning_of old) given lines (tree_of means old) (tree_of means start)
+    pub leaves : honest → Leaves (means (files_of start)) (means (files_of new)) (λ T. HasGoodRecords means old → IsOldOrNew (meaning_of old) given lines (tree_of means old) T)
     pub gone : honest → (q : Path) → is_in (locks_in means old given) q ≡ true → is_in left q ≡ false → is_file (tree_of means new q) ≡ false
     pub ours : (q : Path) → is_in left q ≡ true → is_in (possible_locks (meaning_of old) given) q ≡ true
 
   -- and so for every store and all edits from which `prepare` gave these
-  abbrev pub EveryStopFrom : (start new : Store F) → Option Path → List Edit → List Path → Type 0
-  EveryStopFrom start new packed held left =
+  abbrev pub EveryStopFrom : (start new : Store F) → Option SignatureRef → Option Path → List Edit → List Path → Type 0
+  EveryStopFrom start new committer packed held left =
       (old : Store F) (given : List RefEdit) → PreparesFrom honest means faults old start given packed held →
-      EveryStopIsOldOrNew old start new given left
+      EveryStopIsOldOrNew old start new given (lines_due means start committer held) left
 
   -- a commit that succeeds: the edits are committed
-  abbrev pub CommitsFrom : (start new : Store F) → Option Path → List Edit → List Path → Type 0
-  CommitsFrom start new packed held left =
+  abbrev pub CommitsFrom : (start new : Store F) → Option SignatureRef → Option Path → List Edit → List Path → Type 0
+  CommitsFrom start new committer packed held left =
       (old : Store F) (given : List RefEdit) → PreparesFrom honest means faults old start given packed held → honest → HasGoodRecords means old →
-      AreCommitted (meaning_of old) given (tree_of means old) left (tree_of means new)
+      AreCommitted (meaning_of old) given (lines_due means start committer held) (tree_of means old) left (tree_of means new)
 
   -- the new `packed-refs`, where its lock is held and it was well formed, is that without the records of deleted references
   abbrev pub RepacksFrom : Store F → Option Path → List Edit → Rewrite → Type 0
@@ -98,10 +105,10 @@ module _ {F : Type 0} (honest : Type 0) (means : F → Meaning) (faults : F → 
 
   -- Where a commit ended early: at the step about this, for this cause. All logs and `packed-refs` were decided before, the new text of
   -- `packed-refs` is in its lock, the steps before that one are done, and none after it is begun; then locks were removed.
-  pub record StopsAt (start new : Store F) (packed : Option Path) (held : List Edit) (about : About) (cause : Cause) : Type 0 where
+  pub record StopsAt (start new : Store F) (committer : Option SignatureRef) (packed : Option Path) (held : List Edit) (about : About) (cause : Cause) : Type 0 where
     pub ran : List Edit
     pub alike : all_but_logs ran ≡ all_but_logs held
-    pub logs : AreLogsOf (meaning_of start) (updates held) ran
+    pub logs : honest → outcomes_of ran ≡ log_outcomes (line_rules start committer) (view_of (tree_of means start)) (asked held)
     pub rewrite : Rewrite
     pub repacked : RepacksFrom start packed held rewrite
     pub filled : Tree
@@ -119,31 +126,56 @@ module _ {F : Type 0} (honest : Type 0) (means : F → Meaning) (faults : F → 
   IsFault start new fault = HasRisen (faults (files_of start)) (faults (files_of new)) × (fault ≢ no_memory)
 
   -- a call of files failed at the step about the edit of this name
-  abbrev pub FailsAt : (start new : Store F) → Option Path → List Edit → (ℕ → About) → FileError → (ℕ → Type 0) → Type 0
-  FailsAt start new packed held about fault is_named =
-      IsFault start new fault × ((at : ℕ) × (at < length held) × is_named at × StopsAt start new packed held (about at) (File fault))
+  abbrev pub FailsAt : (start new : Store F) → Option SignatureRef → Option Path → List Edit → (ℕ → About) → FileError → (ℕ → Type 0) → Type 0
+  FailsAt start new committer packed held about fault is_named =
+      IsFault start new fault × ((at : ℕ) × (at < length held) × is_named at × StopsAt start new committer packed held (about at) (File fault))
 
-  -- Where a folder is in the place of a reference, or of `packed-refs`.
-  abbrev pub MeetsFolder : (start new : Store F) → Option Path → List Edit → Path → Type 0
-  MeetsFolder start new packed held path =
-      ((at : ℕ) × (at < length held) × (path ≡ place_at held at) × (is_folder (tree_of means new path) ≡ true) × StopsAt start new packed held (Rename at) Unexpected)
+  -- the run ended at the folders of a log, or at its line, and reports that log
+  abbrev pub EndsAtLog : (start new : Store F) → Option SignatureRef → Option Path → List Edit → (ℕ → About) → Cause → (reports : Path → Type 0) → Type 0
+  EndsAtLog start new committer packed held about cause reports =
+      (at : ℕ) × (at < length held) × (honest → reports (log_path_at start held at)) × StopsAt start new committer packed held (about at) cause
+
+  -- a due line was refused before the first write: this is the first cause, edit by edit
+  abbrev pub RefusesLine : (start new : Store F) → Option SignatureRef → Option Path → List Edit → LogError → Type 0
+  RefusesLine start new committer packed held error =
+      (honest → FirstFails (line_rules start committer) (view_of (tree_of means start)) (asked held) error) × OnlyItsLocks start new packed held
+
+  -- Why a line was not added: it was refused, or the run ended at its log.
+  abbrev pub FailsForLog : (start new : Store F) → Option SignatureRef → Option Path → List Edit → LogError → Type 0
+  FailsForLog start new committer packed held (CreateLeadingDirectories None folder) =
+      RefusesLine start new committer packed held (CreateLeadingDirectories None folder)
+      ⊎ EndsAtLog start new committer packed held Folders Unexpected (λ log. folder.items ≡ folder_of log)
+  FailsForLog start new committer packed held (CreateLeadingDirectories (Some fault) folder) =
+      IsFault start new fault
+      × (RefusesLine start new committer packed held (CreateLeadingDirectories (Some fault) folder)
+      ⊎ EndsAtLog start new committer packed held Folders (File fault) (λ log. folder.items ≡ folder_of log))
+  FailsForLog start new committer packed held (Append source path) =
+      IsFault start new source × EndsAtLog start new committer packed held Line (File source) (λ log. path.items ≡ log)
+  FailsForLog start new committer packed held error = RefusesLine start new committer packed held error
+
+  -- Where a folder is in the place of a reference, of its log, or of `packed-refs`.
+  abbrev pub MeetsFolder : (start new : Store F) → Option SignatureRef → Option Path → List Edit → Path → Type 0
+  MeetsFolder start new committer packed held path =
+      ((at : ℕ) × (at < length held) × (path ≡ place_at held at) × (is_folder (tree_of means new path) ≡ true) × StopsAt start new committer packed held (Rename at) Unexpected)
+      ⊎ (EndsAtLog start new committer packed held Line Unexpected (λ log. path ≡ log)
       ⊎ ((path ≡ (meaning_of start).packed_path) × (IsPackedPlace (meaning_of start) packed → is_folder (tree_of means new path) ≡ true)
-      × StopsAt start new packed held Packed Unexpected)
+      × StopsAt start new committer packed held Packed Unexpected))
 
   -- Why a commit failed, with these edits. A fault of a call of files came with a rise of their count and is no want of memory, and the
-  -- error says at which edit; a folder is in the place where the commit ended; `packed-refs` was refused or memory was, and then nothing but locks
-  -- has changed.
-  abbrev pub FailsFor : (start new : Store F) → Option Path → List Edit → Error → Type 0
-  FailsFor start new packed held (LockCommit source name) = FailsAt start new packed held Rename source (λ at. IsNameAt (updates held) at name)
-  FailsFor start new packed held (DeleteReflog name source) = FailsAt start new packed held LogRemoval source (λ at. IsNameAt (updates held) at name)
-  FailsFor start new packed held (DeleteReference name err) = FailsAt start new packed held Removal err (λ at. IsNameAt (updates held) at name)
-  FailsFor start new packed held (PackedTransactionCommit (repack.Io fault)) =
-      IsFault start new fault × (OnlyItsLocks start new packed held ⊎ StopsAt start new packed held Packed (File fault))
-  FailsFor start new packed held (PackedTransactionCommit (repack.Iteration line)) =
+  -- error says at which edit; a folder is in the place where the commit ended; a line or `packed-refs` was refused or memory was, and then
+  -- nothing but locks has changed.
+  abbrev pub FailsFor : (start new : Store F) → Option SignatureRef → Option Path → List Edit → Error → Type 0
+  FailsFor start new committer packed held (CreateOrUpdateRefLog error) = FailsForLog start new committer packed held error
+  FailsFor start new committer packed held (LockCommit source name) = FailsAt start new committer packed held Rename source (λ at. IsNameAt (updates held) at name)
+  FailsFor start new committer packed held (DeleteReflog name source) = FailsAt start new committer packed held LogRemoval source (λ at. IsNameAt (updates held) at name)
+  FailsFor start new committer packed held (DeleteReference name err) = FailsAt start new committer packed held Removal err (λ at. IsNameAt (updates held) at name)
+  FailsFor start new committer packed held (PackedTransactionCommit (repack.Io fault)) =
+      IsFault start new fault × (OnlyItsLocks start new packed held ⊎ StopsAt start new committer packed held Packed (File fault))
+  FailsFor start new committer packed held (PackedTransactionCommit (repack.Iteration line)) =
       (honest → IsBadLine (kind_of start) (tree_of means start (meaning_of start).packed_path) line) × OnlyItsLocks start new packed held
-  FailsFor start new packed held (PackedTransactionCommit other) = ⊥
-  FailsFor start new packed held (FolderInPlace path) = honest → MeetsFolder start new packed held path.items
-  FailsFor start new packed held Memory = OnlyItsLocks start new packed held
+  FailsFor start new committer packed held (PackedTransactionCommit other) = ⊥
+  FailsFor start new committer packed held (FolderInPlace path) = honest → MeetsFolder start new committer packed held path.items
+  FailsFor start new committer packed held Memory = OnlyItsLocks start new packed held
 
   -- where `packed-refs` was well formed, none of its lines is the cause
   abbrev pub NoBadLineFrom : (start : Store F) → Option Path → List Edit → Error → Type 0
@@ -152,15 +184,15 @@ module _ {F : Type 0} (honest : Type 0) (means : F → Meaning) (faults : F → 
 
   -- Every loss of power inside a commit, from the store `start` with these edits of a `prepare` that began with the store `old`,
   -- where all was at rest: each reference reads as before or as edited, and all else is as it was, but for locks.
-  pub record EveryLossIsOldOrNew (old start new : Store F) (given : List RefEdit) : Type 0 where
+  pub record EveryLossIsOldOrNew (old start new : Store F) (given : List RefEdit) (lines : List (Option (List ℕ))) : Type 0 where
     -- on the disk with which it begins
-    pub began : (T : Tree) → Lost (disk_in means start) T → IsLostWell (meaning_of old) DeletionsOnly (places_in means old given) (planned given) (disk_in means start) (tree_of means old) T
-    pub loses : Loses (means (files_of start)) (means (files_of new)) (IsLostWell (meaning_of old) DeletionsOnly (places_in means old given) (planned given) (disk_in means start) (tree_of means old))
+    pub began : (T : Tree) → Lost (disk_in means start) T → IsLostWell (meaning_of old) DeletionsOnly (places_in means old given) (with_lines given lines) (disk_in means start) (tree_of means old) T
+    pub loses : Loses (means (files_of start)) (means (files_of new)) (IsLostWell (meaning_of old) DeletionsOnly (places_in means old given) (with_lines given lines) (disk_in means start) (tree_of means old))
 
-  abbrev pub EveryLossFrom : (start new : Store F) → Option Path → List Edit → Type 0
-  EveryLossFrom start new packed held =
+  abbrev pub EveryLossFrom : (start new : Store F) → Option SignatureRef → Option Path → List Edit → Type 0
+  EveryLossFrom start new committer packed held =
       (old : Store F) (given : List RefEdit) → PreparesFrom honest means faults old start given packed held → honest → HasGoodRecords means old → IsAtRest means old →
-      EveryLossIsOldOrNew old start new given
+      EveryLossIsOldOrNew old start new given (lines_due means start committer held)
 
   -- a commit that succeeds leaves all at rest: a later loss of power leaves what it did
   abbrev pub SettlesFrom : (start new : Store F) → Option Path → List Edit → Type 0

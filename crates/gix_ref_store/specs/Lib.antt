@@ -1,3 +1,4 @@
+pub mod CommitLines
 pub mod CommitResult
 pub mod Decisions
 pub mod Listings

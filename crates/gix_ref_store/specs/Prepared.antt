@@ -16,7 +16,8 @@ use Rattle.gix_ref_transaction.specs.Causes.{AllValid, IsAccepted, IsCountedWith
 use Rattle.gix_ref_store.specs.Store.{files_of, kind_of, folders, meaning_of, IsSameStore}
 use Rattle.gix_ref_transaction.specs.PrepareSteps.{AreEmpty, AreLockable, AreWholeLocks, effects_of, effects_on, HoldTexts, ids_in, packed_ids, IsPackedPlace, old_targets, own_locks, own_places, packed_places, place_paths, places_of, possible_locks, updates}
 use Rattle.gix_ref_transaction.specs.CarriedEdits.{AreCarried}
-use Rattle.gix_ref_transaction.specs.Splits.{all_rounds, AreDirect, AreSplit, CanFollow, Refuses}
+use Rattle.gix_ref_transaction.specs.Parents.{parents_in, split_parents}
+use Rattle.gix_ref_transaction.specs.Splits.{all_rounds, AreDirect, AreSplit, CanFollow, leads_to, Refuses, values_of}
 use Rattle.gix_ref_edits.specs.DoubledNames.{NoneDoubled}
 use Rattle.gix_ref_edits.specs.RefEdits.{AreUpdates}
 use Rattle.gix_ref_edits.specs.declared.transaction.RefEdit.{RefEdit}
@@ -150,6 +151,8 @@ module _ {F : Type 0} (honest : Type 0) (means : F → Meaning) (faults : F → 
     pub split : List RefEdit
     pub splits : SplitsFrom old given split
     pub prepared : PreparesFrom old new split packed after
+    -- each edit has the place of the one that it was split from
+    pub parents : honest → parents_in after ≡ split_parents (leads_to (meaning_of old) (view_of (tree_of means old))) (values_of given)
 
   -- A transaction that is given up: of its locks only those stay that are named, and one is named only where a fault came.
   pub record RollsBackFrom (old new : Store F) (locks left : List Path) : Type 0 where

@@ -97,7 +97,9 @@ fn failure_of(error: &commit::Error) -> Outcome {
         commit::Error::LockCommit { .. } => Outcome::LockCommit,
         commit::Error::DeleteReflog { .. } => Outcome::DeleteReflog,
         commit::Error::DeleteReference { .. } => Outcome::DeleteReference,
-        commit::Error::FolderInPlace { .. } | commit::Error::Memory => Outcome::Other,
+        commit::Error::CreateOrUpdateRefLog(_)
+        | commit::Error::FolderInPlace { .. }
+        | commit::Error::Memory => Outcome::Other,
     }
 }
 

@@ -18,6 +18,8 @@ mod listings;
 #[cfg(test)]
 mod lists;
 #[cfg(test)]
+mod logs;
+#[cfg(test)]
 mod lookups;
 #[cfg(test)]
 mod loose;

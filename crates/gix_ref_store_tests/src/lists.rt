@@ -95,6 +95,7 @@ enum Outcome {
     PackedRefs,
     DeleteReference,
     FolderInPlace,
+    LogLine,
     Memory,
 }
 
@@ -114,6 +115,7 @@ fn failure_of(error: &commit::Error) -> (Outcome, &[u8]) {
             Outcome::DeleteReference,
             full_name.as_bstr().as_bytes(),
         ),
+        commit::Error::CreateOrUpdateRefLog(_) => (Outcome::LogLine, b""),
         commit::Error::FolderInPlace { path } => (Outcome::FolderInPlace, path),
         commit::Error::Memory => (Outcome::Memory, b""),
     }

@@ -62,7 +62,8 @@ fn repository(rt: &impl Abort, alloc: Global, has_branch: bool) -> Memory {
 fn answer_of(error: &commit::Error) -> Answer {
     match error {
         commit::Error::LockCommit { .. } => Answer::LockCommit,
-        commit::Error::PackedTransactionCommit(_)
+        commit::Error::CreateOrUpdateRefLog(_)
+        | commit::Error::PackedTransactionCommit(_)
         | commit::Error::DeleteReflog { .. }
         | commit::Error::DeleteReference { .. }
         | commit::Error::FolderInPlace { .. }

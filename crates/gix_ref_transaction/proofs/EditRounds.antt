@@ -89,12 +89,12 @@ module _ (s : Store) (kind : Kind) (all : List RefEdit) (first : Meaning) where
       }
 
 -- edits that were given the same have the same ids
-ids_given : (edits : List Edit) → ids_in edits ≡ map (λ (g : RefEdit × Path × Option ObjectId). g.2) (all_given edits)
+ids_given : (edits : List Edit) → ids_in edits ≡ map (λ (g : RefEdit × Path × Option ObjectId × Option ℕ). g.2) (all_given edits)
 ids_given [] = refl
 ids_given (e ∷ edits) = ap (λ (l : List (Option ObjectId)). e.packed ∷ l) (ids_given edits)
 
 pub same_ids : (a b : List Edit) → all_given a ≡ all_given b → ids_in a ≡ ids_in b
-same_ids a b same = ids_given a ∙ (ap (map (λ (g : RefEdit × Path × Option ObjectId). g.2)) same ∙ sym (ids_given b))
+same_ids a b same = ids_given a ∙ (ap (map (λ (g : RefEdit × Path × Option ObjectId × Option ℕ). g.2)) same ∙ sym (ids_given b))
 
 -- One edit of a list that is asked for as `old` is.
 pub record Turn (old : List Edit) : Type 0 where

@@ -4,6 +4,7 @@ use Rattle.std.proofs.Math.ListN.{set}
 use Rattle.std.proofs.lemmas.Simd.{map-map}
 use Rattle.std.proofs.lemmas.List.{map-append, take_more_set, take_more, get_or-map, length-map}
 use Rattle.std.proofs.Math.Seq.{take-append_seam}
+use Rattle.gix_ref_transaction.specs.Parents.{parents_in}
 use Rattle.gix_ref_transaction.specs.PrepareSteps.{AreSettled, HoldTexts, all_asked, all_given, given, effects_of, effects_on, ids_in, old_targets, packed_ids, place_paths, targets_of, updates}
 use Rattle.gix_ref_transaction.specs.Causes.{NoCause}
 use Rattle.gix_ref_transaction.specs.declared.edit.Edit.{Edit}
@@ -187,27 +188,33 @@ counted_on honest read a b d NoMemory le told = tt
 -- what is the same of edits that ask for the same
 pub updates_alike : (old now : List Edit) → all_asked now ≡ all_asked old → updates now ≡ updates old
 updates_alike old now same =
-    sym (map-map (λ (p : RefEdit × Path). p.0) (λ (a : Edit). (a.update, a.lock)) now)
-    ∙ (ap (map (λ (p : RefEdit × Path). p.0)) same
-    ∙ map-map (λ (p : RefEdit × Path). p.0) (λ (a : Edit). (a.update, a.lock)) old)
+    sym (map-map (λ (p : RefEdit × Path × Option ℕ). p.0) (λ (a : Edit). (a.update, a.lock, a.parent)) now)
+    ∙ (ap (map (λ (p : RefEdit × Path × Option ℕ). p.0)) same
+    ∙ map-map (λ (p : RefEdit × Path × Option ℕ). p.0) (λ (a : Edit). (a.update, a.lock, a.parent)) old)
 
 pub places_alike : (old now : List Edit) → all_asked now ≡ all_asked old → place_paths now ≡ place_paths old
 places_alike old now same =
-    sym (map-map (λ (p : RefEdit × Path). p.1) (λ (a : Edit). (a.update, a.lock)) now)
-    ∙ (ap (map (λ (p : RefEdit × Path). p.1)) same
-    ∙ map-map (λ (p : RefEdit × Path). p.1) (λ (a : Edit). (a.update, a.lock)) old)
+    sym (map-map (λ (p : RefEdit × Path × Option ℕ). p.1) (λ (a : Edit). (a.update, a.lock, a.parent)) now)
+    ∙ (ap (map (λ (p : RefEdit × Path × Option ℕ). p.1)) same
+    ∙ map-map (λ (p : RefEdit × Path × Option ℕ). p.1) (λ (a : Edit). (a.update, a.lock, a.parent)) old)
+
+pub parents_alike : (old now : List Edit) → all_asked now ≡ all_asked old → parents_in now ≡ parents_in old
+parents_alike old now same =
+    sym (map-map (λ (p : RefEdit × Path × Option ℕ). p.2) (λ (a : Edit). (a.update, a.lock, a.parent)) now)
+    ∙ (ap (map (λ (p : RefEdit × Path × Option ℕ). p.2)) same
+    ∙ map-map (λ (p : RefEdit × Path × Option ℕ). p.2) (λ (a : Edit). (a.update, a.lock, a.parent)) old)
 
 pub asked_alike : (old now : List Edit) → all_given now ≡ all_given old → all_asked now ≡ all_asked old
 asked_alike old now same =
-    sym (map-map {C = RefEdit × Path} (λ (p : RefEdit × Path × Option ObjectId). (p.0, p.1)) given now)
-    ∙ (ap (map {B = RefEdit × Path} (λ (p : RefEdit × Path × Option ObjectId). (p.0, p.1))) same
-    ∙ map-map {C = RefEdit × Path} (λ (p : RefEdit × Path × Option ObjectId). (p.0, p.1)) given old)
+    sym (map-map {C = RefEdit × Path × Option ℕ} (λ (p : RefEdit × Path × Option ObjectId × Option ℕ). (p.0, p.1, p.3)) given now)
+    ∙ (ap (map {B = RefEdit × Path × Option ℕ} (λ (p : RefEdit × Path × Option ObjectId × Option ℕ). (p.0, p.1, p.3))) same
+    ∙ map-map {C = RefEdit × Path × Option ℕ} (λ (p : RefEdit × Path × Option ObjectId × Option ℕ). (p.0, p.1, p.3)) given old)
 
 -- a list that was written over in whole, by one that asks for the same
 pub asked_over : (len : ℕ) (old now rest : List Edit) → all_asked now ≡ all_asked old → length old ≡ len → take len (now ++ rest) ≡ now
 asked_over len old now rest same is =
     ap (λ n. take n (now ++ rest))
-    (omega (arith, is, length-map {B = RefEdit × Path} now (λ (a : Edit). (a.update, a.lock)), length-map {B = RefEdit × Path} old (λ (a : Edit). (a.update, a.lock)), ap length same))
+    (omega (arith, is, length-map {B = RefEdit × Path × Option ℕ} now (λ (a : Edit). (a.update, a.lock, a.parent)), length-map {B = RefEdit × Path × Option ℕ} old (λ (a : Edit). (a.update, a.lock, a.parent)), ap length same))
     ∙ take-append_seam now rest
 
 pub if_ok : {X E : Type 0} {P Q : X → Type 0} (r : Result X E) → ((x : X) → P x → Q x) → IfOk r P → IfOk r Q

@@ -117,7 +117,7 @@ pub locks_given : (s : Store) (old now : List Own) (n : ℕ) → place_paths old
 locks_given s old now n places same =
     locks_front s (updates old) now n
     (locks_by_places s (updates old) now
-    (sym (map-map (λ (g : RefEdit × Path × Option ObjectId). g.1) given now)
-    ∙ (ap (map (λ (g : RefEdit × Path × Option ObjectId). g.1)) same
-    ∙ (map-map (λ (g : RefEdit × Path × Option ObjectId). g.1) given old
+    (sym (map-map (λ (g : RefEdit × Path × Option ObjectId × Option ℕ). g.1) given now)
+    ∙ (ap (map (λ (g : RefEdit × Path × Option ObjectId × Option ℕ). g.1)) same
+    ∙ (map-map (λ (g : RefEdit × Path × Option ObjectId × Option ℕ). g.1) given old
     ∙ places))))

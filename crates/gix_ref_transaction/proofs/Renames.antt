@@ -8,7 +8,7 @@ use Rattle.gix_ref_files.specs.Lock.{lock_of}
 use Rattle.gix_ref_files.specs.Tree.{Tree, Path, is_file}
 use Rattle.gix_ref_transaction.specs.OwnLocks.{is_in, RemovesLocks}
 use Rattle.gix_ref_transaction.specs.Effects.{is_write}
-use Rattle.gix_ref_transaction.specs.CommitRenames.{lock_at, place_at, stays_at, is_written_at}
+use Rattle.gix_ref_transaction.specs.CommitRenames.{lock_at, log_at, place_at, stays_at, is_written_at}
 use Rattle.gix_ref_transaction.specs.PrepareSteps.{lock_paths}
 use Rattle.gix_ref_transaction.specs.declared.edit.Edit.{Edit as Own}
 use Rattle.gix_ref_transaction.proofs.Adds.{clash, false_is_true, is_false, any_right, any_cases, in_here, in_one}
@@ -23,6 +23,11 @@ lock_there (p ∷ rest) own tail = lock_there rest own tail
 pub place_there : (rest : List Own) (own : Own) (tail : List Own) → place_at (rest ++ own ∷ tail) (length rest) ≡ own.lock
 place_there [] own tail = refl
 place_there (p ∷ rest) own tail = place_there rest own tail
+
+-- what becomes of its log
+pub log_there : (rest : List Own) (own : Own) (tail : List Own) → log_at (rest ++ own ∷ tail) (length rest) ≡ own.log
+log_there [] own tail = refl
+log_there (p ∷ rest) own tail = log_there rest own tail
 
 -- and so is whether it is written
 pub flag_there : (rest : List Own) (own : Own) (tail : List Own) → is_written_at (rest ++ own ∷ tail) (length rest) ≡ (is_write own.effect)

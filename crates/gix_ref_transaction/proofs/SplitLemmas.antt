@@ -1,6 +1,6 @@
 -- Splits: where a loose file leads, and rounds over lists of edits.
-use Rattle.std.proofs.Common.{◌≡◌, ◌<◌, ◌+◌, ◌-◌, ℕ, zero, suc, List, [], ◌∷◌, ◌++◌, Option, Bool, true, false, All, refl, sym, ap, ◌∙◌, subst, length, take, drop, get_or, map, arith, add-one, append-nil, append_assoc}
-use Rattle.std.proofs.Math.ListN.{set}
+use Rattle.std.proofs.Common.{◌≡◌, ◌<◌, ◌+◌, ◌-◌, ℕ, zero, suc, List, [], ◌∷◌, ◌++◌, Option, None, Some, Bool, true, false, All, refl, sym, ap, ◌∙◌, subst, length, take, drop, get_or, map, arith, add-one, append-nil, append_assoc}
+use Rattle.std.proofs.Math.ListN.{replicate, set}
 use Rattle.std.proofs.lemmas.List.{map-append, length-map, length-take-le, take-map, take_more_set, take-append-drop, get_or-drop}
 use Rattle.std.proofs.lemmas.List.Elements.{All-nil, All-cons, All-head, All-tail, All-append}
 use Rattle.std.specs.Option.{option_map}
@@ -27,8 +27,9 @@ use Rattle.gix_ref_edits.specs.SplitLists.{looked_up, child_list, referent, afte
 use Rattle.gix_ref_edits.specs.declared.transaction.RefEdit.{RefEdit}
 use Rattle.gix_ref_edits.proofs.Joining.{after_round-append}
 use Rattle.gix_ref_transaction.specs.Causes.{decoded, IsMisnamed}
+use Rattle.gix_ref_transaction.specs.Parents.{first_parents, level_parents, parent_list, parents_from, parents_given}
 use Rattle.gix_ref_transaction.specs.Splits.{name_in, symbolic_in, values_of, AreDirect, CanFollow, IsFirstMisnamed, OnlyReads}
-use Rattle.gix_ref_transaction.specs.internal.SplitRounds.{name_by, led_to, led_by, after_by, children_by}
+use Rattle.gix_ref_transaction.specs.internal.SplitRounds.{name_by, led_to, led_by, after_by, child_values, children_by, parents_by}
 use Rattle.gix_ref_transaction.specs.declared.prepare.error.Error.{Error}
 use Rattle.gix_ref_transaction.proofs.Firsts.{next_of, seen_of}
 
@@ -102,12 +103,35 @@ after_by-more [] (n ∷ led) edit name len = absurd (omega (arith, len))
 after_by-more (e ∷ edits) [] edit name len = absurd (omega (arith, len))
 after_by-more (e ∷ edits) (n ∷ led) edit name len = ap (λ (l : List EditValue). looked_up e n ∷ l) (after_by-more edits led edit name (omega (arith, len)))
 
+pub after_by-length : (edits : List EditValue) (led : List (Option (List ℕ))) → length led ≡ length edits → length (after_by edits led) ≡ length edits
+after_by-length [] led len = refl
+after_by-length (e ∷ edits) [] len = absurd (omega (arith, len))
+after_by-length (e ∷ edits) (n ∷ led) len = let rest = after_by-length edits led (omega (arith, len)) in omega (arith, rest)
+
 children_by-more : (edits : List EditValue) (led : List (Option (List ℕ))) (edit : EditValue) (name : Option (List ℕ)) → length edits ≡ length led → children_by (edits ++ edit ∷ []) (led ++ name ∷ []) ≡ children_by edits led ++ child_list edit name
 children_by-more [] [] edit name len = append-nil (child_list edit name)
 children_by-more [] (n ∷ led) edit name len = absurd (omega (arith, len))
 children_by-more (e ∷ edits) [] edit name len = absurd (omega (arith, len))
 children_by-more (e ∷ edits) (n ∷ led) edit name len =
     ap (λ (l : List EditValue). child_list e n ++ l) (children_by-more edits led edit name (omega (arith, len))) ∙ sym (append_assoc (child_list e n) (children_by edits led) (child_list edit name))
+
+parents_by-more : (place : ℕ) (led : List (Option (List ℕ))) (name : Option (List ℕ)) → parents_by place (led ++ name ∷ []) ≡ parents_by place led ++ parent_list (place + length led) name
+parents_by-more place [] name = append-nil (parent_list place name) ∙ ap (λ (k : ℕ). parent_list k name) {x = place} {y = place + 0} (omega arith)
+parents_by-more place (n ∷ led) name =
+    let next : suc place + length led ≡ place + length (n ∷ led) = omega arith in
+    ap (λ (l : List (Option ℕ)). parent_list place n ++ l) (parents_by-more (suc place) led name ∙ ap (λ (k : ℕ). parents_by (suc place) led ++ parent_list k name) next)
+    ∙ sym (append_assoc (parent_list place n) (parents_by (suc place) led) (parent_list (place + length (n ∷ led)) name))
+
+-- the parent of a child, where there is one
+abbrev pub parent_of : ℕ → Option RefEdit → List (Option ℕ)
+parent_of place None = []
+parent_of place (Some child) = Some place ∷ []
+
+pub parent_is : (place : ℕ) (edit : EditValue) (child : Option RefEdit) (name : Option (List ℕ)) → child_values child ≡ child_list edit name → parent_of place child ≡ parent_list place name
+parent_is place edit None None is = refl
+parent_is place edit (Some child) (Some name) is = refl
+parent_is place edit None (Some name) is = absurd (omega (arith, ap length is))
+parent_is place edit (Some child) None is = absurd (omega (arith, ap length is))
 
 module _ (start now : List RefEdit) (names left : List (Option FullName)) (i : ℕ) (x y : RefEdit) (name : Option FullName) (lt : i < length start) (lt' : i < length now) (named : i < length names)
     (same : drop i now ≡ drop i start) (same' : drop i left ≡ drop i names) (is : x ≡ get_or now i x) (is' : name ≡ get_or left i name) where
@@ -142,6 +166,15 @@ module _ (start now : List RefEdit) (names left : List (Option FullName)) (i : �
       ∙ (ap (λ (l : List EditValue). children_by l (take i (led_to names) ++ option_map full_bytes name ∷ [])) (sym seen)
       ∙ ap (λ (l : List (Option (List ℕ))). children_by (values_of (take (i + 1) start)) l) (sym names_seen))))
 
+  pub parents_more : (place : ℕ) (parents parent : List (Option ℕ)) → parent ≡ parent_list (place + i) (option_map full_bytes name) → parents ≡ parents_by place (take i (led_to names)) →
+      parents ++ parent ≡ parents_by place (take (i + 1) (led_to names))
+  parents_more place parents parent here before =
+      let f : Option FullName → Option (List ℕ) = λ n. option_map full_bytes n in
+      let far : i ≡ length (take i (led_to names)) = sym (length-take-le i (led_to names) (omega (arith, named, length-map names f))) in
+      ap (λ (l : List (Option ℕ)). l ++ parent) before
+      ∙ (ap (λ (l : List (Option ℕ)). parents_by place (take i (led_to names)) ++ l) (here ∙ ap (λ (k : ℕ). parent_list (place + k) (f name)) far)
+      ∙ (sym (parents_by-more place (take i (led_to names)) (f name)) ∙ ap (parents_by place) (sym names_seen)))
+
 -- Where each leads by a finder, a round is one over that finder.
 module _ (find : List ℕ → Option (List ℕ)) where
   pub after_by_is : (edits : List EditValue) → after_by edits (led_by find edits) ≡ after_round find edits
@@ -154,6 +187,11 @@ module _ (find : List ℕ → Option (List ℕ)) where
   children_by_is [] = refl
   children_by_is (edit ∷ edits) = ap (λ (l : List EditValue). child_list edit (referent find edit.name edit.deref) ++ l) (children_by_is edits)
 
+  pub parents_by_is : (place : ℕ) (edits : List EditValue) → parents_by place (led_by find edits) ≡ parents_from find place edits
+  unfolding parents_from
+  parents_by_is place [] = refl
+  parents_by_is place (edit ∷ edits) = ap (λ (l : List (Option ℕ)). parent_list place (referent find edit.name edit.deref) ++ l) (parents_by_is (suc place) edits)
+
   -- n rounds, and one more
   pub done_none : (edits : List EditValue) → [] ≡ after_round find (first_levels find edits 0)
   unfolding after_round first_levels
@@ -162,6 +200,14 @@ module _ (find : List ℕ → Option (List ℕ)) where
   pub level_none : (edits : List EditValue) → edits ≡ level find edits 0
   unfolding level
   level_none edits = refl
+
+  pub first_parents_none : (edits : List EditValue) → [] ≡ first_parents find edits 0
+  unfolding first_parents
+  first_parents_none edits = refl
+
+  pub level_parents_none : (edits : List EditValue) → parents_given edits ≡ level_parents find edits 0
+  unfolding level_parents
+  level_parents_none edits = refl
 
   pub can_none : (P : EditValue → Type 0) (edits : List EditValue) → All P (first_levels find edits 0)
   unfolding first_levels
@@ -177,6 +223,20 @@ module _ (find : List ℕ → Option (List ℕ)) where
   pub level_more : (edits : List EditValue) (n : ℕ) (back kids : List EditValue) → back ≡ level find edits n → kids ≡ children find back → kids ≡ level find edits (n + 1)
   unfolding level
   level_more edits n back kids is split = split ∙ (ap (children find) is ∙ ap (level find edits) (sym (add-one n)))
+
+  pub first_parents_more : (edits : List EditValue) (n : ℕ) (done back : List (Option ℕ)) → done ≡ first_parents find edits n → back ≡ level_parents find edits n → done ++ back ≡ first_parents find edits (n + 1)
+  unfolding first_parents
+  first_parents_more edits n done back first is =
+      ap (λ (l : List (Option ℕ)). l ++ back) first ∙ (ap (λ (l : List (Option ℕ)). first_parents find edits n ++ l) is ∙ ap (first_parents find edits) (sym (add-one n)))
+
+  -- the children of a level, which begins where the edits that had their rounds end
+  pub level_parents_more : (edits : List EditValue) (n place : ℕ) (done : List RefEdit) (back : List EditValue) (parents : List (Option ℕ)) → place ≡ length done → values_of done ≡ after_round find (first_levels find edits n) →
+      back ≡ level find edits n → parents ≡ parents_from find place back → parents ≡ level_parents find edits (n + 1)
+  unfolding level_parents after_round
+  level_parents_more edits n place done back parents at first is here =
+      let far : place ≡ length (first_levels find edits n) =
+      at ∙ (sym (length-map done edit_value) ∙ (ap length first ∙ length-map (first_levels find edits n) (λ (e : EditValue). looked_up e (referent find e.name e.deref)))) in
+      here ∙ (ap (λ (k : ℕ). parents_from find k back) far ∙ (ap (parents_from find (length (first_levels find edits n))) is ∙ ap (level_parents find edits) (sym (add-one n))))
 
   pub can_more : (P : EditValue → Type 0) (edits : List EditValue) (n : ℕ) (back : List EditValue) → back ≡ level find edits n → All P (first_levels find edits n) → All P back → All P (first_levels find edits (n + 1))
   unfolding first_levels
@@ -245,11 +305,38 @@ module _ (find : List ℕ → Option (List ℕ)) (s : Store) where
     levels = sym (ap (after_round find) (first_alone edits off 4) ∙ all_stay edits off);
   }
 
+  no_parents : (place : ℕ) (edits : List EditValue) → All (λ (e : EditValue). e.deref ≡ false) edits → parents_from find place edits ≡ []
+  unfolding parents_from
+  no_parents place [] off = refl
+  no_parents place (edit ∷ edits) off =
+      let Off : EditValue → Type 0 = λ e. e.deref ≡ false in
+      ap (λ b. parent_list place (referent find edit.name b) ++ parents_from find (suc place) edits) (All-head Off edit edits off) ∙ no_parents (suc place) edits (All-tail Off edit edits off)
+
+  later_parents : (edits : List EditValue) → All (λ (e : EditValue). e.deref ≡ false) edits → (k : ℕ) → level_parents find edits (suc k) ≡ []
+  unfolding level_parents level
+  later_parents edits off zero = no_parents (length (first_levels find edits zero)) edits off
+  later_parents edits off (suc k) = ap (parents_from find (length (first_levels find edits (suc k)))) (levels_none edits off k) ∙ no_parents (length (first_levels find edits (suc k))) [] (All-nil (λ (e : EditValue). e.deref ≡ false))
+
+  pub direct_parents : (edits : List EditValue) → All (λ (e : EditValue). e.deref ≡ false) edits → (k : ℕ) → parents_given edits ≡ first_parents find edits (suc k)
+  unfolding first_parents level_parents
+  direct_parents edits off zero = refl
+  direct_parents edits off (suc k) = sym (append-nil (parents_given edits)) ∙ (ap (λ (l : List (Option ℕ)). l ++ []) (direct_parents edits off k) ∙ ap (λ (l : List (Option ℕ)). first_parents find edits (suc k) ++ l) (sym (later_parents edits off k)))
+
   pub direct_can : (edits : List EditValue) → All (λ (e : EditValue). e.deref ≡ false) edits → All (CanFollow s) (first_levels find edits 5)
   direct_can edits off = subst (All (CanFollow s)) (sym (first_alone edits off 4)) (λ k d lt follows. absurd (off_on (off k d lt) follows))
     where
       off_on : {b : Bool} → b ≡ false → b ≡ true → ⊥
       off_on h e = cc
+
+-- only nothing is a copy of nothing
+pub none_alone : (R : Option ℕ → Type 0) → ((n : ℕ) → R (Some n) → ⊥) → (parent : Option ℕ) → R parent → parent ≡ None
+none_alone R never None is = refl
+none_alone R never (Some n) is = absurd (never n is)
+
+-- edits that are given have no parents
+pub none_given : (edits : List RefEdit) → replicate (length edits) None ≡ parents_given (values_of edits)
+none_given [] = refl
+none_given (edit ∷ edits) = ap (λ (l : List (Option ℕ)). None ∷ l) (none_given edits)
 
 pub direct_values : (edits : List RefEdit) → AreDirect edits → All (λ (e : EditValue). e.deref ≡ false) (values_of edits)
 direct_values [] off = All-nil (λ (e : EditValue). e.deref ≡ false)

@@ -7,6 +7,7 @@ pub mod Effects
 pub mod First
 pub mod OwnLocks
 pub mod PackedCauses
+pub mod Parents
 pub mod PrepareSteps
 pub mod Splits
 pub mod internal

@@ -57,15 +57,15 @@ lock_paths edits = map (λ (e : Edit). lock_of e.lock) edits
 abbrev pub place_paths : List Edit → List Path
 place_paths edits = map (λ (e : Edit). e.lock) edits
 
--- what is asked for, with the place
-abbrev pub all_asked : List Edit → List (RefEdit × Path)
-all_asked edits = map (λ (e : Edit). (e.update, e.lock)) edits
+-- what is asked for, with the place and the parent
+abbrev pub all_asked : List Edit → List (RefEdit × Path × Option ℕ)
+all_asked edits = map (λ (e : Edit). (e.update, e.lock, e.parent)) edits
 
 -- and with the id of the record, which stays while locks are taken
-abbrev pub given : Edit → RefEdit × Path × Option ObjectId
-given e = (e.update, e.lock, e.packed)
+abbrev pub given : Edit → RefEdit × Path × Option ObjectId × Option ℕ
+given e = (e.update, e.lock, e.packed, e.parent)
 
-abbrev pub all_given : List Edit → List (RefEdit × Path × Option ObjectId)
+abbrev pub all_given : List Edit → List (RefEdit × Path × Option ObjectId × Option ℕ)
 all_given edits = map given edits
 
 -- the ids that the edits have of their records

@@ -261,16 +261,22 @@ fn fill<F: Files>(files: &mut F, lock: &LockFile, text: &[u8]) -> Result<(), Err
 }
 
 impl Edit {
-    /// An edit that is not begun, with the paths of its lock.
-    pub fn at(alloc: Global, settings: &Settings<'_>, update: RefEdit) -> Result<Edit, AllocError>
+    /// An edit that is not begun, with the place of the edit that it was split from, and the paths of its lock.
+    pub fn at(
+        alloc: Global,
+        settings: &Settings<'_>,
+        update: RefEdit,
+        parent: Option<usize>,
+    ) -> Result<Edit, AllocError>
         ensures update { IfOk result (λ edit. edit.update ≡ update) }
+        ensures parent { IfOk result (λ edit. edit.parent ≡ parent) }
         ensures place { IfOk result (λ edit. edit.lock ≡ (setting_of settings.now).place
             (name_of update)) }
     {
         let place = settings.place(alloc, update.name.as_ref())?;
         Ok(Edit {
             update,
-            parent: None,
+            parent,
             lock: LockFile::at(place)?,
             packed: None,
             found: None,

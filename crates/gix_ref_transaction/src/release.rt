@@ -7,11 +7,11 @@ ghost use Rattle.gix_ref_files.specs.Tree.{Path, is_file};
 ghost use Rattle.gix_ref_files.specs.Files.{disk_of, Leaves, Passes, HasRisen};
 ghost use Rattle.gix_ref_files.specs.DiskCalls.{RemovingFileOn};
 ghost use Rattle.gix_ref_transaction.specs.OwnLocks.{paths_of, RemovesLocks, OnlyRemoves, is_in};
-ghost use Rattle.gix_ref_transaction.specs.CommitRenames.{lock_at, place_at, stays_at};
+ghost use Rattle.gix_ref_transaction.specs.CommitRenames.{lock_at, log_at, path_in, place_at, stays_at};
 ghost use Rattle.gix_ref_transaction.specs.Effects.{is_write};
 ghost use Rattle.gix_ref_transaction.specs.PrepareSteps.{held_locks, lock_paths, packed_places, updates};
 
-use crate::edit::Edit;
+use crate::edit::{Edit, LogEffect};
 use gix_ref_edits::transaction::RefEdit;
 use gix_ref_files::files::Files;
 use gix_ref_files::lock::LockFile;
@@ -27,6 +27,8 @@ pub struct Remains {
     pub left: Vec<Vec<u8>>,
     /// The place of the edit at which a commit ended; empty where there is none.
     pub place: Vec<u8>,
+    /// The path of the log of that edit, where it gains a line or is removed.
+    pub log: Vec<u8>,
 }
 
 impl Remains {
@@ -40,10 +42,27 @@ impl Remains {
             edits: Vec::with_capacity(alloc, edits)?,
             left: Vec::with_capacity(alloc, locks)?,
             place: Vec::new(alloc),
+            log: Vec::new(alloc),
         })
     }
 
-    /// Adds an edit, with the path of its lock where that could not be removed, and its place where the commit ended there.
+    /// Keeps the place of an edit, and the path of its log where that gains a line or is removed.
+    fn keep_paths(&mut self, place: Vec<u8>, log: LogEffect)
+        ensures place { self.new.place.items ≡ place.items }
+        ensures log { self.new.log.items ≡ path_in log }
+        ensures edits { self.new.edits ≡ self.old.edits }
+        ensures left { self.new.left ≡ self.old.left }
+    {
+        self.place = place;
+        match log {
+            LogEffect::Append { log, .. } => self.log = log,
+            LogEffect::Remove { log } => self.log = log,
+            LogEffect::Keep => self.log.clear(),
+        }
+    }
+
+    /// Adds an edit, with the path of its lock where that could not be removed, and its place and the path of its log where the
+    /// commit ended there.
     fn add(&mut self, edit: Edit, removed: bool, here: bool)
         requires room { vec_len self.old.left < vec_capacity self.old.left }
         requires room_for_edit { vec_len self.old.edits < vec_capacity self.old.edits }
@@ -54,6 +73,8 @@ impl Remains {
         ensures same { removed ≡ true → self.new.left.items ≡ self.old.left.items }
         ensures place { self.new.place.items ≡ (if here then edit.lock else
             self.old.place.items) }
+        ensures log { self.new.log.items ≡ (if here then path_in edit.log else
+            self.old.log.items) }
         ensures room { vec_capacity self.new.left ≡ vec_capacity self.old.left }
         ensures room_for_edits { vec_capacity self.new.edits ≡ vec_capacity self.old.edits }
         ensures len { vec_len self.new.left ≤ vec_len self.old.left + 1 }
@@ -66,11 +87,11 @@ impl Remains {
             packed: _,
             found: _,
             effect: _,
-            log: _,
+            log,
         } = edit;
         let (place, path) = lock.into_parts();
         if here {
-            self.place = place;
+            self.keep_paths(place, log);
         }
         if !removed {
             self.left.push_reserved(path);
@@ -139,8 +160,8 @@ fn release<F: Files>(files: &mut F, done: usize, at: usize, edit: &Edit) -> bool
 }
 
 /// Removes the locks of these edits but for those that were renamed, where the edits before `done` are done. Hands back the edits,
-/// the place of the edit at `done`, and behind the paths in `remains` the locks that could not be removed. Takes no memory, and
-/// where all were renamed makes no call.
+/// the place of the edit at `done` and the path of its log, and behind the paths in `remains` the locks that could not be
+/// removed. Takes no memory, and where all were renamed makes no call.
 pub fn release_locks<F: Files>(
     files: &mut F,
     done: usize,
@@ -152,6 +173,8 @@ pub fn release_locks<F: Files>(
     requires none { remains.edits.items ≡ [] }
     ensures edits { result.edits.items ≡ updates edits.items }
     ensures place { done < vec_len edits → result.place.items ≡ place_at edits.items done }
+    ensures log { done < vec_len edits → result.log.items ≡ path_in
+        (log_at edits.items done) }
     ensures renamed { ((k : ℕ) → k < vec_len edits → stays_at edits.items done k ≡ false) →
         files.new ≡ files.old }
     ensures gone { F.honest → (k : ℕ) → k < vec_len edits → stays_at edits.items done k ≡ true →
@@ -195,6 +218,8 @@ pub fn release_all<F: Files>(
     requires none { remains.edits.items ≡ [] }
     ensures edits { result.edits.items ≡ updates edits.items }
     ensures place { done < vec_len edits → result.place.items ≡ place_at edits.items done }
+    ensures log { done < vec_len edits → result.log.items ≡ path_in
+        (log_at edits.items done) }
     ensures gone { F.honest → (k : ℕ) → k < vec_len edits → stays_at edits.items done k ≡ true →
         is_in (paths_of result.left.items) (lock_at edits.items k) ≡ false →
         is_file ((F.means files.new).tree (lock_at edits.items k)) ≡ false }

@@ -12,7 +12,6 @@ pub mod prepare;
 
 use crate::file::store::Store;
 use crate::file::transaction::commit::carry_out::EndedEarly;
-use crate::store::WriteReflog;
 use gix_ref_edits::transaction::RefEdit;
 use gix_ref_files::files::Files;
 use gix_ref_files::lock::LockFile;
@@ -251,23 +250,22 @@ impl<F: Files> Prepared<'_, F> {
     /// are done then, and the locks are removed but for those that are named. `PackedTransactionCommit` also where `packed-refs`
     /// could not be read or has a line that is no record, and `Memory` where there was none for the plan; nothing is done then but
     /// the removal of locks. No log line is written yet, so the store must write none, and the committer is not looked at.
-    pub fn commit(self, alloc: Global, _committer: Option<SignatureRef<'_>>) -> Result<Done, Failed>
-        requires quiet { self.store.now.write_reflog ≡ WriteReflog.Disable }
+    pub fn commit(self, alloc: Global, committer: Option<SignatureRef<'_>>) -> Result<Done, Failed>
         ensures edits { IfOk result (λ done. done.edits.items ≡ prepared_edits self.entry.plan) }
         ensures packed_refs { mode_of result ≡ prepared_mode self.entry.plan }
         ensures committed { IfOk result (λ done. CommitsFrom F.honest F.means F.faults
-            self.entry.store.now self.exit.0.now (held_packed self.entry.plan)
+            self.entry.store.now self.exit.0.now committer.entry (held_packed self.entry.plan)
             (held_edits self.entry.plan) (paths_of done.locks_left.items)) }
         ensures failed { IfErr result (λ f. FailsFor F.honest F.means F.faults self.entry.store.now
-            self.exit.0.now (held_packed self.entry.plan) (held_edits self.entry.plan)
+            self.exit.0.now committer.entry (held_packed self.entry.plan) (held_edits self.entry.plan)
             f.error) }
         ensures sound { IfErr result (λ f. NoBadLineFrom F.honest F.means F.faults
             self.entry.store.now (held_packed self.entry.plan) (held_edits self.entry.plan)
             f.error) }
         ensures ended { EveryStopFrom F.honest F.means F.faults self.entry.store.now self.exit.0.now
-            (held_packed self.entry.plan) (held_edits self.entry.plan) (left_of result) }
+            committer.entry (held_packed self.entry.plan) (held_edits self.entry.plan) (left_of result) }
         ensures lost { EveryLossFrom F.honest F.means F.faults self.entry.store.now self.exit.0.now
-            (held_packed self.entry.plan) (held_edits self.entry.plan) }
+            committer.entry (held_packed self.entry.plan) (held_edits self.entry.plan) }
         ensures settled { OnOk result (SettlesFrom F.honest F.means F.faults self.entry.store.now
             self.exit.0.now (held_packed self.entry.plan) (held_edits self.entry.plan)) }
         ensures named { (left_of result ≡ []) ⊎ HasRisen (F.faults (files_of self.entry.store.now))
@@ -281,7 +279,7 @@ impl<F: Files> Prepared<'_, F> {
             packed_refs,
             remains,
         } = plan;
-        let remains = match store.carry_out(alloc, edits, packed, remains) {
+        let remains = match store.carry_out(alloc, committer, edits, packed, remains) {
             Ok(remains) => remains,
             Err(EndedEarly { error, left }) => {
                 return Err(Failed {

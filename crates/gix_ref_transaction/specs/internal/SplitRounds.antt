@@ -1,5 +1,5 @@
 -- Rounds of splits, by where each edit leads.
-use Rattle.std.specs.Prelude.{◌≡◌, ℕ, List, [], ◌∷◌, ◌++◌, Option, Some, None, false, map, IsSome, length}
+use Rattle.std.specs.Prelude.{◌≡◌, ℕ, suc, List, [], ◌∷◌, ◌++◌, Option, Some, None, false, map, IsSome, length}
 use Rattle.std.specs.Option.{option_map}
 use Rattle.gix_ref_hash.specs.declared.hash.Kind.{Kind}
 use Rattle.gix_ref_name.specs.Names.{full_bytes}
@@ -14,6 +14,7 @@ use Rattle.gix_ref_edits.specs.EditValues.ExpectedValue.{must_not_exist, must_ma
 use Rattle.gix_ref_edits.specs.SplitLists.{looked_up, child_list, referent, after_round, children}
 use Rattle.gix_ref_edits.specs.declared.transaction.RefEdit.{RefEdit}
 use Rattle.gix_ref_transaction.specs.Causes.{IsFullTarget, IsOfKind, IsWellNamed, IsWholeTarget}
+use Rattle.gix_ref_transaction.specs.Parents.{parent_list}
 use Rattle.gix_ref_transaction.specs.Splits.{symbolic_in}
 
 -- the name that a loose file leads to
@@ -40,6 +41,11 @@ abbrev pub children_by : List EditValue → List (Option (List ℕ)) → List Ed
 children_by [] led = []
 children_by (edit ∷ edits) [] = []
 children_by (edit ∷ edits) (name ∷ led) = child_list edit name ++ children_by edits led
+
+-- the parents of these, where the first of the edits is at this place
+abbrev pub parents_by : (place : ℕ) → List (Option (List ℕ)) → List (Option ℕ)
+parents_by place [] = []
+parents_by place (name ∷ led) = parent_list place name ++ parents_by (suc place) led
 
 -- a round over these edits, wherever they lead
 pub record IsRoundBy (edits after kids : List EditValue) : Type 0 where

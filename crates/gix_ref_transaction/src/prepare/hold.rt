@@ -9,15 +9,16 @@ ghost use Rattle.gix_ref_packed.specs.OpenFiles.{HasReadFault};
 ghost use Rattle.gix_ref_lookup.specs.Lookups.{packed_refs_in};
 ghost use Rattle.gix_ref_transaction.specs.OwnLocks.{paths_of, is_in, AddsLocks, OnlyLocks};
 ghost use Rattle.gix_ref_transaction.specs.Causes.{AllValid, LocksAreApart, IsCounted, IsCountedWith, IsFirstCause, IsIoOrMemory, IsLockCause, IsPackedLocked, IsPackedRefusal, IsPackedWell, locks_of, packed_taken};
+ghost use Rattle.gix_ref_transaction.specs.Parents.{parents_in};
 ghost use Rattle.gix_ref_transaction.specs.PrepareSteps.{setting_of, updates, all_asked, all_given, ids_in, packed_ids, place_paths, places_of, own_locks, packed_places, possible_locks, AreEmpty, AreSettled, AreLockable, AreWholeLocks, IsPackedPlace};
 
 use crate::edit::Edit;
 use crate::prepare::Error;
 use crate::prepare::packed_lock::take_packed;
 use crate::prepare::records::find_records;
+use crate::prepare::split::SplitEdits;
 use crate::prepare::take::take_locks;
 use crate::release::{Remains, release_locks, release_packed};
-use gix_ref_edits::transaction::RefEdit;
 use gix_ref_files::files::Files;
 use gix_ref_files::lock::LockFile;
 use gix_ref_lookup::settings::Settings;
@@ -47,19 +48,26 @@ pub struct HeldLocks {
     pub remains: Remains,
 }
 
-/// The edits of a list that are not begun, with the paths of their locks.
+/// The edits of a split list that are not begun, with their parents and the paths of their locks.
 pub fn edits_at(
     alloc: Global,
     settings: &Settings<'_>,
-    given: Vec<RefEdit>,
+    split: SplitEdits,
 ) -> Result<Vec<Edit>, AllocError>
-    ensures asked { IfOk result (λ edits. updates edits.items ≡ given.items) }
+    requires { vec_len split.parents ≡ vec_len split.edits }
+    ensures asked { IfOk result (λ edits. updates edits.items ≡ split.edits.items) }
     ensures places { IfOk result (λ edits. place_paths edits.items ≡ places_of
-        (setting_of settings.now) given.items) }
+        (setting_of settings.now) split.edits.items) }
+    ensures parents { IfOk result (λ edits. parents_in edits.items ≡ split.parents.items) }
 {
+    let SplitEdits {
+        edits: given,
+        parents,
+    } = split;
     let mut edits = Vec::with_capacity(alloc, given.len())?;
     for update in given {
-        edits.push(Edit::at(alloc, settings, update)?)?;
+        let parent = parents[edits.len()];
+        edits.push(Edit::at(alloc, settings, update, parent)?)?;
     }
     Ok(edits)
 }

@@ -1,5 +1,5 @@
 //! The splits of edits that follow symbolic references.
-ghost use Rattle.std.specs.Prelude.{◌≡◌, ◌⊎◌, [], true, OnOk, IfOk, IfErr, MatchBool, All, length, vec_len};
+ghost use Rattle.std.specs.Prelude.{◌≡◌, ◌<◌, ◌+◌, ◌^◌, ◌⊎◌, [], true, OnOk, IfOk, IfErr, MatchBool, All, length, vec_len};
 ghost use Rattle.std.specs.Option.{option_map};
 ghost use Rattle.gix_ref_name.specs.Names.{full_bytes, full_ref_bytes};
 ghost use Rattle.gix_ref_base.specs.Targets.{target_value};
@@ -9,9 +9,10 @@ ghost use Rattle.gix_ref_edits.specs.EditValues.{edit_value};
 ghost use Rattle.gix_ref_edits.specs.RefEdits.{name_of, AreUpdates};
 ghost use Rattle.gix_ref_edits.specs.SplitLists.{child_list, looked_up, referent};
 ghost use Rattle.gix_ref_transaction.specs.Causes.{AllValid, IsCounted, IsIoOrMemory, IsMisnamed, IsWellNamed};
+ghost use Rattle.gix_ref_transaction.specs.Parents.{parents_from, parents_given, split_parents};
 ghost use Rattle.gix_ref_transaction.specs.PrepareSteps.{setting_of};
 ghost use Rattle.gix_ref_transaction.specs.Splits.{symbolic_in, leads_to, values_of, all_rounds, AreDirect, AreSplit, CanFollow, IsFirstMisnamed, IsTooLong, OnlyReads};
-ghost use Rattle.gix_ref_transaction.specs.internal.SplitRounds.{name_by, led_to, led_by, after_by, children_by, child_values, IsRoundBy, IsRoundOver};
+ghost use Rattle.gix_ref_transaction.specs.internal.SplitRounds.{name_by, led_to, led_by, after_by, children_by, child_values, parents_by, IsRoundBy, IsRoundOver};
 
 use crate::prepare::Error;
 use crate::prepare::check::check_name;
@@ -24,6 +25,14 @@ use gix_ref_lookup::settings::Settings;
 use gix_ref_name::name::{FullName, FullNameRef};
 use gix_ref_name::namespace::Namespace;
 use std::alloc::{AllocError, Global};
+
+/// Edits of a split list.
+#[derive(Debug, Drop)]
+pub struct SplitEdits {
+    pub edits: Vec<RefEdit>,
+    /// For each of them the place in the whole list of the edit that it was split from, from 0.
+    pub parents: Vec<Option<usize>>,
+}
 
 /// The name of a symbolic target.
 fn symbolic(target: Target) -> Option<FullName>
@@ -135,41 +144,61 @@ fn split_edit(edit: &mut RefEdit, name: Option<FullName>) -> Result<Option<RefEd
     }
 }
 
-/// Splits each edit that leads to a name; the children are returned.
+/// Splits each edit that leads to a name; the children are returned. The first of the edits is at the place `first` of the whole
+/// list.
 fn split_all(
     alloc: Global,
     edits: &mut Vec<RefEdit>,
     mut names: Vec<Option<FullName>>,
-) -> Result<Vec<RefEdit>, AllocError>
-    requires { vec_len names ≡ vec_len edits.old }
+    first: usize,
+) -> Result<SplitEdits, AllocError>
+    requires names { vec_len names ≡ vec_len edits.old }
+    requires fits { first + vec_len edits.old < 2 ^ 64 }
     ensures after { OnOk result (values_of edits.new.items ≡ after_by (values_of edits.old.items)
         (led_to names.items)) }
-    ensures children { IfOk result (λ kids. values_of kids.items ≡ children_by (values_of edits.old.items)
+    ensures children { IfOk result (λ kids. values_of kids.edits.items ≡ children_by
+        (values_of edits.old.items) (led_to names.items)) }
+    ensures parents { IfOk result (λ kids. kids.parents.items ≡ parents_by first
         (led_to names.items)) }
+    ensures len { IfOk result (λ kids. vec_len kids.parents ≡ vec_len kids.edits) }
 {
     let mut children = Vec::new(alloc);
+    let mut parents = Vec::new(alloc);
     for i in 0..edits.len() {
         let name = names[i].take();
         match split_edit(&mut edits[i], name)? {
-            Some(child) => children.push(child)?,
+            Some(child) => {
+                children.push(child)?;
+                parents.push(Some(first + i))?;
+            }
             None => {}
         }
     }
-    Ok(children)
+    Ok(SplitEdits {
+        edits: children,
+        parents,
+    })
 }
 
-/// One round: looks up each edit that follows, and splits those of symbolic references. The children are returned.
+/// One round: looks up each edit that follows, and splits those of symbolic references. The children are returned. The first of
+/// the edits is at the place `first` of the whole list.
 fn split_round<F: Files>(
     alloc: Global,
     files: &mut F,
     settings: &Settings<'_>,
     edits: &mut Vec<RefEdit>,
-) -> Result<Vec<RefEdit>, Error>
+    first: usize,
+) -> Result<SplitEdits, Error>
+    requires { first + vec_len edits.old < 2 ^ 64 }
     ensures round { F.honest → IfOk result (λ kids. IsRoundOver
         (leads_to (setting_of settings.now) (view_of (F.means files.old).tree))
-        (values_of edits.old.items) (values_of edits.new.items) (values_of kids.items)) }
+        (values_of edits.old.items) (values_of edits.new.items) (values_of kids.edits.items)) }
+    ensures parents { F.honest → IfOk result (λ kids. kids.parents.items ≡ parents_from
+        (leads_to (setting_of settings.now) (view_of (F.means files.old).tree)) first
+        (values_of edits.old.items)) }
+    ensures len { IfOk result (λ kids. vec_len kids.parents ≡ vec_len kids.edits) }
     ensures by { IfOk result (λ kids. IsRoundBy (values_of edits.old.items)
-        (values_of edits.new.items) (values_of kids.items)) }
+        (values_of edits.new.items) (values_of kids.edits.items)) }
     ensures can_follow { OnOk result (All (CanFollow (setting_of settings.now)) (values_of
         edits.old.items)) }
     ensures refused { IfErr result (λ error. IsIoOrMemory error
@@ -178,8 +207,19 @@ fn split_round<F: Files>(
     ensures counted { IfErr result (IsCounted (F.faults files.old) (F.faults files.new)) }
 {
     let names = follow_all(alloc, files, settings, edits)?;
-    let children = split_all(alloc, edits, names)?;
+    let children = split_all(alloc, edits, names, first)?;
     Ok(children)
+}
+
+/// Edits as they are given, of which none was split from another.
+fn unsplit(alloc: Global, edits: Vec<RefEdit>) -> Result<SplitEdits, AllocError>
+    ensures edits { IfOk result (λ split. split.edits ≡ edits) }
+    ensures parents { IfOk result (λ split. split.parents.items ≡ parents_given
+        (values_of edits.items)) }
+    ensures len { IfOk result (λ split. vec_len split.parents ≡ vec_len split.edits) }
+{
+    let parents = vec![in alloc; None; edits.len()]?;
+    Ok(SplitEdits { edits, parents })
 }
 
 /// How many rounds there are: children of the last one are too many.
@@ -191,15 +231,20 @@ fn split_in_rounds<F: Files>(
     files: &mut F,
     settings: &Settings<'_>,
     edits: Vec<RefEdit>,
-) -> Result<Vec<RefEdit>, Error>
+) -> Result<SplitEdits, Error>
     ensures split { F.honest → IfOk result (λ split. AreSplit (setting_of settings.now)
-        (view_of (F.means files.old).tree) edits.items split.items) }
+        (view_of (F.means files.old).tree) edits.items split.edits.items) }
+    ensures parents { F.honest → IfOk result (λ split. split.parents.items ≡ split_parents
+        (leads_to (setting_of settings.now) (view_of (F.means files.old).tree))
+        (values_of edits.items)) }
+    ensures len { IfOk result (λ split. vec_len split.parents ≡ vec_len split.edits) }
     ensures can_follow { F.honest → OnOk result (All (CanFollow (setting_of settings.now))
         (all_rounds (setting_of settings.now) (view_of (F.means files.old).tree) edits.items)) }
     ensures valid { AllValid (setting_of settings.now) settings.now.kind [] edits.items →
         IfOk result (λ split. AllValid (setting_of settings.now) settings.now.kind []
-        split.items) }
-    ensures updates { AreUpdates edits.items → IfOk result (λ split. AreUpdates split.items) }
+        split.edits.items) }
+    ensures updates { AreUpdates edits.items → IfOk result (λ split. AreUpdates
+        split.edits.items) }
     ensures refused { F.honest → IfErr result (λ error. IsIoOrMemory error
         ⊎ IsFirstMisnamed (setting_of settings.now) (all_rounds (setting_of settings.now)
         (view_of (F.means files.old).tree) edits.items) error
@@ -208,14 +253,19 @@ fn split_in_rounds<F: Files>(
     ensures reads { OnlyReads F.honest F.means F.faults files.old files.new }
     ensures counted { IfErr result (IsCounted (F.faults files.old) (F.faults files.new)) }
 {
-    let mut done = Vec::with_capacity(alloc, edits.len())?;
-    let mut level = edits;
+    let mut done = SplitEdits {
+        edits: Vec::with_capacity(alloc, edits.len())?,
+        parents: Vec::with_capacity(alloc, edits.len())?,
+    };
+    let mut level = unsplit(alloc, edits)?;
     for _round in 0..ROUNDS {
-        let children = split_round(alloc, files, settings, &mut level)?;
-        done.append(&mut level)?;
+        let first = done.edits.len();
+        let children = split_round(alloc, files, settings, &mut level.edits, first)?;
+        done.edits.append(&mut level.edits)?;
+        done.parents.append(&mut level.parents)?;
         level = children;
     }
-    if level.is_empty() {
+    if level.edits.is_empty() {
         Ok(done)
     } else {
         Err(Error::PreprocessingFailed {
@@ -239,15 +289,20 @@ pub fn split_edits<F: Files>(
     files: &mut F,
     settings: &Settings<'_>,
     edits: Vec<RefEdit>,
-) -> Result<Vec<RefEdit>, Error>
+) -> Result<SplitEdits, Error>
     ensures split { F.honest → IfOk result (λ split. AreSplit (setting_of settings.now)
-        (view_of (F.means files.old).tree) edits.items split.items) }
+        (view_of (F.means files.old).tree) edits.items split.edits.items) }
+    ensures parents { F.honest → IfOk result (λ split. split.parents.items ≡ split_parents
+        (leads_to (setting_of settings.now) (view_of (F.means files.old).tree))
+        (values_of edits.items)) }
+    ensures len { IfOk result (λ split. vec_len split.parents ≡ vec_len split.edits) }
     ensures can_follow { F.honest → OnOk result (All (CanFollow (setting_of settings.now))
         (all_rounds (setting_of settings.now) (view_of (F.means files.old).tree) edits.items)) }
     ensures valid { AllValid (setting_of settings.now) settings.now.kind [] edits.items →
         IfOk result (λ split. AllValid (setting_of settings.now) settings.now.kind []
-        split.items) }
-    ensures updates { AreUpdates edits.items → IfOk result (λ split. AreUpdates split.items) }
+        split.edits.items) }
+    ensures updates { AreUpdates edits.items → IfOk result (λ split. AreUpdates
+        split.edits.items) }
     ensures refused { F.honest → IfErr result (λ error. IsIoOrMemory error
         ⊎ IsFirstMisnamed (setting_of settings.now) (all_rounds (setting_of settings.now)
         (view_of (F.means files.old).tree) edits.items) error
@@ -255,10 +310,11 @@ pub fn split_edits<F: Files>(
         error) }
     ensures reads { OnlyReads F.honest F.means F.faults files.old files.new }
     ensures counted { IfErr result (IsCounted (F.faults files.old) (F.faults files.new)) }
-    ensures direct { AreDirect edits.items → IfOk result (λ split. split.items ≡ edits.items) }
+    ensures direct { AreDirect edits.items → IfOk result (λ split. split.edits.items
+        ≡ edits.items) }
 {
     if none_follow(&edits) {
-        return Ok(edits);
+        return Ok(unsplit(alloc, edits)?);
     }
     split_in_rounds(alloc, files, settings, edits)
 }

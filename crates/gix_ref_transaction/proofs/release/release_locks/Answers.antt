@@ -8,12 +8,12 @@ use Rattle.gix_ref_files.specs.Lock.{lock_of}
 use Rattle.gix_ref_files.specs.Tree.{Path}
 use Rattle.gix_ref_transaction.specs.OwnLocks.{paths_of, is_in}
 use Rattle.gix_ref_transaction.specs.Effects.{is_write}
-use Rattle.gix_ref_transaction.specs.CommitRenames.{lock_at, place_at, is_written_at}
+use Rattle.gix_ref_transaction.specs.CommitRenames.{lock_at, log_at, path_in, place_at, is_written_at}
 use Rattle.gix_ref_transaction.specs.PrepareSteps.{lock_paths, updates}
 use Rattle.gix_ref_transaction.specs.declared.edit.Edit.{Edit}
 use Rattle.gix_ref_transaction.proofs.Adds.{clash}
 use Rattle.gix_ref_transaction.proofs.Removing.{leaves_then, removes_more, named_cases, named_here, named_kept}
-use Rattle.gix_ref_transaction.proofs.Renames.{flag_there, lock_there, lock_within, place_there, released}
+use Rattle.gix_ref_transaction.proofs.Renames.{flag_there, log_there, lock_there, lock_within, place_there, released}
 use Rattle.gix_ref_transaction.proofs.release.release_locks.Goals as goal
 
 rose_on : {A : Type 0} (a b d : ℕ) → b ≤ d → A ⊎ HasRisen a b → A ⊎ HasRisen a d
@@ -39,7 +39,7 @@ gone_here : {P : Type 0} (b : Bool) → (b ≡ true → P) → (b ≡ false → 
 gone_here true done left = done refl
 gone_here false done left = absurd (left refl)
 
--- the place that is kept
+-- the place that is kept, or the path of the log
 place_then : (at done : ℕ) (own old new target : List ℕ) → new ≡ (if nat_eq at done then own else old) → (at ≡ done → own ≡ target) → (at < done → old ≡ target) → at ≤ done → new ≡ target
 place_then at done own old new target is here before le = by (nat_eq at done) refl
   where
@@ -70,6 +70,7 @@ loop-edit-preserved g c =
     let flag : is_written_at all c.len-at.result ≡ is_write own.effect = ap (λ (l : List Edit). is_written_at l c.len-at.result) whole ∙ (ap (is_written_at (rest ++ own ∷ tail)) len ∙ flag_there rest own tail) in
     let at : lock_at all c.len-at.result ≡ lock = ap (λ (l : List Edit). lock_at l c.len-at.result) whole ∙ (ap (lock_at (rest ++ own ∷ tail)) len ∙ lock_there rest own tail) in
     let there : place_at all c.len-at.result ≡ own.lock = ap (λ (l : List Edit). place_at l c.len-at.result) whole ∙ (ap (place_at (rest ++ own ∷ tail)) len ∙ place_there rest own tail) in
+    let log_is : log_at all c.len-at.result ≡ own.log = ap (λ (l : List Edit). log_at l c.len-at.result) whole ∙ (ap (log_at (rest ++ own ∷ tail)) len ∙ log_there rest own tail) in
     let names = paths_of c.loop-edit.remains.left.items in
     let named : paths_of c.add.new.self.left.items ≡ names ++ (if removed then [] else lock ∷ []) = c.add.ensures.left in
     record {
@@ -84,6 +85,7 @@ loop-edit-preserved g c =
       renamed = λ all_renamed. c.release-removed.ensures.renamed (subst (λ b. not (nat_lt c.len-at.result c.args.done && b) ≡ false) flag (all_renamed c.len-at.result (omega (arith, x.bound, c.in-Some.ensures.len, c.len-at.ensures)))) ∙ x.renamed all_renamed;
       front = (own ∷ tail, whole, c.add.ensures.edits ∙ (ap (λ (l : List _). l ++ own.update ∷ []) x.front.2 ∙ sym (reverse-append (own.update ∷ []) (updates tail))));
       place = λ some less. place_then c.len-at.result c.args.done own.lock _ _ (place_at all c.args.done) c.add.ensures.place (λ same. sym there ∙ ap (place_at all) same) (λ more. x.place some (omega (arith, more, c.in-Some.ensures.len, c.len-at.ensures))) (omega (arith, less, c.len-at.ensures));
+      log = λ some less. place_then c.len-at.result c.args.done (path_in own.log) _ _ (path_in (log_at all c.args.done)) c.add.ensures.log (λ same. sym (ap path_in log_is) ∙ ap (λ n. path_in (log_at all n)) same) (λ more. x.log some (omega (arith, more, c.in-Some.ensures.len, c.len-at.ensures))) (omega (arith, less, c.len-at.ensures));
       ours = λ q h. ⊎_elim (λ old. x.ours q old) (λ e. inr (subst (λ (p : Path). is_in (lock_paths all) p ≡ true) e within)) (named_cases names lock removed q (subst (λ (l : List Path). is_in l q ≡ true) named h));
       kept = λ q h. subst (λ (l : List Path). is_in l q ≡ true) (sym named) (named_kept names _ q (x.kept q h));
       gone = λ h.

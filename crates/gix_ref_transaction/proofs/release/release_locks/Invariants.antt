@@ -2,7 +2,7 @@ use Rattle.std.proofs.Common.{◌≡◌, ◌≤◌, ◌<◌, ◌+◌, ◌⊎◌,
 use Rattle.std.specs.Vec.{vec_capacity}
 use Rattle.gix_ref_files.specs.Files.{Leaves, HasRisen}
 use Rattle.gix_ref_files.specs.Tree.{Path, is_file}
-use Rattle.gix_ref_transaction.specs.CommitRenames.{lock_at, place_at, stays_at}
+use Rattle.gix_ref_transaction.specs.CommitRenames.{lock_at, log_at, path_in, place_at, stays_at}
 use Rattle.gix_ref_transaction.specs.PrepareSteps.{lock_paths, updates}
 use Rattle.gix_ref_transaction.specs.OwnLocks.{paths_of, RemovesLocks, OnlyRemoves, is_in}
 use Rattle.gix_ref_transaction.specs.declared.edit.Edit.{Edit}
@@ -29,6 +29,7 @@ invariant-loop-edit g l =
       renamed : ((k : ℕ) → k < vec_len l.fn.edits → stays_at all l.done k ≡ false) → l.files ≡ l.fn.files;
       front : (tail : List Edit) × (all ≡ l.edits.items ++ tail) × (l.remains.edits.items ≡ reverse (updates tail));
       place : l.done < vec_len l.fn.edits → vec_len l.edits ≤ l.done → l.remains.place.items ≡ place_at all l.done;
+      log : l.done < vec_len l.fn.edits → vec_len l.edits ≤ l.done → l.remains.log.items ≡ path_in (log_at all l.done);
       ours : (q : Path) → is_in left q ≡ true → (is_in before q ≡ true) ⊎ (is_in (lock_paths all) q ≡ true);
       kept : (q : Path) → is_in before q ≡ true → is_in left q ≡ true;
       gone : g.F.Files.honest → (k : ℕ) → vec_len l.edits ≤ k → k < vec_len l.fn.edits → stays_at all l.done k ≡ true → is_in left (lock_at all k) ≡ false → is_file (now.tree (lock_at all k)) ≡ false;

@@ -14,6 +14,7 @@ use gix_ref_commit::error::Error;
 use gix_ref_commit::failure::{failure, is_renamed, unless_renamed};
 use gix_ref_files::files::Files;
 use gix_ref_files::lock::LockFile;
+use gix_ref_log::actor::SignatureRef;
 use gix_ref_transaction::edit::Edit;
 use gix_ref_transaction::release::{Remains, release_all};
 use std::alloc::Global;
@@ -32,6 +33,7 @@ impl<F: Files> Store<F> {
     pub(crate) fn carry_out(
         &mut self,
         alloc: Global,
+        committer: Option<SignatureRef<'_>>,
         mut edits: Vec<Edit>,
         packed: Option<LockFile>,
         remains: Remains,
@@ -39,22 +41,22 @@ impl<F: Files> Store<F> {
         requires room { HasRoom edits remains }
         ensures edits { IfOk result (λ r. r.edits.items ≡ updates edits.items) }
         ensures committed { IfOk result (λ r. CommitsFrom F.honest F.means F.faults self.old
-            self.new packed edits.items (paths_of r.left.items)) }
+            self.new committer.entry packed edits.items (paths_of r.left.items)) }
         ensures failed { IfErr result (λ e. FailsFor F.honest F.means F.faults self.old self.new
-            packed edits.items e.error) }
+            committer.entry packed edits.items e.error) }
         ensures sound { IfErr result (λ e. NoBadLineFrom F.honest F.means F.faults self.old
             packed edits.items e.error) }
-        ensures ended { EveryStopFrom F.honest F.means F.faults self.old self.new packed edits.items
-            (left_in result) }
-        ensures lost { EveryLossFrom F.honest F.means F.faults self.old self.new packed
-            edits.items }
+        ensures ended { EveryStopFrom F.honest F.means F.faults self.old self.new committer.entry packed
+            edits.items (left_in result) }
+        ensures lost { EveryLossFrom F.honest F.means F.faults self.old self.new committer.entry
+            packed edits.items }
         ensures settled { OnOk result (SettlesFrom F.honest F.means F.faults self.old self.new
             packed edits.items) }
         ensures named { (left_in result ≡ []) ⊎ HasRisen (F.faults (files_of self.old))
             (F.faults (files_of self.new)) }
         ensures same { self.new ≡ with_files self.old (files_of self.new) }
     {
-        let NewPacked { rewrite, path } = match self.decide(alloc, &mut edits, &packed) {
+        let NewPacked { rewrite, path } = match self.decide(alloc, committer, &mut edits, &packed) {
             Ok(decided) => decided,
             Err(error) => {
                 let remains = release_all(&mut self.files, 0, packed, edits, remains);
@@ -67,15 +69,14 @@ impl<F: Files> Store<F> {
         if let Err(unfinished) = self.publish(alloc, &edits, &packed, &rewrite) {
             let done = unfinished.done(edits.len());
             let packed = unless_renamed(packed, unfinished.is_packed_renamed(&rewrite));
-            let Remains { edits, left, place } = release_all(
-                &mut self.files,
-                done,
-                packed,
+            let Remains {
                 edits,
-                remains,
-            );
+                left,
+                place,
+                log,
+            } = release_all(&mut self.files, done, packed, edits, remains);
             return Err(EndedEarly {
-                error: failure(edits, place, path, unfinished),
+                error: failure(edits, place, log, path, unfinished),
                 left,
             });
         }

@@ -6,22 +6,27 @@ ghost use Rattle.gix_ref_files.specs.Steps.{IsAfter, IsLeftBy};
 ghost use Rattle.gix_ref_files.specs.Lock.{lock_of};
 ghost use Rattle.gix_ref_files.specs.Tree.{Path};
 ghost use Rattle.gix_ref_transaction.specs.OwnLocks.{OnlyLocks};
-ghost use Rattle.gix_ref_transaction.specs.PrepareSteps.{updates, packed_places, AreWholeLocks};
+ghost use Rattle.gix_ref_transaction.specs.PrepareSteps.{packed_places, AreWholeLocks};
 ghost use Rattle.gix_ref_commit.specs.Decided.{FillsPacked, IsFilled};
 ghost use Rattle.gix_ref_commit.specs.Entries.{bare_steps, planned_entries, steps_in};
-ghost use Rattle.gix_ref_commit.specs.LogEffects.{AreLogsOf, all_but_logs};
+ghost use Rattle.gix_ref_theory.specs.OnRealTrees.{view_of};
+ghost use Rattle.gix_ref_lines.specs.AskedEdits.{all_but_logs, asked, outcomes_of};
+ghost use Rattle.gix_ref_lines.specs.DueLines.{log_outcomes};
 ghost use Rattle.gix_ref_commit.specs.Unfinished.{EndsIn, IsRaised};
+ghost use Rattle.gix_ref_store.specs.CommitLines.{line_rules};
 ghost use Rattle.gix_ref_store.specs.CommitResult.{IsPackedEmpty, RepacksFrom};
 ghost use Rattle.gix_ref_store.specs.Decisions.{IsUndecided};
 ghost use Rattle.gix_ref_store.specs.Store.{files_of, meaning_of, with_files};
 
 use crate::file::store::Store;
-use gix_ref_commit::decide::{NewPacked, decide_logs, decide_packed};
+use gix_ref_commit::decide::{NewPacked, decide_packed};
 use gix_ref_commit::error::Error;
-use gix_ref_commit::failure::undecided;
+use gix_ref_commit::failure::{undecided, unlogged};
 use gix_ref_commit::run::{Unfinished, run_plan};
 use gix_ref_files::files::Files;
 use gix_ref_files::lock::LockFile;
+use gix_ref_lines::decide::decide_logs;
+use gix_ref_log::actor::SignatureRef;
 use gix_ref_lookup::settings::Settings;
 use gix_ref_rewrite::outcome::Rewrite;
 use gix_ref_transaction::edit::Edit;
@@ -33,12 +38,14 @@ impl<F: Files> Store<F> {
     pub(crate) fn decide(
         &mut self,
         alloc: Global,
+        committer: Option<SignatureRef<'_>>,
         edits: &mut Vec<Edit>,
         packed: &Option<LockFile>,
     ) -> Result<NewPacked, Error>
         ensures alike { all_but_logs edits.new.items ≡ all_but_logs edits.old.items }
-        ensures logs { OnOk result (AreLogsOf (meaning_of self.old) (updates edits.old.items)
-            edits.new.items) }
+        ensures logs { F.honest → OnOk result (outcomes_of edits.new.items ≡ log_outcomes
+            (line_rules self.old committer.entry) (view_of (F.means (files_of self.old)).tree)
+            (asked edits.old.items)) }
         ensures repacked { IfOk result (λ new. RepacksFrom F.honest F.means F.faults self.old
             packed.now edits.old.items new.rewrite) }
         ensures path { IfOk result (λ new. packed.now ≢ None →
@@ -57,7 +64,7 @@ impl<F: Files> Store<F> {
             (F.means (files_of self.new)) }
         ensures no_fewer { F.faults (files_of self.old) ≤ F.faults (files_of self.new) }
         ensures failed { IfErr result (IsUndecided F.honest F.means F.faults self.old self.new
-            edits.old.items) }
+            committer.entry edits.old.items) }
         ensures same { self.new ≡ with_files self.old (files_of self.new) }
     {
         let settings = Settings {
@@ -67,8 +74,9 @@ impl<F: Files> Store<F> {
             prohibit_windows_device_names: self.prohibit_windows_device_names,
             precompose_unicode: self.precompose_unicode,
         };
-        if decide_logs(alloc, &settings, edits).is_err() {
-            return Err(Error::Memory);
+        let mode = self.write_reflog;
+        if let Err(error) = decide_logs(alloc, &mut self.files, &settings, mode, committer, edits) {
+            return Err(unlogged(error));
         }
         match decide_packed(alloc, &mut self.files, &settings, edits, packed) {
             Ok(new_packed) => Ok(new_packed),

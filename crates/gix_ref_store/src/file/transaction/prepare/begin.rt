@@ -6,7 +6,8 @@ ghost use Rattle.gix_ref_theory.specs.OnRealTrees.{view_of};
 ghost use Rattle.gix_ref_transaction.specs.OwnLocks.{paths_of};
 ghost use Rattle.gix_ref_store.specs.Prepared.{RefusesFrom, RefusesSplit, HoldsFrom, SplitsFrom, HasGoodRecords, HoldsPacked, LosesNothing, HasRoom, locks_in, tree_of, disk_in};
 ghost use Rattle.gix_ref_store.specs.Store.{files_of, kind_of, meaning_of, with_files};
-ghost use Rattle.gix_ref_transaction.specs.Splits.{IsSplitCause, OnlyReads};
+ghost use Rattle.gix_ref_transaction.specs.Parents.{parents_in, split_parents};
+ghost use Rattle.gix_ref_transaction.specs.Splits.{leads_to, values_of, IsSplitCause, OnlyReads};
 ghost use Rattle.gix_ref_transaction.specs.PrepareSteps.{setting_of, effects_of, effects_on, ids_in, packed_ids, targets_of, updates, AreWholeLocks, place_paths, places_of};
 ghost use Rattle.gix_ref_transaction.specs.Causes.{AllValid, IsCounted};
 
@@ -18,7 +19,7 @@ use gix_ref_transaction::edit::Edit;
 use gix_ref_transaction::prepare::Error;
 use gix_ref_transaction::prepare::check::{check_edits, check_names};
 use gix_ref_transaction::prepare::hold::{HeldLocks, LockFailure, edits_at, hold_all};
-use gix_ref_transaction::prepare::split::split_edits;
+use gix_ref_transaction::prepare::split::{SplitEdits, split_edits};
 use gix_ref_transaction::release::Remains;
 use std::alloc::{AllocError, Global};
 
@@ -33,45 +34,51 @@ fn untouched(alloc: Global, error: Error) -> LockFailure
     }
 }
 
-/// The edits of a split list with the paths of their locks, and room for what remains of them.
+/// The edits of a split list with their parents and the paths of their locks, and room for what remains of them.
 fn begun(
     alloc: Global,
     settings: &Settings<'_>,
-    split: Vec<RefEdit>,
+    split: SplitEdits,
 ) -> Result<(Vec<Edit>, Remains), AllocError>
-    ensures asked { IfOk result (λ begun. updates begun.0.items ≡ split.items) }
+    requires { vec_len split.parents ≡ vec_len split.edits }
+    ensures asked { IfOk result (λ begun. updates begun.0.items ≡ split.edits.items) }
     ensures places { IfOk result (λ begun. place_paths begun.0.items ≡ places_of
-        (setting_of settings.now) split.items) }
+        (setting_of settings.now) split.edits.items) }
+    ensures parents { IfOk result (λ begun. parents_in begun.0.items ≡ split.parents.items) }
     ensures room { IfOk result (λ begun. HasRoom begun.0 begun.1) }
 {
-    let remains = Remains::reserve(alloc, split.len(), split.len() + 1)?;
+    let n = split.edits.len();
+    let remains = Remains::reserve(alloc, n, n + 1)?;
     let edits = edits_at(alloc, settings, split)?;
     Ok((edits, remains))
 }
 
 impl<F: Files> Store<F> {
     /// Looks at the names of a split list, finds the records of its edits, and takes their locks with their texts.
-    fn hold_split(&mut self, alloc: Global, split: Vec<RefEdit>) -> Result<HeldLocks, LockFailure>
-        requires valid { AllValid (meaning_of self.old) (kind_of self.old) [] split.items }
+    fn hold_split(&mut self, alloc: Global, split: SplitEdits) -> Result<HeldLocks, LockFailure>
+        requires valid { AllValid (meaning_of self.old) (kind_of self.old) [] split.edits.items }
+        requires len { vec_len split.parents ≡ vec_len split.edits }
         ensures refused { IfErr result (λ failure. RefusesSplit F.honest (HasReadFault
-            F.Reader.faults) F.means F.faults self.old self.new split.items failure.error
+            F.Reader.faults) F.means F.faults self.old self.new split.edits.items failure.error
             (paths_of failure.locks_left.items)) }
-        ensures asked { IfOk result (λ held. updates held.edits.items ≡ split.items) }
+        ensures asked { IfOk result (λ held. updates held.edits.items ≡ split.edits.items) }
         ensures held { IfOk result (λ held. HoldsFrom F.honest F.means F.faults self.old self.new
-            split.items (targets_of held.edits.items)) }
+            split.edits.items (targets_of held.edits.items)) }
         ensures effects { F.honest → HasGoodRecords F.means self.old →
             IfOk result (λ held. effects_of held.edits.items ≡ effects_on (meaning_of self.old)
-            (view_of (tree_of F.means self.old)) split.items) }
+            (view_of (tree_of F.means self.old)) split.edits.items) }
         ensures ids { F.honest → HasGoodRecords F.means self.old →
             IfOk result (λ held. ids_in held.edits.items ≡ packed_ids (meaning_of self.old)
-            (tree_of F.means self.old) split.items) }
-        ensures lost { F.honest → LosesNothing F.means self.old self.new split.items }
+            (tree_of F.means self.old) split.edits.items) }
+        ensures lost { F.honest → LosesNothing F.means self.old self.new split.edits.items }
         ensures whole { F.honest → IfOk result (λ held. AreWholeLocks (disk_in F.means self.new)
-            (locks_in F.means self.old split.items)) }
+            (locks_in F.means self.old split.edits.items)) }
         ensures places { IfOk result (λ held. place_paths held.edits.items ≡ places_of
-            (meaning_of self.old) split.items) }
+            (meaning_of self.old) split.edits.items) }
+        ensures parents { IfOk result (λ held. parents_in held.edits.items
+            ≡ split.parents.items) }
         ensures packed { IfOk result (λ held. HoldsPacked F.honest F.means F.faults self.old self.new
-            split.items held.packed) }
+            split.edits.items held.packed) }
         ensures room { IfOk result (λ held. HasRoom held.edits held.remains) }
     {
         let settings = Settings {
@@ -81,7 +88,7 @@ impl<F: Files> Store<F> {
             prohibit_windows_device_names: self.prohibit_windows_device_names,
             precompose_unicode: self.precompose_unicode,
         };
-        if let Err(error) = check_names(alloc, &split) {
+        if let Err(error) = check_names(alloc, &split.edits) {
             return Err(untouched(alloc, error));
         }
         match begun(alloc, &settings, split) {
@@ -91,11 +98,15 @@ impl<F: Files> Store<F> {
     }
 
     /// Checks the edits, and splits those that follow symbolic references.
-    fn split(&mut self, alloc: Global, edits: Vec<RefEdit>) -> Result<Vec<RefEdit>, Error>
+    fn split(&mut self, alloc: Global, edits: Vec<RefEdit>) -> Result<SplitEdits, Error>
         ensures splits { IfOk result (λ split. SplitsFrom F.honest F.means F.faults self.old
-            edits.items split.items) }
+            edits.items split.edits.items) }
         ensures valid { IfOk result (λ split. AllValid (meaning_of self.old) (kind_of self.old) []
-            split.items) }
+            split.edits.items) }
+        ensures parents { F.honest → IfOk result (λ split. split.parents.items ≡ split_parents
+            (leads_to (meaning_of self.old) (view_of (tree_of F.means self.old)))
+            (values_of edits.items)) }
+        ensures len { IfOk result (λ split. vec_len split.parents ≡ vec_len split.edits) }
         ensures refused { F.honest → IfErr result (IsSplitCause (meaning_of self.old)
             (kind_of self.old) (tree_of F.means self.old) edits.items) }
         ensures reads { OnlyReads F.honest F.means F.faults (files_of self.old)
@@ -141,6 +152,9 @@ impl<F: Files> Store<F> {
             (locks_in F.means self.old (updates held.edits.items))) }
         ensures places { IfOk result (λ held. place_paths held.edits.items ≡ places_of
             (meaning_of self.old) (updates held.edits.items)) }
+        ensures parents { F.honest → IfOk result (λ held. parents_in held.edits.items
+            ≡ split_parents (leads_to (meaning_of self.old) (view_of (tree_of F.means self.old)))
+            (values_of edits.items)) }
         ensures packed { IfOk result (λ held. HoldsPacked F.honest F.means F.faults self.old self.new
             (updates held.edits.items) held.packed) }
         ensures room { IfOk result (λ held. HasRoom held.edits held.remains) }

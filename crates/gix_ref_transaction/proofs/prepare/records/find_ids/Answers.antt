@@ -27,7 +27,7 @@ loop-edit-preserved g c =
     let lt : i < length edits = omega arith in
     record {
       ready = c.in_ok-edit.ensures.ready;
-      same = map-set_same (λ (a : Edit). (a.update, a.lock)) edits i _ e (ap (λ (a : Edit). (a.update, a.lock)) is) ∙ x.same;
+      same = map-set_same (λ (a : Edit). (a.update, a.lock, a.parent)) edits i _ e (ap (λ (a : Edit). (a.update, a.lock, a.parent)) is) ∙ x.same;
       asked = λ kind rs asked. c.in_ok-edit.ensures.asked kind rs (x.asked kind rs asked);
       honest = λ h. c.in_ok-edit.ensures.honest (x.honest h);
       found = λ kind rs asked. ids_more s rs c.args.edits.now edits x.same i e lt is _ (x.found kind rs asked) (rw c.as_ref.ensures at (c.in_ok-edit.ensures.found kind rs (x.asked kind rs asked)));

@@ -1,16 +1,17 @@
 use Rattle.std.proofs.Common.{◌≡◌, ◌<◌, ◌++◌, ⊎_elim, inl, inr, [], All, length, arith, subst, sym, refl, ◌∙◌, ap, rules}
 use Rattle.std.proofs.lemmas.Grind.{common_steps}
-use Rattle.std.proofs.lemmas.List.{length-map, map-append, nil_from_length}
+use Rattle.std.proofs.lemmas.List.{length-append, length-map, map-append, nil_from_length}
 use Rattle.std.proofs.lemmas.List.Elements.{All-nil, All-append}
 use Rattle.std.proofs.lemmas.Result.{err_from_is_err_and}
 use Rattle.gix_ref_files.specs.Tree.{Tree}
 use Rattle.gix_ref_theory.specs.OnRealTrees.{view_of}
 use Rattle.gix_ref_edits.specs.EditValues.{edit_value}
 use Rattle.gix_ref_edits.specs.SplitLists.{first_levels, level}
+use Rattle.gix_ref_transaction.specs.Parents.{first_parents, parents_from}
 use Rattle.gix_ref_transaction.specs.PrepareSteps.{setting_of}
 use Rattle.gix_ref_transaction.specs.Splits.{leads_to, values_of, CanFollow}
 use Rattle.gix_ref_transaction.specs.internal.SplitRounds.{IsRoundOver, IsSoundValue, IsUpdateValue, IsValidValue}
-use Rattle.gix_ref_transaction.proofs.SplitLemmas.{can_more, can_none, done_more, done_none, level_more, level_none, misnamed_on, reads_more, reads_none}
+use Rattle.gix_ref_transaction.proofs.SplitLemmas.{after_by-length, can_more, can_none, done_more, done_none, first_parents_more, first_parents_none, level_more, level_none, level_parents_more, level_parents_none, misnamed_on, reads_more, reads_none}
 use Rattle.gix_ref_transaction.proofs.SplitValidity.{after_updates, after_valid, all_updates, all_valid, children_sound, children_updates, given_sound, given_updates, now_valid}
 use Rattle.gix_ref_transaction.proofs.prepare.split.split_in_rounds.Goals as goal
 
@@ -22,12 +23,22 @@ loop-round-init g c =
     let find = leads_to s (view_of (F.means c.args.files.now).tree) in
     let given = values_of c.args.edits.items in
     record {
-      done = λ h. ap values_of c.in_ok-done.ensures.items ∙ done_none find given;
-      next = λ h. level_none find given;
+      done = λ h. ap values_of c.in_ok-with_capacity.ensures.items ∙ done_none find given;
+      next = λ h. ap (λ edits. values_of edits.items) c.in_ok-level.ensures.edits ∙ level_none find given;
+      done_parents = λ h. c.in_ok-with_capacity-2.ensures.items ∙ first_parents_none find given;
+      next_parents = λ h. c.in_ok-level.ensures.parents ∙ level_parents_none find given;
+      done_len = omega (arith, c.in_ok-with_capacity.ensures.len, c.in_ok-with_capacity-2.ensures.len);
+      next_len = c.in_ok-level.ensures.len;
       can_follow = λ h. can_none find (CanFollow s) given;
       reads = reads_none F.honest F.means F.faults c.args.files.now;
-      valid = λ valid. (subst (λ l. All (IsValidValue s kind) (values_of l)) (sym c.in_ok-done.ensures.items) (All-nil (IsValidValue s kind)), given_sound s kind [] c.args.edits.items valid);
-      updates = λ updates. (subst (λ l. All IsUpdateValue (values_of l)) (sym c.in_ok-done.ensures.items) (All-nil IsUpdateValue), given_updates c.args.edits.items updates);
+      valid = λ valid. (
+        subst (λ l. All (IsValidValue s kind) (values_of l)) (sym c.in_ok-with_capacity.ensures.items) (All-nil (IsValidValue s kind)),
+        subst (λ edits. All (IsSoundValue s kind) (values_of edits.items)) (sym c.in_ok-level.ensures.edits) (given_sound s kind [] c.args.edits.items valid),
+      );
+      updates = λ updates. (
+        subst (λ l. All IsUpdateValue (values_of l)) (sym c.in_ok-with_capacity.ensures.items) (All-nil IsUpdateValue),
+        subst (λ edits. All IsUpdateValue (values_of edits.items)) (sym c.in_ok-level.ensures.edits) (given_updates c.args.edits.items updates),
+      );
     }
 
 pub returns-in_err-children-clause-refused : goal.returns-in_err-children-clause-refused
@@ -42,7 +53,7 @@ returns-in_err-children-clause-refused g c h =
     let told = err_from_is_err_and c.from_residual-in_err-children.result c.from_residual-in_err-children.ensures.1 in
     rw (told.1, told.2)
     (⊎_elim (λ outside. inl outside)
-    (λ bad. inr (inl (misnamed_on find s given n 5 (values_of c.loop-round.level.items) _ lt (x.next h) (x.can_follow h) bad)))
+    (λ bad. inr (inl (misnamed_on find s given n 5 (values_of c.loop-round.level.edits.items) _ lt (x.next h) (x.can_follow h) bad)))
     c.in_err-children.ensures.refused)
 
 pub loop-round-preserved : goal.loop-round-preserved
@@ -55,11 +66,13 @@ loop-round-preserved g c =
     let given = values_of c.args.edits.items in
     let n = c.loop-round._round in
     let here = c.in_ok-children.ensures in
-    let done = values_of c.loop-round.done.items in
-    let back = values_of c.loop-round.level.items in
+    let done = values_of c.loop-round.done.edits.items in
+    let back = values_of c.loop-round.level.edits.items in
     let after = values_of c.split_round.new.edits.items in
-    let kids = values_of c.in_ok-children.children.items in
-    let joined : values_of c.append.new.self.items ≡ done ++ after = ap values_of c.in_ok-append.ensures.items ∙ map-append edit_value c.loop-round.done.items c.split_round.new.edits.items in
+    let kids = values_of c.in_ok-children.children.edits.items in
+    let joined : values_of c.append.new.self.items ≡ done ++ after = ap values_of c.in_ok-append.ensures.items ∙ map-append edit_value c.loop-round.done.edits.items c.split_round.new.edits.items in
+    let round_len : length c.split_round.new.edits.items ≡ length c.loop-round.level.edits.items =
+    sym (length-map c.split_round.new.edits.items edit_value) ∙ (ap length here.by.changed ∙ (after_by-length back here.by.led here.by.len ∙ length-map c.loop-round.level.edits.items edit_value)) in
     record {
       done = λ h.
           let round = subst (λ (T : Tree). IsRoundOver (leads_to s (view_of T)) back after kids) (x.reads.leaves h).tree (here.round h) in
@@ -67,6 +80,24 @@ loop-round-preserved g c =
       next = λ h.
           let round = subst (λ (T : Tree). IsRoundOver (leads_to s (view_of T)) back after kids) (x.reads.leaves h).tree (here.round h) in
           level_more find given n back kids (x.next h) round.split;
+      done_parents = λ h. c.in_ok-append-2.ensures.items ∙ first_parents_more find given n c.loop-round.done.parents.items c.loop-round.level.parents.items (x.done_parents h) (x.next_parents h);
+      next_parents = λ h.
+          let kids_parents = c.in_ok-children.children.parents.items in
+          let first = c.len-first.result in
+          let at : first ≡ length c.loop-round.done.edits.items = omega arith in
+          level_parents_more find given n first c.loop-round.done.edits.items back kids_parents at (x.done h) (x.next h)
+          (subst (λ (T : Tree). kids_parents ≡ parents_from (leads_to s (view_of T)) first back) (x.reads.leaves h).tree (here.parents h));
+      done_len = omega (
+        arith,
+        x.done_len,
+        x.next_len,
+        round_len,
+        ap length c.in_ok-append.ensures.items,
+        ap length c.in_ok-append-2.ensures.items,
+        length-append c.loop-round.done.edits.items c.split_round.new.edits.items,
+        length-append c.loop-round.done.parents.items c.loop-round.level.parents.items,
+      );
+      next_len = here.len;
       can_follow = λ h. can_more find (CanFollow s) given n back (x.next h) (x.can_follow h) here.can_follow;
       reads = reads_more F.honest F.means F.faults c.args.files.now c.loop-round.files c.split_round.new.files x.reads here.reads;
       valid = λ valid.
@@ -89,19 +120,25 @@ returns-then-is_empty-clause-can_follow g c h =
     let five : c.loop-round._round ≡ 5 = omega (arith, c.loop-round-test.false, c.loop-round.auto._round-end) in
     subst (λ n. All (CanFollow s) (first_levels find (values_of c.args.edits.items) n)) five (c.loop-round.invariant.can_follow h)
 
+pub returns-then-is_empty-clause-parents : goal.returns-then-is_empty-clause-parents
+returns-then-is_empty-clause-parents g c h =
+    let find = leads_to (setting_of c.args.settings.now) (view_of (g.F.Files.means c.args.files.now).tree) in
+    let five : c.loop-round._round ≡ 5 = omega (arith, c.loop-round-test.false, c.loop-round.auto._round-end) in
+    c.loop-round.invariant.done_parents h ∙ ap (first_parents find (values_of c.args.edits.items)) five
+
 pub returns-then-is_empty-clause-valid : goal.returns-then-is_empty-clause-valid
 returns-then-is_empty-clause-valid g c valid =
-    all_valid (setting_of c.args.settings.now) c.args.settings.now.kind [] c.loop-round.done.items (c.loop-round.invariant.valid valid).0
+    all_valid (setting_of c.args.settings.now) c.args.settings.now.kind [] c.loop-round.done.edits.items (c.loop-round.invariant.valid valid).0
 
 pub returns-then-is_empty-clause-updates : goal.returns-then-is_empty-clause-updates
-returns-then-is_empty-clause-updates g c updates = all_updates c.loop-round.done.items (c.loop-round.invariant.updates updates).0
+returns-then-is_empty-clause-updates g c updates = all_updates c.loop-round.done.edits.items (c.loop-round.invariant.updates updates).0
 
 pub returns-else-is_empty-clause-refused : goal.returns-else-is_empty-clause-refused
 returns-else-is_empty-clause-refused g c h =
     let s = setting_of c.args.settings.now in
     let find = leads_to s (view_of (g.F.Files.means c.args.files.now).tree) in
     let given = values_of c.args.edits.items in
-    let left = c.loop-round.level.items in
+    let left = c.loop-round.level.edits.items in
     let five : c.loop-round._round ≡ 5 = omega (arith, c.loop-round-test.false, c.loop-round.auto._round-end) in
     let some : left ≡ [] → ⊥ = λ none. let empty : length left ≡ 0 = ap length none in first_of (search rules, grind (arith, common_steps)) in
     inr (inr (

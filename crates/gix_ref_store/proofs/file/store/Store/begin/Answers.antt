@@ -8,7 +8,7 @@ use Rattle.gix_ref_transaction.specs.PrepareSteps.{AreWholeLocks, effects_of, ef
 use Rattle.gix_ref_transaction.specs.Splits.{IsSplitCause}
 use Rattle.gix_ref_transaction.specs.declared.prepare.hold.HeldLocks.{HeldLocks}
 use Rattle.gix_ref_transaction.specs.declared.prepare.hold.LockFailure.{LockFailure}
-use Rattle.gix_ref_transaction.proofs.PackedLemmas.{if_err}
+use Rattle.gix_ref_transaction.proofs.PackedLemmas.{if_err, if_ok}
 use Rattle.gix_ref_store.specs.Prepared.{HasGoodRecords, HoldsFrom, HoldsPacked, locks_in, LosesNothing, RefusesFrom, RefusesSplit, SplitsFrom, disk_in, tree_of}
 use Rattle.gix_ref_store.specs.Store.{files_of, kind_of, meaning_of, with_files}
 use Rattle.gix_ref_store.specs.declared.file.store.Store.{Store}
@@ -18,13 +18,13 @@ use Rattle.gix_ref_store.proofs.file.store.Store.begin.Goals as goal
 
 pub hold_split-requires : goal.hold_split-requires
 hold_split-requires g c =
-    record { valid = subst (λ (st : Store g.row.F.Denot). AllValid (meaning_of st) (kind_of st) [] c.in-Ok.split.items) (sym c.in-Ok.ensures.same) c.in-Ok.ensures.valid }
+    record { valid = subst (λ (st : Store g.row.F.Denot). AllValid (meaning_of st) (kind_of st) [] c.in-Ok.split.edits.items) (sym c.in-Ok.ensures.same) c.in-Ok.ensures.valid; len = c.in-Ok.ensures.len }
 
 pub returns-in-Ok-clause-splits : goal.returns-in-Ok-clause-splits
 returns-in-Ok-clause-splits g c =
     let F = g.F.Files in
     let old = c.args.self.now in
-    let split = c.in-Ok.split.items in
+    let split = c.in-Ok.split.edits.items in
     let new = c.hold_split.new.self in
     if_asked split c.hold_split.result c.hold_split.ensures.asked (λ (held : HeldLocks) (u : List RefEdit). SplitsFrom F.honest F.means F.faults old c.args.edits.items u)
     (λ held. c.in-Ok.ensures.splits)
@@ -33,7 +33,7 @@ pub returns-in-Ok-clause-held : goal.returns-in-Ok-clause-held
 returns-in-Ok-clause-held g c =
     let F = g.F.Files in
     let old = c.args.self.now in
-    let split = c.in-Ok.split.items in
+    let split = c.in-Ok.split.edits.items in
     let new = c.hold_split.new.self in
     if_asked_of split c.hold_split.result c.hold_split.ensures.asked (λ (held : HeldLocks) (u : List RefEdit). HoldsFrom F.honest F.means F.faults old new u (targets_of held.edits.items))
     (λ held. HoldsFrom F.honest F.means F.faults c.split.new.self new split (targets_of held.edits.items))
@@ -45,7 +45,7 @@ pub returns-in-Ok-clause-effects : goal.returns-in-Ok-clause-effects
 returns-in-Ok-clause-effects g c h good =
     let F = g.F.Files in
     let old = c.args.self.now in
-    let split = c.in-Ok.split.items in
+    let split = c.in-Ok.split.edits.items in
     let new = c.hold_split.new.self in
     let files = files_of c.split.new.self in
     let reads = c.in-Ok.ensures.reads in
@@ -59,7 +59,7 @@ pub returns-in-Ok-clause-ids : goal.returns-in-Ok-clause-ids
 returns-in-Ok-clause-ids g c h good =
     let F = g.F.Files in
     let old = c.args.self.now in
-    let split = c.in-Ok.split.items in
+    let split = c.in-Ok.split.edits.items in
     let new = c.hold_split.new.self in
     let files = files_of c.split.new.self in
     let reads = c.in-Ok.ensures.reads in
@@ -73,7 +73,7 @@ pub returns-in-Ok-clause-lost : goal.returns-in-Ok-clause-lost
 returns-in-Ok-clause-lost g c h =
     let F = g.F.Files in
     let old = c.args.self.now in
-    let split = c.in-Ok.split.items in
+    let split = c.in-Ok.split.edits.items in
     let new = c.hold_split.new.self in
     if_asked split c.hold_split.result c.hold_split.ensures.asked (λ (held : HeldLocks) (u : List RefEdit). LosesNothing F.means old new u)
     (λ held. loses_on F.honest F.means F.faults old (files_of c.split.new.self) c.in-Ok.ensures.reads h new split
@@ -83,7 +83,7 @@ pub returns-in-Ok-clause-whole : goal.returns-in-Ok-clause-whole
 returns-in-Ok-clause-whole g c h =
     let F = g.F.Files in
     let old = c.args.self.now in
-    let split = c.in-Ok.split.items in
+    let split = c.in-Ok.split.edits.items in
     let new = c.hold_split.new.self in
     if_asked_of split c.hold_split.result c.hold_split.ensures.asked (λ (held : HeldLocks) (u : List RefEdit). AreWholeLocks (disk_in F.means new) (locks_in F.means old u))
     (λ held. AreWholeLocks (disk_in F.means new) (locks_in F.means c.split.new.self split))
@@ -95,7 +95,7 @@ pub returns-in-Ok-clause-places : goal.returns-in-Ok-clause-places
 returns-in-Ok-clause-places g c =
     let F = g.F.Files in
     let old = c.args.self.now in
-    let split = c.in-Ok.split.items in
+    let split = c.in-Ok.split.edits.items in
     let new = c.hold_split.new.self in
     if_asked_of split c.hold_split.result c.hold_split.ensures.asked (λ (held : HeldLocks) (u : List RefEdit). place_paths held.edits.items ≡ places_of (meaning_of old) u)
     (λ held. place_paths held.edits.items ≡ places_of (meaning_of old) split) (λ held are. are)
@@ -105,7 +105,7 @@ pub returns-in-Ok-clause-refused : goal.returns-in-Ok-clause-refused
 returns-in-Ok-clause-refused g c =
     let F = g.F.Files in
     let old = c.args.self.now in
-    let split = c.in-Ok.split.items in
+    let split = c.in-Ok.split.edits.items in
     let new = c.hold_split.new.self in
     let read = HasReadFault g.F.Reader.ReadAt.faults in
     let same = c.in-Ok.ensures.same in
@@ -135,10 +135,15 @@ pub returns-in-Ok-clause-packed : goal.returns-in-Ok-clause-packed
 returns-in-Ok-clause-packed g c =
     let F = g.F.Files in
     let old = c.args.self.now in
-    let split = c.in-Ok.split.items in
+    let split = c.in-Ok.split.edits.items in
     let new = c.hold_split.new.self in
     if_asked_of split c.hold_split.result c.hold_split.ensures.asked (λ (held : HeldLocks) (u : List RefEdit). HoldsPacked F.honest F.means F.faults old new u held.packed)
     (λ held. HoldsPacked F.honest F.means F.faults c.split.new.self new split held.packed)
     (λ held from. packed_on F.honest F.means F.faults old (files_of c.split.new.self) c.in-Ok.ensures.reads new split held.packed
     (subst (λ (st : Store g.row.F.Denot). HoldsPacked F.honest F.means F.faults st new split held.packed) c.in-Ok.ensures.same from))
     c.hold_split.ensures.packed
+
+pub returns-in-Ok-clause-parents : goal.returns-in-Ok-clause-parents
+returns-in-Ok-clause-parents g c h =
+    let parents = c.in-Ok.ensures.parents h in
+    if_ok c.hold_split.result (λ (held : HeldLocks) same. same ∙ parents) c.hold_split.ensures.parents

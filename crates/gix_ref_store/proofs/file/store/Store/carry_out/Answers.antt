@@ -7,7 +7,7 @@ use Rattle.gix_ref_files.specs.Steps.{IsAfter, IsLeftBy}
 use Rattle.gix_ref_files.specs.Tree.{Path, Tree}
 use Rattle.gix_ref_lookup.specs.declared.folders.Dirs.{Dirs}
 use Rattle.gix_ref_edits.specs.declared.transaction.RefEdit.{RefEdit}
-use Rattle.gix_ref_transaction.specs.CommitRenames.{place_at}
+use Rattle.gix_ref_transaction.specs.CommitRenames.{log_at, path_in, place_at}
 use Rattle.gix_ref_transaction.specs.OwnLocks.{paths_of, OnlyRemoves, RemovesLocks}
 use Rattle.gix_ref_transaction.specs.PrepareSteps.{held_locks, updates}
 use Rattle.gix_ref_transaction.specs.declared.edit.Edit.{Edit}
@@ -28,24 +28,24 @@ returns-in-Err-clause-failed g c =
     let new = with_files c.decide.new.self c.release_all-remains.new.files in
     let held = c.args.edits.items in
     let e = c.release_all-remains.ensures in
-    undecided_fails F.honest F.means F.faults start new c.args.packed held c.decide.new.edits.items c.decide.ensures.alike c.in-Err.error
-    (undecided_wider F.honest F.means F.faults start c.decide.new.self new held c.in-Err.error e.no_fewer c.in-Err.ensures.failed)
-    (λ h empty. only_locks F.honest F.means F.faults start new c.args.packed held c.decide.new.edits.items c.decide.ensures.alike false (F.means c.decide.new.self.files).tree (c.decide.ensures.leaves h empty).tree (e.leaves h).tree)
+    undecided_fails F.honest F.means F.faults start new c.args.committer c.args.packed held c.decide.new.edits.items c.decide.ensures.alike c.in-Err.error
+    (undecided_wider F.honest F.means F.faults start c.decide.new.self new c.args.committer held c.in-Err.error e.no_fewer c.in-Err.ensures.failed)
+    (λ h empty. only_locks F.honest F.means F.faults start new c.args.committer c.args.packed held c.decide.new.edits.items c.decide.ensures.alike false (F.means c.decide.new.self.files).tree (c.decide.ensures.leaves h empty).tree (e.leaves h).tree)
 
 pub returns-in-Err-clause-sound : goal.returns-in-Err-clause-sound
 returns-in-Err-clause-sound g c old given from h good bad =
     let F = g.F.Files in
     let start = c.args.self.now in
-    never_bad F.honest F.means F.faults start c.decide.new.self c.args.edits.items c.in-Err.error c.in-Err.ensures.failed bad h
-    (start_edits F.honest F.means F.faults old start given c.args.packed c.args.edits.items from h good) good.0
-    (start_records F.honest F.means F.faults old start given c.args.packed c.args.edits.items from h good)
+    never_bad F.honest F.means F.faults start c.decide.new.self c.args.committer c.args.edits.items c.in-Err.error c.in-Err.ensures.failed bad h
+    (start_edits F.honest F.means F.faults old start c.args.committer given c.args.packed c.args.edits.items from h good) good.0
+    (start_records F.honest F.means F.faults old start c.args.committer given c.args.packed c.args.edits.items from h good)
 
 pub returns-in-Err-clause-ended : goal.returns-in-Err-clause-ended
 returns-in-Err-clause-ended g c old given from =
     let F = g.F.Files in
     let e = c.release_all-remains.ensures in
     let ran = c.decide.new.edits in
-    undecided_well F.honest F.means F.faults old c.args.self.now given c.args.packed c.args.edits.items from ran.items c.decide.ensures.alike _ (paths_of c.release_all-remains.result.left.items) (F.means c.decide.new.self.files)
+    undecided_well F.honest F.means F.faults old c.args.self.now c.args.committer given c.args.packed c.args.edits.items from ran.items c.decide.ensures.alike _ (paths_of c.release_all-remains.result.left.items) (F.means c.decide.new.self.files)
     (λ h. c.decide.ensures.leaves h (from.packed.empty h)) (λ h. c.decide.ensures.passes h (from.packed.empty h))
     (λ h. e.leaves h) (λ h. e.passes h) (λ h. e.packed_gone h) (λ h k lt. e.gone h k (omega (arith, lt, ran.ok))) e.ours
 
@@ -54,7 +54,7 @@ returns-in-Err-clause-lost g c old given from h good at_rest =
     let F = g.F.Files in
     let e = c.release_all-remains.ensures in
     let ran = c.decide.new.edits in
-    undecided_lost F.honest F.means F.faults old c.args.self.now given c.args.packed c.args.edits.items from ran.items c.decide.ensures.alike _ (paths_of c.release_all-remains.result.left.items) (F.means c.decide.new.self.files)
+    undecided_lost F.honest F.means F.faults old c.args.self.now c.args.committer given c.args.packed c.args.edits.items from ran.items c.decide.ensures.alike _ (paths_of c.release_all-remains.result.left.items) (F.means c.decide.new.self.files)
     (λ h. c.decide.ensures.leaves h (from.packed.empty h)) (λ h. c.decide.ensures.passes h (from.packed.empty h))
     (λ h. e.leaves h) (λ h. e.passes h) (λ h. e.packed_gone h) (λ h k lt. e.gone h k (omega (arith, lt, ran.ok))) e.ours h good at_rest
 
@@ -89,23 +89,26 @@ returns-in-Err-publish-clause-failed g c =
     let len : c.len.result ≡ length ran.items = omega (arith, c.len.ensures, ran.ok) in
     let done : c.done-done.result ≡ done_of (length ran.items) u = c.done-done.ensures ∙ ap (λ n. done_of n u) len in
     let place = c.release_all-edits.result.place.items in
-    let says : SaysWhy (updates held) place c.in-Ok.decided.path.items u c.failure.result =
-    subst (λ (l : List RefEdit). SaysWhy l place c.in-Ok.decided.path.items u c.failure.result) (e.edits ∙ updates_alike ran.items held alike) c.failure.ensures in
+    let log = c.release_all-edits.result.log.items in
+    let told = c.in-Ok.decided.path.items in
+    let says : SaysWhy (updates held) place log told u c.failure.result =
+    subst (λ (l : List RefEdit). SaysWhy l place log told u c.failure.result) (e.edits ∙ updates_alike ran.items held alike) c.failure.ensures in
     let here : done_of (length ran.items) u < length ran.items → place ≡ place_at ran.items (done_of (length ran.items) u) =
     subst (λ n. n < length ran.items → place ≡ place_at ran.items n) done (λ lt. e.place (omega (arith, lt, ran.ok))) in
-    run_fails F.honest F.means F.faults start new packed held ran.items alike c.in-Ok.ensures.logs rewrite c.in-Ok.ensures.repacked decided.tree mid.tree
-    (λ h empty. c.in-Ok.ensures.filled h empty) (λ h. held_less F.honest F.means F.faults start new packed held ran.items alike renamed mid.tree (less h))
-    u c.failure.result place c.in-Ok.decided.path.items ends says
+    let logged : done_of (length ran.items) u < length ran.items → log ≡ path_in (log_at ran.items (done_of (length ran.items) u)) =
+    subst (λ n. n < length ran.items → log ≡ path_in (log_at ran.items n)) done (λ lt. e.log (omega (arith, lt, ran.ok))) in
+    run_fails F.honest F.means F.faults start new c.args.committer packed held ran.items alike c.in-Ok.ensures.logs rewrite c.in-Ok.ensures.repacked decided.tree mid.tree
+    (λ h empty. c.in-Ok.ensures.filled h empty) (λ h. held_less F.honest F.means F.faults start new c.args.committer packed held ran.items alike renamed mid.tree (less h))
+    place log told u c.failure.result ends (record { here = here; logged = logged; at_packed = c.in-Ok.ensures.path }) says
     (raised_wider (F.faults start.files) (F.faults c.decide.new.self.files) (F.faults c.publish.new.self.files) (F.faults c.release_all-edits.new.files) u c.decide.ensures.no_fewer e.no_fewer c.in-Err-publish.ensures.counted)
     (λ none h empty.
     let still : mid.tree ≡ decided.tree = ap (λ files. (F.means files).tree) (c.in-Err-publish.ensures.memory none) in
-    only_locks F.honest F.means F.faults start new packed held ran.items alike renamed decided.tree (c.decide.ensures.leaves h empty).tree
+    only_locks F.honest F.means F.faults start new c.args.committer packed held ran.items alike renamed decided.tree (c.decide.ensures.leaves h empty).tree
     (subst (λ (S : Tree). RemovesLocks (held_locks (if renamed then None else packed) ran.items) S (F.means c.release_all-edits.new.files).tree) still (less h)))
-    here c.in-Ok.ensures.path
 
 pub returns-in-Err-publish-clause-sound : goal.returns-in-Err-publish-clause-sound
 returns-in-Err-publish-clause-sound g c old given from h good bad =
-    of_no_line c.release_all-edits.result.edits.items c.release_all-edits.result.place.items c.in-Ok.decided.path.items c.in-Err-publish.unfinished c.failure.result c.failure.ensures bad
+    of_no_line c.release_all-edits.result.edits.items c.release_all-edits.result.place.items c.release_all-edits.result.log.items c.in-Ok.decided.path.items c.in-Err-publish.unfinished c.failure.result c.failure.ensures bad
 
 pub returns-in-Err-publish-clause-ended : goal.returns-in-Err-publish-clause-ended
 returns-in-Err-publish-clause-ended g c old given from =
@@ -132,17 +135,17 @@ returns-in-Err-publish-clause-ended g c old given from =
     let done = c.done-done.result in
     let len : c.len.result ≡ length ran.items = omega (arith, c.len.ensures, ran.ok) in
     let done_is : done ≡ done_of (length ran.items) u = c.done-done.ensures ∙ ap (λ n. done_of n u) len in
-    ran_well F.honest F.means F.faults old start given packed held from ran.items alike new left decided
+    ran_well F.honest F.means F.faults old start c.args.committer given packed held from ran.items alike new left decided
     (λ h. c.decide.ensures.leaves h (from.packed.empty h)) (λ h. c.decide.ensures.passes h (from.packed.empty h))
     c.in-Ok.ensures.logs rewrite c.in-Ok.ensures.repacked (λ h. c.in-Ok.ensures.filled h (from.packed.empty h)) (λ h. c.in-Ok.ensures.wholes h (from.packed.empty h))
     mid renamed runs releases done
     (λ h. rw c.unless_renamed-packed.ensures at (e.packed_gone h))
-    (λ h text path some. cut_packed_gone F.honest F.means F.faults old start given packed held from ran.items alike new left decided
+    (λ h text path some. cut_packed_gone F.honest F.means F.faults old start c.args.committer given packed held from ran.items alike new left decided
     (λ h. c.decide.ensures.leaves h (from.packed.empty h)) (λ h. c.decide.ensures.passes h (from.packed.empty h))
     c.in-Ok.ensures.logs rewrite c.in-Ok.ensures.repacked (λ h. c.in-Ok.ensures.filled h (from.packed.empty h)) (λ h. c.in-Ok.ensures.wholes h (from.packed.empty h))
     mid renamed runs releases u ends h (sym c.is_packed_renamed.ensures ∙ text) path some)
     (λ h k lt. e.gone h k (omega (arith, lt, ran.ok)))
-    (λ h k lt early written. cut_gone F.honest F.means F.faults old start given packed held from ran.items alike new left decided
+    (λ h k lt early written. cut_gone F.honest F.means F.faults old start c.args.committer given packed held from ran.items alike new left decided
     (λ h. c.decide.ensures.leaves h (from.packed.empty h)) (λ h. c.decide.ensures.passes h (from.packed.empty h))
     c.in-Ok.ensures.logs rewrite c.in-Ok.ensures.repacked (λ h. c.in-Ok.ensures.filled h (from.packed.empty h)) (λ h. c.in-Ok.ensures.wholes h (from.packed.empty h))
     mid renamed runs releases u ends h k lt (subst (λ n. k < n) done_is early) written)
@@ -170,17 +173,17 @@ returns-clause-ended g c old given from =
     let after : F.honest → IsAfter (bare_steps (planned_entries old.dirs ran.items packed rewrite)) decided.tree mid.tree = λ h.
     subst (λ (d : Dirs). IsAfter (bare_steps (planned_entries d ran.items packed rewrite)) decided.tree mid.tree) same (rw c.deref.ensures.value at (c.in_default.ensures.done h)) in
     let done = c.len-done.result in
-    ran_well F.honest F.means F.faults old start given packed held from ran.items alike new left decided
+    ran_well F.honest F.means F.faults old start c.args.committer given packed held from ran.items alike new left decided
     (λ h. c.decide.ensures.leaves h (from.packed.empty h)) (λ h. c.decide.ensures.passes h (from.packed.empty h))
     c.in-Ok.ensures.logs rewrite c.in-Ok.ensures.repacked (λ h. c.in-Ok.ensures.filled h (from.packed.empty h)) (λ h. c.in-Ok.ensures.wholes h (from.packed.empty h))
     mid renamed runs releases done
     (λ h. rw c.unless_renamed-packed-2.ensures at (e.packed_gone h))
-    (λ h text path some. whole_packed_gone F.honest F.means F.faults old start given packed held from ran.items alike new left decided
+    (λ h text path some. whole_packed_gone F.honest F.means F.faults old start c.args.committer given packed held from ran.items alike new left decided
     (λ h. c.decide.ensures.leaves h (from.packed.empty h)) (λ h. c.decide.ensures.passes h (from.packed.empty h))
     c.in-Ok.ensures.logs rewrite c.in-Ok.ensures.repacked (λ h. c.in-Ok.ensures.filled h (from.packed.empty h)) (λ h. c.in-Ok.ensures.wholes h (from.packed.empty h))
     mid renamed runs releases after h (sym c.is_renamed.ensures ∙ text) path some)
     (λ h k lt. e.gone h k (omega (arith, lt, ran.ok)))
-    (λ h k lt early written. whole_gone F.honest F.means F.faults old start given packed held from ran.items alike new left decided
+    (λ h k lt early written. whole_gone F.honest F.means F.faults old start c.args.committer given packed held from ran.items alike new left decided
     (λ h. c.decide.ensures.leaves h (from.packed.empty h)) (λ h. c.decide.ensures.passes h (from.packed.empty h))
     c.in-Ok.ensures.logs rewrite c.in-Ok.ensures.repacked (λ h. c.in-Ok.ensures.filled h (from.packed.empty h)) (λ h. c.in-Ok.ensures.wholes h (from.packed.empty h))
     mid renamed runs releases after h k lt written)
@@ -207,7 +210,7 @@ returns-clause-committed g c old given from h good =
     let releases : F.honest → Leaves mid (F.means c.release_all.new.files) (RemovesLocks (held_locks (if renamed then None else packed) ran.items) mid.tree) = λ h. rw c.unless_renamed-packed-2.ensures at (e.leaves h) in
     let after : F.honest → IsAfter (bare_steps (planned_entries old.dirs ran.items packed rewrite)) decided.tree mid.tree = λ h.
     subst (λ (d : Dirs). IsAfter (bare_steps (planned_entries d ran.items packed rewrite)) decided.tree mid.tree) same (rw c.deref.ensures.value at (c.in_default.ensures.done h)) in
-    committed F.honest F.means F.faults old start given packed held from ran.items alike new left decided
+    committed F.honest F.means F.faults old start c.args.committer given packed held from ran.items alike new left decided
     (λ h. c.decide.ensures.leaves h (from.packed.empty h)) (λ h. c.decide.ensures.passes h (from.packed.empty h))
     c.in-Ok.ensures.logs rewrite c.in-Ok.ensures.repacked (λ h. c.in-Ok.ensures.filled h (from.packed.empty h)) (λ h. c.in-Ok.ensures.wholes h (from.packed.empty h))
     mid renamed runs releases h good (after h) ((returns-clause-ended g c old given from).gone h)
@@ -234,7 +237,7 @@ returns-in-Err-publish-clause-lost g c old given from h good at_rest =
     let passes : Passes decided mid (IsReachedBy (steps_in (planned_entries old.dirs ran.items packed rewrite)) (disk_of decided)) =
     subst (λ (d : Dirs). Passes decided mid (IsReachedBy (steps_in (planned_entries d ran.items packed rewrite)) (disk_of decided))) same (rw c.deref.ensures.value at (c.publish.ensures.passes h)) in
     let only : OnlyRemoves (held_locks (if renamed then None else packed) ran.items) mid (F.means c.release_all-edits.new.files) = rw c.unless_renamed-packed.ensures at (e.passes h) in
-    lost F.honest F.means F.faults old start given packed held from ran.items alike new left decided
+    lost F.honest F.means F.faults old start c.args.committer given packed held from ran.items alike new left decided
     (λ h. c.decide.ensures.leaves h (from.packed.empty h)) (λ h. c.decide.ensures.passes h (from.packed.empty h))
     c.in-Ok.ensures.logs rewrite c.in-Ok.ensures.repacked (λ h. c.in-Ok.ensures.filled h (from.packed.empty h)) (λ h. c.in-Ok.ensures.wholes h (from.packed.empty h))
     mid renamed runs releases h at_rest only good passes
@@ -261,7 +264,7 @@ returns-clause-lost g c old given from h good at_rest =
     let passes : Passes decided mid (IsReachedBy (steps_in (planned_entries old.dirs ran.items packed rewrite)) (disk_of decided)) =
     subst (λ (d : Dirs). Passes decided mid (IsReachedBy (steps_in (planned_entries d ran.items packed rewrite)) (disk_of decided))) same (rw c.deref.ensures.value at (c.publish.ensures.passes h)) in
     let only : OnlyRemoves (held_locks (if renamed then None else packed) ran.items) mid (F.means c.release_all.new.files) = rw c.unless_renamed-packed-2.ensures at (e.passes h) in
-    lost F.honest F.means F.faults old start given packed held from ran.items alike new left decided
+    lost F.honest F.means F.faults old start c.args.committer given packed held from ran.items alike new left decided
     (λ h. c.decide.ensures.leaves h (from.packed.empty h)) (λ h. c.decide.ensures.passes h (from.packed.empty h))
     c.in-Ok.ensures.logs rewrite c.in-Ok.ensures.repacked (λ h. c.in-Ok.ensures.filled h (from.packed.empty h)) (λ h. c.in-Ok.ensures.wholes h (from.packed.empty h))
     mid renamed runs releases h at_rest only good passes
@@ -288,7 +291,7 @@ returns-clause-settled g c old given from h at_rest =
     let done : IsSyncedAfter (steps_in (planned_entries old.dirs ran.items packed rewrite)) (disk_of decided) (disk_of mid) =
     subst (λ (d : Dirs). IsSyncedAfter (steps_in (planned_entries d ran.items packed rewrite)) (disk_of decided) (disk_of mid)) same (rw c.deref.ensures.value at (c.in_default.ensures.synced h)) in
     let only : OnlyRemoves (held_locks (if renamed then None else packed) ran.items) mid (F.means c.release_all.new.files) = rw c.unless_renamed-packed-2.ensures at (e.passes h) in
-    settled F.honest F.means F.faults old start given packed held from ran.items alike new left decided
+    settled F.honest F.means F.faults old start c.args.committer given packed held from ran.items alike new left decided
     (λ h. c.decide.ensures.leaves h (from.packed.empty h)) (λ h. c.decide.ensures.passes h (from.packed.empty h))
     c.in-Ok.ensures.logs rewrite c.in-Ok.ensures.repacked (λ h. c.in-Ok.ensures.filled h (from.packed.empty h)) (λ h. c.in-Ok.ensures.wholes h (from.packed.empty h))
     mid renamed runs releases h at_rest only done

@@ -2,8 +2,8 @@ use Rattle.std.proofs.Common.{ℕ, take, true, false, sym, ap, ◌∙◌, arith}
 use Rattle.std.specs.Prelude.{◌==◌}
 use Rattle.std.proofs.lemmas.Bool.{ne_eqb}
 use Rattle.gix_ref_lines.proofs.LogPaths.{folder_next}
-use Rattle.gix_ref_lines.proofs.logs.folder.Goals as goal
-use Rattle.gix_ref_lines.proofs.logs.folder.Goals.{then-path-i-eq47, else-path-i-eq47}
+use Rattle.gix_ref_lines.proofs.logs.folder_end.Goals as goal
+use Rattle.gix_ref_lines.proofs.logs.folder_end.Goals.{then-path-i-eq47, else-path-i-eq47}
 
 pub loop-i-preserved : goal.loop-i-preserved
 loop-i-preserved c =

@@ -1,6 +1,6 @@
 use Rattle.std.proofs.Common.{◌≡◌, ◌≤◌, take, length}
 use Rattle.gix_ref_files.specs.Disk.{folder_of}
-use Rattle.gix_ref_lines.proofs.logs.folder.Given as goal
+use Rattle.gix_ref_lines.proofs.logs.folder_end.Given as goal
 
 -- the folder of what was seen
 abbrev pub invariant-loop-i : goal.invariant-loop-i

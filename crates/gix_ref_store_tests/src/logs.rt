@@ -1,0 +1,541 @@
+//! Transactions with log lines: what logs hold afterwards, why lines are refused, and what stops, faults and losses of power leave.
+use crate::made::{Id, full_name, object, store};
+use crate::power::pick_at;
+use gix_ref_edits::transaction::{Change, LogChange, PreviousValue, RefEdit, RefLog};
+use gix_ref_files::files::Files;
+use gix_ref_lines::create_or_update;
+use gix_ref_log::actor::{SignatureRef, Time};
+use gix_ref_memory::memory::Memory;
+use gix_ref_store::file::Store;
+use gix_ref_store::file::transaction::commit;
+use gix_ref_store::store::WriteReflog;
+use std::alloc::Global;
+use std::process::Abort;
+
+/// A loose text of forty digits `1`, and one of forty digits `2`.
+const ONE: &[u8] = b"1111111111111111111111111111111111111111\n";
+
+const TWO: &[u8] = b"2222222222222222222222222222222222222222\n";
+
+/// A line from null to the first, 113 bytes; one from the first to the second; and both.
+const FIRST: &[u8] = b"0000000000000000000000000000000000000000 \
+    1111111111111111111111111111111111111111 C <c@example.com> 1234 +0800\tm\n";
+
+const SECOND: &[u8] = b"1111111111111111111111111111111111111111 \
+    2222222222222222222222222222222222222222 C <c@example.com> 1234 +0800\tm\n";
+
+const BOTH: &[u8] = b"0000000000000000000000000000000000000000 \
+    1111111111111111111111111111111111111111 C <c@example.com> 1234 +0800\tm\n\
+    1111111111111111111111111111111111111111 \
+    2222222222222222222222222222222222222222 C <c@example.com> 1234 +0800\tm\n";
+
+/// A line of 139 bytes.
+const PADDED: &[u8] = b"0000000000000000000000000000000000000000 \
+    1111111111111111111111111111111111111111 committer <committer@example.com> 1234 +0800\tthe message\n";
+
+/// Who commits.
+#[derive(Clone, Copy, Debug, PartialEq, Eq)]
+enum Who {
+    Nobody,
+    C,
+    Padded,
+    Bracket,
+}
+
+fn signature(who: Who) -> Option<SignatureRef<'static>> {
+    let (name, email) = match who {
+        Who::Nobody => return None,
+        Who::C => ("C", "c@example.com"),
+        Who::Padded => ("  committer\n  ", "  committer@example.com\n  "),
+        Who::Bracket => ("a<b", "c@example.com"),
+    };
+    Some(SignatureRef {
+        name: name.as_bytes(),
+        email: email.as_bytes(),
+        time: Time {
+            seconds: 1234,
+            offset: 28800,
+        },
+    })
+}
+
+/// An edit of a name.
+#[derive(Clone, Copy)]
+struct Asked {
+    name: &'static str,
+    /// The new object; none for a deletion.
+    new: Option<Id>,
+    deref: bool,
+    message: &'static str,
+}
+
+const UPDATE: Asked = Asked {
+    name: "refs/heads/a",
+    new: Some(Id::One),
+    deref: false,
+    message: "m",
+};
+
+const HEAD: Asked = Asked {
+    name: "HEAD",
+    deref: true,
+    ..UPDATE
+};
+
+const DELETION: Asked = Asked {
+    new: None,
+    ..UPDATE
+};
+
+/// What became of a transaction, with the path that is reported.
+#[derive(Clone, Copy, Debug, PartialEq, Eq)]
+enum Outcome {
+    Done,
+    Refused,
+    MissingCommitter,
+    MessageWithNewlines,
+    SignatureUnwritable,
+    Blocked(&'static str),
+    NoFolders,
+    Append,
+    Folder(&'static str),
+    LockCommit,
+    Other,
+}
+
+/// Paths and their texts.
+type Texts = &'static [(&'static str, &'static [u8])];
+
+#[derive(Clone, Copy)]
+struct Row {
+    meaning: &'static str,
+    worktree: &'static str,
+    namespace: &'static str,
+    mode: WriteReflog,
+    who: Who,
+    before: Texts,
+    edits: &'static [Asked],
+    want: Outcome,
+    /// An empty text stands for no file.
+    after: Texts,
+}
+
+const ROW: Row = Row {
+    meaning: "a new branch",
+    worktree: "",
+    namespace: "",
+    mode: WriteReflog::Normal,
+    who: Who::C,
+    before: &[],
+    edits: &[UPDATE],
+    want: Outcome::Done,
+    after: &[("/r/refs/heads/a", ONE), ("/r/logs/refs/heads/a", FIRST)],
+};
+
+const ROWS: [Row; 17] = [
+    ROW,
+    Row {
+        meaning: "a log of 226 bytes",
+        before: &[("/r/refs/heads/a", ONE), ("/r/logs/refs/heads/a", FIRST)],
+        edits: &[Asked {
+            new: Some(Id::Two),
+            ..UPDATE
+        }],
+        after: &[("/r/refs/heads/a", TWO), ("/r/logs/refs/heads/a", BOTH)],
+        ..ROW
+    },
+    Row {
+        meaning: "its deletion",
+        before: &[("/r/refs/heads/a", TWO), ("/r/logs/refs/heads/a", BOTH)],
+        edits: &[DELETION],
+        after: &[("/r/refs/heads/a", b""), ("/r/logs/refs/heads/a", b"")],
+        ..ROW
+    },
+    Row {
+        meaning: "HEAD and the branch that it leads to, which is not there yet",
+        before: &[("/r/HEAD", b"ref: refs/heads/main\n")],
+        edits: &[HEAD],
+        after: &[
+            ("/r/HEAD", b"ref: refs/heads/main\n"),
+            ("/r/refs/heads/main", ONE),
+            ("/r/logs/HEAD", FIRST),
+            ("/r/logs/refs/heads/main", FIRST),
+        ],
+        ..ROW
+    },
+    Row {
+        meaning: "HEAD has the previous object of its branch",
+        before: &[
+            ("/r/HEAD", b"ref: refs/heads/main\n"),
+            ("/r/refs/heads/main", ONE),
+            ("/r/logs/HEAD", FIRST),
+            ("/r/logs/refs/heads/main", FIRST),
+        ],
+        edits: &[Asked {
+            new: Some(Id::Two),
+            ..HEAD
+        }],
+        after: &[
+            ("/r/HEAD", b"ref: refs/heads/main\n"),
+            ("/r/refs/heads/main", TWO),
+            ("/r/logs/HEAD", BOTH),
+            ("/r/logs/refs/heads/main", BOTH),
+        ],
+        ..ROW
+    },
+    Row {
+        meaning: "a line of 139 bytes",
+        who: Who::Padded,
+        edits: &[Asked {
+            message: "the message",
+            ..UPDATE
+        }],
+        after: &[("/r/logs/refs/heads/a", PADDED)],
+        ..ROW
+    },
+    Row {
+        meaning: "no line for the same object",
+        before: &[("/r/refs/heads/a", ONE), ("/r/logs/refs/heads/a", FIRST)],
+        after: &[("/r/refs/heads/a", ONE), ("/r/logs/refs/heads/a", FIRST)],
+        ..ROW
+    },
+    Row {
+        meaning: "no log is made for FETCH_HEAD",
+        who: Who::Nobody,
+        edits: &[Asked {
+            name: "FETCH_HEAD",
+            ..UPDATE
+        }],
+        after: &[("/r/FETCH_HEAD", ONE), ("/r/logs/FETCH_HEAD", b"")],
+        ..ROW
+    },
+    Row {
+        meaning: "but one that is there gains a line",
+        before: &[("/r/FETCH_HEAD", ONE), ("/r/logs/FETCH_HEAD", FIRST)],
+        edits: &[Asked {
+            name: "FETCH_HEAD",
+            new: Some(Id::Two),
+            ..UPDATE
+        }],
+        after: &[("/r/FETCH_HEAD", TWO), ("/r/logs/FETCH_HEAD", BOTH)],
+        ..ROW
+    },
+    Row {
+        meaning: "all logs are made",
+        mode: WriteReflog::Always,
+        edits: &[Asked {
+            name: "refs/tags/t",
+            ..UPDATE
+        }],
+        after: &[("/r/refs/tags/t", ONE), ("/r/logs/refs/tags/t", FIRST)],
+        ..ROW
+    },
+    Row {
+        meaning: "in a namespace no log is made",
+        namespace: "foo",
+        who: Who::Nobody,
+        after: &[
+            ("/r/refs/namespaces/foo/refs/heads/a", ONE),
+            ("/r/logs/refs/namespaces/foo/refs/heads/a", b""),
+        ],
+        ..ROW
+    },
+    Row {
+        meaning: "of a linked worktree",
+        worktree: "/r/worktrees/w",
+        edits: &[Asked {
+            deref: false,
+            ..HEAD
+        }],
+        after: &[
+            ("/r/worktrees/w/HEAD", ONE),
+            ("/r/worktrees/w/logs/HEAD", FIRST),
+        ],
+        ..ROW
+    },
+    Row {
+        meaning: "a committer is missing",
+        who: Who::Nobody,
+        want: Outcome::MissingCommitter,
+        after: &[("/r/refs/heads/a", b""), ("/r/logs/refs/heads/a", b"")],
+        ..ROW
+    },
+    Row {
+        meaning: "a message of two lines",
+        edits: &[Asked {
+            message: "m\nn",
+            ..UPDATE
+        }],
+        want: Outcome::MessageWithNewlines,
+        after: &[("/r/refs/heads/a", b""), ("/r/logs/refs/heads/a", b"")],
+        ..ROW
+    },
+    Row {
+        meaning: "a bracket in a signature",
+        who: Who::Bracket,
+        want: Outcome::SignatureUnwritable,
+        after: &[("/r/refs/heads/a", b""), ("/r/logs/refs/heads/a", b"")],
+        ..ROW
+    },
+    Row {
+        meaning: "a file in the path of a log",
+        before: &[("/r/logs/refs", ONE)],
+        want: Outcome::Blocked("/r/logs/refs/heads"),
+        after: &[("/r/refs/heads/a", b""), ("/r/logs/refs", ONE)],
+        ..ROW
+    },
+    Row {
+        meaning: "a folder in the place of a log",
+        before: &[("/r/logs/refs/heads/a/b", FIRST)],
+        mode: WriteReflog::Always,
+        want: Outcome::Folder("/r/logs/refs/heads/a"),
+        after: &[("/r/refs/heads/a", b""), ("/r/logs/refs/heads/a/b", FIRST)],
+        ..ROW
+    },
+];
+
+/// The edit that is asked for.
+fn edit(rt: &impl Abort, alloc: Global, asked: Asked) -> RefEdit {
+    let change = match asked.new {
+        None => Change::Delete {
+            expected: PreviousValue::Any,
+            log: RefLog::AndReference,
+        },
+        Some(id) => Change::Update {
+            log: LogChange {
+                mode: RefLog::AndReference,
+                force_create_reflog: false,
+                message: asked.message.as_bytes().to_vec(alloc).expect(rt, "memory"),
+            },
+            expected: PreviousValue::Any,
+            new: object(rt, id),
+        },
+    };
+    RefEdit {
+        change,
+        name: full_name(rt, alloc, asked.name),
+        deref: asked.deref,
+    }
+}
+
+/// Why a line was not added; `path` is what a report of a path must be.
+fn line_outcome(error: &create_or_update::Error, path: &'static str) -> Outcome {
+    match error {
+        create_or_update::Error::CreateLeadingDirectories {
+            source: None,
+            reflog_directory,
+        } if reflog_directory.as_slice() == path.as_bytes() => Outcome::Blocked(path),
+        create_or_update::Error::CreateLeadingDirectories {
+            source: Some(_),
+            ..
+        } => Outcome::NoFolders,
+        create_or_update::Error::CreateLeadingDirectories { .. } => Outcome::Other,
+        create_or_update::Error::Append { .. } => Outcome::Append,
+        create_or_update::Error::MissingCommitter => Outcome::MissingCommitter,
+        create_or_update::Error::MessageWithNewlines => Outcome::MessageWithNewlines,
+        create_or_update::Error::SignatureUnwritable => Outcome::SignatureUnwritable,
+    }
+}
+
+/// Why a commit failed.
+fn failure_of(error: &commit::Error, path: &'static str) -> Outcome {
+    match error {
+        commit::Error::CreateOrUpdateRefLog(error) => line_outcome(error, path),
+        commit::Error::FolderInPlace { path: told } if told.as_slice() == path.as_bytes() => {
+            Outcome::Folder(path)
+        }
+        commit::Error::LockCommit { .. } => Outcome::LockCommit,
+        _ => Outcome::Other,
+    }
+}
+
+/// The path of an outcome.
+fn path_of(want: Outcome) -> &'static str {
+    match want {
+        Outcome::Blocked(path) | Outcome::Folder(path) => path,
+        _ => "",
+    }
+}
+
+/// Prepares these edits and commits them: what became of them, and how many locks are named.
+fn committed(
+    alloc: Global,
+    store: &mut Store<Memory>,
+    who: Who,
+    edits: Vec<RefEdit>,
+    path: &'static str,
+) -> (Outcome, usize) {
+    match store.transaction().prepare(alloc, edits) {
+        Err(refused) => (Outcome::Refused, refused.locks_left.len()),
+        Ok(prepared) => match prepared.commit(alloc, signature(who)) {
+            Ok(done) => (Outcome::Done, done.locks_left.len()),
+            Err(failed) => (failure_of(&failed.error, path), failed.locks_left.len()),
+        },
+    }
+}
+
+fn edits_of(rt: &impl Abort, alloc: Global, asked: &[Asked]) -> Vec<RefEdit> {
+    let mut edits = Vec::with_capacity(alloc, asked.len()).expect(rt, "memory");
+    for one in asked {
+        edits.push(edit(rt, alloc, *one)).expect(rt, "room");
+    }
+    edits
+}
+
+/// Files in memory.
+fn made(rt: &impl Abort, alloc: Global, texts: Texts) -> Memory {
+    let mut memory = Memory::new(alloc);
+    for (path, text) in texts {
+        assert!(rt;
+            memory.put(path.as_bytes(), text).expect(rt, "memory"),
+            "{path}"
+        );
+    }
+    memory
+}
+
+#[test]
+fn files_before_and_after(rt: HostRuntime) {
+    let alloc = rt.alloc();
+    assert_eq!(rt;
+        (FIRST.len(), BOTH.len(), PADDED.len()),
+        (113usize, 226usize, 139usize)
+    );
+    for row in ROWS {
+        let memory = made(&rt, alloc, row.before);
+        let mut store = store(&rt, alloc, memory, row.worktree, row.namespace);
+        store.write_reflog = row.mode;
+        let edits = edits_of(&rt, alloc, row.edits);
+        let (outcome, left) = committed(alloc, &mut store, row.who, edits, path_of(row.want));
+        assert_eq!(rt; outcome, row.want, "{}", row.meaning);
+        assert_eq!(rt; left, 0usize, "{}", row.meaning);
+        let memory = store.into_files();
+        for (path, text) in row.after {
+            assert!(rt;
+                memory.get(path.as_bytes()).unwrap_or(b"") == *text,
+                "{}: {path}",
+                row.meaning
+            );
+        }
+        assert!(rt;
+            memory.get(b"/r/refs/heads/a.lock").is_none(),
+            "no lock is left"
+        );
+    }
+}
+
+/// How a run ends.
+#[derive(Clone, Copy, Debug, PartialEq, Eq)]
+enum End {
+    Done,
+    /// The process stops in the call of this number, after so many parts.
+    Stops(u64, usize),
+    /// The call of this number fails.
+    Fails(u64),
+}
+
+/// The update of a branch that has a log, and of one that has none: what became of them, and the files.
+fn run(rt: &impl Abort, alloc: Global, end: End) -> (Outcome, Memory) {
+    let mut memory = made(
+        rt,
+        alloc,
+        &[
+            ("/r/refs/heads/a", ONE),
+            ("/r/refs/heads/b", ONE),
+            ("/r/logs/refs/heads/a", FIRST),
+        ],
+    );
+    match end {
+        End::Done => {}
+        End::Stops(k, n) => memory.stop_at(k, n),
+        End::Fails(k) => memory.fail_at(k),
+    }
+    let mut store = store(rt, alloc, memory, "", "");
+    store.write_reflog = WriteReflog::Normal;
+    let first = Asked {
+        new: Some(Id::Two),
+        ..UPDATE
+    };
+    let second = Asked {
+        name: "refs/heads/b",
+        ..first
+    };
+    let edits = edits_of(rt, alloc, &[first, second]);
+    let (outcome, _) = committed(alloc, &mut store, Who::C, edits, "");
+    (outcome, store.into_files())
+}
+
+/// What a file holds; an empty text where there is none.
+fn text_at<'a>(memory: &'a Memory, path: &str) -> &'a [u8] {
+    memory.get(path.as_bytes()).unwrap_or(b"")
+}
+
+/// How far the run shows: nothing, the first update, or both. A log has its old text and a beginning of its line, and all of it once
+/// the reference is changed; after a loss of power no more bytes than these.
+fn shown(rt: &impl Abort, memory: &Memory, lost: bool) -> usize {
+    let rows: [[&[u8]; 2]; 3] = [[ONE, ONE], [TWO, ONE], [TWO, TWO]];
+    let now = [
+        text_at(memory, "/r/refs/heads/a"),
+        text_at(memory, "/r/refs/heads/b"),
+    ];
+    let Some(at) = rows.iter().position(|row| *row == now) else {
+        panic!(rt; "a state between others");
+    };
+    let logs: [(&[u8], &[u8], usize); 2] = [
+        (text_at(memory, "/r/logs/refs/heads/a"), BOTH, FIRST.len()),
+        (text_at(memory, "/r/logs/refs/heads/b"), SECOND, 0usize),
+    ];
+    for i in 0..2usize {
+        let (log, whole, old) = logs[i];
+        let is_front = whole.starts_with(log) && log.len() >= old;
+        assert!(rt;
+            is_front || lost && log.len() <= whole.len() && at <= i,
+            "log {i}"
+        );
+        assert!(rt; at <= i || log == whole, "log {i} is whole");
+    }
+    at
+}
+
+/// The number of calls of files of the whole run, and one more.
+fn behind_calls(rt: &impl Abort, alloc: Global) -> u64 {
+    let (outcome, memory) = run(rt, alloc, End::Done);
+    assert_eq!(rt; outcome, Outcome::Done);
+    assert_eq!(rt; shown(rt, &memory, false), 2);
+    memory.calls().saturating_add(1)
+}
+
+#[test]
+fn each_stop_shows_the_first_edits_and_their_lines(rt: HostRuntime) {
+    let alloc = rt.alloc();
+    for k in 1..behind_calls(&rt, alloc) {
+        for n in [0usize, 1, 57, 160] {
+            let (_, memory) = run(&rt, alloc, End::Stops(k, n));
+            let _ = shown(&rt, &memory, false);
+            for row in 0..9u64 {
+                let (_, mut memory) = run(&rt, alloc, End::Stops(k, n));
+                memory.lose_power(pick_at(row)).expect(&rt, "memory");
+                let _ = shown(&rt, &memory, true);
+            }
+        }
+    }
+}
+
+#[test]
+fn each_fault_shows_the_first_edits_and_their_lines(rt: HostRuntime) {
+    let alloc = rt.alloc();
+    let mut seen = [false; 3];
+    for k in 1..behind_calls(&rt, alloc) {
+        let (outcome, memory) = run(&rt, alloc, End::Fails(k));
+        let at = shown(&rt, &memory, false);
+        match outcome {
+            Outcome::Refused => assert_eq!(rt; at, 0, "call {k}"),
+            Outcome::NoFolders => seen[0] = true,
+            Outcome::Append => seen[1] = true,
+            Outcome::LockCommit => seen[2] = true,
+            Outcome::Done => assert_eq!(rt; at, 2, "call {k}"),
+            other => panic!(rt; "call {k}: {other:?}"),
+        }
+    }
+    assert!(rt; seen == [true; 3], "each of them came");
+}
