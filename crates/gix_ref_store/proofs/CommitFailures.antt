@@ -27,11 +27,9 @@ use Rattle.gix_ref_theory.specs.Readings as readings
 use Rattle.gix_ref_log.specs.declared.actor.SignatureRef.{SignatureRef}
 use Rattle.gix_ref_lines.specs.AskedEdits.{all_but_logs, asked, but_log, outcomes_of}
 use Rattle.gix_ref_lines.specs.DueLines.{log_outcomes}
-use Rattle.gix_ref_lines.specs.LineCauses.{IsCountedError, IsRefusal, IsCounted as IsLineCounted}
+use Rattle.gix_ref_lines.specs.LineCauses.{IsCountedError}
 use Rattle.gix_ref_lines.specs.declared.create_or_update.Error.{Error as LogError}
 use Rattle.gix_ref_lines.specs.declared.create_or_update.Error.TheVariants.{CreateLeadingDirectories, Append, MessageWithNewlines, MissingCommitter, SignatureUnwritable}
-use Rattle.gix_ref_lines.specs.declared.error.Error.{Error as LinesError}
-use Rattle.gix_ref_lines.specs.declared.error.Error.TheVariants as lines
 use Rattle.gix_ref_transaction.specs.OwnLocks.{is_in, OnlyLocks, RemovesLocks}
 use Rattle.gix_ref_transaction.specs.PrepareSteps.{held_locks, lock_paths, packed_places, updates, IsPackedPlace}
 use Rattle.gix_ref_transaction.specs.declared.edit.Edit.{Edit}
@@ -48,7 +46,7 @@ use Rattle.gix_ref_transaction.specs.CommittedEdits.{planned}
 use Rattle.gix_ref_transaction.specs.PackedCauses.{ids_among}
 use Rattle.gix_ref_repack.specs.Refusals.{IsCounted, IsIoOrMemory, IsRefused}
 use Rattle.gix_ref_repack.specs.Repacks.{IsRepack}
-use Rattle.gix_ref_commit.specs.Failures.{AllOfEdits, IsNameAt, SaysFault, SaysFile, SaysInWay, SaysLogFault, SaysWhy, of_lines, of_repack}
+use Rattle.gix_ref_commit.specs.Failures.{AllOfEdits, IsNameAt, SaysFault, SaysFile, SaysInWay, SaysLogFault, SaysWhy, of_repack}
 use Rattle.gix_ref_commit.specs.LogEffects.{AreLogsOf, IsLogOf}
 use Rattle.gix_ref_commit.specs.Unfinished.{EndsAtStep, EndsIn, IsRaised}
 use Rattle.gix_ref_commit.specs.declared.error.Error.{Error}
@@ -62,7 +60,7 @@ use Rattle.gix_ref_commit.proofs.Endings.{MeetsAt, meets, never_asked}
 use Rattle.gix_ref_commit.proofs.Outcomes.{logs_are}
 use Rattle.gix_ref_commit.proofs.Shapes.{AllShaped, HasLine, HasShape, all_shaped, names_edit, shape_at}
 use Rattle.gix_ref_store.specs.CommitResult.{ChangesLocks, EndsAtLog, FailsAt, FailsFor, FailsForLog, RefusesLine, IsFault, IsOfBadLine, IsPackedEmpty, MeetsFolder, OnlyItsLocks, RepacksFrom, StopsAt}
-use Rattle.gix_ref_store.specs.CommitLines.{line_rules, log_path_at}
+use Rattle.gix_ref_store.specs.CommitLines.{LinesPass, line_rules, log_path_at}
 use Rattle.gix_ref_store.specs.Decisions.{IsUndecided}
 use Rattle.gix_ref_store.specs.Prepared.{tree_of}
 use Rattle.gix_ref_store.specs.Store.{files_of, kind_of, meaning_of}
@@ -98,20 +96,13 @@ only_after locks old mid new passes only locked staying first own here =
 -- An error that a decision returned, by what is said of that of `packed-refs`.
 pub undecided_by : {F : Type 0} (honest : Type 0) (means : F → Meaning) (faults : F → ℕ) (start new : Store F) (committer : Option SignatureRef) (held ran : List Edit) (error : RepackError) → all_but_logs ran ≡ all_but_logs held →
     IsCounted (faults (files_of start)) (faults (files_of new)) error → (honest → IsRefused (kind_of start) (tree_of means start (meaning_of start).packed_path) error) →
-    (honest → AreEdits (meaning_of start) (planned (updates ran)) → (rs : List Record) → ArePackedRecords (kind_of start) (view_of (tree_of means start) (meaning_of start).packed_path) rs → IsIoOrMemory error) →
+    (honest → AreEdits (meaning_of start) (planned (updates ran)) → (rs : List Record) → ArePackedRecords (kind_of start) (view_of (tree_of means start) (meaning_of start).packed_path) rs → IsIoOrMemory error) → LinesPass honest means start committer held →
     IsUndecided honest means faults start new committer held (of_repack error)
-undecided_by honest means faults start new committer held ran (repack.Io error) alike counted refused sound = counted
-undecided_by honest means faults start new committer held ran (repack.Iteration line) alike counted refused sound =
-    (refused, λ h apart rs are. sound h (subst (λ (l : List RefEdit). AreEdits (meaning_of start) (planned l)) (sym (updates_alike ran held alike)) apart) rs are)
-undecided_by honest means faults start new committer held ran repack.Memory alike counted refused sound = tt
-undecided_by honest means faults start new committer held ran (repack.Commit error) alike counted refused sound = counted
-
--- An error that a decision returned, by what is said of the lines.
-pub unlogged_by : {F : Type 0} (honest : Type 0) (means : F → Meaning) (faults : F → ℕ) (start new : Store F) (committer : Option SignatureRef) (held : List Edit) (error : LinesError) →
-    (honest → IsRefusal (line_rules start committer) (view_of (tree_of means start)) (asked held) error) → IsLineCounted (faults (files_of start)) (faults (files_of new)) error →
-    IsUndecided honest means faults start new committer held (of_lines error)
-unlogged_by honest means faults start new committer held (lines.CreateOrUpdateRefLog error) refused counted = (refused, counted)
-unlogged_by honest means faults start new committer held lines.Memory refused counted = tt
+undecided_by honest means faults start new committer held ran (repack.Io error) alike counted refused sound passes = counted
+undecided_by honest means faults start new committer held ran (repack.Iteration line) alike counted refused sound passes =
+    (refused, (λ h apart rs are. sound h (subst (λ (l : List RefEdit). AreEdits (meaning_of start) (planned l)) (sym (updates_alike ran held alike)) apart) rs are), passes)
+undecided_by honest means faults start new committer held ran repack.Memory alike counted refused sound passes = tt
+undecided_by honest means faults start new committer held ran (repack.Commit error) alike counted refused sound passes = counted
 
 -- the log to which a line is added is that of its edit
 log_path_is : (s : readings.Store) (held ran : List Edit) → AreLogsOf s (updates held) ran → (at : ℕ) → HasLine (log_at ran at) → path_in (log_at ran at) ≡ get_or (map (λ (e : Edit). s.log (name_of e.update)) held) at []
@@ -259,7 +250,7 @@ module _ {F : Type 0} (honest : Type 0) (means : F → Meaning) (faults : F → 
   pub undecided_fails : (error : Error) → IsUndecided honest means faults start new committer held error → OnlyItsLocks honest means faults start new packed held → FailsFor honest means faults start new committer packed held error
   undecided_fails (CreateOrUpdateRefLog error) is only = unlogged_fails error is.1 (is.0, only)
   undecided_fails (PackedTransactionCommit (repack.Io fault)) is only = (is, inl only)
-  undecided_fails (PackedTransactionCommit (repack.Iteration line)) is only = (is.0, only)
+  undecided_fails (PackedTransactionCommit (repack.Iteration line)) is only = (is.0, is.2, only)
   undecided_fails Memory is only = only
   undecided_fails (PackedTransactionCommit (repack.Commit error)) is only = absurd is
   undecided_fails (PackedTransactionCommit repack.Memory) is only = absurd is
@@ -346,7 +337,7 @@ module _ {F : Type 0} (honest : Type 0) (means : F → Meaning) (faults : F → 
     faults_at (Removal at) fault Memory is isf logged within stop = absurd is
 
   -- The run of the steps ended early.
-  module _ (outcomes : honest → outcomes_of ran ≡ log_outcomes (line_rules start committer) (view_of (tree_of means start)) (asked held)) (rewrite : Rewrite) (repacked : RepacksFrom honest means faults start packed held rewrite) (filled mid : Tree)
+  module _ (outcomes : honest → outcomes_of ran ≡ log_outcomes (line_rules start committer) (view_of (tree_of means start)) (asked held)) (passes : LinesPass honest means start committer held) (rewrite : Rewrite) (repacked : RepacksFrom honest means faults start packed held rewrite) (filled mid : Tree)
       (fills : honest → IsPackedEmpty honest means faults start packed → IsFilled packed rewrite (tree_of means start) filled)
       (removes : honest → RemovesLocks (held_locks packed held) mid (tree_of means new)) where
     abbrev Ends : About → Cause → Type 0
@@ -357,6 +348,7 @@ module _ {F : Type 0} (honest : Type 0) (means : F → Meaning) (faults : F → 
       ran = ran;
       alike = alike;
       logs = outcomes;
+      passed = passes;
       rewrite = rewrite;
       repacked = repacked;
       filled = filled;

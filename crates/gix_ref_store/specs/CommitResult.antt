@@ -42,7 +42,7 @@ use Rattle.gix_ref_commit.specs.declared.error.Error.{Error}
 use Rattle.gix_ref_commit.specs.declared.error.Error.TheVariants.{CreateOrUpdateRefLog, PackedTransactionCommit, LockCommit, DeleteReference, DeleteReflog, FolderInPlace, Memory}
 use Rattle.gix_ref_commit.specs.declared.plan.About.{About}
 use Rattle.gix_ref_commit.specs.declared.plan.About.TheVariants.{Folders, Line, Rename, LogRemoval, Packed, Removal}
-use Rattle.gix_ref_store.specs.CommitLines.{line_rules, lines_due, log_path_at}
+use Rattle.gix_ref_store.specs.CommitLines.{LinesPass, line_rules, lines_due, log_path_at}
 use Rattle.gix_ref_store.specs.Prepared.{PreparesFrom, HasGoodRecords, tree_of, disk_in, IsAtRest, locks_in, places_in}
 use Rattle.gix_ref_store.specs.Store.{files_of, kind_of, meaning_of}
 use Rattle.gix_ref_store.specs.declared.file.store.Store.{Store}
@@ -103,12 +103,13 @@ module _ {F : Type 0} (honest : Type 0) (means : F → Meaning) (faults : F → 
   abbrev pub IsPackedEmpty : Store F → Option Path → Type 0
   IsPackedEmpty start packed = AreEmpty (tree_of means start) (map lock_of (packed_places packed))
 
-  -- Where a commit ended early: at the step about this, for this cause. All logs and `packed-refs` were decided before, the new text of
+  -- Where a commit ended early: at the step about this, for this cause. All lines and `packed-refs` were decided before, the new text of
   -- `packed-refs` is in its lock, the steps before that one are done, and none after it is begun; then locks were removed.
   pub record StopsAt (start new : Store F) (committer : Option SignatureRef) (packed : Option Path) (held : List Edit) (about : About) (cause : Cause) : Type 0 where
     pub ran : List Edit
     pub alike : all_but_logs ran ≡ all_but_logs held
     pub logs : honest → outcomes_of ran ≡ log_outcomes (line_rules start committer) (view_of (tree_of means start)) (asked held)
+    pub passed : LinesPass honest means start committer held
     pub rewrite : Rewrite
     pub repacked : RepacksFrom start packed held rewrite
     pub filled : Tree
@@ -172,7 +173,9 @@ module _ {F : Type 0} (honest : Type 0) (means : F → Meaning) (faults : F → 
   FailsFor start new committer packed held (PackedTransactionCommit (repack.Io fault)) =
       IsFault start new fault × (OnlyItsLocks start new packed held ⊎ StopsAt start new committer packed held Packed (File fault))
   FailsFor start new committer packed held (PackedTransactionCommit (repack.Iteration line)) =
-      (honest → IsBadLine (kind_of start) (tree_of means start (meaning_of start).packed_path) line) × OnlyItsLocks start new packed held
+      (honest → IsBadLine (kind_of start) (tree_of means start (meaning_of start).packed_path) line)
+      × LinesPass honest means start committer held
+      × OnlyItsLocks start new packed held
   FailsFor start new committer packed held (PackedTransactionCommit other) = ⊥
   FailsFor start new committer packed held (FolderInPlace path) = honest → MeetsFolder start new committer packed held path.items
   FailsFor start new committer packed held Memory = OnlyItsLocks start new packed held

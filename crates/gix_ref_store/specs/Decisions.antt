@@ -15,7 +15,7 @@ use Rattle.gix_ref_repack.specs.Refusals.{IsBadLine}
 use Rattle.gix_ref_repack.specs.declared.error.Error.TheVariants as repack
 use Rattle.gix_ref_commit.specs.declared.error.Error.{Error}
 use Rattle.gix_ref_commit.specs.declared.error.Error.TheVariants.{CreateOrUpdateRefLog, PackedTransactionCommit, Memory}
-use Rattle.gix_ref_store.specs.CommitLines.{line_rules}
+use Rattle.gix_ref_store.specs.CommitLines.{LinesPass, line_rules}
 use Rattle.gix_ref_store.specs.CommitResult.{IsFault}
 use Rattle.gix_ref_store.specs.Prepared.{tree_of}
 use Rattle.gix_ref_store.specs.Store.{files_of, kind_of, meaning_of}
@@ -42,5 +42,6 @@ module _ {F : Type 0} (honest : Type 0) (means : F → Meaning) (faults : F → 
       (honest → IsBadLine (kind_of start) (tree_of means start (meaning_of start).packed_path) line)
       × (honest → AreEdits (meaning_of start) (planned (updates held)) → (rs : List Record) →
       ArePackedRecords (kind_of start) (view_of (tree_of means start) (meaning_of start).packed_path) rs → ⊥)
+      × LinesPass honest means start committer held
   IsUndecided start new committer held Memory = Unit {0}
   IsUndecided start new committer held other = ⊥

@@ -3,6 +3,7 @@ ghost use Rattle.std.specs.Prelude.{◌≡◌};
 
 use crate::file::store::Store;
 use gix_ref_files::files::Files;
+pub use gix_ref_lines::create_or_update;
 use gix_ref_log::log::iter::{Forward, Reverse, forward, reverse};
 use gix_ref_lookup::settings::Settings;
 use gix_ref_name::name::FullNameRef;

@@ -229,33 +229,41 @@ impl<F: Files> Transaction<'_, F> {
 }
 
 impl<F: Files> Prepared<'_, F> {
+    ghost use Rattle.gix_ref_store.specs.CommitLines.{LinesPass};
     ghost use Rattle.gix_ref_store.specs.CommitResult.{left_of, mode_of, EveryStopFrom, EveryLossFrom, SettlesFrom, CommitsFrom, FailsFor, NoBadLineFrom};
     ghost use Rattle.gix_ref_transaction.specs.PrepareSteps.{held_locks};
     ghost use Rattle.gix_ref_store.specs.PreparedFields.{held_edits, held_packed, prepared_edits, prepared_mode};
     ghost use Rattle.gix_ref_store.specs.Store.{files_of, IsSameStore};
 
-    /// Carries the edits out: renames the lock of each reference that changes to its place, in the order of the edits; removes the
-    /// logs of deletions; renames the lock of `packed-refs`, with a text without the records of deleted references, to its place, or
-    /// removes that file, where no record is left; removes the loose files of deletions; and removes the other locks. What becomes
-    /// of each log and of `packed-refs` is decided before the first of these, and the new text is in the lock by then.
+    /// Carries the edits out: for each update, in the order of the edits, makes the folders of its log and adds the line that is due,
+    /// and renames its lock to its place; removes the logs of deletions; renames the lock of `packed-refs`, with a text without the
+    /// records of deleted references, to its place, or removes that file, where no record is left; removes the loose files of
+    /// deletions; and removes the other locks. What becomes of each log and of `packed-refs` is decided before the first of these, and
+    /// the new text is in the lock by then. Which lines are due is said by `Options::write_reflog` and the edits; `committer` is
+    /// written in each, trimmed, and may be `None` where no line is due (`git reflog`).
     ///
     /// At every stop on the way, and after every loss of power, each reference reads as before or as edited, no deletion shows
-    /// before every update, and updates show in their order: texts are synced before they are renamed, and the folders above a
-    /// path before the next step. A commit that succeeds leaves all synced. Costs one call of files and the syncs of the folders
-    /// for each reference and each log that changes, and one removal for each other lock; where a deleted reference has a record,
-    /// `packed-refs` is read and written once. (`commit` of `git update-ref --stdin`)
+    /// before every update, and updates show in their order: texts are synced before they are renamed, a line before the rename of its
+    /// reference, and the folders above a path before the next step. A commit that succeeds leaves all synced. Costs one call of files
+    /// and the syncs of the folders for each reference and each log that is removed, three or four for each line, and one removal for
+    /// each other lock; where a deleted reference has a record, `packed-refs` is read and written once. (`commit` of
+    /// `git update-ref --stdin`)
     ///
-    /// `LockCommit`, `DeleteReflog`, `PackedTransactionCommit` and `DeleteReference` where a call of files failed in that step, or a
-    /// sync after it; `FolderInPlace` where a folder is at the place of a reference, or of `packed-refs`. The steps before that one
+    /// `CreateOrUpdateRefLog` where a line is due that cannot be made, where a file is in the path of its log, or where a call of
+    /// files failed as the log was looked for, its folders were made or the line was added. `LockCommit`, `DeleteReflog`,
+    /// `PackedTransactionCommit` and `DeleteReference` where a call of files failed in that step, or a sync after it;
+    /// `FolderInPlace` where a folder is at the place of a reference, of its log, or of `packed-refs`. The steps before that one
     /// are done then, and the locks are removed but for those that are named. `PackedTransactionCommit` also where `packed-refs`
-    /// could not be read or has a line that is no record, and `Memory` where there was none for the plan; nothing is done then but
-    /// the removal of locks. No log line is written yet, so the store must write none, and the committer is not looked at.
+    /// could not be read or has a line that is no record, and `Memory` where there was none for the plan; then, as where a line was
+    /// refused, nothing is done but the removal of locks.
     pub fn commit(self, alloc: Global, committer: Option<SignatureRef<'_>>) -> Result<Done, Failed>
         ensures edits { IfOk result (λ done. done.edits.items ≡ prepared_edits self.entry.plan) }
         ensures packed_refs { mode_of result ≡ prepared_mode self.entry.plan }
         ensures committed { IfOk result (λ done. CommitsFrom F.honest F.means F.faults
             self.entry.store.now self.exit.0.now committer.entry (held_packed self.entry.plan)
             (held_edits self.entry.plan) (paths_of done.locks_left.items)) }
+        ensures passed { OnOk result (LinesPass F.honest F.means self.entry.store.now
+            committer.entry (held_edits self.entry.plan)) }
         ensures failed { IfErr result (λ f. FailsFor F.honest F.means F.faults self.entry.store.now
             self.exit.0.now committer.entry (held_packed self.entry.plan) (held_edits self.entry.plan)
             f.error) }

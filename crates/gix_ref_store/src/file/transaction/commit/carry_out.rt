@@ -4,6 +4,7 @@ ghost use Rattle.gix_ref_files.specs.Files.{HasRisen};
 ghost use Rattle.gix_ref_transaction.specs.OwnLocks.{paths_of};
 ghost use Rattle.gix_ref_transaction.specs.PrepareSteps.{updates};
 ghost use Rattle.gix_ref_store.specs.CommitResult.{EveryStopFrom, EveryLossFrom, SettlesFrom, CommitsFrom, FailsFor, NoBadLineFrom};
+ghost use Rattle.gix_ref_store.specs.CommitLines.{LinesPass};
 ghost use Rattle.gix_ref_store.specs.Decisions.{left_in};
 ghost use Rattle.gix_ref_store.specs.Prepared.{HasRoom};
 ghost use Rattle.gix_ref_store.specs.Store.{files_of, with_files};
@@ -42,6 +43,8 @@ impl<F: Files> Store<F> {
         ensures edits { IfOk result (λ r. r.edits.items ≡ updates edits.items) }
         ensures committed { IfOk result (λ r. CommitsFrom F.honest F.means F.faults self.old
             self.new committer.entry packed edits.items (paths_of r.left.items)) }
+        ensures passed { OnOk result (LinesPass F.honest F.means self.old committer.entry
+            edits.items) }
         ensures failed { IfErr result (λ e. FailsFor F.honest F.means F.faults self.old self.new
             committer.entry packed edits.items e.error) }
         ensures sound { IfErr result (λ e. NoBadLineFrom F.honest F.means F.faults self.old

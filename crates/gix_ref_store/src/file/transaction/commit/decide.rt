@@ -13,7 +13,7 @@ ghost use Rattle.gix_ref_theory.specs.OnRealTrees.{view_of};
 ghost use Rattle.gix_ref_lines.specs.AskedEdits.{all_but_logs, asked, outcomes_of};
 ghost use Rattle.gix_ref_lines.specs.DueLines.{log_outcomes};
 ghost use Rattle.gix_ref_commit.specs.Unfinished.{EndsIn, IsRaised};
-ghost use Rattle.gix_ref_store.specs.CommitLines.{line_rules};
+ghost use Rattle.gix_ref_store.specs.CommitLines.{LinesPass, line_rules};
 ghost use Rattle.gix_ref_store.specs.CommitResult.{IsPackedEmpty, RepacksFrom};
 ghost use Rattle.gix_ref_store.specs.Decisions.{IsUndecided};
 ghost use Rattle.gix_ref_store.specs.Store.{files_of, meaning_of, with_files};
@@ -46,6 +46,8 @@ impl<F: Files> Store<F> {
         ensures logs { F.honest → OnOk result (outcomes_of edits.new.items ≡ log_outcomes
             (line_rules self.old committer.entry) (view_of (F.means (files_of self.old)).tree)
             (asked edits.old.items)) }
+        ensures passed { OnOk result (LinesPass F.honest F.means self.old committer.entry
+            edits.old.items) }
         ensures repacked { IfOk result (λ new. RepacksFrom F.honest F.means F.faults self.old
             packed.now edits.old.items new.rewrite) }
         ensures path { IfOk result (λ new. packed.now ≢ None →
