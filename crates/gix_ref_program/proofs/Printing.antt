@@ -11,6 +11,7 @@ use Rattle.gix_ref_files.specs.declared.files.ReadAt.{Ghosts}
 use Rattle.gix_ref_log.specs.LogItems.{IsRun, items_from}
 use Rattle.gix_ref_log.specs.LogWindows.{NextStep}
 use Rattle.gix_ref_log.specs.declared.log.iter.backward.Reverse.{Reverse}
+use Rattle.gix_ref_log.specs.declared.actor.SignatureRef.{SignatureRef}
 use Rattle.gix_ref_reflog.specs.declared.error.Error.{Error as LogError}
 use Rattle.gix_ref_reflog.specs.declared.error.Error.TheVariants as log_errors
 use Rattle.gix_ref_store.specs.Reflogs.{reflog_at, ReadsBackward, EndsAtErrors, IsNoReverse, IsNoReflog}
@@ -58,16 +59,16 @@ logged G honest means old new name lines out now (Err e) full reads ends ran =
     record { ran = Logged false []; does = (full, λ h. inr ((reads h).0, λ never. absurd (cc)), _); prints = _ }
 
 -- an update that has no edit
-pub no_edit : {F : Type 0} (honest : Type 0) (means : F → Meaning) (faults : F → ℕ) (read : Type 0) (store : Store F) (kind : Kind) (asked : Asked) (refusal : Refusal) (locks : Vec (Vec ℕ Global) Global) →
-    NoEdit asked refusal → locks.items ≡ [] → UpdateOutcome honest means faults read store store kind asked (outcomes.Refused refusal locks)
-no_edit honest means faults read store kind asked (refusals.Name error) locks none empty = (none, refl, empty)
-no_edit honest means faults read store kind asked refusals.Memory locks none empty = (refl, empty)
-no_edit honest means faults read store kind asked refusals.PathNotClean locks none empty = absurd none
-no_edit honest means faults read store kind asked (refusals.Find error) locks none empty = absurd none
-no_edit honest means faults read store kind asked (refusals.List error) locks none empty = absurd none
-no_edit honest means faults read store kind asked (refusals.Log error) locks none empty = absurd none
-no_edit honest means faults read store kind asked (refusals.Update error) locks none empty = absurd none
-no_edit honest means faults read store kind asked refusals.NotFound locks none empty = absurd none
+pub no_edit : {F : Type 0} (honest : Type 0) (means : F → Meaning) (faults : F → ℕ) (read : Type 0) (store : Store F) (committer : Option SignatureRef) (kind : Kind) (message : Option (List ℕ)) (asked : Asked) (refusal : Refusal) (locks : Vec (Vec ℕ Global) Global) →
+    NoEdit asked refusal → locks.items ≡ [] → UpdateOutcome honest means faults read store store committer kind message asked (outcomes.Refused refusal locks)
+no_edit honest means faults read store committer kind message asked (refusals.Name error) locks none empty = (none, refl, empty)
+no_edit honest means faults read store committer kind message asked refusals.Memory locks none empty = (refl, empty)
+no_edit honest means faults read store committer kind message asked refusals.PathNotClean locks none empty = absurd none
+no_edit honest means faults read store committer kind message asked (refusals.Find error) locks none empty = absurd none
+no_edit honest means faults read store committer kind message asked (refusals.List error) locks none empty = absurd none
+no_edit honest means faults read store committer kind message asked (refusals.Log error) locks none empty = absurd none
+no_edit honest means faults read store committer kind message asked (refusals.Update error) locks none empty = absurd none
+no_edit honest means faults read store committer kind message asked refusals.NotFound locks none empty = absurd none
 
 -- nothing is printed where there is no log
 pub no_log : {F E : Type 0} (honest : Type 0) (means : F → Meaning) (old new : Store F) (name : List ℕ) (out : Option (List ℕ)) → full_error name ≡ None → (honest → is_file (reflog_at means old name) ≡ false) →

@@ -14,7 +14,9 @@ use Rattle.gix_ref_files.specs.Tree.{Tree}
 use Rattle.gix_ref_files.specs.Files.{Meaning, Leaves, HasRisen}
 use Rattle.gix_ref_transaction.specs.OwnLocks.{paths_of}
 use Rattle.gix_ref_lookup.specs.CleanPaths.{is_clean}
+use Rattle.gix_ref_log.specs.Signatures.{Who, signature_ref_who}
 use Rattle.gix_ref_log.specs.declared.actor.SignatureRef.{SignatureRef}
+use Rattle.std.specs.Option.{option_map}
 use Rattle.gix_ref_base.specs.PackedRecords.{Record}
 use Rattle.gix_ref_files.specs.declared.files.ReadAt.{Ghosts}
 use Rattle.gix_ref_lookup.specs.Lookups.{IsSound}
@@ -23,7 +25,7 @@ use Rattle.gix_ref_theory.specs.Views.{View}
 use Rattle.gix_ref_lookup.specs.declared.find.records.Records.TheVariants.{Unopened}
 use Rattle.gix_ref_store.specs.Lookup.{AreRecordsIn, FindsAmong, HitsIn, FailsIn, RefusesBuffer, settings_of, view_in}
 use Rattle.gix_ref_store.specs.Prepared.{tree_of}
-use Rattle.gix_ref_store.specs.Store.{files_of, folders, kind_of, meaning_of}
+use Rattle.gix_ref_store.specs.Store.{files_of, folders, kind_of}
 use Rattle.gix_ref_store.specs.Reflogs.{reflog_at, IsNoReflog}
 use Rattle.gix_ref_store.specs.Listings.{prefix_of_all, AreFirst}
 use Rattle.gix_ref_packed.specs.OpenFiles.{CountsRefusal, HasReadFault}
@@ -39,9 +41,11 @@ use Rattle.gix_ref_log.specs.declared.log.line.Line.{Line as LogLine}
 use Rattle.gix_ref_log.specs.declared.log.iter.error.ReverseError.{ReverseError}
 use Rattle.gix_ref_edits.specs.RefEdits.{name_of, new_of, mode_of, is_forced, message_of, expected_of, matched}
 use Rattle.gix_ref_store.specs.declared.file.store.Store.{Store}
-use Rattle.gix_ref_lines.specs.declared.write_reflog.WriteReflog.TheVariants.{Disable}
+use Rattle.gix_ref_lines.specs.declared.write_reflog.WriteReflog.TheVariants.{Normal, Disable}
+use Rattle.gix_ref_lines.specs.declared.write_reflog.WriteReflog.{WriteReflog}
 use Rattle.gix_ref_edits.specs.declared.transaction.PreviousValue.{PreviousValue}
 use Rattle.gix_ref_edits.specs.declared.transaction.PreviousValue.TheVariants.{Any, MustNotExist}
+use Rattle.gix_ref_edits.specs.declared.transaction.LogChange.{LogChange}
 use Rattle.gix_ref_edits.specs.declared.transaction.RefEdit.{RefEdit}
 use Rattle.gix_ref_edits.specs.declared.transaction.RefLog.TheVariants.{AndReference}
 use Rattle.gix_ref_program.specs.Outcomes.{printed, status_of}
@@ -61,50 +65,61 @@ IsExpected kind None expected = expected ≡ Any
 IsExpected kind (Some old) expected =
     ((old ≡ null_id kind) × (expected ≡ MustNotExist)) ⊎ ((old ≡ null_id kind → ⊥) × (matched expected ≡ Some (object_id old)))
 
--- the edit that gives a reference this target
-pub record IsEditOf (name : List ℕ) (target : TargetValue) (expected : PreviousValue) (edit : RefEdit) : Type 0 where
+-- the message of the log lines: the TEXT of `--message`, or none
+abbrev pub message_text : Option (List ℕ) → List ℕ
+message_text None = []
+message_text (Some text) = text
+
+-- the change of the log: with the reference, made by no force, and with this message
+pub record IsLogChange (message : Option (List ℕ)) (log : LogChange) : Type 0 where
+  pub mode : log.mode ≡ AndReference
+  pub not_forced : log.force_create_reflog ≡ false
+  pub message_is : log.message.items ≡ message_text message
+
+-- the edit that gives a reference, or with `deref` the one that it leads to, this target
+pub record IsEditOf (name : List ℕ) (deref : Bool) (message : Option (List ℕ)) (target : TargetValue) (expected : PreviousValue) (edit : RefEdit) : Type 0 where
   pub full : full_error name ≡ None
   pub name_is : name_of edit ≡ name
   pub new : new_of edit.change ≡ Some target
   pub mode : mode_of edit.change ≡ AndReference
   pub not_forced : is_forced edit.change ≡ false
-  pub no_message : message_of edit.change ≡ []
-  pub no_deref : edit.deref ≡ false
+  pub message_is : message_of edit.change ≡ message_text message
+  pub deref_is : edit.deref ≡ deref
   pub expects : expected_of edit.change ≡ expected
 
 -- and the one of an update with this OLD
-pub record IsUpdateOf (kind : Kind) (name : List ℕ) (id : ObjectId) (old : Option ObjectId) (edit : RefEdit) : Type 0 where
+pub record IsUpdateOf (kind : Kind) (message : Option (List ℕ)) (deref : Bool) (name : List ℕ) (id : ObjectId) (old : Option ObjectId) (edit : RefEdit) : Type 0 where
   pub expected : PreviousValue
   pub is_expected : IsExpected kind old expected
-  pub is_edit : IsEditOf name (object_id id) expected edit
+  pub is_edit : IsEditOf name deref message (object_id id) expected edit
 
--- the edit that deletes a reference, with its log
-pub record IsDeletionEdit (name : List ℕ) (expected : PreviousValue) (edit : RefEdit) : Type 0 where
+-- the edit that deletes a reference, or with `deref` the one that it leads to, with its log
+pub record IsDeletionEdit (name : List ℕ) (deref : Bool) (expected : PreviousValue) (edit : RefEdit) : Type 0 where
   pub full : full_error name ≡ None
   pub name_is : name_of edit ≡ name
   pub deletes : new_of edit.change ≡ None
   pub mode : mode_of edit.change ≡ AndReference
-  pub no_deref : edit.deref ≡ false
+  pub deref_is : edit.deref ≡ deref
   pub expects : expected_of edit.change ≡ expected
 
 -- and the one of a deletion with this OLD
-pub record IsDeletionOf (kind : Kind) (name : List ℕ) (old : Option ObjectId) (edit : RefEdit) : Type 0 where
+pub record IsDeletionOf (kind : Kind) (deref : Bool) (name : List ℕ) (old : Option ObjectId) (edit : RefEdit) : Type 0 where
   pub expected : PreviousValue
   pub is_expected : IsExpected kind old expected
-  pub is_edit : IsDeletionEdit name expected edit
+  pub is_edit : IsDeletionEdit name deref expected edit
 
 -- the edit that a command asks for
-abbrev pub IsAskedFor : Kind → Asked → RefEdit → Type 0
-IsAskedFor kind (Update name id old) edit = IsUpdateOf kind name id old edit
-IsAskedFor kind (Symbolic name target) edit = IsEditOf name (symbolic_name target) Any edit
-IsAskedFor kind (Delete name old) edit = IsDeletionOf kind name old edit
-IsAskedFor kind asked edit = ⊥
+abbrev pub IsAskedFor : Kind → (message : Option (List ℕ)) → Asked → RefEdit → Type 0
+IsAskedFor kind message (Update deref name id old) edit = IsUpdateOf kind message deref name id old edit
+IsAskedFor kind message (Symbolic name target) edit = IsEditOf name false message (symbolic_name target) Any edit
+IsAskedFor kind message (Delete deref name old) edit = IsDeletionOf kind deref name old edit
+IsAskedFor kind message asked edit = ⊥
 
 -- the rule that its first wrong name breaks
 abbrev pub BreaksRule : Asked → NameError → Type 0
-BreaksRule (Update name id old) error = full_error name ≡ Some error
+BreaksRule (Update deref name id old) error = full_error name ≡ Some error
 BreaksRule (Symbolic name target) error = (full_error name ≡ Some error) ⊎ ((full_error name ≡ None) × (full_error target ≡ Some error))
-BreaksRule (Delete name old) error = full_error name ≡ Some error
+BreaksRule (Delete deref name old) error = full_error name ≡ Some error
 BreaksRule asked error = ⊥
 
 -- the namespace that a NAME expands to
@@ -117,6 +132,15 @@ abbrev pub NoNamespace : Option (List ℕ) → Refusal → Type 0
 NoNamespace (Some name) (refusals.Name error) = partial_error name ≡ Some error
 NoNamespace name refusals.Memory = Unit {0}
 NoNamespace name refusal = ⊥
+
+-- log lines are written where there is a committer
+abbrev pub write_reflog_of : Option Who → WriteReflog
+write_reflog_of None = Disable
+write_reflog_of (Some who) = Normal
+
+-- this is the committer of a line
+abbrev pub IsCommitterOf : Line → Option SignatureRef → Type 0
+IsCommitterOf line committer = option_map signature_ref_who committer ≡ line.committer
 
 -- What a line comes to: an outcome, which is printed as a whole; or the items of a listing or of a reflog, each printed as it
 -- comes, all where `whole` says so.
@@ -176,17 +200,17 @@ module _ {F : Type 0} where
     pub composes : store.precompose_unicode ≡ false
     pub prohibits : store.prohibit_windows_device_names ≡ false
 
-  -- a store in a folder, without a namespace, which writes no log lines
-  pub record IsAt (files : F) (dir : List ℕ) (kind : Kind) (store : Store F) : Type 0 where
+  -- a store in a folder, without a namespace, which writes log lines as this has it
+  pub record IsAt (files : F) (dir : List ℕ) (kind : Kind) (write_reflog : WriteReflog) (store : Store F) : Type 0 where
     pub files_are : files_of store ≡ files
     pub clean : is_clean dir ≡ true
     pub git : (folders store).git ≡ dir
     pub common : (folders store).common ≡ dir
     pub of_kind : kind_of store ≡ kind
-    pub quiet : store.write_reflog ≡ Disable
+    pub logs : store.write_reflog ≡ write_reflog
     pub plain : IsPlain store
 
-  -- the store of a line, which writes no log lines
+  -- the store of a line, which writes log lines where there is a committer
   pub record IsOpened (files : F) (line : Line) (store : Store F) : Type 0 where
     pub files_are : files_of store ≡ files
     pub clean : is_clean line.dir ≡ true
@@ -194,7 +218,7 @@ module _ {F : Type 0} where
     pub common : (folders store).common ≡ line.dir
     pub namespace : (folders store).namespace ≡ namespace_of line.namespace
     pub of_kind : kind_of store ≡ line.kind
-    pub quiet : store.write_reflog ≡ Disable
+    pub logs : store.write_reflog ≡ write_reflog_of line.committer
     pub plain : IsPlain store
 
   -- what the names of a listing begin with
@@ -225,21 +249,21 @@ module _ {F : Type 0} where
     EditOutcome read old new committer edit outcome = ⊥
 
     -- An update of either kind, or a deletion: the outcome of its edit; or a name is no full name; or there was no memory.
-    abbrev pub UpdateOutcome : (read : Type 0) → (old new : Store F) → Kind → Asked → Outcome → Type 0
-    UpdateOutcome read old new kind asked (outcomes.Refused (refusals.Name error) locks) = BreaksRule asked error × (new ≡ old) × (locks.items ≡ [])
-    UpdateOutcome read old new kind asked (outcomes.Refused refusals.Memory locks) = (new ≡ old) × (locks.items ≡ [])
-    UpdateOutcome read old new kind asked outcome = (edit : RefEdit) × IsAskedFor kind asked edit × EditOutcome read old new None edit outcome
+    abbrev pub UpdateOutcome : (read : Type 0) → (old new : Store F) → Option SignatureRef → Kind → (message : Option (List ℕ)) → Asked → Outcome → Type 0
+    UpdateOutcome read old new committer kind message asked (outcomes.Refused (refusals.Name error) locks) = BreaksRule asked error × (new ≡ old) × (locks.items ≡ [])
+    UpdateOutcome read old new committer kind message asked (outcomes.Refused refusals.Memory locks) = (new ≡ old) × (locks.items ≡ [])
+    UpdateOutcome read old new committer kind message asked outcome = (edit : RefEdit) × IsAskedFor kind message asked edit × EditOutcome read old new committer edit outcome
 
     -- and what is printed of it
-    abbrev pub UpdateRan : (read : Type 0) → (old new : Store F) → Kind → Asked → Ran → Type 0
-    UpdateRan read old new kind asked (Said outcome) = UpdateOutcome read old new kind asked outcome
-    UpdateRan read old new kind asked ran = ⊥
+    abbrev pub UpdateRan : (read : Type 0) → (old new : Store F) → Option SignatureRef → Kind → (message : Option (List ℕ)) → Asked → Ran → Type 0
+    UpdateRan read old new committer kind message asked (Said outcome) = UpdateOutcome read old new committer kind message asked outcome
+    UpdateRan read old new committer kind message asked ran = ⊥
 
     -- a stop in it leaves this tree: as before, or what a stop in its edit leaves
-    abbrev pub IsUpdateStop : Store F → Kind → Asked → Tree → Type 0
-    IsUpdateStop old kind asked T =
+    abbrev pub IsUpdateStop : Store F → Option SignatureRef → Kind → (message : Option (List ℕ)) → Asked → Tree → Type 0
+    IsUpdateStop old committer kind message asked T =
         (T ≡ tree_of means old)
-        ⊎ ((edit : RefEdit) × IsAskedFor kind asked edit × IsStopOf honest means faults old None (edit ∷ []) T)
+        ⊎ ((edit : RefEdit) × IsAskedFor kind message asked edit × IsStopOf honest means faults old committer (edit ∷ []) T)
 
     -- A lookup: what it finds is shown; or there is nothing; or it fails; or its name breaks a rule.
     abbrev pub ShowOutcome : {R : Type 0} (G : Ghosts R) → (old new : Store F) → (name : List ℕ) → Outcome → Type 0
@@ -288,23 +312,23 @@ module _ {F : Type 0} where
         × (honest → (records : List Record) → AreRecordsIn means old records → AreListed (settings_of old) (view_in means old) (faults (files_of old)) (faults (files_of new)) records prefix whole items)
     ListRan G old new prefix ran = ⊥
 
-    abbrev pub CommandRan : {R : Type 0} (G : Ghosts R) → (old new : Store F) → Kind → Asked → Ran → Type 0
-    CommandRan G old new kind (Update name id before) ran = UpdateRan (HasReadFault G.faults) old new kind (Update name id before) ran
-    CommandRan G old new kind (Symbolic name target) ran = UpdateRan (HasReadFault G.faults) old new kind (Symbolic name target) ran
-    CommandRan G old new kind (Delete name before) ran = UpdateRan (HasReadFault G.faults) old new kind (Delete name before) ran
-    CommandRan G old new kind (Show name) (Said outcome) = ShowOutcome G old new name outcome
-    CommandRan G old new kind (AskedListing prefix) ran = ListRan G old new (prefix_asked old prefix) ran
-    CommandRan G old new kind (Log name) ran = LogRan honest means old new name ran
-    CommandRan G old new kind asked ran = ⊥
+    abbrev pub CommandRan : {R : Type 0} (G : Ghosts R) → (old new : Store F) → Option SignatureRef → Kind → (message : Option (List ℕ)) → Asked → Ran → Type 0
+    CommandRan G old new committer kind message (Update deref name id before) ran = UpdateRan (HasReadFault G.faults) old new committer kind message (Update deref name id before) ran
+    CommandRan G old new committer kind message (Symbolic name target) ran = UpdateRan (HasReadFault G.faults) old new committer kind message (Symbolic name target) ran
+    CommandRan G old new committer kind message (Delete deref name before) ran = UpdateRan (HasReadFault G.faults) old new committer kind message (Delete deref name before) ran
+    CommandRan G old new committer kind message (Show name) (Said outcome) = ShowOutcome G old new name outcome
+    CommandRan G old new committer kind message (AskedListing prefix) ran = ListRan G old new (prefix_asked old prefix) ran
+    CommandRan G old new committer kind message (Log name) ran = LogRan honest means old new name ran
+    CommandRan G old new committer kind message asked ran = ⊥
 
     -- a stop in a command leaves this tree: as before; or of an update what a stop in it leaves
-    abbrev pub IsStop : Store F → Kind → Asked → Tree → Type 0
-    IsStop old kind (Update name id before) T = IsUpdateStop old kind (Update name id before) T
-    IsStop old kind (Symbolic name target) T = IsUpdateStop old kind (Symbolic name target) T
-    IsStop old kind (Delete name before) T = IsUpdateStop old kind (Delete name before) T
-    IsStop old kind (Show name) T = T ≡ tree_of means old
-    IsStop old kind (AskedListing prefix) T = T ≡ tree_of means old
-    IsStop old kind (Log name) T = T ≡ tree_of means old
+    abbrev pub IsStop : Store F → Option SignatureRef → Kind → (message : Option (List ℕ)) → Asked → Tree → Type 0
+    IsStop old committer kind message (Update deref name id before) T = IsUpdateStop old committer kind message (Update deref name id before) T
+    IsStop old committer kind message (Symbolic name target) T = IsUpdateStop old committer kind message (Symbolic name target) T
+    IsStop old committer kind message (Delete deref name before) T = IsUpdateStop old committer kind message (Delete deref name before) T
+    IsStop old committer kind message (Show name) T = T ≡ tree_of means old
+    IsStop old committer kind message (AskedListing prefix) T = T ≡ tree_of means old
+    IsStop old committer kind message (Log name) T = T ≡ tree_of means old
 
     -- a line that is not begun
     abbrev pub NotBegun : Line → Ran → Type 0
@@ -314,13 +338,13 @@ module _ {F : Type 0} where
     -- what a line comes to: it is begun in its store, or it is not, and the files are as before
     abbrev pub LineRan : {R : Type 0} (G : Ghosts R) → (files after : F) → Line → Ran → Type 0
     LineRan G files after line ran =
-        ((old : Store F) × (new : Store F) × IsOpened files line old × (files_of new ≡ after) × CommandRan G old new line.kind line.asked ran)
+        ((old : Store F) × (new : Store F) × (committer : Option SignatureRef) × IsCommitterOf line committer × IsOpened files line old × (files_of new ≡ after) × CommandRan G old new committer line.kind line.message line.asked ran)
         ⊎ ((after ≡ files) × NotBegun line ran)
 
     -- a stop in a line leaves this tree: as before, or what a stop in its command leaves
     abbrev pub IsStopIn : F → Line → Tree → Type 0
     IsStopIn files line T =
-        (T ≡ (means files).tree) ⊎ ((old : Store F) × IsOpened files line old × IsStop old line.kind line.asked T)
+        (T ≡ (means files).tree) ⊎ ((old : Store F) × (committer : Option SignatureRef) × IsCommitterOf line committer × IsOpened files line old × IsStop old committer line.kind line.message line.asked T)
 
     -- A run of words that are no line: nothing changes, and it says so.
     pub record RunsWrong {E : Type 0} (files after : F) (words : List (List ℕ)) (out now : Option (List ℕ)) (status : Result ℕ E) : Type 0 where

@@ -1,5 +1,5 @@
--- The words of the program: `DIR [--sha256] [--namespace NAME] COMMAND`.
-use Rattle.std.specs.Prelude.{◌≡◌, ◌≢◌, ℕ, List, [], ◌∷◌, ◌++◌, Bool, false, bytes_eq, codes, map, Option, Some, None, String}
+-- The words of the program: `DIR [--sha256] [--namespace NAME] [--as SIGNATURE] [--message TEXT] COMMAND`.
+use Rattle.std.specs.Prelude.{◌≡◌, ◌≢◌, ℕ, List, [], ◌∷◌, ◌++◌, Bool, true, false, bytes_eq, codes, map, Option, Some, None, String}
 use Rattle.std.specs.String.{string_bytes}
 use Rattle.std.specs.declared.alloc.Global.{Global}
 use Rattle.std.specs.Option.{option_map}
@@ -7,15 +7,16 @@ use Rattle.gix_ref_hash.specs.Ids.{ReadsId}
 use Rattle.gix_ref_hash.specs.declared.hash.ObjectId.{ObjectId}
 use Rattle.gix_ref_hash.specs.declared.hash.Kind.{Kind}
 use Rattle.gix_ref_hash.specs.declared.hash.Kind.TheVariants as kinds
+use Rattle.gix_ref_log.specs.Signatures.{Who, IsSignature, signature_ref_who}
 use Rattle.gix_ref_program.specs.declared.words.Command.{Command}
 use Rattle.gix_ref_program.specs.declared.words.Command.TheVariants as commands
 use Rattle.gix_ref_program.specs.declared.words.Line.{Line as Parsed}
 
 -- What a command asks for.
 pub data Asked : Type 0 where
-  Update : (name : List ℕ) (id : ObjectId) (old : Option ObjectId) → Asked
+  Update : (deref : Bool) (name : List ℕ) (id : ObjectId) (old : Option ObjectId) → Asked
   Symbolic : (name target : List ℕ) → Asked
-  Delete : (name : List ℕ) (old : Option ObjectId) → Asked
+  Delete : (deref : Bool) (name : List ℕ) (old : Option ObjectId) → Asked
   Show : (name : List ℕ) → Asked
   Listing : (prefix : Option (List ℕ)) → Asked
   Log : (name : List ℕ) → Asked
@@ -25,6 +26,8 @@ pub record Line : Type 0 where
   pub dir : List ℕ
   pub kind : Kind
   pub namespace : Option (List ℕ)
+  pub committer : Option Who
+  pub message : Option (List ℕ)
   pub asked : Asked
 
 -- the bytes of words
@@ -57,16 +60,24 @@ pub record IsDeletion (words : List (List ℕ)) (name : List ℕ) (old : Option 
   pub expected : IsOld rest old
   pub words_are : words ≡ name ∷ rest
 
+-- `[--deref]`
+abbrev pub deref_words : Bool → List (List ℕ)
+deref_words true = codes "--deref" ∷ []
+deref_words false = []
+
 -- `[PREFIX]`
 abbrev pub prefix_words : Option (List ℕ) → List (List ℕ)
 prefix_words None = []
 prefix_words (Some prefix) = prefix ∷ []
 
--- `update NAME ID [OLD]`, `symbolic NAME TARGET`, `delete NAME [OLD]`, `show NAME`, `list [PREFIX]`, or `log NAME`
+-- `update [--deref] NAME ID [OLD]`, `symbolic NAME TARGET`, `delete [--deref] NAME [OLD]`, `show NAME`, `list [PREFIX]`, or
+-- `log NAME`
 abbrev pub IsCommand : List (List ℕ) → Asked → Type 0
-IsCommand words (Update name id old) = (rest : List (List ℕ)) × (words ≡ codes "update" ∷ rest) × IsUpdate rest name id old
+IsCommand words (Update deref name id old) =
+    (rest : List (List ℕ)) × (words ≡ codes "update" ∷ (deref_words deref ++ rest)) × IsUpdate rest name id old
 IsCommand words (Symbolic name target) = words ≡ codes "symbolic" ∷ (name ∷ (target ∷ []))
-IsCommand words (Delete name old) = (rest : List (List ℕ)) × (words ≡ codes "delete" ∷ rest) × IsDeletion rest name old
+IsCommand words (Delete deref name old) =
+    (rest : List (List ℕ)) × (words ≡ codes "delete" ∷ (deref_words deref ++ rest)) × IsDeletion rest name old
 IsCommand words (Show name) = words ≡ codes "show" ∷ (name ∷ [])
 IsCommand words (Listing prefix) = words ≡ codes "list" ∷ prefix_words prefix
 IsCommand words (Log name) = words ≡ codes "log" ∷ (name ∷ [])
@@ -76,29 +87,37 @@ abbrev pub kind_words : Kind → List (List ℕ)
 kind_words kinds.Sha1 = []
 kind_words kinds.Sha256 = codes "--sha256" ∷ []
 
--- `[--namespace NAME]`
-abbrev pub namespace_words : Option (List ℕ) → List (List ℕ)
-namespace_words None = []
-namespace_words (Some name) = codes "--namespace" ∷ (name ∷ [])
+-- `[OPTION VALUE]`
+abbrev pub option_words : List ℕ → Option (List ℕ) → List (List ℕ)
+option_words option None = []
+option_words option (Some value) = option ∷ (value ∷ [])
 
--- the options before a command, and the command
-pub record HasOptions (words : List (List ℕ)) (namespace : Option (List ℕ)) (asked : Asked) : Type 0 where
-  pub command : List (List ℕ)
-  pub is_command : IsCommand command asked
-  pub words_are : words ≡ namespace_words namespace ++ command
+-- this option stands first with this value, or it does not stand first; and these words follow
+pub record IsOption (option : List ℕ) (words : List (List ℕ)) (value : Option (List ℕ)) (rest : List (List ℕ)) : Type 0 where
+  pub not_first : value ≡ None → first_is words option ≡ false
+  pub words_are : words ≡ option_words option value ++ rest
+
+-- the text of `--as` is the signature of this committer
+abbrev pub IsSigned : Option (List ℕ) → Option Who → Type 0
+IsSigned None None = Unit {0}
+IsSigned (Some text) (Some who) = IsSignature text who
+IsSigned signature committer = ⊥
 
 -- the words of a line
 pub record IsLine (words : List (List ℕ)) (line : Line) : Type 0 where
-  pub rest : List (List ℕ)
-  pub options : HasOptions rest line.namespace line.asked
-  pub words_are : words ≡ line.dir ∷ (kind_words line.kind ++ rest)
+  pub signature : Option (List ℕ)
+  pub command : List (List ℕ)
+  pub is_signed : IsSigned signature line.committer
+  pub is_command : IsCommand command line.asked
+  pub words_are : words ≡ line.dir ∷ (kind_words line.kind ++ (option_words (codes "--namespace") line.namespace
+      ++ (option_words (codes "--as") signature ++ (option_words (codes "--message") line.message ++ command))))
 
 -- what the values of the code mean
 
 abbrev pub asked_of : Command → Asked
-asked_of (commands.Update name id old) = Update name.now id old
+asked_of (commands.Update deref name id old) = Update deref name.now id old
 asked_of (commands.Symbolic name target) = Symbolic name.now target.now
-asked_of (commands.Delete name old) = Delete name.now old
+asked_of (commands.Delete deref name old) = Delete deref name.now old
 asked_of (commands.Show name) = Show name.now
 asked_of (commands.List prefix) = Listing (option_map (λ text. text.now) prefix)
 asked_of (commands.Log name) = Log name.now
@@ -108,5 +127,7 @@ line_of line = record {
   dir = line.dir.now;
   kind = line.object_hash;
   namespace = option_map (λ name. name.now) line.namespace;
+  committer = option_map signature_ref_who line.committer;
+  message = option_map (λ text. text.now) line.message;
   asked = asked_of line.command;
 }

@@ -1,5 +1,5 @@
 //! One run of the program, over any files.
-ghost use Rattle.std.specs.Prelude.{◌≡◌, ◌⊎◌, [], ◌∷◌, None, IfOk, MatchResult};
+ghost use Rattle.std.specs.Prelude.{◌≡◌, ◌⊎◌, ℕ, List, [], ◌∷◌, false, Option, None, IfOk, MatchResult};
 ghost use Rattle.std.specs.Option.{option_map};
 ghost use Rattle.gix_ref_hash.specs.declared.hash.Kind.{Kind};
 ghost use Rattle.gix_ref_grammar.specs.NameGrammar.{full_error};
@@ -7,6 +7,7 @@ ghost use Rattle.gix_ref_name.specs.Names.{full_bytes};
 ghost use Rattle.gix_ref_base.specs.Targets.{target_value};
 ghost use Rattle.gix_ref_base.specs.Targets.TargetValue.{object_id, symbolic_name};
 ghost use Rattle.gix_ref_lookup.specs.StoreLayout.{namespace_text};
+ghost use Rattle.gix_ref_log.specs.Signatures.{signature_ref_who};
 ghost use Rattle.gix_ref_store.specs.Store.{files_of};
 ghost use Rattle.gix_ref_store.specs.Listings.{AreHeldFor};
 ghost use Rattle.gix_ref_store.specs.Lookup.{LooksUp};
@@ -14,7 +15,7 @@ ghost use Rattle.gix_ref_store.specs.Prepared.{tree_of};
 ghost use Rattle.gix_ref_files.specs.Calls.{Unchanged};
 ghost use Rattle.gix_ref_files.specs.Files.{Leaves};
 ghost use Rattle.gix_ref_packed.specs.OpenFiles.{HasReadFault};
-ghost use Rattle.gix_ref_program.specs.Runs.{IsExpected, IsEditOf, IsDeletionEdit, IsAskedFor, NoNamespace, IsNoName, NoEdit, UpdateRan, IsUpdateStop, IsNoFolder, IsAt, namespace_of, IsOpened, EditOutcome, ShowOutcome, Prints, CommandRan, LogRan, ListRan, ListRanAmong, prefix_asked, IsStop, IsUnopened, LineRan, IsStopIn, RunsWrong, RunsLine};
+ghost use Rattle.gix_ref_program.specs.Runs.{IsExpected, IsLogChange, IsEditOf, IsDeletionEdit, IsAskedFor, NoNamespace, IsNoName, NoEdit, UpdateRan, IsUpdateStop, IsNoFolder, IsAt, namespace_of, write_reflog_of, IsOpened, EditOutcome, ShowOutcome, Prints, CommandRan, LogRan, ListRan, ListRanAmong, prefix_asked, IsStop, IsUnopened, LineRan, IsStopIn, RunsWrong, RunsLine};
 ghost use Rattle.gix_ref_program.specs.Updates.{IsStopOf};
 ghost use Rattle.gix_ref_program.specs.Words.{Asked, Symbolic, texts, line_of, asked_of};
 
@@ -69,16 +70,32 @@ fn expanded(alloc: Global, name: Option<&[u8]>) -> Result<Option<Namespace>, Ref
     }
 }
 
-/// The store of a folder, which writes no log lines. A refusal hands the files back.
-fn store_at<F>(alloc: Global, files: F, dir: &[u8], kind: Kind) -> Result<Store<F>, (F, Refusal)>
-    ensures { MatchResult result (IsAt files dir.now kind) (λ r. (r.0 ≡ files)
+/// Log lines are written where there is a committer.
+fn write_reflog_for(committer: Option<SignatureRef<'_>>) -> WriteReflog
+    ensures { result ≡ write_reflog_of (option_map signature_ref_who committer.entry) }
+{
+    match committer {
+        Some(_) => WriteReflog::Normal,
+        None => WriteReflog::Disable,
+    }
+}
+
+/// The store of a folder. A refusal hands the files back.
+fn store_at<F>(
+    alloc: Global,
+    files: F,
+    dir: &[u8],
+    kind: Kind,
+    write_reflog: WriteReflog,
+) -> Result<Store<F>, (F, Refusal)>
+    ensures { MatchResult result (IsAt files dir.now kind write_reflog) (λ r. (r.0 ≡ files)
         × IsNoFolder dir.now r.1) }
 {
     let Ok(git_dir) = dir.to_vec(alloc) else {
         return Err((files, Refusal::Memory));
     };
     let options = Options {
-        write_reflog: WriteReflog::Disable,
+        write_reflog,
         precompose_unicode: false,
         prohibit_windows_device_names: false,
     };
@@ -95,7 +112,8 @@ fn store_in<F>(alloc: Global, files: F, line: &Line<'_>) -> Result<Store<F>, (F,
     ensures { MatchResult result (IsOpened files (line_of line.now)) (λ r. (r.0 ≡ files)
         × IsUnopened (line_of line.now) r.1) }
 {
-    let mut store = store_at(alloc, files, line.dir, line.object_hash)?;
+    let write_reflog = write_reflog_for(line.committer);
+    let mut store = store_at(alloc, files, line.dir, line.object_hash, write_reflog)?;
     match expanded(alloc, line.namespace) {
         Ok(namespace) => {
             store.namespace = namespace;
@@ -130,41 +148,73 @@ fn full_name(alloc: Global, word: &[u8]) -> Result<FullName, Refusal>
     }
 }
 
-/// The edit that gives a reference a new target.
-fn edit_to(alloc: Global, name: FullName, new: Target, expected: PreviousValue) -> RefEdit
-    requires { full_error (full_bytes name) ≡ None }
-    ensures { IsEditOf (full_bytes name) (target_value new) expected result }
+/// The change of a log, with the message of its line: none without a TEXT.
+fn log_change(alloc: Global, text: Option<&[u8]>) -> Result<LogChange, Refusal>
+    ensures { MatchResult result (IsLogChange (option_map (λ text. text.now) text.entry))
+        (λ refusal. refusal ≡ Refusal.Memory) }
 {
-    RefEdit {
+    let mut log = LogChange::new_in(alloc);
+    if let Some(text) = text {
+        let Ok(message) = text.to_vec(alloc) else {
+            return Err(Refusal::Memory);
+        };
+        log.message = message;
+    }
+    Ok(log)
+}
+
+/// The edit that gives a reference a new target.
+fn edit_to(
+    alloc: Global,
+    name: FullName,
+    deref: bool,
+    text: Option<&[u8]>,
+    new: Target,
+    expected: PreviousValue,
+) -> Result<RefEdit, Refusal>
+    requires { full_error (full_bytes name) ≡ None }
+    ensures { MatchResult result (IsEditOf (full_bytes name) deref
+        (option_map (λ text. text.now) text.entry) (target_value new) expected)
+        (λ refusal. refusal ≡ Refusal.Memory) }
+{
+    Ok(RefEdit {
         change: Change::Update {
-            log: LogChange::new_in(alloc),
+            log: log_change(alloc, text)?,
             expected,
             new,
         },
         name,
-        deref: false,
-    }
+        deref,
+    })
 }
 
 /// The edit of an update.
 fn update_edit(
     alloc: Global,
     name: &[u8],
+    deref: bool,
+    text: Option<&[u8]>,
     id: ObjectId,
     expected: PreviousValue,
 ) -> Result<RefEdit, Refusal>
-    ensures { MatchResult result (IsEditOf name.now (object_id id) expected) (IsNoName name.now) }
+    ensures { MatchResult result (IsEditOf name.now deref
+        (option_map (λ text. text.now) text.entry) (object_id id) expected) (IsNoName name.now) }
 {
     match full_name(alloc, name) {
-        Ok(name) => Ok(edit_to(alloc, name, Target::Object(id), expected)),
+        Ok(name) => edit_to(alloc, name, deref, text, Target::Object(id), expected),
         Err(refusal) => Err(refusal),
     }
 }
 
 /// The edit of a symbolic update.
-fn symbolic_edit(alloc: Global, name: &[u8], target: &[u8]) -> Result<RefEdit, Refusal>
-    ensures { MatchResult result
-        (IsEditOf name.now (symbolic_name target.now) PreviousValue.Any)
+fn symbolic_edit(
+    alloc: Global,
+    name: &[u8],
+    text: Option<&[u8]>,
+    target: &[u8],
+) -> Result<RefEdit, Refusal>
+    ensures { MatchResult result (IsEditOf name.now false
+        (option_map (λ text. text.now) text.entry) (symbolic_name target.now) PreviousValue.Any)
         (NoEdit (Symbolic name.now target.now)) }
 {
     let name = match full_name(alloc, name) {
@@ -174,15 +224,20 @@ fn symbolic_edit(alloc: Global, name: &[u8], target: &[u8]) -> Result<RefEdit, R
     match full_name(alloc, target) {
         Ok(target) => {
             let new = Target::Symbolic(target);
-            Ok(edit_to(alloc, name, new, PreviousValue::Any))
+            edit_to(alloc, name, false, text, new, PreviousValue::Any)
         }
         Err(refusal) => Err(refusal),
     }
 }
 
 /// The edit of a deletion.
-fn deletion_edit(alloc: Global, name: &[u8], expected: PreviousValue) -> Result<RefEdit, Refusal>
-    ensures { MatchResult result (IsDeletionEdit name.now expected) (IsNoName name.now) }
+fn deletion_edit(
+    alloc: Global,
+    name: &[u8],
+    deref: bool,
+    expected: PreviousValue,
+) -> Result<RefEdit, Refusal>
+    ensures { MatchResult result (IsDeletionEdit name.now deref expected) (IsNoName name.now) }
 {
     match full_name(alloc, name) {
         Ok(name) => Ok(RefEdit {
@@ -191,7 +246,7 @@ fn deletion_edit(alloc: Global, name: &[u8], expected: PreviousValue) -> Result<
                 log: RefLog::AndReference,
             },
             name,
-            deref: false,
+            deref,
         }),
         Err(refusal) => Err(refusal),
     }
@@ -344,22 +399,24 @@ fn print_update<F: Files, W: Write>(
     alloc: Global,
     store: &mut Store<F>,
     packed_refs: PackedRefs,
+    committer: Option<SignatureRef<'_>>,
     edit: Result<RefEdit, Refusal>,
     out: &mut W,
 ) -> (PackedRefs, io::Result<u8>)
     ensures packed_refs { result.0 ≡ packed_refs }
-    ensures prints { (kind : Kind) (asked : Asked) →
-        MatchResult edit (IsAskedFor kind asked) (NoEdit asked) →
-        Prints (UpdateRan F.honest F.means F.faults (HasReadFault F.Reader.faults) store.old store.new kind asked)
+    ensures prints { (kind : Kind) (message : Option (List ℕ)) (asked : Asked) →
+        MatchResult edit (IsAskedFor kind message asked) (NoEdit asked) →
+        Prints (UpdateRan F.honest F.means F.faults (HasReadFault F.Reader.faults) store.old
+        store.new committer.entry kind message asked)
         (W.contents out.old) (W.contents out.new) result.1 }
-    ensures leaves { F.honest → (kind : Kind) (asked : Asked) →
-        MatchResult edit (IsAskedFor kind asked) (NoEdit asked) →
+    ensures leaves { F.honest → (kind : Kind) (message : Option (List ℕ)) (asked : Asked) →
+        MatchResult edit (IsAskedFor kind message asked) (NoEdit asked) →
         Leaves (F.means (files_of store.old)) (F.means (files_of store.new))
-        (IsUpdateStop F.honest F.means F.faults store.old kind asked) }
+        (IsUpdateStop F.honest F.means F.faults store.old committer.entry kind message asked) }
 {
     match edit {
         Ok(edit) => {
-            let (packed_refs, outcome) = make_update(alloc, store, packed_refs, None, edit);
+            let (packed_refs, outcome) = make_update(alloc, store, packed_refs, committer, edit);
             (packed_refs, print(alloc, outcome, out))
         }
         Err(refusal) => (packed_refs, print(alloc, refused(alloc, refusal), out)),
@@ -376,27 +433,34 @@ fn execute<F: Files, W: Write>(
 ) -> (PackedRefs, io::Result<u8>)
     ensures packed_refs { result.0 ≡ packed_refs }
     ensures prints { Prints (CommandRan F.honest F.means F.faults F.Reader.ReadAt store.old
-        store.new line.now.object_hash (line_of line.now).asked)
-        (W.contents out.old) (W.contents out.new) result.1 }
+        store.new line.now.committer line.now.object_hash (line_of line.now).message
+        (line_of line.now).asked) (W.contents out.old) (W.contents out.new) result.1 }
     ensures leaves { F.honest → Leaves (F.means (files_of store.old)) (F.means (files_of store.new))
-        (IsStop F.honest F.means F.faults store.old line.now.object_hash (line_of line.now).asked) }
+        (IsStop F.honest F.means F.faults store.old line.now.committer line.now.object_hash
+        (line_of line.now).message (line_of line.now).asked) }
 {
     let kind = line.object_hash;
     match &line.command {
         Command::Show { name } => (packed_refs, print(alloc, show(alloc, store, name), out)),
         Command::List { prefix } => (packed_refs, print_listing(alloc, store, *prefix, out)),
         Command::Log { name } => (packed_refs, print_log(alloc, store, name, out)),
-        Command::Update { name, id, old } => {
-            let edit = update_edit(alloc, name, *id, expected(*old, kind));
-            print_update(alloc, store, packed_refs, edit, out)
+        Command::Update {
+            deref,
+            name,
+            id,
+            old,
+        } => {
+            let expected = expected(*old, kind);
+            let edit = update_edit(alloc, name, *deref, line.message, *id, expected);
+            print_update(alloc, store, packed_refs, line.committer, edit, out)
         }
         Command::Symbolic { name, target } => {
-            let edit = symbolic_edit(alloc, name, target);
-            print_update(alloc, store, packed_refs, edit, out)
+            let edit = symbolic_edit(alloc, name, line.message, target);
+            print_update(alloc, store, packed_refs, line.committer, edit, out)
         }
-        Command::Delete { name, old } => {
-            let edit = deletion_edit(alloc, name, expected(*old, kind));
-            print_update(alloc, store, packed_refs, edit, out)
+        Command::Delete { deref, name, old } => {
+            let edit = deletion_edit(alloc, name, *deref, expected(*old, kind));
+            print_update(alloc, store, packed_refs, line.committer, edit, out)
         }
     }
 }
@@ -438,7 +502,8 @@ fn run_line<F: Files, W: Write>(
 /// removed. The status is 0, 1 for a refusal or a fault, 2 for wrong words; it is an error where the writer failed, or where
 /// there was no memory for the text. (`git update-ref`, `git symbolic-ref`, `git show-ref`, `git for-each-ref`, `git reflog show`)
 ///
-/// The words are those behind the name of the program. Costs five calls of files for an update, one for a reference that
+/// The words are those behind the name of the program. With a SIGNATURE updates write log lines, with the TEXT as their
+/// message; without one there are none. Costs five calls of files for an update, one for a reference that
 /// is shown. A listing of a prefix reads the folders and files that its names may be in, and of a sorted `packed-refs` the
 /// records of the prefix. A listing and a reflog are written in blocks.
 pub fn run<F: Files, W: Write>(

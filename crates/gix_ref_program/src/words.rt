@@ -1,17 +1,21 @@
-//! The words of the program: `DIR [--sha256] [--namespace NAME] COMMAND`, where a command is `update NAME ID [OLD]`,
-//! `symbolic NAME TARGET`, `delete NAME [OLD]`, `show NAME`, `list [PREFIX]` or `log NAME`.
+//! The words of the program: `DIR [--sha256] [--namespace NAME] [--as SIGNATURE] [--message TEXT] COMMAND`, where a command
+//! is `update [--deref] NAME ID [OLD]`, `symbolic NAME TARGET`, `delete [--deref] NAME [OLD]`, `show NAME`, `list [PREFIX]`
+//! or `log NAME`.
 ghost use Rattle.std.specs.Prelude.{◌≡◌, ◌++◌, ℕ, List, MatchOption, Option, codes, ◌∷◌, [], false};
+ghost use Rattle.gix_ref_log.specs.Signatures.{Who, signature_ref_who};
 ghost use Rattle.std.specs.Option.{option_map};
 ghost use Rattle.gix_ref_hash.specs.declared.hash.ObjectId.{ObjectId};
-ghost use Rattle.gix_ref_program.specs.Words.{Asked, Line as AskedLine, texts, first_is, IsOld, IsUpdate, IsDeletion, IsCommand, prefix_words, HasOptions, IsLine, kind_words, asked_of, line_of};
+ghost use Rattle.gix_ref_program.specs.Words.{Asked, Line as AskedLine, texts, first_is, IsOld, IsUpdate, IsDeletion, IsCommand, prefix_words, deref_words, IsOption, IsSigned, IsLine, kind_words, asked_of, line_of};
 
 use gix_ref_hash::hash::{Kind, ObjectId};
+use gix_ref_log::actor::SignatureRef;
 
 /// What a line asks for.
 #[derive(Clone, Copy, Debug)]
 pub enum Command<'w> {
-    /// `update NAME ID [OLD]`
+    /// `update [--deref] NAME ID [OLD]`
     Update {
+        deref: bool,
         name: &'w [u8],
         id: ObjectId,
         old: Option<ObjectId>,
@@ -21,8 +25,9 @@ pub enum Command<'w> {
         name: &'w [u8],
         target: &'w [u8],
     },
-    /// `delete NAME [OLD]`
+    /// `delete [--deref] NAME [OLD]`
     Delete {
+        deref: bool,
         name: &'w [u8],
         old: Option<ObjectId>,
     },
@@ -49,6 +54,10 @@ pub struct Line<'w> {
     pub object_hash: Kind,
     /// The NAME of `--namespace`.
     pub namespace: Option<&'w [u8]>,
+    /// The SIGNATURE of `--as`.
+    pub committer: Option<SignatureRef<'w>>,
+    /// The TEXT of `--message`.
+    pub message: Option<&'w [u8]>,
     pub command: Command<'w>,
 }
 
@@ -78,11 +87,23 @@ fn old_of(words: &[String]) -> Option<Option<ObjectId>>
     Some(Some(id))
 }
 
-/// `NAME ID [OLD]`, where NAME is not the option `--deref`.
-fn update_of(words: &[String]) -> Option<Command<'_>>
+/// `[--deref]`, and the words behind it.
+fn deref_of(words: &[String]) -> (bool, &[String])
+    ensures words { texts words.now ≡ deref_words result.0 ++ texts result.1.now }
+    ensures option { result.0 ≡ false → first_is (texts words.now) (codes "--deref") ≡ false }
+{
+    match strip_word(words, b"--deref") {
+        Some(rest) => (true, rest),
+        None => (false, words),
+    }
+}
+
+/// `NAME ID [OLD]` behind `[--deref]`, where NAME is not that option.
+fn update_of(deref: bool, words: &[String]) -> Option<Command<'_>>
     ensures { MatchOption result ((name : List ℕ) (id : ObjectId) (old : Option ObjectId) →
         IsUpdate (texts words.now) name id old → ⊥)
-        (λ command. IsCommand (codes "update" ∷ texts words.now) (asked_of command)) }
+        (λ command. IsCommand (codes "update" ∷ (deref_words deref ++ texts words.now))
+        (asked_of command)) }
 {
     let (name, rest) = words.split_first()?;
     if name.as_bytes() == b"--deref".as_slice() {
@@ -92,17 +113,19 @@ fn update_of(words: &[String]) -> Option<Command<'_>>
     let id = ObjectId::from_hex(digits.as_bytes())?;
     let old = old_of(rest)?;
     Some(Command::Update {
+        deref,
         name: name.as_bytes(),
         id,
         old,
     })
 }
 
-/// `NAME [OLD]`, where NAME is not the option `--deref`.
-fn deletion_of(words: &[String]) -> Option<Command<'_>>
+/// `NAME [OLD]` behind `[--deref]`, where NAME is not that option.
+fn deletion_of(deref: bool, words: &[String]) -> Option<Command<'_>>
     ensures { MatchOption result ((name : List ℕ) (old : Option ObjectId) →
         IsDeletion (texts words.now) name old → ⊥)
-        (λ command. IsCommand (codes "delete" ∷ texts words.now) (asked_of command)) }
+        (λ command. IsCommand (codes "delete" ∷ (deref_words deref ++ texts words.now))
+        (asked_of command)) }
 {
     let (name, rest) = words.split_first()?;
     if name.as_bytes() == b"--deref".as_slice() {
@@ -110,6 +133,7 @@ fn deletion_of(words: &[String]) -> Option<Command<'_>>
     }
     let old = old_of(rest)?;
     Some(Command::Delete {
+        deref,
         name: name.as_bytes(),
         old,
     })
@@ -159,14 +183,16 @@ fn command_of(words: &[String]) -> Option<Command<'_>>
         (λ command. IsCommand (texts words.now) (asked_of command)) }
 {
     if let Some(rest) = strip_word(words, b"update") {
-        return update_of(rest);
+        let (deref, rest) = deref_of(rest);
+        return update_of(deref, rest);
     }
     if let Some(rest) = strip_word(words, b"symbolic") {
         let (name, target) = names_of(rest)?;
         return Some(Command::Symbolic { name, target });
     }
     if let Some(rest) = strip_word(words, b"delete") {
-        return deletion_of(rest);
+        let (deref, rest) = deref_of(rest);
+        return deletion_of(deref, rest);
     }
     if let Some(rest) = strip_word(words, b"log") {
         return Some(Command::Log {
@@ -184,17 +210,30 @@ fn command_of(words: &[String]) -> Option<Command<'_>>
     })
 }
 
-/// The NAME of `--namespace`, if that comes first, and the command that follows.
-fn options_of(words: &[String]) -> Option<(Option<&[u8]>, Command<'_>)>
-    ensures { MatchOption result ((namespace : Option (List ℕ)) (asked : Asked) →
-        HasOptions (texts words.now) namespace asked → ⊥) (λ options. HasOptions (texts words.now)
-        (option_map (λ name. name.now) options.0) (asked_of options.1)) }
+/// `[OPTION VALUE]`: the value, if the option comes first, and the words behind it; `None` for an option alone.
+fn value_of<'w>(words: &'w [String], option: &[u8]) -> Option<(Option<&'w [u8]>, &'w [String])>
+    ensures { MatchOption result (texts words.now ≡ option.now ∷ [])
+        (λ r. IsOption option.now (texts words.now) (option_map (λ value. value.now) r.0)
+        (texts r.1.now)) }
 {
-    let Some(rest) = strip_word(words, b"--namespace") else {
-        return Some((None, command_of(words)?));
+    let Some(rest) = strip_word(words, option) else {
+        return Some((None, words));
     };
-    let (name, rest) = rest.split_first()?;
-    Some((Some(name.as_bytes()), command_of(rest)?))
+    let (value, rest) = rest.split_first()?;
+    Some((Some(value.as_bytes()), rest))
+}
+
+/// The committer whose signature this text is; the first `None` is for a text that is none.
+fn committer_of(signature: Option<&[u8]>) -> Option<Option<SignatureRef<'_>>>
+    ensures { MatchOption result ((committer : Option Who) →
+        IsSigned (option_map (λ text. text.now) signature.entry) committer → ⊥)
+        (λ committer. IsSigned (option_map (λ text. text.now) signature.entry)
+        (option_map signature_ref_who committer)) }
+{
+    match signature {
+        Some(text) => Some(Some(SignatureRef::decode(text)?)),
+        None => Some(None),
+    }
 }
 
 /// The kind of ids, and the words behind the option for it.
@@ -208,19 +247,25 @@ fn kind_of(words: &[String]) -> (Kind, &[String])
     }
 }
 
-/// The line of these words; `None` where they are wrong. An ID and an OLD have 40 or 64 hex digits; the names are not
-/// looked at. Takes no memory, and looks at each word a few times.
+/// The line of these words; `None` where they are wrong. An ID and an OLD have 40 or 64 hex digits, and a SIGNATURE is
+/// one; the names are not looked at. Takes no memory, and looks at each word a few times.
 pub fn parse(words: &[String]) -> Option<Line<'_>>
     ensures { MatchOption result ((line : AskedLine) → IsLine (texts words.now) line → ⊥)
         (λ line. IsLine (texts words.now) (line_of line)) }
 {
     let (dir, rest) = words.split_first()?;
     let (object_hash, rest) = kind_of(rest);
-    let (namespace, command) = options_of(rest)?;
+    let (namespace, rest) = value_of(rest, b"--namespace")?;
+    let (signature, rest) = value_of(rest, b"--as")?;
+    let (message, rest) = value_of(rest, b"--message")?;
+    let committer = committer_of(signature)?;
+    let command = command_of(rest)?;
     Some(Line {
         dir: dir.as_bytes(),
         object_hash,
         namespace,
+        committer,
+        message,
         command,
     })
 }

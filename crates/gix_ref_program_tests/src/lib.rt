@@ -12,4 +12,6 @@ mod ran;
 #[cfg(test)]
 mod rows;
 #[cfg(test)]
+mod signed;
+#[cfg(test)]
 mod stops;

@@ -516,9 +516,9 @@ fn refuses(rt: &impl Abort, alloc: Global, words: &[&str], printed: Printed<'_>)
 
 #[test]
 fn wrong_words(rt: HostRuntime) {
-    let lines: [&[&str]; 25] = [
+    let lines: [&[&str]; 24] = [
         &["/r", "delete"],
-        &["/r", "delete", "--deref", "HEAD"],
+        &["/r", "delete", "--deref"],
         &["/r", "delete", "refs/heads/a", I1, I2],
         &[],
         &["/r"],
@@ -565,7 +565,6 @@ fn wrong_words(rt: HostRuntime) {
             I1,
             "111111111111111111111111111111111111111",
         ],
-        &["/r", "update", "--deref", "refs/heads/a", I1],
         &["/r", "update", "--deref", I1],
         &["/r", "script", "refs/heads/a"],
         &["/r", "--namespace"],

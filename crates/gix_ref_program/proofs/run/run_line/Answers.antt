@@ -1,4 +1,4 @@
-use Rattle.std.proofs.Common.{sym, subst, inr}
+use Rattle.std.proofs.Common.{refl, sym, subst, inr}
 use Rattle.gix_ref_program.specs.Words.{line_of}
 use Rattle.gix_ref_program.specs.Runs.{LineRan, CommandRan, NotBegun}
 use Rattle.gix_ref_program.specs.Runs.Ran.{Said}
@@ -12,9 +12,9 @@ returns-in-Ok-clause-prints g c =
     let F = g.F.Files in
     let line = line_of c.args.line.now in
     let done = c.execute-packed_refs in
-    prints_more (CommandRan F.honest F.means F.faults g.F.Reader.ReadAt c.in-Ok.store done.new.store line.kind line.asked) (LineRan F.honest F.means F.faults g.F.Reader.ReadAt c.args.files c.into_files.result line)
+    prints_more (CommandRan F.honest F.means F.faults g.F.Reader.ReadAt c.in-Ok.store done.new.store c.args.line.now.committer line.kind line.message line.asked) (LineRan F.honest F.means F.faults g.F.Reader.ReadAt c.args.files c.into_files.result line)
     (g.W.Write.contents c.args.out.now) (g.W.Write.contents done.new.out) done.result.1
-    (λ ran. line_comes F.honest F.means F.faults g.F.Reader.ReadAt c.args.files c.into_files.result line c.in-Ok.store done.new.store ran c.in-Ok.ensures (sym c.into_files.ensures)) done.ensures.prints
+    (λ ran. line_comes F.honest F.means F.faults g.F.Reader.ReadAt c.args.files c.into_files.result line c.in-Ok.store done.new.store c.args.line.now.committer ran refl c.in-Ok.ensures (sym c.into_files.ensures)) done.ensures.prints
 
 pub returns-in-Err-clause-prints : goal.returns-in-Err-clause-prints
 returns-in-Err-clause-prints g c =
@@ -27,4 +27,4 @@ returns-in-Err-clause-prints g c =
 pub returns-in-Ok-clause-leaves : goal.returns-in-Ok-clause-leaves
 returns-in-Ok-clause-leaves g c h =
     let F = g.F.Files in
-    line_stops F.honest F.means F.faults c.args.files c.into_files.result (line_of c.args.line.now) c.in-Ok.store c.execute-packed_refs.new.store c.in-Ok.ensures (sym c.into_files.ensures) (c.execute-packed_refs.ensures.leaves h)
+    line_stops F.honest F.means F.faults c.args.files c.into_files.result (line_of c.args.line.now) c.in-Ok.store c.execute-packed_refs.new.store c.args.line.now.committer refl c.in-Ok.ensures (sym c.into_files.ensures) (c.execute-packed_refs.ensures.leaves h)
