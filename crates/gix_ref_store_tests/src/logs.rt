@@ -394,6 +394,16 @@ fn made(rt: &impl Abort, alloc: Global, texts: Texts) -> Memory {
     memory
 }
 
+/// Each of these files holds its text; an empty text stands for no file.
+fn hold(rt: &impl Abort, memory: &Memory, texts: Texts, meaning: &str) {
+    for (path, text) in texts {
+        assert!(rt;
+            memory.get(path.as_bytes()).unwrap_or(b"") == *text,
+            "{meaning}: {path}"
+        );
+    }
+}
+
 #[test]
 fn files_before_and_after(rt: HostRuntime) {
     let alloc = rt.alloc();
@@ -410,13 +420,7 @@ fn files_before_and_after(rt: HostRuntime) {
         assert_eq!(rt; outcome, row.want, "{}", row.meaning);
         assert_eq!(rt; left, 0usize, "{}", row.meaning);
         let memory = store.into_files();
-        for (path, text) in row.after {
-            assert!(rt;
-                memory.get(path.as_bytes()).unwrap_or(b"") == *text,
-                "{}: {path}",
-                row.meaning
-            );
-        }
+        hold(&rt, &memory, row.after, row.meaning);
         assert!(rt;
             memory.get(b"/r/refs/heads/a.lock").is_none(),
             "no lock is left"
