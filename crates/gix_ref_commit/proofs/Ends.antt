@@ -9,21 +9,22 @@ use Rattle.gix_ref_files.specs.Tree.{Tree, Path, is_file}
 use Rattle.gix_ref_files.specs.Disk.{Disk, Lost}
 use Rattle.gix_ref_files.specs.Files.{Meaning, disk_of, Passes}
 use Rattle.gix_ref_files.specs.Lock.{lock_of}
-use Rattle.gix_ref_files.specs.Settled.{AllStay, IsAllSettled}
+use Rattle.gix_ref_files.specs.Settled.{AllStay, IsAllSettled, IsSettledAt}
 use Rattle.gix_ref_files.specs.Steps.{IsAfter, IsLeftBy, EndsBy}
 use Rattle.gix_ref_files.specs.DiskSteps.{IsReachedBy, IsSyncedAfter}
 use Rattle.gix_ref_files.specs.declared.steps.Cause.{Cause}
 use Rattle.gix_ref_files.proofs.Moments.{passes_joins, passes_weaken}
 use Rattle.gix_ref_files.proofs.Between.{ended_is_begun}
+use Rattle.gix_ref_files.proofs.Settling.{stands_settled}
 use Rattle.gix_ref_theory.specs.Between.{IsEdit}
 use Rattle.gix_ref_theory.specs.Edits.{Edit}
 use Rattle.gix_ref_theory.specs.Edits.Mode.{DeletionsOnly}
 use Rattle.gix_ref_theory.specs.Losses.{IsLostWell}
-use Rattle.gix_ref_theory.specs.OnDisks.{AreWhole, IsWithin, IsSpokenOf}
+use Rattle.gix_ref_theory.specs.OnDisks.{AreWhole, IsAsBefore, IsSettled, IsWithin, IsSpokenOf}
 use Rattle.gix_ref_theory.specs.OnRealTrees.{view_of, file_of, IsCommitRun, IsOldOrNewTree}
 use Rattle.gix_ref_theory.specs.Plan.{plan}
 use Rattle.gix_ref_theory.specs.Readings.{Store}
-use Rattle.gix_ref_theory.specs.Views.{View, Write, IsOwnLock, IsSameButLocks}
+use Rattle.gix_ref_theory.specs.Views.{View, Write, IsOwnLock, IsSameButLocks, after, after_write}
 use Rattle.gix_ref_theory.proofs.Carrying.{after_alike, no_file}
 use Rattle.gix_ref_theory.proofs.Headline as headline
 use Rattle.gix_ref_theory.proofs.LockDisks.{as_before}
@@ -31,6 +32,7 @@ use Rattle.gix_ref_theory.proofs.Locks as locks
 use Rattle.gix_ref_theory.proofs.LossMain.{every_loss_among}
 use Rattle.gix_ref_theory.proofs.OnDisks as runs
 use Rattle.gix_ref_theory.proofs.Plans.{edit_behind, edit_in_front}
+use Rattle.gix_ref_theory.proofs.Reached.{at_end}
 use Rattle.gix_ref_theory.proofs.RunLosses.{run_passes}
 use Rattle.gix_ref_theory.proofs.Trees as trees
 use Rattle.gix_ref_lookup.specs.Lookups.{ArePackedRecords}
@@ -51,7 +53,11 @@ use Rattle.gix_ref_commit.specs.Entries.{Entry, planned_entries, bare, bare_step
 use Rattle.gix_ref_commit.specs.CommittedTrees.{AreCommitted}
 use Rattle.gix_ref_commit.specs.LogEffects.{lines_in, with_lines}
 use Rattle.gix_ref_repack.specs.Repacks.{IsRepack}
+use Rattle.gix_ref_commit.specs.Cleared.{commit_entries, folder_lists}
+use Rattle.gix_ref_commit.specs.declared.folders.InWay.{InWay}
 use Rattle.gix_ref_commit.proofs.Carries as carries
+use Rattle.gix_ref_commit.proofs.Cleared as cleared
+use Rattle.gix_ref_commit.proofs.Cleared.{EachOutside}
 use Rattle.gix_ref_commit.proofs.Gone.{NoFile, AllMiss, gone_after, none_begun, none_is_no_file, still_none, miss_front, plan_misses}
 use Rattle.gix_ref_commit.proofs.Held.{IsReady, AreHeld, held}
 use Rattle.gix_ref_commit.proofs.OwnPlan.{own_plan}
@@ -62,7 +68,7 @@ use Rattle.gix_ref_commit.proofs.Runs as run
 use Rattle.gix_ref_commit.proofs.Runs.{IsText}
 
 module _ (dirs : Dirs) (namespace : Option Namespace) (kind : Kind) (prohibits : Bool) (before : Tree) (D : Disk) (given : List RefEdit) (ran : List Own) (packed : Option Path) (rewrite : Rewrite)
-    (laid : IsLaid (placing.s dirs namespace kind prohibits) kind before D given ran packed) where
+    (ways : List InWay) (out : EachOutside (placing.staying dirs namespace kind prohibits) (folder_lists ways)) (laid : IsLaid (placing.s dirs namespace kind prohibits) kind before D given ran packed) where
   abbrev s : Store
   s = placing.s dirs namespace kind prohibits
 
@@ -80,7 +86,7 @@ module _ (dirs : Dirs) (namespace : Option Namespace) (kind : Kind) (prohibits :
   edits = with_lines given (lines_in ran)
 
   abbrev all_entries : List Entry
-  all_entries = planned_entries dirs ran packed rewrite
+  all_entries = commit_entries dirs ran packed rewrite ways
 
   abbrev texts : View
   texts = placing.texts dirs namespace kind prohibits before D given ran packed rewrite laid
@@ -93,16 +99,18 @@ module _ (dirs : Dirs) (namespace : Option Namespace) (kind : Kind) (prohibits :
   but_locks T U removes path other = ⊎_elim (λ same. ap file_of same) (λ gone. absurd (other (own_all s before given path gone.0))) (removes path)
 
   -- The whole run leaves all settled, whatever `packed-refs` holds.
-  pub settles : (mid now : Meaning) → IsAllSettled D → AllStay D staying → IsSyncedAfter (steps_in all_entries) D (disk_of mid) → OnlyRemoves mine mid now → IsAllSettled (disk_of now) × AllStay (disk_of now) staying
-  settles mid now settled stays done removes =
-      let carry = carries.on_disks locked staying (IsSpokenOf locked D) (λ p own spoken. spoken.0 own) texts (steps_in all_entries) (own_plan (view_of D.tree) ran packed rewrite) (placing.carried dirs namespace kind prohibits before D given ran packed rewrite laid) in
+  pub settles : (mid : Meaning) (E : Disk) → IsAllSettled D → AllStay D staying → IsSyncedAfter (steps_in all_entries) D (disk_of mid) →
+      (IsAsBefore locked staying (disk_of mid) (disk_of mid) → IsAsBefore locked staying (disk_of mid) E) → IsAllSettled E × AllStay E staying
+  settles mid E settled stays done then =
+      let carry = carries.on_disks locked staying (IsSpokenOf locked D) (λ p own spoken. spoken.0 own) texts (steps_in all_entries) (own_plan (view_of D.tree) ran packed rewrite)
+      (cleared.carries locked staying (folder_lists ways) (planned_entries dirs ran packed rewrite) out texts (own_plan (view_of D.tree) ran packed rewrite) (placing.carried dirs namespace kind prohibits before D given ran packed rewrite laid)) in
       let end = runs.settles locked staying texts (steps_in all_entries) (own_plan (view_of D.tree) ran packed rewrite) D (disk_of mid) stays whole settled carry done in
-      rest_kept locked staying (disk_of mid) (disk_of now) end.0
-      (removes locked staying [] (disk_of mid) (λ q within. own_all s before given q within) (as_before locked staying (disk_of mid) end.1)).disk
+      rest_kept locked staying (disk_of mid) E end.0 (then (as_before locked staying (disk_of mid) end.1))
 
   -- Locks that were renamed are gone.
   misses : (q : Path) → AllMiss (lock_of q) all_entries
-  misses q = plan_misses locked staying dirs q ran packed rewrite (placing.are_placed dirs namespace kind prohibits before D given ran packed rewrite laid) (placing.packed_placed dirs namespace kind prohibits before D given ran packed rewrite laid)
+  misses q = cleared.cleared_miss (lock_of q) (folder_lists ways) (planned_entries dirs ran packed rewrite)
+      (plan_misses locked staying dirs q ran packed rewrite (placing.are_placed dirs namespace kind prohibits before D given ran packed rewrite laid) (placing.packed_placed dirs namespace kind prohibits before D given ran packed rewrite laid))
 
   no_file_after : (T U : Tree) (q : Path) → RemovesLocks mine T U → is_file (T q) ≡ false → is_file (U q) ≡ false
   no_file_after T U q removes none = ⊎_elim (λ same. ap is_file same ∙ none) (λ gone. ap is_file gone.1) (removes q)
@@ -124,26 +132,26 @@ module _ (dirs : Dirs) (namespace : Option Namespace) (kind : Kind) (prohibits :
   module _ (ready : IsReady s kind before D.tree given ran) (rs : List Record) (are : ArePackedRecords kind (view_of before s.packed_path) rs) (repack : packed ≢ None → IsRepack s kind rs (planned given) rewrite)
       (text_held : (path : Path) (bytes : List ℕ) → packed ≡ Some path → IsText rewrite bytes → view_of D.tree (lock_of path) ≡ Some bytes) where
     abbrev it_runs : IsCommitRun s DeletionsOnly locked edits before D.tree (bare_steps all_entries)
-    it_runs = run.run dirs namespace kind prohibits before D given ran packed rewrite laid ready rs are repack text_held
+    it_runs = run.run dirs namespace kind prohibits before D given ran packed rewrite ways out laid ready rs are repack text_held
 
     abbrev merged : List Record
-    merged = run.merged dirs namespace kind prohibits before D given ran packed rewrite laid ready rs are repack text_held
+    merged = run.merged dirs namespace kind prohibits before D given ran packed rewrite ways out laid ready rs are repack text_held
 
-    abbrev all_writes : List Write
+    abbrev pub all_writes : List Write
     all_writes = plan s DeletionsOnly (view_of D.tree) edits merged
 
     -- at every stop of the run
     pub stopped : (T : Tree) → IsLeftBy (bare_steps all_entries) D.tree T → IsOldOrNewTree s DeletionsOnly locked edits before T
     stopped T left = trees.left_well s (placing.laws dirs namespace kind prohibits) DeletionsOnly locked edits before D.tree T (bare_steps all_entries) it_runs left
 
-    -- and of the removal of locks behind it
-    pub left_then : (T U : Tree) → IsOldOrNewTree s DeletionsOnly locked edits before T → RemovesLocks mine T U → IsOldOrNewTree s DeletionsOnly locked edits before U
-    left_then T U well removes =
+    -- and behind it, where nothing but own locks and folders changes
+    pub left_then : (T U : Tree) → IsOldOrNewTree s DeletionsOnly locked edits before T → IsSameButLocks locked (view_of U) (view_of T) → IsOldOrNewTree s DeletionsOnly locked edits before U
+    left_then T U well alike =
         let laws' = placing.laws dirs namespace kind prohibits in
-        let apart = run.edits_are dirs namespace kind prohibits before D given ran packed rewrite laid ready in record {
-          between = locks.between s laws' DeletionsOnly locked (view_of before) edits apart (view_of T) (view_of U) (but_locks T U removes) well.between;
-          no_deletion_first = λ keeps. locks.no_deletion_first s laws' DeletionsOnly locked (view_of before) edits apart (view_of T) (view_of U) (but_locks T U removes) (well.no_deletion_first keeps);
-          in_order = λ keeps. locks.in_order s laws' DeletionsOnly locked (view_of before) edits apart (view_of T) (view_of U) (but_locks T U removes) (well.in_order keeps)
+        let apart = run.edits_are dirs namespace kind prohibits before D given ran packed rewrite ways out laid ready in record {
+          between = locks.between s laws' DeletionsOnly locked (view_of before) edits apart (view_of T) (view_of U) alike well.between;
+          no_deletion_first = λ keeps. locks.no_deletion_first s laws' DeletionsOnly locked (view_of before) edits apart (view_of T) (view_of U) alike (well.no_deletion_first keeps);
+          in_order = λ keeps. locks.in_order s laws' DeletionsOnly locked (view_of before) edits apart (view_of T) (view_of U) alike (well.in_order keeps)
               (λ seen u later all. subst (IsEdit u) all (edit_behind seen u later))
               (λ x u seen later all he. subst (IsEdit x) all (edit_in_front x seen (u ∷ later) he));
         }
@@ -161,12 +169,12 @@ module _ (dirs : Dirs) (namespace : Option Namespace) (kind : Kind) (prohibits :
         (any_cases (λ r. bytes_eq r q) (packed_locks s before given) (locks_of s given) within)
 
     -- the whole run commits
-    pub commits : (mid now : Tree) (left : List Path) → IsAfter (bare_steps all_entries) D.tree mid → RemovesLocks mine mid now →
+    pub commits : (mid now : Tree) (left : List Path) → IsAfter (bare_steps all_entries) D.tree mid → IsSameButLocks locked (view_of now) (view_of mid) →
         ((q : Path) → is_in mine q ≡ true → is_in left q ≡ false → is_file (now q) ≡ false) → AreCommitted s given (lines_in ran) before left now
-    commits mid now left after removes gone staying' cover =
-        headline.committed s (placing.laws dirs namespace kind prohibits) DeletionsOnly locked staying' edits merged (view_of before) (view_of D.tree) (view_of now) (run.prepared dirs namespace kind prohibits before D given ran packed rewrite laid ready rs are repack text_held) (run.alike dirs namespace kind prohibits before D given ran packed rewrite laid ready)
-        (λ path other. but_locks mid now removes path other
-        ∙ after_alike locked (bare_steps all_entries) all_writes D.tree mid (view_of D.tree) (view_of D.tree) (record { at = λ q. refl }) (λ q m. refl) (run.on_tree dirs namespace kind prohibits before D given ran packed rewrite laid ready rs are repack text_held) after path other)
+    commits mid now left after alike gone staying' cover =
+        headline.committed s (placing.laws dirs namespace kind prohibits) DeletionsOnly locked staying' edits merged (view_of before) (view_of D.tree) (view_of now) (run.prepared dirs namespace kind prohibits before D given ran packed rewrite ways out laid ready rs are repack text_held) (run.alike dirs namespace kind prohibits before D given ran packed rewrite ways out laid ready)
+        (λ path other. alike path other
+        ∙ after_alike locked (bare_steps all_entries) all_writes D.tree mid (view_of D.tree) (view_of D.tree) (record { at = λ q. refl }) (λ q m. refl) (run.on_tree dirs namespace kind prohibits before D given ran packed rewrite ways out laid ready rs are repack text_held) after path other)
         (λ path own out.
         let within = owned_all s before given path own in
         no_file (now path) (gone path within (is_false (is_in left path) (λ h. out (cover path h)))) ∙ sym (ap file_of (all_free path within)))
@@ -174,12 +182,28 @@ module _ (dirs : Dirs) (namespace : Option Namespace) (kind : Kind) (prohibits :
     -- Losses of power on the way.
     pub lost_well : IsAllSettled D → (E : Disk) (T : Tree) → IsWithin (IsSpokenOf locked D) all_writes (view_of D.tree) E → Lost E T → IsLostWell s DeletionsOnly locked edits D before T
     lost_well settled E T within lost =
-        every_loss_among s (placing.laws dirs namespace kind prohibits) DeletionsOnly locked edits merged before T D E settled (run.prepared dirs namespace kind prohibits before D given ran packed rewrite laid ready rs are repack text_held) (run.alike dirs namespace kind prohibits before D given ran packed rewrite laid ready) within lost
+        every_loss_among s (placing.laws dirs namespace kind prohibits) DeletionsOnly locked edits merged before T D E settled (run.prepared dirs namespace kind prohibits before D given ran packed rewrite ways out laid ready rs are repack text_held) (run.alike dirs namespace kind prohibits before D given ran packed rewrite ways out laid ready) within lost
+
+    end_within : (Counts : Path → Type 0) (writes : List Write) (view : View) (E : Disk) → IsSettled Counts (after writes view) E → IsWithin Counts writes view E
+    end_within Counts [] view E settled = settled
+    end_within Counts (write ∷ writes) view E settled = inr (end_within Counts writes (after_write write view) E settled)
+
+    -- behind the whole run, where all is as it left it but for own locks
+    pub within_end : (mid E : Disk) → AllStay D staying → IsSyncedAfter (steps_in all_entries) D mid → IsAsBefore locked staying mid E → IsWithin (IsSpokenOf locked D) all_writes (view_of D.tree) E
+    within_end mid E stays done same =
+        let on = run.on_disk dirs namespace kind prohibits before D given ran packed rewrite ways out laid ready rs are repack text_held in
+        let end = at_end (IsSpokenOf locked D) staying (steps_in all_entries) all_writes texts (view_of D.tree) D mid (record { files = λ q counts. counts.1; stays = stays; whole = whole }) on done in
+        end_within (IsSpokenOf locked D) all_writes (view_of D.tree) E
+        (λ q counts.
+        let file : Option (List ℕ) = after all_writes (view_of D.tree) q in
+        let here : IsSettledAt mid file q = end.1.files q counts in
+        let is : view_of mid.tree q ≡ file = stands_settled mid file q here in
+        subst (λ (f : Option (List ℕ)). IsSettledAt E f q) is (same.0 q (counts.0, subst (λ (f : Option (List ℕ)). IsSettledAt mid f q) (sym is) here)))
 
     pub within_run : (first mid now : Meaning) → disk_of first ≡ D → AllStay D staying → Passes first mid (IsReachedBy (steps_in all_entries) (disk_of first)) → OnlyRemoves mine mid now →
         Passes first now (IsWithin (IsSpokenOf locked D) all_writes (view_of D.tree))
     within_run first mid now is stays passes removes =
-        let on = run.on_disk dirs namespace kind prohibits before D given ran packed rewrite laid ready rs are repack text_held in
+        let on = run.on_disk dirs namespace kind prohibits before D given ran packed rewrite ways out laid ready rs are repack text_held in
         let inside : Passes first mid (IsWithin (IsSpokenOf locked D) all_writes (view_of D.tree)) =
         passes_weaken passes (λ E reached. runs.within locked staying texts (steps_in all_entries) all_writes D E stays whole on (subst (λ (d : Disk). IsReachedBy (steps_in all_entries) d E) is reached)) in
         passes_joins inside (passes_weaken (removes locked [] all_writes D (λ q within. own_all s before given q within) (inside.disk, tt)) (λ E among. among.0))

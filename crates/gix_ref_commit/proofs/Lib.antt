@@ -1,6 +1,8 @@
 pub mod Alike
 pub mod Carries
 pub mod Carrying
+pub mod Cleared
+pub mod Clearing
 pub mod Endings
 pub mod Ends
 mod Filling
@@ -15,3 +17,6 @@ pub mod PlanRuns
 pub mod Renamed
 pub mod Runs
 pub mod Shapes
+pub mod Tidying
+pub mod Unlisted
+pub mod Walking

@@ -38,13 +38,13 @@ has_right lock [] b h = h
 has_right lock (e ∷ a) b h = inr (has_right lock a b h)
 
 -- an element of two lists is in one of them
-abbrev IsInFirst : (xs ys before : List Entry) → Entry → List Entry → Type 0
+abbrev pub IsInFirst : (xs ys before : List Entry) → Entry → List Entry → Type 0
 IsInFirst xs ys before x rest = (mid : List Entry) × (xs ≡ before ++ x ∷ mid)
 
-abbrev IsInSecond : (xs ys before : List Entry) → Entry → List Entry → Type 0
+abbrev pub IsInSecond : (xs ys before : List Entry) → Entry → List Entry → Type 0
 IsInSecond xs ys before x rest = (mid : List Entry) × (before ≡ xs ++ mid) × (ys ≡ mid ++ x ∷ rest)
 
-either_list : (xs ys before : List Entry) (x : Entry) (rest : List Entry) → xs ++ ys ≡ before ++ x ∷ rest → IsInFirst xs ys before x rest ⊎ IsInSecond xs ys before x rest
+pub either_list : (xs ys before : List Entry) (x : Entry) (rest : List Entry) → xs ++ ys ≡ before ++ x ∷ rest → IsInFirst xs ys before x rest ⊎ IsInSecond xs ys before x rest
 either_list [] ys before x rest is = inr (before, refl, is)
 either_list (y ∷ xs) ys [] x rest is = inl (xs, ap (λ (e : Entry). e ∷ xs) (parts is).0)
   where

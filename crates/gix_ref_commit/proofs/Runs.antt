@@ -55,7 +55,12 @@ use Rattle.gix_ref_files.specs.Steps.{Step}
 use Rattle.gix_ref_commit.specs.Entries.{Entry, planned_entries, bare_steps, steps_in, bare}
 use Rattle.gix_ref_commit.specs.LogEffects.{IsLogOf, edit_with, line_in, lines_in, with_lines}
 use Rattle.gix_ref_repack.specs.Repacks.{IsRepack, IsNewPacked}
+use Rattle.gix_ref_commit.specs.Cleared.{commit_entries, folder_lists}
+use Rattle.gix_ref_commit.specs.declared.folders.InWay.{InWay}
 use Rattle.gix_ref_commit.proofs.Carries as carries
+use Rattle.gix_ref_commit.proofs.Carries.{Carries}
+use Rattle.gix_ref_commit.proofs.Cleared as cleared
+use Rattle.gix_ref_commit.proofs.Cleared.{EachOutside}
 use Rattle.gix_ref_commit.proofs.Held.{IsReady, IsHeld, AreHeld, held, held_at, edits_apart}
 use Rattle.gix_ref_commit.proofs.Lined.{alters_lined, apart_lined, repack_lined}
 use Rattle.gix_ref_commit.proofs.OwnPlan.{line_written, log_removed, file_put, file_removed, packed_written, own_plan, IsAsPlanned, AreAsPlanned, plan_is}
@@ -124,7 +129,7 @@ module _ (s : Store) (T : Tree) where
       there false is some = absurd (some (no_file is))
 
 module _ (dirs : Dirs) (namespace : Option Namespace) (kind : Kind) (prohibits : Bool) (before : Tree) (D : Disk) (given : List RefEdit) (ran : List Own) (packed : Option Path) (rewrite : Rewrite)
-    (laid : IsLaid (placing.s dirs namespace kind prohibits) kind before D given ran packed) (ready : IsReady (placing.s dirs namespace kind prohibits) kind before D.tree given ran) where
+    (ways : List InWay) (out : EachOutside (placing.staying dirs namespace kind prohibits) (folder_lists ways)) (laid : IsLaid (placing.s dirs namespace kind prohibits) kind before D given ran packed) (ready : IsReady (placing.s dirs namespace kind prohibits) kind before D.tree given ran) where
   abbrev pub s : Store
   s = placing.s dirs namespace kind prohibits
 
@@ -378,19 +383,30 @@ module _ (dirs : Dirs) (namespace : Option Namespace) (kind : Kind) (prohibits :
     pub plan_are : plan s DeletionsOnly view edits merged ≡ own_plan view ran packed rewrite
     plan_are = plan_is s DeletionsOnly view view edits merged ran packed rewrite (all_planned given ran laid.references hold) planned_packed.1.writes
 
-    -- its steps carry the plan out, on its tree
-    pub on_tree : tree.CarryOut locked view (bare_steps (planned_entries dirs ran packed rewrite)) (plan s DeletionsOnly view edits merged)
-    on_tree = subst (λ (steps : List Step). tree.CarryOut locked view steps (plan s DeletionsOnly view edits merged)) (bares (planned_entries dirs ran packed rewrite))
-        (subst (λ (ws : List Write). tree.CarryOut locked view (map bare (steps_in (planned_entries dirs ran packed rewrite))) ws) (sym plan_are)
-        (carries.on_trees locked (placing.staying dirs namespace kind prohibits) (placing.texts dirs namespace kind prohibits before D given ran packed rewrite laid) view (steps_in (planned_entries dirs ran packed rewrite)) (own_plan view ran packed rewrite)
-        (placing.texts_in dirs namespace kind prohibits before D given ran packed rewrite laid) (placing.carried dirs namespace kind prohibits before D given ran packed rewrite laid)))
+    abbrev all_entries : List Entry
+    all_entries = commit_entries dirs ran packed rewrite ways
 
-    pub run : IsCommitRun s DeletionsOnly locked edits before D.tree (bare_steps (planned_entries dirs ran packed rewrite))
+    abbrev staying : List Path
+    staying = placing.staying dirs namespace kind prohibits
+
+    abbrev texts : View
+    texts = placing.texts dirs namespace kind prohibits before D given ran packed rewrite laid
+
+    carried : Carries locked staying texts (steps_in all_entries) (own_plan view ran packed rewrite)
+    carried = cleared.carries locked staying (folder_lists ways) (planned_entries dirs ran packed rewrite) out texts (own_plan view ran packed rewrite)
+        (placing.carried dirs namespace kind prohibits before D given ran packed rewrite laid)
+
+    -- its steps carry the plan out, on its tree
+    pub on_tree : tree.CarryOut locked view (bare_steps all_entries) (plan s DeletionsOnly view edits merged)
+    on_tree = subst (λ (steps : List Step). tree.CarryOut locked view steps (plan s DeletionsOnly view edits merged)) (bares all_entries)
+        (subst (λ (ws : List Write). tree.CarryOut locked view (map bare (steps_in all_entries)) ws) (sym plan_are)
+        (carries.on_trees locked staying texts view (steps_in all_entries) (own_plan view ran packed rewrite)
+        (placing.texts_in dirs namespace kind prohibits before D given ran packed rewrite laid) carried))
+
+    pub run : IsCommitRun s DeletionsOnly locked edits before D.tree (bare_steps all_entries)
     run = record { merged = merged; prepared = prepared; locks = alike; steps_are_planned = on_tree }
 
     -- and so on its disk
-    pub on_disk : disk.CarryOut (IsSpokenOf locked D) (placing.staying dirs namespace kind prohibits) (placing.texts dirs namespace kind prohibits before D given ran packed rewrite laid)
-        (steps_in (planned_entries dirs ran packed rewrite)) (plan s DeletionsOnly view edits merged)
-    on_disk = subst (λ (ws : List Write). disk.CarryOut (IsSpokenOf locked D) (placing.staying dirs namespace kind prohibits) (placing.texts dirs namespace kind prohibits before D given ran packed rewrite laid) (steps_in (planned_entries dirs ran packed rewrite)) ws) (sym plan_are)
-        (carries.on_disks locked (placing.staying dirs namespace kind prohibits) (IsSpokenOf locked D) (λ p own spoken. spoken.0 own) (placing.texts dirs namespace kind prohibits before D given ran packed rewrite laid) (steps_in (planned_entries dirs ran packed rewrite)) (own_plan view ran packed rewrite)
-        (placing.carried dirs namespace kind prohibits before D given ran packed rewrite laid))
+    pub on_disk : disk.CarryOut (IsSpokenOf locked D) staying texts (steps_in all_entries) (plan s DeletionsOnly view edits merged)
+    on_disk = subst (λ (ws : List Write). disk.CarryOut (IsSpokenOf locked D) staying texts (steps_in all_entries) ws) (sym plan_are)
+        (carries.on_disks locked staying (IsSpokenOf locked D) (λ p own spoken. spoken.0 own) texts (steps_in all_entries) (own_plan view ran packed rewrite) carried)

@@ -1,10 +1,12 @@
 -- What a commit reports that ended early.
-use Rattle.std.specs.Prelude.{◌≡◌, ℕ, List, [], Some, None, get_or}
+use Rattle.std.specs.Prelude.{◌≡◌, ◌≢◌, ◌<◌, ℕ, List, [], Some, None, get_or, length}
 use Rattle.gix_ref_name.specs.Names.{full_bytes}
 use Rattle.gix_ref_name.specs.declared.name.FullName.{FullName}
 use Rattle.gix_ref_files.specs.Disk.{folder_of}
 use Rattle.gix_ref_files.specs.Tree.{Path}
+use Rattle.gix_ref_files.specs.Files.{HasRisen}
 use Rattle.gix_ref_files.specs.declared.files.FileError.{FileError}
+use Rattle.gix_ref_files.specs.declared.files.FileError.TheVariants.{Memory as no_want}
 use Rattle.gix_ref_files.specs.declared.steps.Cause.TheVariants.{File, Unexpected, Asked}
 use Rattle.gix_ref_edits.specs.declared.transaction.RefEdit.{RefEdit}
 use Rattle.gix_ref_lines.specs.declared.create_or_update.Error.{Error as LogError}
@@ -14,6 +16,10 @@ use Rattle.gix_ref_lines.specs.declared.error.Error.TheVariants as lines
 use Rattle.gix_ref_repack.specs.declared.error.Error.{Error as RepackError}
 use Rattle.gix_ref_repack.specs.declared.error.Error.TheVariants as repack
 use Rattle.gix_ref_transaction.specs.Causes.{names_of}
+use Rattle.gix_ref_transaction.specs.CommitRenames.{log_at, path_in}
+use Rattle.gix_ref_transaction.specs.PrepareSteps.{updates}
+use Rattle.gix_ref_transaction.specs.declared.edit.Edit.{Edit}
+use Rattle.gix_ref_commit.specs.LogEffects.{line_in}
 use Rattle.gix_ref_commit.specs.Entries.{IsOfEdit}
 use Rattle.gix_ref_commit.specs.declared.error.Error.{Error}
 use Rattle.gix_ref_commit.specs.declared.error.Error.TheVariants.{CreateOrUpdateRefLog, PackedTransactionCommit, LockCommit, DeleteReference, DeleteReflog, FolderInPlace, Memory}
@@ -86,3 +92,42 @@ of_repack repack.Memory = Memory
 of_repack (repack.Commit error) = PackedTransactionCommit (repack.Commit error)
 of_repack (repack.Iteration line) = PackedTransactionCommit (repack.Iteration line)
 of_repack (repack.Io error) = PackedTransactionCommit (repack.Io error)
+
+-- a folder in the way of the step about this can be one that could not be listed: it is a step that writes a file
+abbrev pub IsWriteOf : List Edit → About → Type 0
+IsWriteOf edits (Line at) = (at < length edits) × (line_in (log_at edits at) ≢ None)
+IsWriteOf edits (Rename at) = at < length edits
+IsWriteOf edits Packed = Unit {0}
+IsWriteOf edits other = ⊥
+
+-- and so for a search that ended at a step
+abbrev pub AllWrite : List Edit → Unfinished → Type 0
+AllWrite edits no_memory = Unit {0}
+AllWrite edits (Step about cause) = IsWriteOf edits about
+
+-- The error of a write, in whose way a folder could not be listed.
+abbrev pub SaysUnlisted : List Edit → About → FileError → Error → Type 0
+SaysUnlisted edits (Line at) fault (CreateOrUpdateRefLog (Append source path)) = (source ≡ fault) × (path.items ≡ path_in (log_at edits at))
+SaysUnlisted edits (Rename at) fault (LockCommit source name) = (source ≡ fault) × IsNameAt (updates edits) at name
+SaysUnlisted edits Packed fault (PackedTransactionCommit error) = error ≡ repack.Io fault
+SaysUnlisted edits about fault error = ⊥
+
+-- and of a search that ended; or memory was refused
+abbrev pub SaysWhyUnlisted : List Edit → Unfinished → Error → Type 0
+SaysWhyUnlisted edits unfinished Memory = Unit {0}
+SaysWhyUnlisted edits no_memory error = ⊥
+SaysWhyUnlisted edits (Step about (File fault)) error = SaysUnlisted edits about fault error
+SaysWhyUnlisted edits (Step about cause) error = ⊥
+
+-- a call of files failed, for another reason than a want of memory
+abbrev IsFaultOf : (before now : ℕ) → FileError → Type 0
+IsFaultOf before now fault = HasRisen before now × (fault ≢ no_want)
+
+-- Why no folder was listed: a call of files failed, and the error is that of a write of these edits; or memory was refused.
+abbrev pub IsOfListing : List Edit → (before now : ℕ) → Error → Type 0
+IsOfListing edits before now Memory = Unit {0}
+IsOfListing edits before now (CreateOrUpdateRefLog (Append source path)) =
+    IsFaultOf before now source × ((at : ℕ) × (at < length edits) × (line_in (log_at edits at) ≢ None) × (path.items ≡ path_in (log_at edits at)))
+IsOfListing edits before now (LockCommit source name) = IsFaultOf before now source × ((at : ℕ) × (at < length edits) × IsNameAt (updates edits) at name)
+IsOfListing edits before now (PackedTransactionCommit (repack.Io source)) = IsFaultOf before now source
+IsOfListing edits before now other = ⊥

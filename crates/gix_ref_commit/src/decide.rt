@@ -1,7 +1,9 @@
 //! What a commit decides of `packed-refs` before its first write.
 ghost use Rattle.std.specs.Prelude.{◌≡◌, ◌≢◌, ◌≤◌, List, [], ◌∷◌, None, Some, OnOk, IfOk, IfErr, map};
 ghost use Rattle.gix_ref_base.specs.PackedRecords.{Record};
-ghost use Rattle.gix_ref_files.specs.Files.{disk_of, Leaves};
+ghost use Rattle.gix_ref_files.specs.Calls.{Unchanged};
+ghost use Rattle.gix_ref_files.specs.DiskCalls.{Untouched};
+ghost use Rattle.gix_ref_files.specs.Files.{disk_of, Leaves, Passes};
 ghost use Rattle.gix_ref_files.specs.Lock.{lock_of};
 ghost use Rattle.gix_ref_files.specs.Tree.{Path};
 ghost use Rattle.gix_ref_files.specs.Tree.Content.{File};
@@ -13,11 +15,19 @@ ghost use Rattle.gix_ref_transaction.specs.PackedCauses.{ids_among};
 ghost use Rattle.gix_ref_transaction.specs.PrepareSteps.{setting_of, updates, ids_in, packed_places, AreEmpty, AreWholeLocks, FillsLock};
 ghost use Rattle.gix_ref_repack.specs.Refusals.{IsCounted, IsIoOrMemory, IsRefused};
 ghost use Rattle.gix_ref_repack.specs.Repacks.{IsRepack};
+ghost use Rattle.gix_ref_commit.specs.Cleared.{AllInWay, folder_lists};
 ghost use Rattle.gix_ref_commit.specs.Decided.{FillsPacked, IsFilled};
+ghost use Rattle.gix_ref_commit.specs.Entries.{planned_entries};
+ghost use Rattle.gix_ref_commit.specs.Failures.{IsOfListing};
 
+use crate::error as commit;
+use crate::failure::unlisted;
 use crate::fill::fill;
+use crate::folders::{InWay, all_in_way};
+use crate::plan::plan_commit;
 use gix_ref_files::files::Files;
 use gix_ref_files::lock::LockFile;
+use gix_ref_lookup::folders::Dirs;
 use gix_ref_lookup::settings::Settings;
 use gix_ref_repack::error::Error;
 use gix_ref_repack::repack::repack;
@@ -128,5 +138,35 @@ pub fn decide_packed<F: Files>(
             let rewrite = rewrite_packed(alloc, files, settings, edits, lock)?;
             Ok(NewPacked { rewrite, path })
         }
+    }
+}
+
+/// The folders that are in the way of what a commit writes, whose logs and `packed-refs` are decided: before each step of its plan those that
+/// are removed first. No file changes.
+pub fn decide_folders<F: Files>(
+    alloc: Global,
+    files: &mut F,
+    dirs: &Dirs,
+    edits: &[Edit],
+    packed: &Option<LockFile>,
+    rewrite: &Rewrite,
+) -> Result<Vec<InWay>, commit::Error>
+    ensures in_way { F.honest → IfOk result (λ ways. AllInWay dirs.now (F.means files.old).tree
+        (folder_lists ways.items)
+        (planned_entries dirs.now edits.now packed.now rewrite.now)) }
+    ensures failed { IfErr result (IsOfListing edits.now (F.faults files.old)
+        (F.faults files.new)) }
+    ensures leaves { F.honest → Leaves (F.means files.old) (F.means files.new)
+        (Unchanged (F.means files.old).tree) }
+    ensures passes { F.honest → Passes (F.means files.old) (F.means files.new)
+        (Untouched (disk_of (F.means files.old))) }
+    ensures no_fewer { F.faults files.old ≤ F.faults files.new }
+{
+    let Ok(plan) = plan_commit(alloc, dirs, edits, packed, rewrite) else {
+        return Err(commit::Error::Memory);
+    };
+    match all_in_way(alloc, files, dirs, &plan) {
+        Ok(ways) => Ok(ways),
+        Err(unfinished) => Err(unlisted(alloc, edits, unfinished)),
     }
 }

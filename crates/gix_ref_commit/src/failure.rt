@@ -1,8 +1,9 @@
 //! What a commit reports that ended early.
-ghost use Rattle.std.specs.Prelude.{◌≡◌, ◌<◌, ℕ, vec_len, if◌then◌else◌, None, Some};
+ghost use Rattle.std.specs.Prelude.{◌≡◌, ◌<◌, ℕ, IfOk, vec_len, if◌then◌else◌, None, Some};
+ghost use Rattle.gix_ref_transaction.specs.CommitRenames.{path_in};
 ghost use Rattle.gix_ref_commit.specs.Entries.{done_of, packed_done, IsOfEdit};
 ghost use Rattle.gix_ref_commit.specs.Entries.{renames_packed};
-ghost use Rattle.gix_ref_commit.specs.Failures.{SaysWhy, SaysFault, SaysFile, SaysInWay, SaysLogFault, AllOfEdits, of_lines, of_repack};
+ghost use Rattle.gix_ref_commit.specs.Failures.{SaysWhy, SaysFault, SaysFile, SaysInWay, SaysLogFault, SaysUnlisted, SaysWhyUnlisted, AllOfEdits, AllWrite, IsWriteOf, of_lines, of_repack};
 ghost use Rattle.gix_ref_commit.specs.declared.plan.About.TheVariants.{Folders};
 ghost use Rattle.gix_ref_files.specs.Disk.{folder_of};
 
@@ -16,6 +17,8 @@ use gix_ref_files::steps::Cause;
 use gix_ref_lines::create_or_update;
 use gix_ref_lines::logs::folder_end;
 use gix_ref_rewrite::outcome::Rewrite;
+use gix_ref_transaction::edit::{Edit, LogEffect};
+use std::alloc::{AllocError, Global};
 
 impl Unfinished {
     /// How many edits, from the first of n on, have the locks renamed that are written.
@@ -178,5 +181,62 @@ pub fn undecided(error: gix_ref_repack::error::Error) -> Error
     match error {
         gix_ref_repack::error::Error::Memory => Error::Memory,
         error => Error::PackedTransactionCommit(error),
+    }
+}
+
+/// The path of the log of an edit that changes it.
+fn log_path(alloc: Global, log: &LogEffect) -> Result<Vec<u8>, AllocError>
+    ensures { IfOk result (λ path. path.items ≡ path_in log.now) }
+{
+    match log {
+        LogEffect::Append { log, .. } | LogEffect::Remove { log } => log.as_slice().to_vec(alloc),
+        LogEffect::Keep => Ok(Vec::new(alloc)),
+    }
+}
+
+/// The error of a step, in whose way a folder could not be listed: that of the write.
+fn unlisted_step(
+    alloc: Global,
+    edits: &[Edit],
+    about: About,
+    source: FileError,
+) -> Result<Error, AllocError>
+    requires { IsWriteOf edits.now about }
+    ensures { IfOk result (SaysUnlisted edits.now about source) }
+{
+    match about {
+        About::Line { edit } => {
+            let reflog_path = log_path(alloc, &edits[edit].log)?;
+            Ok(Error::CreateOrUpdateRefLog(create_or_update::Error::Append {
+                source,
+                reflog_path,
+            }))
+        }
+        About::Rename { edit } => {
+            let full_name = edits[edit].update.name.as_ref().to_owned(alloc)?;
+            Ok(Error::LockCommit { source, full_name })
+        }
+        About::Packed => Ok(Error::PackedTransactionCommit(gix_ref_repack::error::Error::Io(
+            source,
+        ))),
+        About::Folders { .. } | About::LogRemoval { .. } | About::Removal { .. } => unreachable!(),
+    }
+}
+
+/// The error of a commit that could not list a folder in the way of one of its writes.
+pub fn unlisted(alloc: Global, edits: &[Edit], unfinished: Unfinished) -> Error
+    requires { AllWrite edits.now unfinished }
+    ensures { SaysWhyUnlisted edits.now unfinished result }
+{
+    let Unfinished::Step {
+        about,
+        cause: Cause::File(source),
+    } = unfinished
+    else {
+        return Error::Memory;
+    };
+    match unlisted_step(alloc, edits, about, source) {
+        Ok(error) => error,
+        Err(_) => Error::Memory,
     }
 }

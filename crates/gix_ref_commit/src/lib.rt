@@ -6,5 +6,7 @@ pub mod decide;
 pub mod error;
 pub mod failure;
 pub mod fill;
+pub mod folders;
 pub mod plan;
 pub mod run;
+pub mod tidy;

@@ -3,9 +3,11 @@ ghost use Rattle.std.specs.Prelude.{◌≡◌, ◌≤◌, ◌<◌, OnOk, IfErr, 
 ghost use Rattle.gix_ref_files.specs.Files.{Leaves, Passes, disk_of};
 ghost use Rattle.gix_ref_files.specs.Steps.{IsAfter, IsLeftBy};
 ghost use Rattle.gix_ref_files.specs.DiskSteps.{IsReachedBy, IsSyncedAfter};
-ghost use Rattle.gix_ref_commit.specs.Entries.{planned_entries, bare_steps, steps_in};
+ghost use Rattle.gix_ref_commit.specs.Cleared.{commit_entries};
+ghost use Rattle.gix_ref_commit.specs.Entries.{bare_steps, steps_in};
 ghost use Rattle.gix_ref_commit.specs.Unfinished.{EndsIn, IsStepAt, IsRaised};
 
+use crate::folders::{InWay, clear};
 use crate::plan::{About, plan_commit};
 use gix_ref_files::files::{FileError, Files};
 use gix_ref_files::lock::LockFile;
@@ -40,8 +42,8 @@ fn step_of_end(plan: &[Planned<'_, About>], ended: Ended) -> Unfinished
     }
 }
 
-/// Plans the steps of a commit and runs them, up to the first that fails or finds something in its way. Takes memory for the
-/// plan alone, before the first step. (`commit` of `git update-ref --stdin`)
+/// Plans the steps of a commit, each behind the removals of the folders that are in its way, and runs them, up to the first that fails or
+/// finds something in its way. Takes memory for the plan alone, before the first step. (`commit` of `git update-ref --stdin`)
 pub fn run_plan<F: Files>(
     alloc: Global,
     files: &mut F,
@@ -49,22 +51,27 @@ pub fn run_plan<F: Files>(
     edits: &[Edit],
     packed: &Option<LockFile>,
     rewrite: &Rewrite,
+    ways: &[InWay],
 ) -> Result<(), Unfinished>
     ensures done { F.honest → OnOk result
-        (IsAfter (bare_steps (planned_entries dirs.now edits.now packed.now rewrite.now))
+        (IsAfter (bare_steps
+        (commit_entries dirs.now edits.now packed.now rewrite.now ways.now))
         (F.means files.old).tree (F.means files.new).tree) }
     ensures synced { F.honest → OnOk result
-        (IsSyncedAfter (steps_in (planned_entries dirs.now edits.now packed.now rewrite.now))
+        (IsSyncedAfter (steps_in
+        (commit_entries dirs.now edits.now packed.now rewrite.now ways.now))
         (disk_of (F.means files.old)) (disk_of (F.means files.new))) }
     ensures leaves { F.honest → Leaves (F.means files.old) (F.means files.new)
-        (IsLeftBy (bare_steps (planned_entries dirs.now edits.now packed.now rewrite.now))
+        (IsLeftBy (bare_steps
+        (commit_entries dirs.now edits.now packed.now rewrite.now ways.now))
         (F.means files.old).tree) }
     ensures passes { F.honest → Passes (F.means files.old) (F.means files.new)
-        (IsReachedBy (steps_in (planned_entries dirs.now edits.now packed.now rewrite.now))
+        (IsReachedBy (steps_in
+        (commit_entries dirs.now edits.now packed.now rewrite.now ways.now))
         (disk_of (F.means files.old))) }
     ensures memory { IfErr result (λ e. e ≡ Unfinished.Memory → files.new ≡ files.old) }
     ensures ended { IfErr result
-        (EndsIn F.honest (planned_entries dirs.now edits.now packed.now rewrite.now)
+        (EndsIn F.honest (commit_entries dirs.now edits.now packed.now rewrite.now ways.now)
         (F.means files.old).tree (F.means files.new).tree) }
     ensures no_fewer { F.faults files.old ≤ F.faults files.new }
     ensures counted { IfErr result (IsRaised (F.faults files.old) (F.faults files.new)) }
@@ -72,8 +79,11 @@ pub fn run_plan<F: Files>(
     let Ok(plan) = plan_commit(alloc, dirs, edits, packed, rewrite) else {
         return Err(Unfinished::Memory);
     };
-    match run_steps(files, &plan) {
+    let Ok(steps) = clear(alloc, &plan, ways) else {
+        return Err(Unfinished::Memory);
+    };
+    match run_steps(files, &steps) {
         Ok(()) => Ok(()),
-        Err(ended) => Err(step_of_end(&plan, ended)),
+        Err(ended) => Err(step_of_end(&steps, ended)),
     }
 }

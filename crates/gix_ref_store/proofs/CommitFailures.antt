@@ -7,7 +7,8 @@ use Rattle.gix_ref_files.specs.Files.{Meaning, HasRisen, Passes, disk_of}
 use Rattle.gix_ref_files.proofs.Moments.{passes_joins, passes_weaken}
 use Rattle.gix_ref_theory.specs.OnDisks.{IsAsBefore}
 use Rattle.gix_ref_files.specs.Lock.{lock_of}
-use Rattle.gix_ref_files.specs.Tree.{Tree, Path, Content, is_file, is_folder, put}
+use Rattle.gix_ref_files.specs.Steps.{Step}
+use Rattle.gix_ref_files.specs.Tree.{Tree, Path, Content, IsEmptyFolder, is_file, is_folder, put}
 use Rattle.gix_ref_files.specs.Tree.Content.{File, Folder}
 use Rattle.gix_ref_files.specs.declared.files.FileError.{FileError}
 use Rattle.gix_ref_files.specs.declared.steps.Cause.{Cause}
@@ -36,8 +37,9 @@ use Rattle.gix_ref_transaction.specs.declared.edit.Edit.{Edit}
 use Rattle.gix_ref_transaction.proofs.Adds.{any_cases, any_left, any_right, clash, in_here}
 use Rattle.gix_ref_repack.specs.declared.error.Error.{Error as RepackError}
 use Rattle.gix_ref_repack.specs.declared.error.Error.TheVariants as repack
+use Rattle.gix_ref_commit.specs.Cleared.{AllInWay, AreInWayOf, HoldsMore, commit_entries, folder_lists, written_at}
 use Rattle.gix_ref_commit.specs.Decided.{FillsPacked, IsFilled}
-use Rattle.gix_ref_commit.specs.Entries.{bare, done_before, done_of, planned_entries, IsOfEdit}
+use Rattle.gix_ref_commit.specs.Entries.{Entry, bare, done_before, done_of, planned_entries, IsOfEdit}
 use Rattle.gix_ref_base.specs.PackedRecords.{Record}
 use Rattle.gix_ref_lookup.specs.Lookups.{ArePackedRecords}
 use Rattle.gix_ref_theory.specs.Between.{AreEdits}
@@ -46,20 +48,23 @@ use Rattle.gix_ref_transaction.specs.CommittedEdits.{planned}
 use Rattle.gix_ref_transaction.specs.PackedCauses.{ids_among}
 use Rattle.gix_ref_repack.specs.Refusals.{IsCounted, IsIoOrMemory, IsRefused}
 use Rattle.gix_ref_repack.specs.Repacks.{IsRepack}
-use Rattle.gix_ref_commit.specs.Failures.{AllOfEdits, IsNameAt, SaysFault, SaysFile, SaysInWay, SaysLogFault, SaysWhy, of_repack}
+use Rattle.gix_ref_commit.specs.Failures.{AllOfEdits, IsNameAt, IsOfListing, SaysFault, SaysFile, SaysInWay, SaysLogFault, SaysWhy, of_repack}
 use Rattle.gix_ref_commit.specs.LogEffects.{AreLogsOf, IsLogOf}
 use Rattle.gix_ref_commit.specs.Unfinished.{EndsAtStep, EndsIn, IsRaised}
 use Rattle.gix_ref_commit.specs.declared.error.Error.{Error}
 use Rattle.gix_ref_commit.specs.declared.error.Error.TheVariants.{CreateOrUpdateRefLog, PackedTransactionCommit, LockCommit, DeleteReference, DeleteReflog, FolderInPlace, Memory}
+use Rattle.gix_ref_commit.specs.declared.folders.InWay.{InWay}
 use Rattle.gix_ref_commit.specs.declared.plan.About.{About}
 use Rattle.gix_ref_commit.specs.declared.plan.About.TheVariants.{Folders, Line, Rename, LogRemoval, Packed, Removal}
 use Rattle.gix_ref_commit.specs.declared.run.Unfinished.{Unfinished}
 use Rattle.gix_ref_commit.specs.declared.run.Unfinished.TheVariants.{Memory as no_memory, Step as AtStep}
 use Rattle.gix_ref_commit.proofs.Alike.{ids_alike, locks_alike, places_alike, updates_alike}
-use Rattle.gix_ref_commit.proofs.Endings.{MeetsAt, meets, never_asked}
+use Rattle.gix_ref_commit.proofs.Cleared.{Any, IsCutOf, Way, Ways, all_ways, any_ways, cut_of}
+use Rattle.gix_ref_commit.proofs.Endings.{MeetsAt, WritesAt, meets, never_asked, not_emptied, removal_not_asked, removal_not_refused, writes}
 use Rattle.gix_ref_commit.proofs.Outcomes.{logs_are}
+use Rattle.gix_ref_commit.proofs.Unlisted.{has_line}
 use Rattle.gix_ref_commit.proofs.Shapes.{AllShaped, HasLine, HasShape, all_shaped, names_edit, shape_at}
-use Rattle.gix_ref_store.specs.CommitResult.{ChangesLocks, EndsAtLog, FailsAt, FailsFor, FailsForLog, RefusesLine, IsFault, IsOfBadLine, IsPackedEmpty, MeetsFolder, OnlyItsLocks, RepacksFrom, StopsAt}
+use Rattle.gix_ref_store.specs.CommitResult.{ChangesLocks, EndsAtLog, FailsAt, FailsAtWrite, FailsFor, FailsForLog, RefusesLine, IsFault, IsOfBadLine, IsPackedEmpty, MeetsFolder, OnlyItsLocks, RepacksFrom, StopsAt}
 use Rattle.gix_ref_store.specs.CommitLines.{LinesPass, line_rules, log_path_at}
 use Rattle.gix_ref_store.specs.Decisions.{IsUndecided}
 use Rattle.gix_ref_store.specs.Prepared.{tree_of}
@@ -168,14 +173,22 @@ log_wider a b c MessageWithNewlines le is = tt
 log_wider a b c MissingCommitter le is = tt
 log_wider a b c SignatureUnwritable le is = tt
 
+fault_wider : {F : Type 0} (honest : Type 0) (means : F → Meaning) (faults : F → ℕ) (start mid new : Store F) (source : FileError) → faults (files_of mid) ≤ faults (files_of new) →
+    IsFault honest means faults start mid source → IsFault honest means faults start new source
+fault_wider honest means faults start mid new source le is = (risen_wider _ _ _ _ (omega arith) le is.0, is.1)
+
 pub undecided_wider : {F : Type 0} (honest : Type 0) (means : F → Meaning) (faults : F → ℕ) (start mid new : Store F) (committer : Option SignatureRef) (held : List Edit) (error : Error) → faults (files_of mid) ≤ faults (files_of new) →
     IsUndecided honest means faults start mid committer held error → IsUndecided honest means faults start new committer held error
-undecided_wider honest means faults start mid new committer held (CreateOrUpdateRefLog error) le is = (is.0, log_wider _ _ _ error le is.1)
+undecided_wider honest means faults start mid new committer held (CreateOrUpdateRefLog (Append source path)) le is = (fault_wider honest means faults start mid new source le is.0, is.1)
+undecided_wider honest means faults start mid new committer held (CreateOrUpdateRefLog (CreateLeadingDirectories source folder)) le is = (is.0, log_wider _ _ _ (CreateLeadingDirectories source folder) le is.1)
+undecided_wider honest means faults start mid new committer held (CreateOrUpdateRefLog MessageWithNewlines) le is = is
+undecided_wider honest means faults start mid new committer held (CreateOrUpdateRefLog MissingCommitter) le is = is
+undecided_wider honest means faults start mid new committer held (CreateOrUpdateRefLog SignatureUnwritable) le is = is
 undecided_wider honest means faults start mid new committer held (PackedTransactionCommit (repack.Io fault)) le is = (risen_wider _ _ _ _ (omega arith) le is.0, is.1)
 undecided_wider honest means faults start mid new committer held (PackedTransactionCommit (repack.Iteration line)) le is = is
 undecided_wider honest means faults start mid new committer held (PackedTransactionCommit (repack.Commit error)) le is = is
 undecided_wider honest means faults start mid new committer held (PackedTransactionCommit repack.Memory) le is = is
-undecided_wider honest means faults start mid new committer held (LockCommit source name) le is = is
+undecided_wider honest means faults start mid new committer held (LockCommit source name) le is = (fault_wider honest means faults start mid new source le is.0, is.1)
 undecided_wider honest means faults start mid new committer held (DeleteReference name source) le is = is
 undecided_wider honest means faults start mid new committer held (DeleteReflog name source) le is = is
 undecided_wider honest means faults start mid new committer held (FolderInPlace path) le is = is
@@ -203,10 +216,47 @@ raised_wider a b c d (AtStep about Unexpected) lower upper raised = tt
 raised_wider a b c d (AtStep about Asked) lower upper raised = tt
 
 -- a step at which a run ended is of one of the edits
-pub all_of_edits : (honest : Type 0) (dirs : Dirs) (ran : List Edit) (packed : Option Path) (rewrite : Rewrite) (S T : Tree) (u : Unfinished) → EndsIn honest (planned_entries dirs ran packed rewrite) S T u → AllOfEdits (length ran) u
-all_of_edits honest dirs ran packed rewrite S T no_memory e = tt
-all_of_edits honest dirs ran packed rewrite S T (AtStep a cause) e =
-    names_edit ran packed a (bare e.step) (shape_at ran packed e.before (e.step, a) e.rest (subst (AllShaped ran packed) e.cut (all_shaped ran packed dirs rewrite)))
+pub all_of_edits : (honest : Type 0) (dirs : Dirs) (ran : List Edit) (packed : Option Path) (rewrite : Rewrite) (ways : List InWay) (S T : Tree) (u : Unfinished) → EndsIn honest (commit_entries dirs ran packed rewrite ways) S T u → AllOfEdits (length ran) u
+all_of_edits honest dirs ran packed rewrite ways S T no_memory e = tt
+all_of_edits honest dirs ran packed rewrite ways S T (AtStep a cause) e =
+    let c = cut_of Any (folder_lists ways) (planned_entries dirs ran packed rewrite) (any_ways (folder_lists ways) (planned_entries dirs ran packed rewrite)) e.before (e.step, a) e.rest e.cut in
+    subst (IsOfEdit (length ran)) c.about
+    (names_edit ran packed c.step.1 (bare c.step.0) (shape_at ran packed c.seen c.step c.later (subst (AllShaped ran packed) c.cut (all_shaped ran packed dirs rewrite))))
+
+-- a call that touches nothing, after others that take locks alone
+pub only_before : (locks : List Path) (old mid new : Meaning) → OnlyLocks locks old mid → Passes mid new (Untouched (disk_of mid)) → OnlyLocks locks old new
+only_before locks old mid new only passes locked staying first own here =
+    let early = only locked staying first own here in
+    passes_joins early (passes_weaken passes (λ E same. subst (IsAsBefore locked staying first) (sym same) early.disk))
+
+-- An error of a folder that could not be listed.
+pub unlisted_by : {F : Type 0} (honest : Type 0) (means : F → Meaning) (faults : F → ℕ) (start new : Store F) (committer : Option SignatureRef) (held ran : List Edit) (mid : ℕ) (error : Error) → all_but_logs ran ≡ all_but_logs held →
+    (honest → outcomes_of ran ≡ log_outcomes (line_rules start committer) (view_of (tree_of means start)) (asked held)) → faults (files_of start) ≤ mid → IsOfListing ran mid (faults (files_of new)) error →
+    IsUndecided honest means faults start new committer held error
+unlisted_by honest means faults start new committer held ran mid Memory alike outcomes le is = tt
+unlisted_by honest means faults start new committer held ran mid (CreateOrUpdateRefLog (Append source path)) alike outcomes le (fault, (at, lt, line, same)) = (
+  (risen_wider _ _ _ _ le (omega arith) fault.0, fault.1),
+  (
+    at,
+    omega (arith, lt, length-map ran but_log, length-map held but_log, ap length alike),
+    λ h. same ∙ log_path_is (meaning_of start) held ran (logs_are (line_rules start committer) (view_of (tree_of means start)) 0 held ran (outcomes h)) at (has_line (log_at ran at) line),
+  ),
+)
+unlisted_by honest means faults start new committer held ran mid (LockCommit source name) alike outcomes le (fault, (at, lt, same)) = (
+  (risen_wider _ _ _ _ le (omega arith) fault.0, fault.1),
+  (at, omega (arith, lt, length-map ran but_log, length-map held but_log, ap length alike), subst (λ (l : List RefEdit). IsNameAt l at name) (updates_alike ran held alike) same),
+)
+unlisted_by honest means faults start new committer held ran mid (PackedTransactionCommit (repack.Io fault)) alike outcomes le is = (risen_wider _ _ _ _ le (omega arith) is.0, is.1)
+unlisted_by honest means faults start new committer held ran mid (CreateOrUpdateRefLog (CreateLeadingDirectories source folder)) alike outcomes le is = absurd is
+unlisted_by honest means faults start new committer held ran mid (CreateOrUpdateRefLog MessageWithNewlines) alike outcomes le is = absurd is
+unlisted_by honest means faults start new committer held ran mid (CreateOrUpdateRefLog MissingCommitter) alike outcomes le is = absurd is
+unlisted_by honest means faults start new committer held ran mid (CreateOrUpdateRefLog SignatureUnwritable) alike outcomes le is = absurd is
+unlisted_by honest means faults start new committer held ran mid (PackedTransactionCommit (repack.Iteration line)) alike outcomes le is = absurd is
+unlisted_by honest means faults start new committer held ran mid (PackedTransactionCommit (repack.Commit error)) alike outcomes le is = absurd is
+unlisted_by honest means faults start new committer held ran mid (PackedTransactionCommit repack.Memory) alike outcomes le is = absurd is
+unlisted_by honest means faults start new committer held ran mid (DeleteReference name source) alike outcomes le is = absurd is
+unlisted_by honest means faults start new committer held ran mid (DeleteReflog name source) alike outcomes le is = absurd is
+unlisted_by honest means faults start new committer held ran mid (FolderInPlace path) alike outcomes le is = absurd is
 
 module _ {F : Type 0} (honest : Type 0) (means : F → Meaning) (faults : F → ℕ) (start new : Store F) (committer : Option SignatureRef) (packed : Option Path) (held ran : List Edit) (alike : all_but_logs ran ≡ all_but_logs held) where
   -- the locks that are released are some of those that are held
@@ -247,14 +297,23 @@ module _ {F : Type 0} (honest : Type 0) (means : F → Meaning) (faults : F → 
   unlogged_fails MissingCommitter counted refused = refused
   unlogged_fails SignatureUnwritable counted refused = refused
 
+  -- nor where a folder could not be listed
+  unlisted_fails : (about : ℕ → About) (fault : FileError) (is_named : ℕ → Type 0) → IsFault honest means faults start new fault × ((at : ℕ) × (at < length held) × is_named at) → OnlyItsLocks honest means faults start new packed held →
+      FailsAtWrite honest means faults start new committer packed held about fault is_named
+  unlisted_fails about fault is_named is only = (is.0, (is.1.0, is.1.1, is.1.2, inl only))
+
   pub undecided_fails : (error : Error) → IsUndecided honest means faults start new committer held error → OnlyItsLocks honest means faults start new packed held → FailsFor honest means faults start new committer packed held error
-  undecided_fails (CreateOrUpdateRefLog error) is only = unlogged_fails error is.1 (is.0, only)
+  undecided_fails (CreateOrUpdateRefLog (Append source path)) is only = unlisted_fails Line source (λ k. honest → path.items ≡ log_path_at start held k) is only
+  undecided_fails (CreateOrUpdateRefLog (CreateLeadingDirectories source folder)) is only = unlogged_fails (CreateLeadingDirectories source folder) is.1 (is.0, only)
+  undecided_fails (CreateOrUpdateRefLog MessageWithNewlines) is only = unlogged_fails MessageWithNewlines is.1 (is.0, only)
+  undecided_fails (CreateOrUpdateRefLog MissingCommitter) is only = unlogged_fails MissingCommitter is.1 (is.0, only)
+  undecided_fails (CreateOrUpdateRefLog SignatureUnwritable) is only = unlogged_fails SignatureUnwritable is.1 (is.0, only)
   undecided_fails (PackedTransactionCommit (repack.Io fault)) is only = (is, inl only)
   undecided_fails (PackedTransactionCommit (repack.Iteration line)) is only = (is.0, is.2, only)
   undecided_fails Memory is only = only
   undecided_fails (PackedTransactionCommit (repack.Commit error)) is only = absurd is
   undecided_fails (PackedTransactionCommit repack.Memory) is only = absurd is
-  undecided_fails (LockCommit source name) is only = absurd is
+  undecided_fails (LockCommit source name) is only = unlisted_fails Rename source (λ k. IsNameAt (updates held) k name) is only
   undecided_fails (DeleteReference name source) is only = absurd is
   undecided_fails (DeleteReflog name source) is only = absurd is
   undecided_fails (FolderInPlace path) is only = absurd is
@@ -276,7 +335,7 @@ module _ {F : Type 0} (honest : Type 0) (means : F → Meaning) (faults : F → 
     faults_at_log (Folders at) fault (CreateLeadingDirectories (Some source) folder) (same, is) isf logged within stop =
         let on = log_fault Folders at fault source same isf stop in (on.0, inr (at, within, (λ h. is ∙ ap folder_of (logged h)), on.1))
     faults_at_log (Line at) fault (Append source path) (same, is) isf logged within stop =
-        let on = log_fault Line at fault source same isf stop in (on.0, (at, within, (λ h. is ∙ logged h), on.1))
+        let on = log_fault Line at fault source same isf stop in (on.0, (at, within, (λ h. is ∙ logged h), inr on.1))
     faults_at_log (Folders at) fault (CreateLeadingDirectories None folder) is isf logged within stop = absurd is
     faults_at_log (Folders at) fault (Append source path) is isf logged within stop = absurd is
     faults_at_log (Folders at) fault MessageWithNewlines is isf logged within stop = absurd is
@@ -312,7 +371,7 @@ module _ {F : Type 0} (honest : Type 0) (means : F → Meaning) (faults : F → 
     faults_at (Line at) fault (FolderInPlace path) is isf logged within stop = absurd is
     faults_at (Line at) fault Memory is isf logged within stop = absurd is
     faults_at (Rename at) fault (PackedTransactionCommit error) is isf logged within stop = absurd is
-    faults_at (Rename at) fault (LockCommit source name) is isf logged within stop = subst (λ (f : FileError). FailsAt honest means faults start new committer packed held Rename f (λ k. IsNameAt (updates held) k name)) (sym is.0) (isf, (at, within, is.1, stop))
+    faults_at (Rename at) fault (LockCommit source name) is isf logged within stop = subst (λ (f : FileError). FailsAtWrite honest means faults start new committer packed held Rename f (λ k. IsNameAt (updates held) k name)) (sym is.0) (isf, (at, within, is.1, inr stop))
     faults_at (Rename at) fault (DeleteReference name source) is isf logged within stop = absurd is
     faults_at (Rename at) fault (DeleteReflog name source) is isf logged within stop = absurd is
     faults_at (Rename at) fault (FolderInPlace path) is isf logged within stop = absurd is
@@ -338,12 +397,13 @@ module _ {F : Type 0} (honest : Type 0) (means : F → Meaning) (faults : F → 
 
   -- The run of the steps ended early.
   module _ (outcomes : honest → outcomes_of ran ≡ log_outcomes (line_rules start committer) (view_of (tree_of means start)) (asked held)) (passes : LinesPass honest means start committer held) (rewrite : Rewrite) (repacked : RepacksFrom honest means faults start packed held rewrite) (filled mid : Tree)
+      (ways : List InWay) (way_is : honest → AllInWay start.dirs filled (folder_lists ways) (planned_entries start.dirs ran packed rewrite))
       (fills : honest → IsPackedEmpty honest means faults start packed → IsFilled packed rewrite (tree_of means start) filled)
       (removes : honest → RemovesLocks (held_locks packed held) mid (tree_of means new)) where
     abbrev Ends : About → Cause → Type 0
-    Ends a cause = EndsAtStep honest (planned_entries start.dirs ran packed rewrite) filled mid a cause
+    Ends a cause = EndsAtStep honest (commit_entries start.dirs ran packed rewrite ways) filled mid a cause
 
-    stops : (a : About) (cause : Cause) → Ends a cause → StopsAt honest means faults start new committer packed held a cause
+    abbrev stops : (a : About) (cause : Cause) → Ends a cause → StopsAt honest means faults start new committer packed held a cause
     stops a cause ended = record {
       ran = ran;
       alike = alike;
@@ -353,6 +413,8 @@ module _ {F : Type 0} (honest : Type 0) (means : F → Meaning) (faults : F → 
       repacked = repacked;
       filled = filled;
       fills = fills;
+      ways = ways;
+      in_way = way_is;
       mid = mid;
       stops = ended;
       removes = removes;
@@ -361,18 +423,68 @@ module _ {F : Type 0} (honest : Type 0) (means : F → Meaning) (faults : F → 
     same_length : length ran ≡ length held
     same_length = omega (arith, length-map ran but_log, length-map held but_log, ap length alike)
 
-    shape : (a : About) (cause : Cause) (e : Ends a cause) → HasShape ran packed a (bare e.step)
-    shape a cause e = shape_at ran packed e.before (e.step, a) e.rest (subst (AllShaped ran packed) e.cut (all_shaped ran packed start.dirs rewrite))
+    -- the step of the plan that it is, or before which a folder was to be removed
+    module _ (a : About) (cause : Cause) (e : Ends a cause) where
+      module _ (W : Entry → List Path → Type 0) (each : Ways W (folder_lists ways) (planned_entries start.dirs ran packed rewrite)) where
+        abbrev pub at_cut : IsCutOf W (planned_entries start.dirs ran packed rewrite) e.before (e.step, a)
+        at_cut = cut_of W (folder_lists ways) (planned_entries start.dirs ran packed rewrite) each e.before (e.step, a) e.rest e.cut
+
+        pub shape_in : HasShape ran packed a (bare at_cut.step.0)
+        shape_in = subst (λ (b : About). HasShape ran packed b (bare at_cut.step.0)) at_cut.about
+            (shape_at ran packed at_cut.seen at_cut.step at_cut.later (subst (AllShaped ran packed) at_cut.cut (all_shaped ran packed start.dirs rewrite)))
+
+      abbrev pub planned_step : Step
+      planned_step = bare (at_cut Any (any_ways (folder_lists ways) (planned_entries start.dirs ran packed rewrite))).step.0
+
+      pub shape : HasShape ran packed a planned_step
+      shape = shape_in Any (any_ways (folder_lists ways) (planned_entries start.dirs ran packed rewrite))
 
     edit_at : (a : About) (cause : Cause) → Ends a cause → IsOfEdit (length held) a
-    edit_at a cause e = subst (λ n. IsOfEdit n a) same_length (names_edit ran packed a (bare e.step) (shape a cause e))
+    edit_at a cause e = subst (λ n. IsOfEdit n a) same_length (names_edit ran packed a (planned_step a cause e) (shape a cause e))
 
     -- no step asks for the end
     never : (a : About) → Ends a Asked → honest → ⊥
-    never a e h = let at = e.ended h in never_asked ran packed a (bare e.step) at.0 mid (shape a Asked e) at.2
+    never a e h =
+        let at = e.ended h in
+        ⊎_elim
+        (λ it. never_asked ran packed a (bare e.step) at.0 mid (subst (λ (x : Step). HasShape ran packed a x) (sym (ap (λ (x : Entry). bare x.0) it.0)) (shape a Asked e)) at.2)
+        (λ gone. removal_not_asked (bare e.step) gone.0 (ap bare gone.1) at.0 mid at.2)
+        (at_cut a Asked e Any (any_ways (folder_lists ways) (planned_entries start.dirs ran packed rewrite))).what
 
     unasked : (a : About) → Ends a Asked → Ends a Unexpected
     unasked a e = record { before = e.before; step = e.step; rest = e.rest; cut = e.cut; ended = λ h. absurd (never a e h) }
+
+    -- What was in its way is a step of the plan, and what was there was not emptied.
+    module _ (a : About) (e : Ends a Unexpected) (h : honest) where
+      abbrev pub met_cut : IsCutOf (Way start.dirs filled) (planned_entries start.dirs ran packed rewrite) e.before (e.step, a)
+      met_cut = at_cut a Unexpected e (Way start.dirs filled) (all_ways start.dirs filled (folder_lists ways) (planned_entries start.dirs ran packed rewrite) (way_is h))
+
+      pub met : MeetsAt ran packed a mid
+      met =
+          let at = e.ended h in
+          ⊎_elim
+          (λ it. meets ran packed a (bare e.step) at.0 mid
+          (subst (λ (x : Step). HasShape ran packed a x) (sym (ap (λ (x : Entry). bare x.0) it.0)) (shape_in a Unexpected e (Way start.dirs filled) (all_ways start.dirs filled (folder_lists ways) (planned_entries start.dirs ran packed rewrite) (way_is h)))) at.2)
+          (λ gone. absurd (removal_not_refused (bare e.step) gone.0 (ap bare gone.1) at.0 mid at.2))
+          met_cut.what
+
+      pub written : WritesAt ran packed a (bare e.step)
+      written =
+          let at = e.ended h in
+          ⊎_elim
+          (λ it. writes ran packed a (bare e.step) at.0 mid
+          (subst (λ (x : Step). HasShape ran packed a x) (sym (ap (λ (x : Entry). bare x.0) it.0)) (shape_in a Unexpected e (Way start.dirs filled) (all_ways start.dirs filled (folder_lists ways) (planned_entries start.dirs ran packed rewrite) (way_is h)))) at.2)
+          (λ gone. absurd (removal_not_refused (bare e.step) gone.0 (ap bare gone.1) at.0 mid at.2))
+          met_cut.what
+
+      pub kept : (path : Path) → written_at (bare e.step) ≡ Some path → is_folder (filled path) ≡ true → HoldsMore start.dirs filled path ⊎ (IsEmptyFolder mid path → ⊥)
+      kept path writes folder =
+          let at = e.ended h in
+          ⊎_elim
+          (λ it. not_emptied start.dirs filled at.0 mid e.before it.1.0 met_cut.step.1 it.1.1 path it.1.2
+          (subst (λ (w : Option Path). AreInWayOf start.dirs filled w it.1.1) (ap (λ (x : Entry). written_at (bare x.0)) (sym it.0) ∙ writes) it.1.3) at.1 at.2.1 folder)
+          (λ gone. absurd (removal_not_refused (bare e.step) gone.0 (ap bare gone.1) at.0 mid at.2))
+          met_cut.what
 
     -- the path of a log to which a line is added
     log_path : honest → (n : ℕ) → HasLine (log_at ran n) → path_in (log_at ran n) ≡ log_path_at start held n
@@ -399,25 +511,25 @@ module _ {F : Type 0} (honest : Type 0) (means : F → Meaning) (faults : F → 
       -- what was met is at the path that is reported
       met_rename : (n : ℕ) (path : Path) → Ends (Rename n) Unexpected → ToldAt (Rename n) → path ≡ place → honest → MeetsFolder honest means faults start new committer packed held path
       met_rename n path e tells is h =
-          let at = e.ended h in
-          let meet = meets ran packed (Rename n) (bare e.step) at.0 mid (shape (Rename n) Unexpected e) at.2 in
+          let meet = met (Rename n) e h in
           let here : path ≡ place_at ran n = is ∙ tells.here meet.0 in
           inl (
             n,
             omega (arith, meet.0, same_length),
             here ∙ ap (λ (l : List Path). get_or l n []) (places_alike ran held alike),
             folder_stays (held_locks packed held) mid (tree_of means new) path (removes h) (ap (λ (p : Path). is_folder (mid p)) here ∙ meet.1),
-            stops (Rename n) Unexpected e,
+            (stops (Rename n) Unexpected e, kept (Rename n) e h path (written (Rename n) e h ∙ ap Some (sym here))),
           )
 
       met_line : (n : ℕ) (path : Path) → Ends (Line n) Unexpected → ToldAt (Line n) → path ≡ log → honest → MeetsFolder honest means faults start new committer packed held path
       met_line n path e tells is h =
-          inr (inl (n, edit_at (Line n) Unexpected e, (λ k. is ∙ log_is (Line n) Unexpected e tells k), stops (Line n) Unexpected e))
+          let meet = met (Line n) e h in
+          let here : path ≡ log_path_at start held n = is ∙ log_is (Line n) Unexpected e tells h in
+          inr (inl (n, edit_at (Line n) Unexpected e, here, (stops (Line n) Unexpected e, kept (Line n) e h path (written (Line n) e h ∙ ap Some (log_path h n meet.1 ∙ sym here)))))
 
       met_packed : (path : Path) → Ends Packed Unexpected → ToldAt Packed → path ≡ told → honest → MeetsFolder honest means faults start new committer packed held path
       met_packed path e tells is h =
-          let at = e.ended h in
-          let meet = meets ran packed Packed (bare e.step) at.0 mid (shape Packed Unexpected e) at.2 in
+          let meet = met Packed e h in
           let here : path ≡ (meaning_of start).packed_path = is ∙ tells.at_packed (λ none. differ meet.0 (sym meet.1 ∙ none)) in
           inr (inr (
             here,
@@ -437,8 +549,7 @@ module _ {F : Type 0} (honest : Type 0) (means : F → Meaning) (faults : F → 
           by p some (inr same) = inner (sym same ∙ some)
 
       met_removal : (a : About) (path : Path) → Ends a Unexpected → (MeetsAt ran packed a mid → ⊥) → honest → MeetsFolder honest means faults start new committer packed held path
-      met_removal a path e never_met h =
-          let at = e.ended h in absurd (never_met (meets ran packed a (bare e.step) at.0 mid (shape a Unexpected e) at.2))
+      met_removal a path e never_met h = absurd (never_met (met a e h))
 
       -- a file in the path of a log
       in_way_of_log : (n : ℕ) (error : LogError) → Ends (Folders n) Unexpected → ToldAt (Folders n) → SaysFile log error → FailsForLog honest means faults start new committer packed held error
@@ -495,7 +606,7 @@ module _ {F : Type 0} (honest : Type 0) (means : F → Meaning) (faults : F → 
       in_way (Removal n) Memory e tells says = absurd says
 
       -- Why a commit failed, by where its steps ended.
-      pub run_fails : (u : Unfinished) (error : Error) → EndsIn honest (planned_entries start.dirs ran packed rewrite) filled mid u → IsTold (done_of (length ran) u) → SaysWhy (updates held) place log told u error →
+      pub run_fails : (u : Unfinished) (error : Error) → EndsIn honest (commit_entries start.dirs ran packed rewrite ways) filled mid u → IsTold (done_of (length ran) u) → SaysWhy (updates held) place log told u error →
           IsRaised (faults (files_of start)) (faults (files_of new)) u → (u ≡ no_memory → OnlyItsLocks honest means faults start new packed held) →
           FailsFor honest means faults start new committer packed held error
       run_fails no_memory Memory ended tells says raised only = only refl

@@ -54,19 +54,23 @@ use Rattle.gix_ref_transaction.proofs.PackedLocks.{taken_was_free}
 use Rattle.gix_ref_transaction.proofs.Removing.{locks_by_places}
 use Rattle.gix_ref_transaction.proofs.Renames.{lock_found}
 use Rattle.gix_ref_repack.specs.Repacks.{IsRepack}
+use Rattle.gix_ref_commit.specs.Cleared.{AllInWay, FoldersGo, OnlyFolders, commit_entries, folder_lists, roots_of}
 use Rattle.gix_ref_commit.specs.CommittedTrees.{AreCommitted, IsOldOrNew}
 use Rattle.gix_ref_commit.specs.Decided.{FillsPacked, IsFilled}
-use Rattle.gix_ref_commit.specs.Entries.{Entry, bare, bare_steps, done_of, packed_done, planned_entries, renames_packed, steps_in}
+use Rattle.gix_ref_commit.specs.Entries.{Entry, bare, bare_steps, done_before, done_of, packed_before, packed_done, planned_entries, renames_packed, steps_in}
 use Rattle.gix_ref_commit.specs.LogEffects.{AreLogsOf, lines_in, with_lines}
 use Rattle.gix_ref_lines.specs.AskedEdits.{all_but_logs, asked, outcomes_of}
 use Rattle.gix_ref_lines.specs.DueLines.{log_outcomes}
 use Rattle.gix_ref_log.specs.declared.actor.SignatureRef.{SignatureRef}
 use Rattle.gix_ref_commit.specs.Unfinished.{EndsIn}
+use Rattle.gix_ref_commit.specs.declared.folders.InWay.{InWay}
+use Rattle.gix_ref_commit.specs.declared.plan.About.{About}
 use Rattle.gix_ref_commit.specs.declared.plan.About.TheVariants as about
 use Rattle.gix_ref_commit.specs.declared.run.Unfinished.{Unfinished}
 use Rattle.gix_ref_commit.specs.declared.run.Unfinished.TheVariants.{Memory as no_memory, Step as AtStep}
 use Rattle.gix_ref_commit.proofs.Alike.{are_same, effects_alike, ids_same, locks_alike, logs_same, places_alike, planned_same}
 use Rattle.gix_ref_commit.proofs.Carrying.{locks_apart}
+use Rattle.gix_ref_commit.proofs.Cleared.{Any, EachOutside, IsCutOf, all_outside, any_ways, cleared_rename, cut_of}
 use Rattle.gix_ref_commit.proofs.Ends as ends
 use Rattle.gix_ref_commit.proofs.Endings.{lock_is}
 use Rattle.gix_ref_commit.proofs.Held.{IsReady, edits_apart}
@@ -76,6 +80,7 @@ use Rattle.gix_ref_commit.proofs.Outcomes.{lines_are, logs_are}
 use Rattle.gix_ref_commit.proofs.Placing.{IsLaid}
 use Rattle.gix_ref_commit.proofs.Renamed.{HasRename, packed_renamed_before, packed_renamed_in_all, renamed_before, renamed_in_all}
 use Rattle.gix_ref_commit.proofs.Runs.{IsText}
+use Rattle.gix_ref_commit.proofs.Tidying.{no_file_still, same_files}
 use Rattle.gix_ref_store.specs.CommitResult.{EveryLossIsOldOrNew, EveryStopIsOldOrNew, RepacksFrom}
 use Rattle.gix_ref_store.specs.CommitLines.{line_rules, lines_due}
 use Rattle.gix_ref_store.specs.Prepared.{PreparesFrom, HasGoodRecords, tree_of, disk_in, locks_in, places_in, IsAtRest}
@@ -321,9 +326,19 @@ module _ {F : Type 0} (honest : Type 0) (means : F → Meaning) (faults : F → 
 
       -- All is decided.
       module _ (outcomes : honest → outcomes_of ran ≡ log_outcomes (line_rules start committer) (view_of first.tree) (asked held)) (rewrite : Rewrite) (repacks : RepacksFrom honest means faults start packed held rewrite)
-          (filled : honest → IsFilled packed rewrite first.tree decided.tree) (wholes : honest → (locks : List Path) → AreWholeLocks (disk_of first) locks → AreWholeLocks (disk_of decided) locks) where
+          (filled : honest → IsFilled packed rewrite first.tree decided.tree) (wholes : honest → (locks : List Path) → AreWholeLocks (disk_of first) locks → AreWholeLocks (disk_of decided) locks)
+          (ways : List InWay) (in_way : honest → AllInWay old.dirs decided.tree (folder_lists ways) (planned_entries old.dirs ran packed rewrite)) where
         abbrev all_entries : List Entry
-        all_entries = planned_entries old.dirs ran packed rewrite
+        all_entries = commit_entries old.dirs ran packed rewrite ways
+
+        -- no folder of the store is removed
+        pub out : honest → EachOutside (roots_of old.dirs) (folder_lists ways)
+        out h = all_outside old.dirs decided.tree (folder_lists ways) (planned_entries old.dirs ran packed rewrite) (in_way h)
+
+        -- where its steps are cut, they are those of the plan
+        cut_at : (before : List Entry) (x : Entry) (rest : List Entry) → all_entries ≡ before ++ x ∷ rest → IsCutOf Any (planned_entries old.dirs ran packed rewrite) before x
+        cut_at before x rest is =
+            cut_of Any (folder_lists ways) (planned_entries old.dirs ran packed rewrite) (any_ways (folder_lists ways) (planned_entries old.dirs ran packed rewrite)) before x rest is
 
         own_logs : honest → AreLogsOf s given ran
         own_logs h =
@@ -334,7 +349,7 @@ module _ {F : Type 0} (honest : Type 0) (means : F → Meaning) (faults : F → 
         own_lines : honest → lines_in ran ≡ lines
         own_lines h = lines_are (line_rules start committer) (view_of first.tree) ran (asked held) (outcomes h)
 
-        laid : honest → IsLaid s (kind_of old) before (disk_of decided) given ran packed
+        pub laid : honest → IsLaid s (kind_of old) before (disk_of decided) given ran packed
         laid h = record {
           references = are_references;
           lockable = from.held.lockable h;
@@ -377,7 +392,7 @@ module _ {F : Type 0} (honest : Type 0) (means : F → Meaning) (faults : F → 
                 (taken_was_free s before given (from.held.accepted h good).unlocked (lock_of path) (subst (λ ps. is_in (map lock_of ps) (lock_of path) ≡ true) (from.packed.due h) within))
                 (from.held.adds h))
 
-        ready : (h : honest) → HasGoodRecords means old → IsReady s (kind_of old) before decided.tree given ran
+        pub ready : (h : honest) → HasGoodRecords means old → IsReady s (kind_of old) before decided.tree given ran
         ready h good = record {
           accepted = from.held.accepted h good;
           texts = texts_same h given are_references (from.held.texts h good);
@@ -388,7 +403,7 @@ module _ {F : Type 0} (honest : Type 0) (means : F → Meaning) (faults : F → 
         }
 
         -- the new `packed-refs`, where it was well formed
-        repack : (h : honest) (good : HasGoodRecords means old) → packed ≢ None → IsRepack s (kind_of old) good.0 (planned given) rewrite
+        pub repack : (h : honest) (good : HasGoodRecords means old) → packed ≢ None → IsRepack s (kind_of old) good.0 (planned given) rewrite
         repack h good some =
             subst (λ (l : List plan.Edit). IsRepack s (kind_of old) good.0 l rewrite) planned_is
             (at (subst (λ (l : List plan.Edit). AreEdits s l) (sym planned_is) (edits_are h good)) good.0 (records_there h good) (ids_are h good) some)
@@ -401,7 +416,7 @@ module _ {F : Type 0} (honest : Type 0) (means : F → Meaning) (faults : F → 
             at : Repacks s (kind_of old)
             at = subst (Repacks s) from.held.same.of_kind (subst (λ (m : readings.Store). Repacks m (kind_of start)) meaning_is (repacks h))
 
-        text_held : (h : honest) (path : Path) (bytes : List ℕ) → packed ≡ Some path → IsText rewrite bytes → view_of decided.tree (lock_of path) ≡ Some bytes
+        pub text_held : (h : honest) (path : Path) (bytes : List ℕ) → packed ≡ Some path → IsText rewrite bytes → view_of decided.tree (lock_of path) ≡ Some bytes
         text_held h path bytes some is = by rewrite is (subst (λ (p : Option Path). IsFilled p rewrite first.tree decided.tree) some (filled h))
           where
             by : (r : Rewrite) → IsText r bytes → IsFilled (Some path) r first.tree decided.tree → view_of decided.tree (lock_of path) ≡ Some bytes
@@ -409,66 +424,85 @@ module _ {F : Type 0} (honest : Type 0) (means : F → Meaning) (faults : F → 
             by Unchanged same e = absurd same
             by Removed same e = absurd same
 
-        -- The steps ran on, to their end or not, and the locks that were not renamed were released.
-        module _ (mid : Meaning) (renamed : Bool) (runs : honest → Leaves decided mid (IsLeftBy (bare_steps all_entries) decided.tree))
-            (releases : honest → Leaves mid now (RemovesLocks (held_locks (if renamed then None else packed) ran) mid.tree)) where
-          pub removes : honest → RemovesLocks mine mid.tree now.tree
-          removes h = removes_wider (held_locks (if renamed then None else packed) ran) mine mid.tree now.tree (ran_mine h renamed) (releases h).tree
+        -- The steps ran on, to their end or not; the locks that were not renamed were released; and then empty folders were removed.
+        module _ (mid released : Meaning) (renamed : Bool) (paths : List Path) (runs : honest → Leaves decided mid (IsLeftBy (bare_steps all_entries) decided.tree))
+            (releases : honest → Leaves mid released (RemovesLocks (held_locks (if renamed then None else packed) ran) mid.tree))
+            (tidies : honest → Leaves released now (FoldersGo old.dirs paths released.tree)) where
+          pub removes : honest → RemovesLocks mine mid.tree released.tree
+          removes h = removes_wider (held_locks (if renamed then None else packed) ran) mine mid.tree released.tree (ran_mine h renamed) (releases h).tree
+
+          -- what remains where folders are gone
+          pub gone_still : honest → (q : Path) → is_file (released.tree q) ≡ false → is_file (now.tree q) ≡ false
+          gone_still h q none = no_file_still old.dirs paths released.tree now.tree q (tidies h).tree none
 
           cut_well : (h : honest) → HasGoodRecords means old → (T : Tree) → IsLeftBy (bare_steps all_entries) decided.tree T → IsOldOrNew s given (lines_in ran) before T
           cut_well h good T cut =
-              ends.stopped old.dirs old.namespace (kind_of old) old.prohibit_windows_device_names before (disk_of decided) given ran packed rewrite (laid h) (ready h good) good.0 good.1 (repack h good) (text_held h) T cut
+              ends.stopped old.dirs old.namespace (kind_of old) old.prohibit_windows_device_names before (disk_of decided) given ran packed rewrite ways (out h) (laid h) (ready h good) good.0 good.1 (repack h good) (text_held h) T cut
 
           at_stop : (h : honest) → HasGoodRecords means old → (T : Tree) → IsLeftBy (bare_steps all_entries) decided.tree T → IsOldOrNew s given lines before T
           at_stop h good T cut = subst (λ (ls : List (Option (List ℕ))). IsOldOrNew s given ls before T) (own_lines h) (cut_well h good T cut)
 
-          -- and behind it, where locks were removed
+          -- and behind it, where locks were removed, or folders
+          well_then : (h : honest) → HasGoodRecords means old → (T U : Tree) → IsOldOrNew s given (lines_in ran) before T → IsSameButLocks locked (view_of U) (view_of T) → IsOldOrNew s given (lines_in ran) before U
+          well_then h good T U well same =
+              ends.left_then old.dirs old.namespace (kind_of old) old.prohibit_windows_device_names before (disk_of decided) given ran packed rewrite ways (out h) (laid h) (ready h good) good.0 good.1 (repack h good) (text_held h) T U well same
+
+          released_well : (h : honest) → HasGoodRecords means old → (T : Tree) → RemovesLocks mine mid.tree T → IsOldOrNew s given (lines_in ran) before T
+          released_well h good T less = well_then h good mid.tree T (cut_well h good mid.tree (runs h).tree) (less_alike mid.tree T less)
+
           then_well : (h : honest) → HasGoodRecords means old → (T : Tree) → RemovesLocks mine mid.tree T → IsOldOrNew s given lines before T
-          then_well h good T less = subst (λ (ls : List (Option (List ℕ))). IsOldOrNew s given ls before T) (own_lines h)
-              (ends.left_then old.dirs old.namespace (kind_of old) old.prohibit_windows_device_names before (disk_of decided) given ran packed rewrite (laid h) (ready h good) good.0 good.1 (repack h good) (text_held h)
-              mid.tree T (cut_well h good mid.tree (runs h).tree) less)
+          then_well h good T less = subst (λ (ls : List (Option (List ℕ))). IsOldOrNew s given ls before T) (own_lines h) (released_well h good T less)
+
+          tidied_well : (h : honest) → HasGoodRecords means old → (T : Tree) → FoldersGo old.dirs paths released.tree T → IsOldOrNew s given lines before T
+          tidied_well h good T goes = subst (λ (ls : List (Option (List ℕ))). IsOldOrNew s given ls before T) (own_lines h)
+              (well_then h good released.tree T (released_well h good released.tree (removes h)) (λ path other. same_files old.dirs paths released.tree T goes path))
 
           pub ran_well : (done : ℕ) →
-              (honest → (q : Path) → is_in (map lock_of (packed_places (if renamed then None else packed))) q ≡ true → is_in left q ≡ false → is_file (now.tree q) ≡ false) →
-              (honest → renamed ≡ true → (path : Path) → packed ≡ Some path → is_file (now.tree (lock_of path)) ≡ false) →
-              (honest → (k : ℕ) → k < length ran → stays_at ran done k ≡ true → is_in left (lock_at ran k) ≡ false → is_file (now.tree (lock_at ran k)) ≡ false) →
-              (honest → (k : ℕ) → k < length ran → k < done → is_written_at ran k ≡ true → is_file (now.tree (lock_at ran k)) ≡ false) →
+              (honest → (q : Path) → is_in (map lock_of (packed_places (if renamed then None else packed))) q ≡ true → is_in left q ≡ false → is_file (released.tree q) ≡ false) →
+              (honest → renamed ≡ true → (path : Path) → packed ≡ Some path → is_file (released.tree (lock_of path)) ≡ false) →
+              (honest → (k : ℕ) → k < length ran → stays_at ran done k ≡ true → is_in left (lock_at ran k) ≡ false → is_file (released.tree (lock_at ran k)) ≡ false) →
+              (honest → (k : ℕ) → k < length ran → k < done → is_written_at ran k ≡ true → is_file (released.tree (lock_at ran k)) ≡ false) →
               ((q : Path) → is_in left q ≡ true → is_in (held_locks (if renamed then None else packed) ran) q ≡ true) → EveryStopIsOldOrNew honest means faults old start new given lines left
           ran_well done packed_gone packed_done locks_gone done_gone ours = record {
             began = λ h good. began h good;
             leaves = λ h.
-                joins (joins (weaken (fills h) (λ T filled good. filled_well h good T filled)) (weaken (runs h) (λ T cut good. at_stop h good T cut)))
-                (weaken (releases h) (λ T less good. then_well h good T (removes_wider (held_locks (if renamed then None else packed) ran) mine mid.tree T (ran_mine h renamed) less)));
-            gone = λ h. gone_all now.tree done renamed (packed_gone h) (packed_done h) (locks_gone h) (done_gone h) h;
+                joins (joins (joins (weaken (fills h) (λ T filled good. filled_well h good T filled)) (weaken (runs h) (λ T cut good. at_stop h good T cut)))
+                (weaken (releases h) (λ T less good. then_well h good T (removes_wider (held_locks (if renamed then None else packed) ran) mine mid.tree T (ran_mine h renamed) less))))
+                (weaken (tidies h) (λ T goes good. tidied_well h good T goes));
+            gone = λ h q within out'. gone_still h q (gone_all released.tree done renamed (packed_gone h) (packed_done h) (locks_gone h) (done_gone h) h q within out');
             ours = λ q named. possible renamed q (ours q named);
           }
 
           -- locks that were renamed are gone after the whole run
-          pub whole_gone : (honest → IsAfter (bare_steps all_entries) decided.tree mid.tree) → honest → (k : ℕ) → k < length ran → is_written_at ran k ≡ true → is_file (now.tree (lock_at ran k)) ≡ false
+          pub whole_gone : (honest → IsAfter (bare_steps all_entries) decided.tree mid.tree) → honest → (k : ℕ) → k < length ran → is_written_at ran k ≡ true → is_file (released.tree (lock_at ran k)) ≡ false
           whole_gone after h k lt written =
-              subst (λ (p : Path). is_file (now.tree p) ≡ false) (sym (lock_is ran k lt))
-              (ends.all_gone old.dirs old.namespace (kind_of old) old.prohibit_windows_device_names before (disk_of decided) given ran packed rewrite (laid h) (place_at ran k) mid.tree now.tree
-              (subst (λ (p : Path). HasRename p all_entries) (lock_is ran k lt) (renamed_in_all old.dirs (length ran) ran packed rewrite k written)) (after h) (removes h))
+              subst (λ (p : Path). is_file (released.tree p) ≡ false) (sym (lock_is ran k lt))
+              (ends.all_gone old.dirs old.namespace (kind_of old) old.prohibit_windows_device_names before (disk_of decided) given ran packed rewrite ways (out h) (laid h) (place_at ran k) mid.tree released.tree
+              (cleared_rename (lock_of (place_at ran k)) (folder_lists ways) (planned_entries old.dirs ran packed rewrite)
+              (subst (λ (p : Path). HasRename p (planned_entries old.dirs ran packed rewrite)) (lock_is ran k lt) (renamed_in_all old.dirs (length ran) ran packed rewrite k written))) (after h) (removes h))
 
-          pub whole_packed_gone : (honest → IsAfter (bare_steps all_entries) decided.tree mid.tree) → honest → renames_packed rewrite ≡ true → (path : Path) → packed ≡ Some path → is_file (now.tree (lock_of path)) ≡ false
+          pub whole_packed_gone : (honest → IsAfter (bare_steps all_entries) decided.tree mid.tree) → honest → renames_packed rewrite ≡ true → (path : Path) → packed ≡ Some path → is_file (released.tree (lock_of path)) ≡ false
           whole_packed_gone after h text path some =
-              ends.all_gone old.dirs old.namespace (kind_of old) old.prohibit_windows_device_names before (disk_of decided) given ran packed rewrite (laid h) path mid.tree now.tree
-              (packed_renamed_in_all old.dirs (length ran) ran packed rewrite path some text) (after h) (removes h)
+              ends.all_gone old.dirs old.namespace (kind_of old) old.prohibit_windows_device_names before (disk_of decided) given ran packed rewrite ways (out h) (laid h) path mid.tree released.tree
+              (cleared_rename (lock_of path) (folder_lists ways) (planned_entries old.dirs ran packed rewrite) (packed_renamed_in_all old.dirs (length ran) ran packed rewrite path some text)) (after h) (removes h)
 
           -- and after one that ended at a step
-          pub cut_gone : (u : Unfinished) → EndsIn honest all_entries decided.tree mid.tree u → honest → (k : ℕ) → k < length ran → k < done_of (length ran) u → is_written_at ran k ≡ true → is_file (now.tree (lock_at ran k)) ≡ false
+          pub cut_gone : (u : Unfinished) → EndsIn honest all_entries decided.tree mid.tree u → honest → (k : ℕ) → k < length ran → k < done_of (length ran) u → is_written_at ran k ≡ true → is_file (released.tree (lock_at ran k)) ≡ false
           cut_gone no_memory e h k lt early written = absurd (omega (arith, early))
           cut_gone (AtStep about cause) e h k lt early written =
               let at = e.ended h in
-              subst (λ (p : Path). is_file (now.tree p) ≡ false) (sym (lock_is ran k lt))
-              (ends.cut_gone old.dirs old.namespace (kind_of old) old.prohibit_windows_device_names before (disk_of decided) given ran packed rewrite (laid h) (place_at ran k) e.before (e.step, about) e.rest cause at.0 mid.tree now.tree
-              e.cut (subst (λ (p : Path). HasRename p e.before) (lock_is ran k lt) (renamed_before old.dirs (length ran) ran packed rewrite e.before (e.step, about) e.rest e.cut k early written)) at.1 at.2 (removes h))
+              let c = cut_at e.before (e.step, about) e.rest e.cut in
+              subst (λ (p : Path). is_file (released.tree p) ≡ false) (sym (lock_is ran k lt))
+              (ends.cut_gone old.dirs old.namespace (kind_of old) old.prohibit_windows_device_names before (disk_of decided) given ran packed rewrite ways (out h) (laid h) (place_at ran k) e.before (e.step, about) e.rest cause at.0 mid.tree released.tree
+              e.cut (subst (λ (p : Path). HasRename p e.before) (lock_is ran k lt) (c.renames (lock_at ran k)
+              (renamed_before old.dirs (length ran) ran packed rewrite c.seen c.step c.later c.cut k (subst (λ (a : About). k < done_before (length ran) a) (sym c.about) early) written))) at.1 at.2 (removes h))
 
-          pub cut_packed_gone : (u : Unfinished) → EndsIn honest all_entries decided.tree mid.tree u → honest → packed_done rewrite u ≡ true → (path : Path) → packed ≡ Some path → is_file (now.tree (lock_of path)) ≡ false
+          pub cut_packed_gone : (u : Unfinished) → EndsIn honest all_entries decided.tree mid.tree u → honest → packed_done rewrite u ≡ true → (path : Path) → packed ≡ Some path → is_file (released.tree (lock_of path)) ≡ false
           cut_packed_gone (AtStep (about.Removal n) cause) e h text path some =
               let at = e.ended h in
-              ends.cut_gone old.dirs old.namespace (kind_of old) old.prohibit_windows_device_names before (disk_of decided) given ran packed rewrite (laid h) path e.before (e.step, about.Removal n) e.rest cause at.0 mid.tree now.tree
-              e.cut (packed_renamed_before old.dirs (length ran) ran packed rewrite path some text e.before (e.step, about.Removal n) e.rest e.cut refl) at.1 at.2 (removes h)
+              let c = cut_at e.before (e.step, about.Removal n) e.rest e.cut in
+              ends.cut_gone old.dirs old.namespace (kind_of old) old.prohibit_windows_device_names before (disk_of decided) given ran packed rewrite ways (out h) (laid h) path e.before (e.step, about.Removal n) e.rest cause at.0 mid.tree released.tree
+              e.cut (c.renames (lock_of path) (packed_renamed_before old.dirs (length ran) ran packed rewrite path some text c.seen c.step c.later c.cut (ap packed_before c.about))) at.1 at.2 (removes h)
           cut_packed_gone no_memory e h text path some = clash text refl
           cut_packed_gone (AtStep (about.Folders n) cause) e h text path some = clash text refl
           cut_packed_gone (AtStep (about.Line n) cause) e h text path some = clash text refl
@@ -479,16 +513,17 @@ module _ {F : Type 0} (honest : Type 0) (means : F → Meaning) (faults : F → 
           pub committed : (h : honest) → HasGoodRecords means old → IsAfter (bare_steps all_entries) decided.tree mid.tree →
               ((q : Path) → is_in mine q ≡ true → is_in left q ≡ false → is_file (now.tree q) ≡ false) → AreCommitted s given lines before left now.tree
           committed h good after gone = subst (λ (ls : List (Option (List ℕ))). AreCommitted s given ls before left now.tree) (own_lines h)
-              (ends.commits old.dirs old.namespace (kind_of old) old.prohibit_windows_device_names before (disk_of decided) given ran packed rewrite (laid h) (ready h good) good.0 good.1 (repack h good) (text_held h)
-              mid.tree now.tree left after (removes h) gone)
+              (ends.commits old.dirs old.namespace (kind_of old) old.prohibit_windows_device_names before (disk_of decided) given ran packed rewrite ways (out h) (laid h) (ready h good) good.0 good.1 (repack h good) (text_held h)
+              mid.tree now.tree left after
+              (λ path other. same_files old.dirs paths released.tree now.tree (tidies h).tree path ∙ less_alike mid.tree released.tree (removes h) path other) gone)
 
           -- losses of power
-          module _ (h : honest) (at_rest : IsAtRest means old) (only : OnlyRemoves (held_locks (if renamed then None else packed) ran) mid now) where
+          module _ (h : honest) (at_rest : IsAtRest means old) (only : OnlyRemoves (held_locks (if renamed then None else packed) ran) mid released) where
             abbrev rest : IsAllSettled (disk_of first) × AllStay (disk_of first) staying
             rest = started h at_rest
 
-            only_mine : OnlyRemoves mine mid now
-            only_mine = only_wider (held_locks (if renamed then None else packed) ran) mine mid now (ran_mine h renamed) only
+            only_mine : OnlyRemoves mine mid released
+            only_mine = only_wider (held_locks (if renamed then None else packed) ran) mine mid released (ran_mine h renamed) only
 
             early : Passes first decided (IsAsBefore locked staying (disk_of first))
             early = alone h locked staying (disk_of first) (λ q within. own q (packed_mine h q within)) (as_before locked staying (disk_of first) rest.1)
@@ -496,25 +531,49 @@ module _ {F : Type 0} (honest : Type 0) (means : F → Meaning) (faults : F → 
             settled_then : IsAllSettled (disk_of decided) × AllStay (disk_of decided) staying
             settled_then = rest_kept locked staying (disk_of first) (disk_of decided) rest.0 early.disk
 
-            pub lost : HasGoodRecords means old → Passes decided mid (IsReachedBy (steps_in all_entries) (disk_of decided)) → EveryLossIsOldOrNew honest means faults old start new given lines
-            lost good passes = record {
-              began = λ T loss. lost_early h good rest.0 staying (disk_of first) T (as_before locked staying (disk_of first) rest.1) loss;
-              loses = losses (IsLostWell s DeletionsOnly locked (with_lines given lines) (disk_of first) before)
-                  (λ E among T loss. ⊎_elim
-                  (λ same. lost_early h good rest.0 staying E T same loss)
-                  (λ inside. nothing.lost_before s locked staying (with_lines given lines) (disk_of first) (disk_of decided) before T early.disk
-                  (subst (λ (ls : List (Option (List ℕ))). IsLostWell s DeletionsOnly locked (with_lines given ls) (disk_of decided) before T) (own_lines h)
-                  (ends.lost_well old.dirs old.namespace (kind_of old) old.prohibit_windows_device_names before (disk_of decided) given ran packed rewrite (laid h) (ready h good) good.0 good.1 (repack h good) (text_held h)
-                  settled_then.0 E T inside loss)))
-                  among)
-                  (passes_joins (passes_weaken early (λ E same. inl same))
-                  (passes_weaken
-                  (ends.within_run old.dirs old.namespace (kind_of old) old.prohibit_windows_device_names before (disk_of decided) given ran packed rewrite (laid h) (ready h good) good.0 good.1 (repack h good) (text_held h)
-                  decided mid now refl settled_then.1 passes only_mine)
-                  (λ E inside. inr inside)));
-            }
+            -- behind the whole run all is as it left it, but for own locks and folders
+            as_left : OnlyFolders old.dirs released now → IsAsBefore locked staying (disk_of mid) (disk_of mid) → Passes released now (IsAsBefore locked staying (disk_of mid))
+            as_left folders same = folders locked staying (disk_of mid) (λ q within. within) (only_mine locked staying [] (disk_of mid) own same).disk
 
-            pub settled : IsSyncedAfter (steps_in all_entries) (disk_of decided) (disk_of mid) → new.dirs ≡ start.dirs → new.namespace ≡ start.namespace → IsAtRest means new
-            settled done dirs_same namespace_same =
-                let end = ends.settles old.dirs old.namespace (kind_of old) old.prohibit_windows_device_names before (disk_of decided) given ran packed rewrite (laid h) mid now settled_then.0 settled_then.1 done only_mine in
+            module _ (good : HasGoodRecords means old) where
+              abbrev pub Inside : Disk → Type 0
+              Inside = IsWithin (IsSpokenOf locked (disk_of decided))
+                  (ends.all_writes old.dirs old.namespace (kind_of old) old.prohibit_windows_device_names before (disk_of decided) given ran packed rewrite ways (out h) (laid h) (ready h good) good.0 good.1 (repack h good) (text_held h)) (view_of decided.tree)
+
+              pub ran_inside : Passes decided mid (IsReachedBy (steps_in all_entries) (disk_of decided)) → Passes decided released Inside
+              ran_inside passes =
+                  ends.within_run old.dirs old.namespace (kind_of old) old.prohibit_windows_device_names before (disk_of decided) given ran packed rewrite ways (out h) (laid h) (ready h good) good.0 good.1 (repack h good) (text_held h)
+                  decided mid released refl settled_then.1 passes only_mine
+
+              pub tidied_inside : Passes decided mid (IsReachedBy (steps_in all_entries) (disk_of decided)) → IsSyncedAfter (steps_in all_entries) (disk_of decided) (disk_of mid) → OnlyFolders old.dirs released now →
+                  AllStay (disk_of mid) staying → Passes decided now Inside
+              tidied_inside passes done folders stays =
+                  passes_joins (ran_inside passes)
+                  (passes_weaken (as_left folders (as_before locked staying (disk_of mid) stays))
+                  (λ E same. ends.within_end old.dirs old.namespace (kind_of old) old.prohibit_windows_device_names before (disk_of decided) given ran packed rewrite ways (out h) (laid h) (ready h good) good.0 good.1 (repack h good) (text_held h)
+                  (disk_of mid) E settled_then.1 done same))
+
+              pub lost : Passes decided now Inside → EveryLossIsOldOrNew honest means faults old start new given lines
+              lost inside_all = record {
+                began = λ T loss. lost_early h good rest.0 staying (disk_of first) T (as_before locked staying (disk_of first) rest.1) loss;
+                loses = losses (IsLostWell s DeletionsOnly locked (with_lines given lines) (disk_of first) before)
+                    (λ E among T loss. ⊎_elim
+                    (λ same. lost_early h good rest.0 staying E T same loss)
+                    (λ inside. nothing.lost_before s locked staying (with_lines given lines) (disk_of first) (disk_of decided) before T early.disk
+                    (subst (λ (ls : List (Option (List ℕ))). IsLostWell s DeletionsOnly locked (with_lines given ls) (disk_of decided) before T) (own_lines h)
+                    (ends.lost_well old.dirs old.namespace (kind_of old) old.prohibit_windows_device_names before (disk_of decided) given ran packed rewrite ways (out h) (laid h) (ready h good) good.0 good.1 (repack h good) (text_held h)
+                    settled_then.0 E T inside loss)))
+                    among)
+                    (passes_joins (passes_weaken early (λ E same. inl same)) (passes_weaken inside_all (λ E inside. inr inside)));
+              }
+
+            -- a whole run leaves all settled
+            pub at_end : IsSyncedAfter (steps_in all_entries) (disk_of decided) (disk_of mid) → IsAllSettled (disk_of mid) × AllStay (disk_of mid) staying
+            at_end done =
+                ends.settles old.dirs old.namespace (kind_of old) old.prohibit_windows_device_names before (disk_of decided) given ran packed rewrite ways (out h) (laid h) mid (disk_of mid) settled_then.0 settled_then.1 done (λ same. same)
+
+            pub settled : IsSyncedAfter (steps_in all_entries) (disk_of decided) (disk_of mid) → OnlyFolders old.dirs released now → new.dirs ≡ start.dirs → new.namespace ≡ start.namespace → IsAtRest means new
+            settled done folders dirs_same namespace_same =
+                let end = ends.settles old.dirs old.namespace (kind_of old) old.prohibit_windows_device_names before (disk_of decided) given ran packed rewrite ways (out h) (laid h) mid (disk_of now) settled_then.0 settled_then.1 done
+                (λ same. (as_left folders same).disk) in
                 (end.0, subst (λ (f : Layout). AllStay (disk_of now) (roots f)) (sym (ap (λ (dirs : Dirs). folders_of dirs new.namespace) (dirs_same ∙ from.held.same.dirs) ∙ ap (folders_of old.dirs) (namespace_same ∙ from.held.same.namespace))) end.1)

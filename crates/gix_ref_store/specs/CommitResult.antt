@@ -1,7 +1,7 @@
 -- What `commit` returns and leaves.
 use Rattle.std.specs.Prelude.{◌≡◌, ◌≢◌, ◌<◌, ◌⊎◌, ℕ, List, [], true, false, Option, Some, None, Result, Ok, Err, map, length}
 use Rattle.gix_ref_base.specs.PackedRecords.{Record}
-use Rattle.gix_ref_files.specs.Tree.{Tree, Path, is_file, is_folder}
+use Rattle.gix_ref_files.specs.Tree.{Tree, Path, is_file, is_folder, IsEmptyFolder}
 use Rattle.gix_ref_files.specs.declared.files.FileError.{FileError}
 use Rattle.gix_ref_files.specs.declared.files.FileError.TheVariants.{Memory as no_memory}
 use Rattle.gix_ref_files.specs.declared.steps.Cause.{Cause}
@@ -32,6 +32,7 @@ use Rattle.gix_ref_repack.specs.Refusals.{IsBadLine}
 use Rattle.gix_ref_repack.specs.Repacks.{IsRepack}
 use Rattle.gix_ref_repack.specs.declared.error.Error.{Error as RepackError}
 use Rattle.gix_ref_repack.specs.declared.error.Error.TheVariants as repack
+use Rattle.gix_ref_commit.specs.Cleared.{AllInWay, HoldsMore, commit_entries, folder_lists}
 use Rattle.gix_ref_commit.specs.CommittedTrees.{AreCommitted, IsOldOrNew}
 use Rattle.gix_ref_commit.specs.Decided.{IsFilled}
 use Rattle.gix_ref_commit.specs.Entries.{planned_entries}
@@ -40,6 +41,7 @@ use Rattle.gix_ref_commit.specs.LogEffects.{with_lines}
 use Rattle.gix_ref_commit.specs.Unfinished.{EndsAtStep}
 use Rattle.gix_ref_commit.specs.declared.error.Error.{Error}
 use Rattle.gix_ref_commit.specs.declared.error.Error.TheVariants.{CreateOrUpdateRefLog, PackedTransactionCommit, LockCommit, DeleteReference, DeleteReflog, FolderInPlace, Memory}
+use Rattle.gix_ref_commit.specs.declared.folders.InWay.{InWay}
 use Rattle.gix_ref_commit.specs.declared.plan.About.{About}
 use Rattle.gix_ref_commit.specs.declared.plan.About.TheVariants.{Folders, Line, Rename, LogRemoval, Packed, Removal}
 use Rattle.gix_ref_store.specs.CommitLines.{LinesPass, line_rules, lines_due, log_path_at}
@@ -114,8 +116,11 @@ module _ {F : Type 0} (honest : Type 0) (means : F → Meaning) (faults : F → 
     pub repacked : RepacksFrom start packed held rewrite
     pub filled : Tree
     pub fills : honest → IsPackedEmpty start packed → IsFilled packed rewrite (tree_of means start) filled
+    -- the folders that are removed before each step
+    pub ways : List InWay
+    pub in_way : honest → AllInWay start.dirs filled (folder_lists ways) (planned_entries start.dirs ran packed rewrite)
     pub mid : Tree
-    pub stops : EndsAtStep honest (planned_entries start.dirs ran packed rewrite) filled mid about cause
+    pub stops : EndsAtStep honest (commit_entries start.dirs ran packed rewrite ways) filled mid about cause
     pub removes : honest → RemovesLocks (held_locks packed held) mid (tree_of means new)
 
   -- nothing but the transaction's locks has changed
@@ -130,6 +135,12 @@ module _ {F : Type 0} (honest : Type 0) (means : F → Meaning) (faults : F → 
   abbrev pub FailsAt : (start new : Store F) → Option SignatureRef → Option Path → List Edit → (ℕ → About) → FileError → (ℕ → Type 0) → Type 0
   FailsAt start new committer packed held about fault is_named =
       IsFault start new fault × ((at : ℕ) × (at < length held) × is_named at × StopsAt start new committer packed held (about at) (File fault))
+
+  -- or no folder in the way of the write of that edit could be listed
+  abbrev pub FailsAtWrite : (start new : Store F) → Option SignatureRef → Option Path → List Edit → (ℕ → About) → FileError → (ℕ → Type 0) → Type 0
+  FailsAtWrite start new committer packed held about fault is_named =
+      IsFault start new fault
+      × ((at : ℕ) × (at < length held) × is_named at × (OnlyItsLocks start new packed held ⊎ StopsAt start new committer packed held (about at) (File fault)))
 
   -- the run ended at the folders of a log, or at its line, and reports that log
   abbrev pub EndsAtLog : (start new : Store F) → Option SignatureRef → Option Path → List Edit → (ℕ → About) → Cause → (reports : Path → Type 0) → Type 0
@@ -151,14 +162,24 @@ module _ {F : Type 0} (honest : Type 0) (means : F → Meaning) (faults : F → 
       × (RefusesLine start new committer packed held (CreateLeadingDirectories (Some fault) folder)
       ⊎ EndsAtLog start new committer packed held Folders (File fault) (λ log. folder.items ≡ folder_of log))
   FailsForLog start new committer packed held (Append source path) =
-      IsFault start new source × EndsAtLog start new committer packed held Line (File source) (λ log. path.items ≡ log)
+      FailsAtWrite start new committer packed held Line source (λ at. honest → path.items ≡ log_path_at start held at)
   FailsForLog start new committer packed held error = RefusesLine start new committer packed held error
+
+  -- What is at this path as a run ends was not emptied: a folder that was there before the first write held more than empty folders, or it is not
+  -- empty now.
+  abbrev pub NotEmptied : (start new : Store F) (committer : Option SignatureRef) (packed : Option Path) (held : List Edit) (about : About) (cause : Cause) → StopsAt start new committer packed held about cause → Path → Type 0
+  NotEmptied start new committer packed held about cause at path = is_folder (at.filled path) ≡ true → HoldsMore start.dirs at.filled path ⊎ (IsEmptyFolder at.mid path → ⊥)
+
+  -- the run ended at this step because of a folder that was not emptied
+  abbrev pub StopsBefore : (start new : Store F) → Option SignatureRef → Option Path → List Edit → About → Path → Type 0
+  StopsBefore start new committer packed held about path =
+      (at : StopsAt start new committer packed held about Unexpected) × NotEmptied start new committer packed held about Unexpected at path
 
   -- Where a folder is in the place of a reference, of its log, or of `packed-refs`.
   abbrev pub MeetsFolder : (start new : Store F) → Option SignatureRef → Option Path → List Edit → Path → Type 0
   MeetsFolder start new committer packed held path =
-      ((at : ℕ) × (at < length held) × (path ≡ place_at held at) × (is_folder (tree_of means new path) ≡ true) × StopsAt start new committer packed held (Rename at) Unexpected)
-      ⊎ (EndsAtLog start new committer packed held Line Unexpected (λ log. path ≡ log)
+      ((at : ℕ) × (at < length held) × (path ≡ place_at held at) × (is_folder (tree_of means new path) ≡ true) × StopsBefore start new committer packed held (Rename at) path)
+      ⊎ (((at : ℕ) × (at < length held) × (path ≡ log_path_at start held at) × StopsBefore start new committer packed held (Line at) path)
       ⊎ ((path ≡ (meaning_of start).packed_path) × (IsPackedPlace (meaning_of start) packed → is_folder (tree_of means new path) ≡ true)
       × StopsAt start new committer packed held Packed Unexpected))
 
@@ -167,7 +188,7 @@ module _ {F : Type 0} (honest : Type 0) (means : F → Meaning) (faults : F → 
   -- nothing but locks has changed.
   abbrev pub FailsFor : (start new : Store F) → Option SignatureRef → Option Path → List Edit → Error → Type 0
   FailsFor start new committer packed held (CreateOrUpdateRefLog error) = FailsForLog start new committer packed held error
-  FailsFor start new committer packed held (LockCommit source name) = FailsAt start new committer packed held Rename source (λ at. IsNameAt (updates held) at name)
+  FailsFor start new committer packed held (LockCommit source name) = FailsAtWrite start new committer packed held Rename source (λ at. IsNameAt (updates held) at name)
   FailsFor start new committer packed held (DeleteReflog name source) = FailsAt start new committer packed held LogRemoval source (λ at. IsNameAt (updates held) at name)
   FailsFor start new committer packed held (DeleteReference name err) = FailsAt start new committer packed held Removal err (λ at. IsNameAt (updates held) at name)
   FailsFor start new committer packed held (PackedTransactionCommit (repack.Io fault)) =

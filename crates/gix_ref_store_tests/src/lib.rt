@@ -10,6 +10,8 @@ mod deletions;
 #[cfg(test)]
 mod edits;
 #[cfg(test)]
+mod empty_folders;
+#[cfg(test)]
 mod find;
 #[cfg(test)]
 mod folders;

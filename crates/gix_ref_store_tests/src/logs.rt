@@ -13,12 +13,12 @@ use std::alloc::Global;
 use std::process::Abort;
 
 /// A loose text of forty digits `1`, and one of forty digits `2`.
-const ONE: &[u8] = b"1111111111111111111111111111111111111111\n";
+pub const ONE: &[u8] = b"1111111111111111111111111111111111111111\n";
 
 const TWO: &[u8] = b"2222222222222222222222222222222222222222\n";
 
 /// A line from null to the first, 113 bytes; one from the first to the second; and both.
-const FIRST: &[u8] = b"0000000000000000000000000000000000000000 \
+pub const FIRST: &[u8] = b"0000000000000000000000000000000000000000 \
     1111111111111111111111111111111111111111 C <c@example.com> 1234 +0800\tm\n";
 
 const SECOND: &[u8] = b"1111111111111111111111111111111111111111 \
@@ -35,7 +35,7 @@ const PADDED: &[u8] = b"0000000000000000000000000000000000000000 \
 
 /// Who commits.
 #[derive(Clone, Copy, Debug, PartialEq, Eq)]
-enum Who {
+pub enum Who {
     Nobody,
     C,
     Padded,
@@ -61,15 +61,15 @@ fn signature(who: Who) -> Option<SignatureRef<'static>> {
 
 /// An edit of a name.
 #[derive(Clone, Copy)]
-struct Asked {
-    name: &'static str,
+pub struct Asked {
+    pub name: &'static str,
     /// The new object; none for a deletion.
-    new: Option<Id>,
-    deref: bool,
-    message: &'static str,
+    pub new: Option<Id>,
+    pub deref: bool,
+    pub message: &'static str,
 }
 
-const UPDATE: Asked = Asked {
+pub const UPDATE: Asked = Asked {
     name: "refs/heads/a",
     new: Some(Id::One),
     deref: false,
@@ -82,14 +82,14 @@ const HEAD: Asked = Asked {
     ..UPDATE
 };
 
-const DELETION: Asked = Asked {
+pub const DELETION: Asked = Asked {
     new: None,
     ..UPDATE
 };
 
 /// What became of a transaction, with the path that is reported.
 #[derive(Clone, Copy, Debug, PartialEq, Eq)]
-enum Outcome {
+pub enum Outcome {
     Done,
     Refused,
     MissingCommitter,
@@ -104,7 +104,7 @@ enum Outcome {
 }
 
 /// Paths and their texts.
-type Texts = &'static [(&'static str, &'static [u8])];
+pub type Texts = &'static [(&'static str, &'static [u8])];
 
 #[derive(Clone, Copy)]
 struct Row {
@@ -358,7 +358,7 @@ fn path_of(want: Outcome) -> &'static str {
 }
 
 /// Prepares these edits and commits them: what became of them, and how many locks are named.
-fn committed(
+pub fn committed(
     alloc: Global,
     store: &mut Store<Memory>,
     who: Who,
@@ -374,7 +374,7 @@ fn committed(
     }
 }
 
-fn edits_of(rt: &impl Abort, alloc: Global, asked: &[Asked]) -> Vec<RefEdit> {
+pub fn edits_of(rt: &impl Abort, alloc: Global, asked: &[Asked]) -> Vec<RefEdit> {
     let mut edits = Vec::with_capacity(alloc, asked.len()).expect(rt, "memory");
     for one in asked {
         edits.push(edit(rt, alloc, *one)).expect(rt, "room");
@@ -383,7 +383,7 @@ fn edits_of(rt: &impl Abort, alloc: Global, asked: &[Asked]) -> Vec<RefEdit> {
 }
 
 /// Files in memory.
-fn made(rt: &impl Abort, alloc: Global, texts: Texts) -> Memory {
+pub fn made(rt: &impl Abort, alloc: Global, texts: Texts) -> Memory {
     let mut memory = Memory::new(alloc);
     for (path, text) in texts {
         assert!(rt;
@@ -395,7 +395,7 @@ fn made(rt: &impl Abort, alloc: Global, texts: Texts) -> Memory {
 }
 
 /// Each of these files holds its text; an empty text stands for no file.
-fn hold(rt: &impl Abort, memory: &Memory, texts: Texts, meaning: &str) {
+pub fn hold(rt: &impl Abort, memory: &Memory, texts: Texts, meaning: &str) {
     for (path, text) in texts {
         assert!(rt;
             memory.get(path.as_bytes()).unwrap_or(b"") == *text,

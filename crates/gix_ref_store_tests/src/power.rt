@@ -23,8 +23,9 @@ const TWO: &[u8] = b"2222222222222222222222222222222222222222\n";
 /// the text and its sync.
 const PREPARING: u64 = 8;
 
-/// All calls of files of an update: in the commit, the rename and the syncs of `refs/heads`, `refs` and the git folder.
-const CALLS: u64 = PREPARING + 4;
+/// All calls of files of an update: in the commit, the look at the place, the rename and the syncs of `refs/heads`, `refs` and the git
+/// folder.
+const CALLS: u64 = PREPARING + 5;
 
 /// How a call ends.
 #[derive(Clone, Copy, Debug, PartialEq, Eq)]

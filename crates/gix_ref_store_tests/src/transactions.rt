@@ -520,22 +520,6 @@ fn a_folder_in_place(rt: HostRuntime) {
 }
 
 #[test]
-fn an_empty_folder_in_place(rt: HostRuntime) {
-    let alloc = rt.alloc();
-    let mut memory = Memory::new(alloc);
-    assert!(rt; memory.make_folders(A.as_bytes()).expect(&rt, "memory"));
-    let mut store = store(&rt, alloc, memory, "", "");
-    let new = object(&rt, Id::One);
-    let edits = update(&rt, alloc, "refs/heads/a", PreviousValue::Any, new);
-    match committed(alloc, &mut store, edits) {
-        Err(commit::Error::FolderInPlace { path }) => {
-            assert!(rt; path.as_slice() == A.as_bytes());
-        }
-        _ => panic!(rt; "an empty folder is there"),
-    }
-}
-
-#[test]
 fn given_up_before(rt: HostRuntime) {
     let alloc = rt.alloc();
     let mut store = store(&rt, alloc, Memory::new(alloc), "", "");

@@ -10,9 +10,10 @@ ghost use Rattle.gix_ref_store.specs.Prepared.{HasRoom};
 ghost use Rattle.gix_ref_store.specs.Store.{files_of, with_files};
 
 use crate::file::store::Store;
-use gix_ref_commit::decide::NewPacked;
+use crate::file::transaction::commit::decide::Decisions;
 use gix_ref_commit::error::Error;
 use gix_ref_commit::failure::{failure, is_renamed, unless_renamed};
+use gix_ref_commit::tidy::remove_empty_folders;
 use gix_ref_files::files::Files;
 use gix_ref_files::lock::LockFile;
 use gix_ref_log::actor::SignatureRef;
@@ -30,7 +31,8 @@ pub(crate) struct EndedEarly {
 }
 
 impl<F: Files> Store<F> {
-    /// Decides what becomes of logs and of `packed-refs`, runs the steps, and removes the locks that were not renamed.
+    /// Decides what becomes of logs and of `packed-refs`, and which folders are in the way, runs the steps, and removes the locks that were not
+    /// renamed, and then the empty folders above what was removed.
     pub(crate) fn carry_out(
         &mut self,
         alloc: Global,
@@ -59,7 +61,12 @@ impl<F: Files> Store<F> {
             (F.faults (files_of self.new)) }
         ensures same { self.new ≡ with_files self.old (files_of self.new) }
     {
-        let NewPacked { rewrite, path } = match self.decide(alloc, committer, &mut edits, &packed) {
+        let Decisions {
+            rewrite,
+            path,
+            ways,
+            removed,
+        } = match self.decide(alloc, committer, &mut edits, &packed) {
             Ok(decided) => decided,
             Err(error) => {
                 let remains = release_all(&mut self.files, 0, packed, edits, remains);
@@ -69,7 +76,7 @@ impl<F: Files> Store<F> {
                 });
             }
         };
-        if let Err(unfinished) = self.publish(alloc, &edits, &packed, &rewrite) {
+        if let Err(unfinished) = self.publish(alloc, &edits, &packed, &rewrite, &ways) {
             let done = unfinished.done(edits.len());
             let packed = unless_renamed(packed, unfinished.is_packed_renamed(&rewrite));
             let Remains {
@@ -85,6 +92,8 @@ impl<F: Files> Store<F> {
         }
         let done = edits.len();
         let packed = unless_renamed(packed, is_renamed(&rewrite));
-        Ok(release_all(&mut self.files, done, packed, edits, remains))
+        let released = release_all(&mut self.files, done, packed, edits, remains);
+        remove_empty_folders(&mut self.files, &self.dirs, &removed);
+        Ok(released)
     }
 }

@@ -1,4 +1,4 @@
-use Rattle.std.proofs.Common.{◌≡◌, ◌∙◌, ◌<◌, ◌≤◌, ℕ, List, Option, None, false, length, refl, sym, ap, subst, arith}
+use Rattle.std.proofs.Common.{◌≡◌, ◌∙◌, ◌<◌, ◌≤◌, ℕ, List, [], Option, None, false, length, refl, sym, ap, subst, arith}
 use Rattle.std.specs.Prelude.{if◌then◌else◌, vec_len}
 use Rattle.std.proofs.lemmas.List.{length-map}
 use Rattle.gix_ref_files.specs.Files.{disk_of, Leaves, Passes}
@@ -11,14 +11,16 @@ use Rattle.gix_ref_transaction.specs.CommitRenames.{log_at, path_in, place_at}
 use Rattle.gix_ref_transaction.specs.OwnLocks.{paths_of, OnlyRemoves, RemovesLocks}
 use Rattle.gix_ref_transaction.specs.PrepareSteps.{held_locks, updates}
 use Rattle.gix_ref_transaction.specs.declared.edit.Edit.{Edit}
+use Rattle.gix_ref_commit.specs.Cleared.{AllInWay, FoldersGo, OnlyFolders, commit_entries, folder_lists}
 use Rattle.gix_ref_commit.specs.Entries.{bare_steps, done_of, planned_entries, steps_in}
+use Rattle.gix_ref_commit.proofs.Tidying.{leaves_starts}
 use Rattle.gix_ref_commit.specs.Failures.{AllOfEdits, SaysWhy}
 use Rattle.gix_ref_commit.specs.Unfinished.{EndsIn}
 use Rattle.gix_ref_commit.proofs.Alike.{updates_alike}
 use Rattle.gix_ref_store.specs.Store.{with_files}
 use Rattle.gix_ref_store.specs.declared.file.store.Store.{Store}
 use Rattle.gix_ref_store.proofs.CommitFailures.{all_of_edits, held_less, never_bad, of_no_line, only_locks, raised_wider, run_fails, undecided_fails, undecided_wider}
-use Rattle.gix_ref_store.proofs.Commits.{committed, cut_gone, cut_packed_gone, lost, ran_well, settled, start_edits, start_records, undecided_lost, undecided_well, whole_gone, whole_packed_gone}
+use Rattle.gix_ref_store.proofs.Commits.{at_end, committed, cut_gone, cut_packed_gone, lost, ran_inside, ran_well, settled, tidied_inside, start_edits, start_records, undecided_lost, undecided_well, whole_gone, whole_packed_gone}
 use Rattle.gix_ref_store.proofs.file.store.Store.carry_out.Goals as goal
 
 pub returns-in-Err-clause-failed : goal.returns-in-Err-clause-failed
@@ -64,8 +66,8 @@ failure-requires g c =
     let ran = c.decide.new.edits in
     let edits = c.release_all-edits.result.edits in
     subst (λ n. AllOfEdits n c.in-Err-publish.unfinished) (omega (arith, edits.ok, ap length c.release_all-edits.ensures.edits, length-map ran.items (λ (e : Edit). e.update)))
-    (all_of_edits F.honest c.decide.new.self.dirs ran.items c.args.packed c.in-Ok.decided.rewrite (F.means c.decide.new.self.files).tree (F.means c.publish.new.self.files).tree c.in-Err-publish.unfinished
-    (rw c.deref.ensures.value at c.in-Err-publish.ensures.ended))
+    (all_of_edits F.honest c.decide.new.self.dirs ran.items c.args.packed c.in-Ok.decided.rewrite c.in-Ok.decided.ways.items (F.means c.decide.new.self.files).tree (F.means c.publish.new.self.files).tree c.in-Err-publish.unfinished
+    (rw c.deref-2.ensures.value at (rw c.deref.ensures.value at c.in-Err-publish.ensures.ended)))
 
 pub returns-in-Err-publish-clause-failed : goal.returns-in-Err-publish-clause-failed
 returns-in-Err-publish-clause-failed g c =
@@ -76,6 +78,7 @@ returns-in-Err-publish-clause-failed g c =
     let ran = c.decide.new.edits in
     let packed = c.args.packed in
     let rewrite = c.in-Ok.decided.rewrite in
+    let ways = c.in-Ok.decided.ways.items in
     let decided = F.means c.decide.new.self.files in
     let mid = F.means c.publish.new.self.files in
     let u = c.in-Err-publish.unfinished in
@@ -83,8 +86,8 @@ returns-in-Err-publish-clause-failed g c =
     let renamed = c.is_packed_renamed.result in
     let alike = c.decide.ensures.alike in
     let same : c.decide.new.self.dirs ≡ start.dirs = ap (λ (st : Store g.row.F.Denot). st.dirs) c.decide.ensures.same in
-    let ends : EndsIn F.honest (planned_entries start.dirs ran.items packed rewrite) decided.tree mid.tree u =
-    subst (λ (d : Dirs). EndsIn F.honest (planned_entries d ran.items packed rewrite) decided.tree mid.tree u) same (rw c.deref.ensures.value at c.in-Err-publish.ensures.ended) in
+    let ends : EndsIn F.honest (commit_entries start.dirs ran.items packed rewrite ways) decided.tree mid.tree u =
+    subst (λ (d : Dirs). EndsIn F.honest (commit_entries d ran.items packed rewrite ways) decided.tree mid.tree u) same (rw c.deref-2.ensures.value at (rw c.deref.ensures.value at c.in-Err-publish.ensures.ended)) in
     let less : F.honest → RemovesLocks (held_locks (if renamed then None else packed) ran.items) mid.tree (F.means c.release_all-edits.new.files).tree = λ h. rw c.unless_renamed-packed.ensures at (e.leaves h).tree in
     let len : c.len.result ≡ length ran.items = omega (arith, c.len.ensures, ran.ok) in
     let done : c.done-done.result ≡ done_of (length ran.items) u = c.done-done.ensures ∙ ap (λ n. done_of n u) len in
@@ -97,7 +100,7 @@ returns-in-Err-publish-clause-failed g c =
     subst (λ n. n < length ran.items → place ≡ place_at ran.items n) done (λ lt. e.place (omega (arith, lt, ran.ok))) in
     let logged : done_of (length ran.items) u < length ran.items → log ≡ path_in (log_at ran.items (done_of (length ran.items) u)) =
     subst (λ n. n < length ran.items → log ≡ path_in (log_at ran.items n)) done (λ lt. e.log (omega (arith, lt, ran.ok))) in
-    run_fails F.honest F.means F.faults start new c.args.committer packed held ran.items alike c.in-Ok.ensures.logs c.in-Ok.ensures.passed rewrite c.in-Ok.ensures.repacked decided.tree mid.tree
+    run_fails F.honest F.means F.faults start new c.args.committer packed held ran.items alike c.in-Ok.ensures.logs c.in-Ok.ensures.passed rewrite c.in-Ok.ensures.repacked decided.tree mid.tree ways c.in-Ok.ensures.in_way
     (λ h empty. c.in-Ok.ensures.filled h empty) (λ h. held_less F.honest F.means F.faults start new c.args.committer packed held ran.items alike renamed mid.tree (less h))
     place log told u c.failure.result ends (record { here = here; logged = logged; at_packed = c.in-Ok.ensures.path }) says
     (raised_wider (F.faults start.files) (F.faults c.decide.new.self.files) (F.faults c.publish.new.self.files) (F.faults c.release_all-edits.new.files) u c.decide.ensures.no_fewer e.no_fewer c.in-Err-publish.ensures.counted)
@@ -118,6 +121,7 @@ returns-in-Err-publish-clause-ended g c old given from =
     let ran = c.decide.new.edits in
     let packed = c.args.packed in
     let rewrite = c.in-Ok.decided.rewrite in
+    let ways = c.in-Ok.decided.ways.items in
     let decided = F.means c.decide.new.self.files in
     let mid = F.means c.publish.new.self.files in
     let e = c.release_all-edits.ensures in
@@ -126,29 +130,33 @@ returns-in-Err-publish-clause-ended g c old given from =
     let renamed = c.is_packed_renamed.result in
     let alike = c.decide.ensures.alike in
     let same : c.decide.new.self.dirs ≡ old.dirs = ap (λ (st : Store g.row.F.Denot). st.dirs) c.decide.ensures.same ∙ from.held.same.dirs in
-    let runs : F.honest → Leaves decided mid (IsLeftBy (bare_steps (planned_entries old.dirs ran.items packed rewrite)) decided.tree) = λ h.
-    subst (λ (d : Dirs). Leaves decided mid (IsLeftBy (bare_steps (planned_entries d ran.items packed rewrite)) decided.tree)) same (rw c.deref.ensures.value at (c.publish.ensures.leaves h)) in
+    let in_way : F.honest → AllInWay old.dirs decided.tree (folder_lists ways) (planned_entries old.dirs ran.items packed rewrite) = λ h.
+    subst (λ (d : Dirs). AllInWay d decided.tree (folder_lists ways) (planned_entries d ran.items packed rewrite)) from.held.same.dirs (c.in-Ok.ensures.in_way h) in
+    let released = F.means c.release_all-edits.new.files in
+    let tidies : F.honest → Leaves released released (FoldersGo old.dirs [] released.tree) = λ h. leaves_starts old.dirs [] released in
+    let runs : F.honest → Leaves decided mid (IsLeftBy (bare_steps (commit_entries old.dirs ran.items packed rewrite ways)) decided.tree) = λ h.
+    subst (λ (d : Dirs). Leaves decided mid (IsLeftBy (bare_steps (commit_entries d ran.items packed rewrite ways)) decided.tree)) same (rw c.deref-2.ensures.value at (rw c.deref.ensures.value at (c.publish.ensures.leaves h))) in
     let releases : F.honest → Leaves mid (F.means c.release_all-edits.new.files) (RemovesLocks (held_locks (if renamed then None else packed) ran.items) mid.tree) = λ h. rw c.unless_renamed-packed.ensures at (e.leaves h) in
     let u = c.in-Err-publish.unfinished in
-    let ends : EndsIn F.honest (planned_entries old.dirs ran.items packed rewrite) decided.tree mid.tree u =
-    subst (λ (d : Dirs). EndsIn F.honest (planned_entries d ran.items packed rewrite) decided.tree mid.tree u) same (rw c.deref.ensures.value at c.in-Err-publish.ensures.ended) in
+    let ends : EndsIn F.honest (commit_entries old.dirs ran.items packed rewrite ways) decided.tree mid.tree u =
+    subst (λ (d : Dirs). EndsIn F.honest (commit_entries d ran.items packed rewrite ways) decided.tree mid.tree u) same (rw c.deref-2.ensures.value at (rw c.deref.ensures.value at c.in-Err-publish.ensures.ended)) in
     let done = c.done-done.result in
     let len : c.len.result ≡ length ran.items = omega (arith, c.len.ensures, ran.ok) in
     let done_is : done ≡ done_of (length ran.items) u = c.done-done.ensures ∙ ap (λ n. done_of n u) len in
     ran_well F.honest F.means F.faults old start c.args.committer given packed held from ran.items alike new left decided
     (λ h. c.decide.ensures.leaves h (from.packed.empty h)) (λ h. c.decide.ensures.passes h (from.packed.empty h))
-    c.in-Ok.ensures.logs rewrite c.in-Ok.ensures.repacked (λ h. c.in-Ok.ensures.filled h (from.packed.empty h)) (λ h. c.in-Ok.ensures.wholes h (from.packed.empty h))
-    mid renamed runs releases done
+    c.in-Ok.ensures.logs rewrite c.in-Ok.ensures.repacked (λ h. c.in-Ok.ensures.filled h (from.packed.empty h)) (λ h. c.in-Ok.ensures.wholes h (from.packed.empty h)) ways in_way
+    mid released renamed [] runs releases tidies done
     (λ h. rw c.unless_renamed-packed.ensures at (e.packed_gone h))
     (λ h text path some. cut_packed_gone F.honest F.means F.faults old start c.args.committer given packed held from ran.items alike new left decided
     (λ h. c.decide.ensures.leaves h (from.packed.empty h)) (λ h. c.decide.ensures.passes h (from.packed.empty h))
-    c.in-Ok.ensures.logs rewrite c.in-Ok.ensures.repacked (λ h. c.in-Ok.ensures.filled h (from.packed.empty h)) (λ h. c.in-Ok.ensures.wholes h (from.packed.empty h))
-    mid renamed runs releases u ends h (sym c.is_packed_renamed.ensures ∙ text) path some)
+    c.in-Ok.ensures.logs rewrite c.in-Ok.ensures.repacked (λ h. c.in-Ok.ensures.filled h (from.packed.empty h)) (λ h. c.in-Ok.ensures.wholes h (from.packed.empty h)) ways in_way
+    mid released renamed [] runs releases tidies u ends h (sym c.is_packed_renamed.ensures ∙ text) path some)
     (λ h k lt. e.gone h k (omega (arith, lt, ran.ok)))
     (λ h k lt early written. cut_gone F.honest F.means F.faults old start c.args.committer given packed held from ran.items alike new left decided
     (λ h. c.decide.ensures.leaves h (from.packed.empty h)) (λ h. c.decide.ensures.passes h (from.packed.empty h))
-    c.in-Ok.ensures.logs rewrite c.in-Ok.ensures.repacked (λ h. c.in-Ok.ensures.filled h (from.packed.empty h)) (λ h. c.in-Ok.ensures.wholes h (from.packed.empty h))
-    mid renamed runs releases u ends h k lt (subst (λ n. k < n) done_is early) written)
+    c.in-Ok.ensures.logs rewrite c.in-Ok.ensures.repacked (λ h. c.in-Ok.ensures.filled h (from.packed.empty h)) (λ h. c.in-Ok.ensures.wholes h (from.packed.empty h)) ways in_way
+    mid released renamed [] runs releases tidies u ends h k lt (subst (λ n. k < n) done_is early) written)
     (rw c.unless_renamed-packed.ensures at e.ours)
 
 pub returns-clause-ended : goal.returns-clause-ended
@@ -159,34 +167,43 @@ returns-clause-ended g c old given from =
     let ran = c.decide.new.edits in
     let packed = c.args.packed in
     let rewrite = c.in-Ok.decided.rewrite in
+    let ways = c.in-Ok.decided.ways.items in
+    let paths = paths_of c.deref-3.result.now in
     let decided = F.means c.decide.new.self.files in
     let mid = F.means c.publish.new.self.files in
-    let e = c.release_all.ensures in
-    let left = paths_of c.release_all.result.left.items in
-    let new = with_files c.publish.new.self c.release_all.new.files in
+    let e = c.release_all-released.ensures in
+    let left = paths_of c.release_all-released.result.left.items in
+    let new = with_files c.publish.new.self c.remove_empty_folders.new.files in
     let renamed = c.is_renamed.result in
     let alike = c.decide.ensures.alike in
     let same : c.decide.new.self.dirs ≡ old.dirs = ap (λ (st : Store g.row.F.Denot). st.dirs) c.decide.ensures.same ∙ from.held.same.dirs in
-    let runs : F.honest → Leaves decided mid (IsLeftBy (bare_steps (planned_entries old.dirs ran.items packed rewrite)) decided.tree) = λ h.
-    subst (λ (d : Dirs). Leaves decided mid (IsLeftBy (bare_steps (planned_entries d ran.items packed rewrite)) decided.tree)) same (rw c.deref.ensures.value at (c.publish.ensures.leaves h)) in
-    let releases : F.honest → Leaves mid (F.means c.release_all.new.files) (RemovesLocks (held_locks (if renamed then None else packed) ran.items) mid.tree) = λ h. rw c.unless_renamed-packed-2.ensures at (e.leaves h) in
-    let after : F.honest → IsAfter (bare_steps (planned_entries old.dirs ran.items packed rewrite)) decided.tree mid.tree = λ h.
-    subst (λ (d : Dirs). IsAfter (bare_steps (planned_entries d ran.items packed rewrite)) decided.tree mid.tree) same (rw c.deref.ensures.value at (c.in_default.ensures.done h)) in
+    let in_way : F.honest → AllInWay old.dirs decided.tree (folder_lists ways) (planned_entries old.dirs ran.items packed rewrite) = λ h.
+    subst (λ (d : Dirs). AllInWay d decided.tree (folder_lists ways) (planned_entries d ran.items packed rewrite)) from.held.same.dirs (c.in-Ok.ensures.in_way h) in
+    let released = F.means c.release_all-released.new.files in
+    let tidied = F.means c.remove_empty_folders.new.files in
+    let still : c.publish.new.self.dirs ≡ old.dirs = ap (λ (st : Store g.row.F.Denot). st.dirs) c.publish.ensures.same ∙ same in
+    let tidies : F.honest → Leaves released tidied (FoldersGo old.dirs paths released.tree) = λ h.
+    subst (λ (d : Dirs). Leaves released tidied (FoldersGo d paths released.tree)) still (c.remove_empty_folders.ensures.leaves h) in
+    let runs : F.honest → Leaves decided mid (IsLeftBy (bare_steps (commit_entries old.dirs ran.items packed rewrite ways)) decided.tree) = λ h.
+    subst (λ (d : Dirs). Leaves decided mid (IsLeftBy (bare_steps (commit_entries d ran.items packed rewrite ways)) decided.tree)) same (rw c.deref-2.ensures.value at (rw c.deref.ensures.value at (c.publish.ensures.leaves h))) in
+    let releases : F.honest → Leaves mid (F.means c.release_all-released.new.files) (RemovesLocks (held_locks (if renamed then None else packed) ran.items) mid.tree) = λ h. rw c.unless_renamed-packed-2.ensures at (e.leaves h) in
+    let after : F.honest → IsAfter (bare_steps (commit_entries old.dirs ran.items packed rewrite ways)) decided.tree mid.tree = λ h.
+    subst (λ (d : Dirs). IsAfter (bare_steps (commit_entries d ran.items packed rewrite ways)) decided.tree mid.tree) same (rw c.deref-2.ensures.value at (rw c.deref.ensures.value at (c.in_default.ensures.done h))) in
     let done = c.len-done.result in
     ran_well F.honest F.means F.faults old start c.args.committer given packed held from ran.items alike new left decided
     (λ h. c.decide.ensures.leaves h (from.packed.empty h)) (λ h. c.decide.ensures.passes h (from.packed.empty h))
-    c.in-Ok.ensures.logs rewrite c.in-Ok.ensures.repacked (λ h. c.in-Ok.ensures.filled h (from.packed.empty h)) (λ h. c.in-Ok.ensures.wholes h (from.packed.empty h))
-    mid renamed runs releases done
+    c.in-Ok.ensures.logs rewrite c.in-Ok.ensures.repacked (λ h. c.in-Ok.ensures.filled h (from.packed.empty h)) (λ h. c.in-Ok.ensures.wholes h (from.packed.empty h)) ways in_way
+    mid released renamed paths runs releases tidies done
     (λ h. rw c.unless_renamed-packed-2.ensures at (e.packed_gone h))
     (λ h text path some. whole_packed_gone F.honest F.means F.faults old start c.args.committer given packed held from ran.items alike new left decided
     (λ h. c.decide.ensures.leaves h (from.packed.empty h)) (λ h. c.decide.ensures.passes h (from.packed.empty h))
-    c.in-Ok.ensures.logs rewrite c.in-Ok.ensures.repacked (λ h. c.in-Ok.ensures.filled h (from.packed.empty h)) (λ h. c.in-Ok.ensures.wholes h (from.packed.empty h))
-    mid renamed runs releases after h (sym c.is_renamed.ensures ∙ text) path some)
+    c.in-Ok.ensures.logs rewrite c.in-Ok.ensures.repacked (λ h. c.in-Ok.ensures.filled h (from.packed.empty h)) (λ h. c.in-Ok.ensures.wholes h (from.packed.empty h)) ways in_way
+    mid released renamed paths runs releases tidies after h (sym c.is_renamed.ensures ∙ text) path some)
     (λ h k lt. e.gone h k (omega (arith, lt, ran.ok)))
     (λ h k lt early written. whole_gone F.honest F.means F.faults old start c.args.committer given packed held from ran.items alike new left decided
     (λ h. c.decide.ensures.leaves h (from.packed.empty h)) (λ h. c.decide.ensures.passes h (from.packed.empty h))
-    c.in-Ok.ensures.logs rewrite c.in-Ok.ensures.repacked (λ h. c.in-Ok.ensures.filled h (from.packed.empty h)) (λ h. c.in-Ok.ensures.wholes h (from.packed.empty h))
-    mid renamed runs releases after h k lt written)
+    c.in-Ok.ensures.logs rewrite c.in-Ok.ensures.repacked (λ h. c.in-Ok.ensures.filled h (from.packed.empty h)) (λ h. c.in-Ok.ensures.wholes h (from.packed.empty h)) ways in_way
+    mid released renamed paths runs releases tidies after h k lt written)
     (rw c.unless_renamed-packed-2.ensures at e.ours)
 
 pub returns-clause-committed : goal.returns-clause-committed
@@ -197,23 +214,32 @@ returns-clause-committed g c old given from h good =
     let ran = c.decide.new.edits in
     let packed = c.args.packed in
     let rewrite = c.in-Ok.decided.rewrite in
+    let ways = c.in-Ok.decided.ways.items in
+    let paths = paths_of c.deref-3.result.now in
     let decided = F.means c.decide.new.self.files in
     let mid = F.means c.publish.new.self.files in
-    let e = c.release_all.ensures in
-    let left = paths_of c.release_all.result.left.items in
-    let new = with_files c.publish.new.self c.release_all.new.files in
+    let e = c.release_all-released.ensures in
+    let left = paths_of c.release_all-released.result.left.items in
+    let new = with_files c.publish.new.self c.remove_empty_folders.new.files in
     let renamed = c.is_renamed.result in
     let alike = c.decide.ensures.alike in
     let same : c.decide.new.self.dirs ≡ old.dirs = ap (λ (st : Store g.row.F.Denot). st.dirs) c.decide.ensures.same ∙ from.held.same.dirs in
-    let runs : F.honest → Leaves decided mid (IsLeftBy (bare_steps (planned_entries old.dirs ran.items packed rewrite)) decided.tree) = λ h.
-    subst (λ (d : Dirs). Leaves decided mid (IsLeftBy (bare_steps (planned_entries d ran.items packed rewrite)) decided.tree)) same (rw c.deref.ensures.value at (c.publish.ensures.leaves h)) in
-    let releases : F.honest → Leaves mid (F.means c.release_all.new.files) (RemovesLocks (held_locks (if renamed then None else packed) ran.items) mid.tree) = λ h. rw c.unless_renamed-packed-2.ensures at (e.leaves h) in
-    let after : F.honest → IsAfter (bare_steps (planned_entries old.dirs ran.items packed rewrite)) decided.tree mid.tree = λ h.
-    subst (λ (d : Dirs). IsAfter (bare_steps (planned_entries d ran.items packed rewrite)) decided.tree mid.tree) same (rw c.deref.ensures.value at (c.in_default.ensures.done h)) in
+    let in_way : F.honest → AllInWay old.dirs decided.tree (folder_lists ways) (planned_entries old.dirs ran.items packed rewrite) = λ h.
+    subst (λ (d : Dirs). AllInWay d decided.tree (folder_lists ways) (planned_entries d ran.items packed rewrite)) from.held.same.dirs (c.in-Ok.ensures.in_way h) in
+    let released = F.means c.release_all-released.new.files in
+    let tidied = F.means c.remove_empty_folders.new.files in
+    let still : c.publish.new.self.dirs ≡ old.dirs = ap (λ (st : Store g.row.F.Denot). st.dirs) c.publish.ensures.same ∙ same in
+    let tidies : F.honest → Leaves released tidied (FoldersGo old.dirs paths released.tree) = λ h.
+    subst (λ (d : Dirs). Leaves released tidied (FoldersGo d paths released.tree)) still (c.remove_empty_folders.ensures.leaves h) in
+    let runs : F.honest → Leaves decided mid (IsLeftBy (bare_steps (commit_entries old.dirs ran.items packed rewrite ways)) decided.tree) = λ h.
+    subst (λ (d : Dirs). Leaves decided mid (IsLeftBy (bare_steps (commit_entries d ran.items packed rewrite ways)) decided.tree)) same (rw c.deref-2.ensures.value at (rw c.deref.ensures.value at (c.publish.ensures.leaves h))) in
+    let releases : F.honest → Leaves mid (F.means c.release_all-released.new.files) (RemovesLocks (held_locks (if renamed then None else packed) ran.items) mid.tree) = λ h. rw c.unless_renamed-packed-2.ensures at (e.leaves h) in
+    let after : F.honest → IsAfter (bare_steps (commit_entries old.dirs ran.items packed rewrite ways)) decided.tree mid.tree = λ h.
+    subst (λ (d : Dirs). IsAfter (bare_steps (commit_entries d ran.items packed rewrite ways)) decided.tree mid.tree) same (rw c.deref-2.ensures.value at (rw c.deref.ensures.value at (c.in_default.ensures.done h))) in
     committed F.honest F.means F.faults old start c.args.committer given packed held from ran.items alike new left decided
     (λ h. c.decide.ensures.leaves h (from.packed.empty h)) (λ h. c.decide.ensures.passes h (from.packed.empty h))
-    c.in-Ok.ensures.logs rewrite c.in-Ok.ensures.repacked (λ h. c.in-Ok.ensures.filled h (from.packed.empty h)) (λ h. c.in-Ok.ensures.wholes h (from.packed.empty h))
-    mid renamed runs releases h good (after h) ((returns-clause-ended g c old given from).gone h)
+    c.in-Ok.ensures.logs rewrite c.in-Ok.ensures.repacked (λ h. c.in-Ok.ensures.filled h (from.packed.empty h)) (λ h. c.in-Ok.ensures.wholes h (from.packed.empty h)) ways in_way
+    mid released renamed paths runs releases tidies h good (after h) ((returns-clause-ended g c old given from).gone h)
 
 pub returns-in-Err-publish-clause-lost : goal.returns-in-Err-publish-clause-lost
 returns-in-Err-publish-clause-lost g c old given from h good at_rest =
@@ -223,6 +249,7 @@ returns-in-Err-publish-clause-lost g c old given from h good at_rest =
     let ran = c.decide.new.edits in
     let packed = c.args.packed in
     let rewrite = c.in-Ok.decided.rewrite in
+    let ways = c.in-Ok.decided.ways.items in
     let decided = F.means c.decide.new.self.files in
     let mid = F.means c.publish.new.self.files in
     let e = c.release_all-edits.ensures in
@@ -231,16 +258,24 @@ returns-in-Err-publish-clause-lost g c old given from h good at_rest =
     let renamed = c.is_packed_renamed.result in
     let alike = c.decide.ensures.alike in
     let same : c.decide.new.self.dirs ≡ old.dirs = ap (λ (st : Store g.row.F.Denot). st.dirs) c.decide.ensures.same ∙ from.held.same.dirs in
-    let runs : F.honest → Leaves decided mid (IsLeftBy (bare_steps (planned_entries old.dirs ran.items packed rewrite)) decided.tree) = λ h.
-    subst (λ (d : Dirs). Leaves decided mid (IsLeftBy (bare_steps (planned_entries d ran.items packed rewrite)) decided.tree)) same (rw c.deref.ensures.value at (c.publish.ensures.leaves h)) in
+    let in_way : F.honest → AllInWay old.dirs decided.tree (folder_lists ways) (planned_entries old.dirs ran.items packed rewrite) = λ h.
+    subst (λ (d : Dirs). AllInWay d decided.tree (folder_lists ways) (planned_entries d ran.items packed rewrite)) from.held.same.dirs (c.in-Ok.ensures.in_way h) in
+    let released = F.means c.release_all-edits.new.files in
+    let tidies : F.honest → Leaves released released (FoldersGo old.dirs [] released.tree) = λ h. leaves_starts old.dirs [] released in
+    let runs : F.honest → Leaves decided mid (IsLeftBy (bare_steps (commit_entries old.dirs ran.items packed rewrite ways)) decided.tree) = λ h.
+    subst (λ (d : Dirs). Leaves decided mid (IsLeftBy (bare_steps (commit_entries d ran.items packed rewrite ways)) decided.tree)) same (rw c.deref-2.ensures.value at (rw c.deref.ensures.value at (c.publish.ensures.leaves h))) in
     let releases : F.honest → Leaves mid (F.means c.release_all-edits.new.files) (RemovesLocks (held_locks (if renamed then None else packed) ran.items) mid.tree) = λ h. rw c.unless_renamed-packed.ensures at (e.leaves h) in
-    let passes : Passes decided mid (IsReachedBy (steps_in (planned_entries old.dirs ran.items packed rewrite)) (disk_of decided)) =
-    subst (λ (d : Dirs). Passes decided mid (IsReachedBy (steps_in (planned_entries d ran.items packed rewrite)) (disk_of decided))) same (rw c.deref.ensures.value at (c.publish.ensures.passes h)) in
+    let passes : Passes decided mid (IsReachedBy (steps_in (commit_entries old.dirs ran.items packed rewrite ways)) (disk_of decided)) =
+    subst (λ (d : Dirs). Passes decided mid (IsReachedBy (steps_in (commit_entries d ran.items packed rewrite ways)) (disk_of decided))) same (rw c.deref-2.ensures.value at (rw c.deref.ensures.value at (c.publish.ensures.passes h))) in
     let only : OnlyRemoves (held_locks (if renamed then None else packed) ran.items) mid (F.means c.release_all-edits.new.files) = rw c.unless_renamed-packed.ensures at (e.passes h) in
+    let only_in = ran_inside F.honest F.means F.faults old start c.args.committer given packed held from ran.items alike new left decided
+    (λ h. c.decide.ensures.leaves h (from.packed.empty h)) (λ h. c.decide.ensures.passes h (from.packed.empty h))
+    c.in-Ok.ensures.logs rewrite c.in-Ok.ensures.repacked (λ h. c.in-Ok.ensures.filled h (from.packed.empty h)) (λ h. c.in-Ok.ensures.wholes h (from.packed.empty h)) ways in_way
+    mid released renamed [] runs releases tidies h at_rest only good passes in
     lost F.honest F.means F.faults old start c.args.committer given packed held from ran.items alike new left decided
     (λ h. c.decide.ensures.leaves h (from.packed.empty h)) (λ h. c.decide.ensures.passes h (from.packed.empty h))
-    c.in-Ok.ensures.logs rewrite c.in-Ok.ensures.repacked (λ h. c.in-Ok.ensures.filled h (from.packed.empty h)) (λ h. c.in-Ok.ensures.wholes h (from.packed.empty h))
-    mid renamed runs releases h at_rest only good passes
+    c.in-Ok.ensures.logs rewrite c.in-Ok.ensures.repacked (λ h. c.in-Ok.ensures.filled h (from.packed.empty h)) (λ h. c.in-Ok.ensures.wholes h (from.packed.empty h)) ways in_way
+    mid released renamed [] runs releases tidies h at_rest only good only_in
 
 pub returns-clause-lost : goal.returns-clause-lost
 returns-clause-lost g c old given from h good at_rest =
@@ -250,24 +285,44 @@ returns-clause-lost g c old given from h good at_rest =
     let ran = c.decide.new.edits in
     let packed = c.args.packed in
     let rewrite = c.in-Ok.decided.rewrite in
+    let ways = c.in-Ok.decided.ways.items in
+    let paths = paths_of c.deref-3.result.now in
     let decided = F.means c.decide.new.self.files in
     let mid = F.means c.publish.new.self.files in
-    let e = c.release_all.ensures in
-    let left = paths_of c.release_all.result.left.items in
-    let new = with_files c.publish.new.self c.release_all.new.files in
+    let e = c.release_all-released.ensures in
+    let left = paths_of c.release_all-released.result.left.items in
+    let new = with_files c.publish.new.self c.remove_empty_folders.new.files in
     let renamed = c.is_renamed.result in
     let alike = c.decide.ensures.alike in
     let same : c.decide.new.self.dirs ≡ old.dirs = ap (λ (st : Store g.row.F.Denot). st.dirs) c.decide.ensures.same ∙ from.held.same.dirs in
-    let runs : F.honest → Leaves decided mid (IsLeftBy (bare_steps (planned_entries old.dirs ran.items packed rewrite)) decided.tree) = λ h.
-    subst (λ (d : Dirs). Leaves decided mid (IsLeftBy (bare_steps (planned_entries d ran.items packed rewrite)) decided.tree)) same (rw c.deref.ensures.value at (c.publish.ensures.leaves h)) in
-    let releases : F.honest → Leaves mid (F.means c.release_all.new.files) (RemovesLocks (held_locks (if renamed then None else packed) ran.items) mid.tree) = λ h. rw c.unless_renamed-packed-2.ensures at (e.leaves h) in
-    let passes : Passes decided mid (IsReachedBy (steps_in (planned_entries old.dirs ran.items packed rewrite)) (disk_of decided)) =
-    subst (λ (d : Dirs). Passes decided mid (IsReachedBy (steps_in (planned_entries d ran.items packed rewrite)) (disk_of decided))) same (rw c.deref.ensures.value at (c.publish.ensures.passes h)) in
-    let only : OnlyRemoves (held_locks (if renamed then None else packed) ran.items) mid (F.means c.release_all.new.files) = rw c.unless_renamed-packed-2.ensures at (e.passes h) in
+    let in_way : F.honest → AllInWay old.dirs decided.tree (folder_lists ways) (planned_entries old.dirs ran.items packed rewrite) = λ h.
+    subst (λ (d : Dirs). AllInWay d decided.tree (folder_lists ways) (planned_entries d ran.items packed rewrite)) from.held.same.dirs (c.in-Ok.ensures.in_way h) in
+    let released = F.means c.release_all-released.new.files in
+    let tidied = F.means c.remove_empty_folders.new.files in
+    let still : c.publish.new.self.dirs ≡ old.dirs = ap (λ (st : Store g.row.F.Denot). st.dirs) c.publish.ensures.same ∙ same in
+    let tidies : F.honest → Leaves released tidied (FoldersGo old.dirs paths released.tree) = λ h.
+    subst (λ (d : Dirs). Leaves released tidied (FoldersGo d paths released.tree)) still (c.remove_empty_folders.ensures.leaves h) in
+    let runs : F.honest → Leaves decided mid (IsLeftBy (bare_steps (commit_entries old.dirs ran.items packed rewrite ways)) decided.tree) = λ h.
+    subst (λ (d : Dirs). Leaves decided mid (IsLeftBy (bare_steps (commit_entries d ran.items packed rewrite ways)) decided.tree)) same (rw c.deref-2.ensures.value at (rw c.deref.ensures.value at (c.publish.ensures.leaves h))) in
+    let releases : F.honest → Leaves mid (F.means c.release_all-released.new.files) (RemovesLocks (held_locks (if renamed then None else packed) ran.items) mid.tree) = λ h. rw c.unless_renamed-packed-2.ensures at (e.leaves h) in
+    let passes : Passes decided mid (IsReachedBy (steps_in (commit_entries old.dirs ran.items packed rewrite ways)) (disk_of decided)) =
+    subst (λ (d : Dirs). Passes decided mid (IsReachedBy (steps_in (commit_entries d ran.items packed rewrite ways)) (disk_of decided))) same (rw c.deref-2.ensures.value at (rw c.deref.ensures.value at (c.publish.ensures.passes h))) in
+    let only : OnlyRemoves (held_locks (if renamed then None else packed) ran.items) mid (F.means c.release_all-released.new.files) = rw c.unless_renamed-packed-2.ensures at (e.passes h) in
+    let folders : OnlyFolders old.dirs released tidied = subst (λ (d : Dirs). OnlyFolders d released tidied) still (c.remove_empty_folders.ensures.passes h) in
+    let done : IsSyncedAfter (steps_in (commit_entries old.dirs ran.items packed rewrite ways)) (disk_of decided) (disk_of mid) =
+    subst (λ (d : Dirs). IsSyncedAfter (steps_in (commit_entries d ran.items packed rewrite ways)) (disk_of decided) (disk_of mid)) same (rw c.deref-2.ensures.value at (rw c.deref.ensures.value at (c.in_default.ensures.synced h))) in
+    let stays = at_end F.honest F.means F.faults old start c.args.committer given packed held from ran.items alike new left decided
+    (λ h. c.decide.ensures.leaves h (from.packed.empty h)) (λ h. c.decide.ensures.passes h (from.packed.empty h))
+    c.in-Ok.ensures.logs rewrite c.in-Ok.ensures.repacked (λ h. c.in-Ok.ensures.filled h (from.packed.empty h)) (λ h. c.in-Ok.ensures.wholes h (from.packed.empty h)) ways in_way
+    mid released renamed paths runs releases tidies h at_rest only done in
+    let inside = tidied_inside F.honest F.means F.faults old start c.args.committer given packed held from ran.items alike new left decided
+    (λ h. c.decide.ensures.leaves h (from.packed.empty h)) (λ h. c.decide.ensures.passes h (from.packed.empty h))
+    c.in-Ok.ensures.logs rewrite c.in-Ok.ensures.repacked (λ h. c.in-Ok.ensures.filled h (from.packed.empty h)) (λ h. c.in-Ok.ensures.wholes h (from.packed.empty h)) ways in_way
+    mid released renamed paths runs releases tidies h at_rest only good passes done folders stays.1 in
     lost F.honest F.means F.faults old start c.args.committer given packed held from ran.items alike new left decided
     (λ h. c.decide.ensures.leaves h (from.packed.empty h)) (λ h. c.decide.ensures.passes h (from.packed.empty h))
-    c.in-Ok.ensures.logs rewrite c.in-Ok.ensures.repacked (λ h. c.in-Ok.ensures.filled h (from.packed.empty h)) (λ h. c.in-Ok.ensures.wholes h (from.packed.empty h))
-    mid renamed runs releases h at_rest only good passes
+    c.in-Ok.ensures.logs rewrite c.in-Ok.ensures.repacked (λ h. c.in-Ok.ensures.filled h (from.packed.empty h)) (λ h. c.in-Ok.ensures.wholes h (from.packed.empty h)) ways in_way
+    mid released renamed paths runs releases tidies h at_rest only good inside
 
 pub returns-clause-settled : goal.returns-clause-settled
 returns-clause-settled g c old given from h at_rest =
@@ -277,26 +332,35 @@ returns-clause-settled g c old given from h at_rest =
     let ran = c.decide.new.edits in
     let packed = c.args.packed in
     let rewrite = c.in-Ok.decided.rewrite in
+    let ways = c.in-Ok.decided.ways.items in
+    let paths = paths_of c.deref-3.result.now in
     let decided = F.means c.decide.new.self.files in
     let mid = F.means c.publish.new.self.files in
-    let e = c.release_all.ensures in
-    let left = paths_of c.release_all.result.left.items in
-    let new = with_files c.publish.new.self c.release_all.new.files in
+    let e = c.release_all-released.ensures in
+    let left = paths_of c.release_all-released.result.left.items in
+    let new = with_files c.publish.new.self c.remove_empty_folders.new.files in
     let renamed = c.is_renamed.result in
     let alike = c.decide.ensures.alike in
     let same : c.decide.new.self.dirs ≡ old.dirs = ap (λ (st : Store g.row.F.Denot). st.dirs) c.decide.ensures.same ∙ from.held.same.dirs in
-    let runs : F.honest → Leaves decided mid (IsLeftBy (bare_steps (planned_entries old.dirs ran.items packed rewrite)) decided.tree) = λ h.
-    subst (λ (d : Dirs). Leaves decided mid (IsLeftBy (bare_steps (planned_entries d ran.items packed rewrite)) decided.tree)) same (rw c.deref.ensures.value at (c.publish.ensures.leaves h)) in
-    let releases : F.honest → Leaves mid (F.means c.release_all.new.files) (RemovesLocks (held_locks (if renamed then None else packed) ran.items) mid.tree) = λ h. rw c.unless_renamed-packed-2.ensures at (e.leaves h) in
-    let done : IsSyncedAfter (steps_in (planned_entries old.dirs ran.items packed rewrite)) (disk_of decided) (disk_of mid) =
-    subst (λ (d : Dirs). IsSyncedAfter (steps_in (planned_entries d ran.items packed rewrite)) (disk_of decided) (disk_of mid)) same (rw c.deref.ensures.value at (c.in_default.ensures.synced h)) in
-    let only : OnlyRemoves (held_locks (if renamed then None else packed) ran.items) mid (F.means c.release_all.new.files) = rw c.unless_renamed-packed-2.ensures at (e.passes h) in
+    let in_way : F.honest → AllInWay old.dirs decided.tree (folder_lists ways) (planned_entries old.dirs ran.items packed rewrite) = λ h.
+    subst (λ (d : Dirs). AllInWay d decided.tree (folder_lists ways) (planned_entries d ran.items packed rewrite)) from.held.same.dirs (c.in-Ok.ensures.in_way h) in
+    let released = F.means c.release_all-released.new.files in
+    let tidied = F.means c.remove_empty_folders.new.files in
+    let still : c.publish.new.self.dirs ≡ old.dirs = ap (λ (st : Store g.row.F.Denot). st.dirs) c.publish.ensures.same ∙ same in
+    let tidies : F.honest → Leaves released tidied (FoldersGo old.dirs paths released.tree) = λ h.
+    subst (λ (d : Dirs). Leaves released tidied (FoldersGo d paths released.tree)) still (c.remove_empty_folders.ensures.leaves h) in
+    let runs : F.honest → Leaves decided mid (IsLeftBy (bare_steps (commit_entries old.dirs ran.items packed rewrite ways)) decided.tree) = λ h.
+    subst (λ (d : Dirs). Leaves decided mid (IsLeftBy (bare_steps (commit_entries d ran.items packed rewrite ways)) decided.tree)) same (rw c.deref-2.ensures.value at (rw c.deref.ensures.value at (c.publish.ensures.leaves h))) in
+    let releases : F.honest → Leaves mid (F.means c.release_all-released.new.files) (RemovesLocks (held_locks (if renamed then None else packed) ran.items) mid.tree) = λ h. rw c.unless_renamed-packed-2.ensures at (e.leaves h) in
+    let done : IsSyncedAfter (steps_in (commit_entries old.dirs ran.items packed rewrite ways)) (disk_of decided) (disk_of mid) =
+    subst (λ (d : Dirs). IsSyncedAfter (steps_in (commit_entries d ran.items packed rewrite ways)) (disk_of decided) (disk_of mid)) same (rw c.deref-2.ensures.value at (rw c.deref.ensures.value at (c.in_default.ensures.synced h))) in
+    let only : OnlyRemoves (held_locks (if renamed then None else packed) ran.items) mid (F.means c.release_all-released.new.files) = rw c.unless_renamed-packed-2.ensures at (e.passes h) in
     settled F.honest F.means F.faults old start c.args.committer given packed held from ran.items alike new left decided
     (λ h. c.decide.ensures.leaves h (from.packed.empty h)) (λ h. c.decide.ensures.passes h (from.packed.empty h))
-    c.in-Ok.ensures.logs rewrite c.in-Ok.ensures.repacked (λ h. c.in-Ok.ensures.filled h (from.packed.empty h)) (λ h. c.in-Ok.ensures.wholes h (from.packed.empty h))
-    mid renamed runs releases h at_rest only done
+    c.in-Ok.ensures.logs rewrite c.in-Ok.ensures.repacked (λ h. c.in-Ok.ensures.filled h (from.packed.empty h)) (λ h. c.in-Ok.ensures.wholes h (from.packed.empty h)) ways in_way
+    mid released renamed paths runs releases tidies h at_rest only done (subst (λ (d : Dirs). OnlyFolders d released tidied) still (c.remove_empty_folders.ensures.passes h))
     (ap (λ (st : Store g.row.F.Denot). st.dirs) c.publish.ensures.same ∙ ap (λ (st : Store g.row.F.Denot). st.dirs) c.decide.ensures.same)
     (ap (λ (st : Store g.row.F.Denot). st.namespace) c.publish.ensures.same ∙ ap (λ (st : Store g.row.F.Denot). st.namespace) c.decide.ensures.same)
 
 pub returns-clause-edits : goal.returns-clause-edits
-returns-clause-edits g c = c.release_all.ensures.edits ∙ updates_alike c.decide.new.edits.items c.args.edits.items c.decide.ensures.alike
+returns-clause-edits g c = c.release_all-released.ensures.edits ∙ updates_alike c.decide.new.edits.items c.args.edits.items c.decide.ensures.alike

@@ -1,0 +1,16 @@
+use Rattle.std.proofs.Common.{◌≤◌, take}
+use Rattle.gix_ref_files.specs.Calls.{Unchanged}
+use Rattle.gix_ref_files.specs.DiskCalls.{Untouched}
+use Rattle.gix_ref_files.specs.Files.{disk_of, Leaves, Passes}
+use Rattle.gix_ref_commit.specs.Cleared.{AllInWay, folder_lists}
+use Rattle.gix_ref_commit.specs.Entries.{entries}
+use Rattle.gix_ref_commit.proofs.folders.all_in_way.Given as goal
+
+-- the folders in the way of the steps so far, and nothing has changed
+abbrev pub invariant-loop-planned : goal.invariant-loop-planned
+invariant-loop-planned g l = record {
+  in_way : g.F.Files.honest → AllInWay l.dirs (g.F.Files.means l.fn.files).tree (folder_lists l.ways.items) (entries (take l.planned-index l.plan));
+  leaves : g.F.Files.honest → Leaves (g.F.Files.means l.fn.files) (g.F.Files.means l.files) (Unchanged (g.F.Files.means l.fn.files).tree);
+  passes : g.F.Files.honest → Passes (g.F.Files.means l.fn.files) (g.F.Files.means l.files) (Untouched (disk_of (g.F.Files.means l.fn.files)));
+  no_fewer : g.F.Files.faults l.fn.files ≤ g.F.Files.faults l.files;
+}

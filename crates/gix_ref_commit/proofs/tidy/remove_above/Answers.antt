@@ -1,0 +1,25 @@
+use Rattle.std.proofs.Common.{arith, ◌∷◌, []}
+use Rattle.gix_ref_commit.proofs.Tidying.{leaves_then, only_then}
+use Rattle.gix_ref_commit.proofs.tidy.remove_above.Goals as goal
+
+pub returns-then-not-remove_at-clause-passes : goal.returns-then-not-remove_at-clause-passes
+returns-then-not-remove_at-clause-passes g c h =
+    only_then c.args.dirs.now (g.F.Files.means c.args.files.now) (g.F.Files.means c.loop-end.files) (g.F.Files.means c.remove_at.new.files) (c.loop-end.invariant.passes h) (c.remove_at.ensures.passes h)
+
+pub returns-then-not-remove_at-clause-leaves : goal.returns-then-not-remove_at-clause-leaves
+returns-then-not-remove_at-clause-leaves g c h =
+    leaves_then c.args.dirs.now (c.args.path.now ∷ []) (g.F.Files.means c.args.files.now) (g.F.Files.means c.loop-end.files) (g.F.Files.means c.remove_at.new.files) (c.loop-end.invariant.leaves h) (c.remove_at.ensures.leaves h)
+
+pub loop-end-preserved : goal.loop-end-preserved
+loop-end-preserved g c =
+    let x = c.loop-end.invariant in
+    let e = c.remove_at.ensures in
+    let old = g.F.Files.means c.args.files.now in
+    let mid = g.F.Files.means c.loop-end.files in
+    let new = g.F.Files.means c.remove_at.new.files in
+    record {
+      leaves = λ h. leaves_then c.args.dirs.now (c.args.path.now ∷ []) old mid new (x.leaves h) (e.leaves h);
+      passes = λ h. only_then c.args.dirs.now old mid new (x.passes h) (e.passes h);
+      no_fewer = omega (arith, x.no_fewer, e.no_fewer);
+      end = omega (arith, x.end, c.loop-end-test.true);
+    }

@@ -1,0 +1,20 @@
+use Rattle.std.proofs.Common.{◌∙◌, ℕ, Vec, ap, arith}
+use Rattle.std.specs.declared.alloc.Global.{Global}
+use Rattle.gix_ref_files.proofs.Moments.{weaken}
+use Rattle.gix_ref_transaction.specs.OwnLocks.{paths_of}
+use Rattle.gix_ref_commit.proofs.Tidying.{go_among, leaves_then, only_then}
+use Rattle.gix_ref_commit.proofs.tidy.remove_empty_folders.Goals as goal
+
+pub loop-path-preserved : goal.loop-path-preserved
+loop-path-preserved g c =
+    let x = c.loop-path.invariant in
+    let e = c.remove_above.ensures in
+    let old = g.F.Files.means c.args.files.now in
+    let mid = g.F.Files.means c.loop-path.files in
+    let new = g.F.Files.means c.remove_above.new.files in
+    record {
+      leaves = λ h. leaves_then c.args.dirs.now (paths_of c.args.paths.now) old mid new (x.leaves h)
+          (weaken (e.leaves h) (λ T goes. go_among c.args.dirs.now c.args.paths.now c.loop-path.path-index c.path-item.result c.deref.result.now mid.tree T c.loop-path-test.true (c.deref.ensures.value ∙ ap (λ (v : Vec ℕ Global). v.items) c.path-item.is) goes));
+      passes = λ h. only_then c.args.dirs.now old mid new (x.passes h) (e.passes h);
+      no_fewer = omega (arith, x.no_fewer, e.no_fewer);
+    }

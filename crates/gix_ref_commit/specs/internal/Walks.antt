@@ -1,0 +1,60 @@
+-- The search for empty folders.
+use Rattle.std.specs.Prelude.{◌≡◌, ◌≢◌, ◌⊎◌, ℕ, List, [], ◌∷◌, ◌++◌, Bool, false, None}
+use Rattle.std.specs.List.{All}
+use Rattle.gix_ref_files.specs.Files.{HasRisen}
+use Rattle.gix_ref_files.specs.Settled.{IsIn}
+use Rattle.gix_ref_files.specs.Tree.{Tree, Path}
+use Rattle.gix_ref_files.specs.declared.files.FileError.{FileError}
+use Rattle.gix_ref_files.specs.declared.files.FileError.TheVariants.{Memory as no_memory}
+use Rattle.gix_ref_files.specs.declared.steps.Cause.TheVariants.{File}
+use Rattle.gix_ref_lookup.specs.declared.folders.Dirs.{Dirs}
+use Rattle.gix_ref_commit.specs.Cleared.{HoldsMore, IsAtOrBelow, roots_of, written_at}
+use Rattle.gix_ref_commit.specs.Entries.{Entry, bare}
+use Rattle.gix_ref_files.specs.Steps.{step_of}
+use Rattle.gix_ref_files.specs.declared.steps.Planned.{Planned}
+use Rattle.gix_ref_commit.specs.declared.plan.About.{About}
+use Rattle.gix_ref_commit.specs.declared.run.Unfinished.{Unfinished}
+use Rattle.gix_ref_commit.specs.declared.run.Unfinished.TheVariants.{Memory, Step}
+
+-- a fault of files came with a rise of their count; or memory was refused
+abbrev pub IsCountedFault : (before now : ℕ) → FileError → Type 0
+IsCountedFault before now error = (error ≡ no_memory) ⊎ HasRisen before now
+
+-- folders at a path and in it, and none that leads to a folder of the store
+pub record AreFolders (dirs : Dirs) (path : Path) (folders : List Path) : Type 0 where
+  pub inside : All (IsAtOrBelow path) folders
+  pub outside : All (λ f. IsIn f (roots_of dirs) → ⊥) folders
+
+-- such folders were added
+abbrev pub OnlyMore : Dirs → (path : Path) → (old new : List Path) → Type 0
+OnlyMore dirs path old new = (more : List Path) × (new ≡ old ++ more) × AreFolders dirs path more
+
+-- the search ended because more than empty folders is there
+abbrev pub StopsFor : Dirs → Tree → (path : Path) → (all : Bool) → Type 0
+StopsFor dirs T path all = all ≡ false → HoldsMore dirs T path
+
+-- the folder at a path, and then folders in it
+abbrev pub IsWalked : Dirs → (path : Path) → List Path → Type 0
+IsWalked dirs path folders = (rest : List Path) × (folders ≡ path ∷ rest) × AreFolders dirs path folders
+
+-- Before a step that writes a file, the folder at its path could not be listed.
+pub record IsUnlisted (plan : List Entry) (before now : ℕ) (fault : FileError) (step : Entry) : Type 0 where
+  pub seen : List Entry
+  pub rest : List Entry
+  pub cut : plan ≡ seen ++ step ∷ rest
+  pub writes : written_at (bare step.0) ≢ None
+  pub counted : HasRisen before now
+  pub no_want : fault ≢ no_memory
+
+-- why the search before this step ended
+abbrev pub FailsBefore : Planned About → (before now : ℕ) → Unfinished → Type 0
+FailsBefore planned before now Memory = Unit {0}
+FailsBefore planned before now (Step about (File fault)) =
+    (planned.about ≡ about) × (written_at (step_of planned.action) ≢ None) × HasRisen before now × (fault ≢ no_memory)
+FailsBefore planned before now (Step about cause) = ⊥
+
+-- why the search ended
+abbrev pub FailsToList : List Entry → (before now : ℕ) → Unfinished → Type 0
+FailsToList plan before now Memory = Unit {0}
+FailsToList plan before now (Step about (File fault)) = (step : Entry) × (step.1 ≡ about) × IsUnlisted plan before now fault step
+FailsToList plan before now (Step about cause) = ⊥
