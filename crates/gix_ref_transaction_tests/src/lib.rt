@@ -1,0 +1,25 @@
+//! Tests of whole transactions: random ones beside plain loops over files, and ones that are stopped, fail or lose power.
+#![tactic(auto)]
+
+#[cfg(test)]
+mod causes;
+#[cfg(test)]
+mod committing;
+#[cfg(test)]
+mod dice;
+#[cfg(test)]
+mod edits;
+#[cfg(test)]
+mod files;
+#[cfg(test)]
+mod made;
+#[cfg(test)]
+mod names;
+#[cfg(test)]
+mod preparing;
+#[cfg(test)]
+mod random;
+#[cfg(test)]
+mod reading;
+#[cfg(test)]
+mod stores;

@@ -1,0 +1,245 @@
+//! Random transactions of small stores, each compared with the same by plain loops: the cause, or the files afterwards.
+use crate::causes::{Cause, Failure, is_cause, is_failure};
+use crate::committing::commit;
+use crate::dice::Dice;
+use crate::edits::random_edits;
+use crate::files::{Held, copied};
+use crate::made::{Edit, Who, given, is_expected, signature, store};
+use crate::preparing::prepare;
+use crate::stores::{Kept, random_store};
+use gix_ref_edits::transaction::RefEdit;
+use gix_ref_files::files::Files;
+use gix_ref_memory::memory::Memory;
+use gix_ref_store::file::Store;
+use gix_ref_store::file::transaction::{commit as commits, prepare as prepares};
+use std::alloc::Global;
+use std::process::Abort;
+
+/// What became of a transaction.
+#[derive(Debug, Drop)]
+enum Answer {
+    Refused(prepares::Error),
+    Failed(commits::Error),
+    Done(Vec<RefEdit>),
+}
+
+/// What is to become of it.
+#[derive(Debug, Drop)]
+enum Want {
+    Refused(Cause),
+    Failed(Failure),
+    Done,
+}
+
+/// How often each end came.
+#[derive(Debug, Drop)]
+struct Tally {
+    refused: u32,
+    failed: u32,
+    done: u32,
+}
+
+/// Prepares edits and commits them.
+fn answered(
+    rt: &impl Abort,
+    alloc: Global,
+    store: &mut Store<Memory>,
+    edits: Vec<RefEdit>,
+    who: Who,
+) -> Answer {
+    match store.transaction().prepare(alloc, edits) {
+        Err(refused) => {
+            assert!(rt; refused.locks_left.is_empty(), "no lock is left");
+            Answer::Refused(refused.error)
+        }
+        Ok(prepared) => match prepared.commit(alloc, signature(who)) {
+            Err(failed) => {
+                assert!(rt; failed.locks_left.is_empty(), "no lock is left");
+                Answer::Failed(failed.error)
+            }
+            Ok(done) => {
+                assert!(rt; done.locks_left.is_empty(), "no lock is left");
+                Answer::Done(done.edits)
+            }
+        },
+    }
+}
+
+/// The same by plain loops, with the files afterwards.
+fn wanted(
+    rt: &impl Abort,
+    alloc: Global,
+    kept: &mut Kept,
+    edits: &mut Vec<Edit>,
+    who: Who,
+) -> Want {
+    let before = copied(rt, alloc, &kept.files);
+    if let Some(cause) = prepare(rt, alloc, kept, edits) {
+        kept.files = before;
+        return Want::Refused(cause);
+    }
+    match commit(rt, alloc, kept, edits, who) {
+        Ok(()) => Want::Done,
+        Err(failure) => Want::Failed(failure),
+    }
+}
+
+/// Whether the edits of a prepared transaction are these.
+fn are_edits(prepared: &[RefEdit], edits: &[Edit]) -> bool {
+    if prepared.len() != edits.len() {
+        return false;
+    }
+    for (prepared, edit) in prepared.iter().zip(edits) {
+        if !prepared.name.eq_bytes(edit.name.as_bytes())
+            || !is_expected(prepared.change.expectation(), edit.expect)
+            || prepared.deref
+        {
+            return false;
+        }
+    }
+    true
+}
+
+/// Whether an answer is the one that is wanted.
+fn is_same(answer: &Answer, want: &Want, edits: &[Edit]) -> bool {
+    match (answer, want) {
+        (Answer::Refused(error), Want::Refused(cause)) => is_cause(error, *cause),
+        (Answer::Failed(error), Want::Failed(failure)) => is_failure(error, failure),
+        (Answer::Done(prepared), Want::Done) => are_edits(prepared, edits),
+        _ => false,
+    }
+}
+
+/// The number of files in a folder, whose folders are added to a list.
+fn count_in(
+    rt: &impl Abort,
+    alloc: Global,
+    memory: &mut Memory,
+    folder: &str,
+    folders: &mut Vec<String>,
+) -> usize {
+    let entries = memory
+        .list(alloc, folder.as_bytes())
+        .expect(rt, "a listing")
+        .expect(rt, "a folder");
+    let mut count = 0usize;
+    for entry in &entries {
+        if entry.is_folder {
+            let name = str::from_utf8(&entry.name).expect(rt, "a name");
+            let below = format!(in alloc; "{folder}/{name}").expect(rt, "memory");
+            folders.push(below).expect(rt, "memory");
+        } else {
+            count = count.saturating_add(1);
+        }
+    }
+    count
+}
+
+/// The number of files in memory.
+fn count(rt: &impl Abort, alloc: Global, memory: &mut Memory) -> usize {
+    let mut folders = Vec::new(alloc);
+    let mut count = 0usize;
+    let mut folder = String::from_str(alloc, "/r").expect(rt, "memory");
+    for _ in 0..100u32 {
+        count = count.saturating_add(count_in(rt, alloc, memory, &folder, &mut folders));
+        match folders.pop() {
+            Some(next) => folder = next,
+            None => return count,
+        }
+    }
+    panic!(rt; "so many folders")
+}
+
+/// The first of these files that memory does not hold.
+fn lost<'f>(memory: &Memory, files: &'f [Held]) -> Option<&'f Held> {
+    for held in files {
+        if memory.get(held.path.as_bytes()) != Some(held.text.as_bytes()) {
+            return Some(held);
+        }
+    }
+    None
+}
+
+/// Whether memory holds these files and no others.
+fn holds(rt: &impl Abort, alloc: Global, memory: &mut Memory, files: &[Held]) -> bool {
+    lost(memory, files).is_none() && (files.is_empty() || count(rt, alloc, memory) == files.len())
+}
+
+/// Who commits.
+fn random_who(dice: &mut Dice) -> Who {
+    match dice.roll() {
+        0..=9 => Who::Nobody,
+        10..=17 => Who::Bracket,
+        18..=99 => Who::Padded,
+        _ => Who::C,
+    }
+}
+
+/// Counts an end.
+fn count_end(tally: &mut Tally, want: &Want) {
+    let count = match want {
+        Want::Refused(_) => &mut tally.refused,
+        Want::Failed(_) => &mut tally.failed,
+        Want::Done => &mut tally.done,
+    };
+    *count = count.saturating_add(1);
+}
+
+/// Compares one transaction of a random store.
+fn compare(rt: &impl Abort, alloc: Global, dice: &mut Dice, tally: &mut Tally) {
+    let (mut kept, memory) = random_store(rt, alloc, dice);
+    let mut edits = random_edits(rt, alloc, dice, &kept);
+    let who = random_who(dice);
+    let given = given(rt, alloc, &edits);
+    let mut store = store(rt, alloc, memory, kept.setting);
+    let answer = answered(rt, alloc, &mut store, given, who);
+    let mut memory = store.into_files();
+    let before = copied(rt, alloc, &kept.files);
+    let want = wanted(rt, alloc, &mut kept, &mut edits, who);
+    assert!(rt;
+        is_same(&answer, &want, &edits),
+        "{dice:?}: {answer:?} for {want:?}: {before:?} {kept:?} {edits:?}"
+    );
+    assert!(rt;
+        holds(rt, alloc, &mut memory, &kept.files),
+        "{dice:?}: {want:?}: {before:?} {kept:?} {edits:?} {:?}",
+        lost(&memory, &kept.files)
+    );
+    count_end(tally, &want);
+}
+
+/// Compares transactions of 500 random stores.
+fn compare_all(rt: &impl Abort, alloc: Global, start: u32) {
+    let mut dice = Dice::new(start);
+    let mut tally = Tally {
+        refused: 0,
+        failed: 0,
+        done: 0,
+    };
+    for _ in 0..500u32 {
+        compare(rt, alloc, &mut dice, &mut tally);
+    }
+    assert!(rt; tally.done > 150, "{tally:?}");
+    assert!(rt; tally.failed > 20, "{tally:?}");
+    assert!(rt; tally.refused > 100, "{tally:?}");
+}
+
+#[test]
+fn five_hundred_transactions(rt: HostRuntime) {
+    compare_all(&rt, rt.alloc(), 1);
+}
+
+#[test]
+fn five_hundred_more(rt: HostRuntime) {
+    compare_all(&rt, rt.alloc(), 2);
+}
+
+#[test]
+fn a_third_five_hundred(rt: HostRuntime) {
+    compare_all(&rt, rt.alloc(), 3);
+}
+
+#[test]
+fn the_last_five_hundred(rt: HostRuntime) {
+    compare_all(&rt, rt.alloc(), 4);
+}
