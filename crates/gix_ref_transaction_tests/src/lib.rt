@@ -1,4 +1,5 @@
 //! Tests of whole transactions: random ones beside plain loops over files, and ones that are stopped, fail or lose power.
+//! A test takes two seconds at most as `rt test` builds it; with the checks of `rt try --test` those of `stops` take minutes.
 #![tactic(auto)]
 
 #[cfg(test)]
@@ -21,5 +22,7 @@ mod preparing;
 mod random;
 #[cfg(test)]
 mod reading;
+#[cfg(test)]
+mod stops;
 #[cfg(test)]
 mod stores;
