@@ -1,0 +1,240 @@
+-- The items of a listing, by what each reference reads as edited.
+use Rattle.std.proofs.Common.{◌≡◌, inl, inr, ℕ, Bool, true, false, List, [], ◌∷◌, ◌++◌, refl, sym, ◌∙◌, ap, subst, Option, Some, None, Result, Ok, Err, IfOk, codes, append-nil, append_assoc}
+use denote.Ref.{Bor}
+use Rattle.std.specs.Option.{option_copied}
+use Rattle.std.specs.declared.alloc.Global.{Global}
+use Rattle.std.specs.Prelude.{Vec, ◌&&◌, is_none, is_some, option_to_list}
+use Rattle.std.specs.Iterator.{Yields}
+use Rattle.std.specs.List.{AllByRecursion}
+use Rattle.gix_ref_grammar.specs.NameGrammar.{IsPartialName}
+use Rattle.gix_ref_hash.specs.Bytes.{BeginsWith}
+use Rattle.gix_ref_base.specs.Locations.{is_safe}
+use Rattle.gix_ref_base.specs.PackedRecords.{Record}
+use Rattle.gix_ref_base.proofs.LocationLemmas.{safe_is_tested}
+use Rattle.gix_ref_files.specs.Files.{Meaning}
+use Rattle.gix_ref_files.specs.Tree.{Tree}
+use Rattle.gix_ref_files.proofs.Moments.{starts}
+use Rattle.gix_ref_packed.specs.Buffers.{buffer_kind, buffer_text}
+use Rattle.gix_ref_packed.specs.declared.packed.buffer.Buffer.{Buffer}
+use Rattle.gix_ref_records.specs.declared.raw.Reference.{Reference}
+use Rattle.gix_ref_theory.specs.Lookups.{is_there}
+use Rattle.gix_ref_theory.specs.OnRealTrees.{view_of}
+use Rattle.gix_ref_theory.specs.Readings.{Store as Places, Reading, reading_among}
+use Rattle.gix_ref_theory.specs.Views.{View}
+use Rattle.gix_ref_edits.specs.declared.transaction.RefEdit.{RefEdit}
+use Rattle.gix_ref_lookup.specs.Lookups.{meaning_in}
+use Rattle.gix_ref_lookup.specs.declared.settings.Settings.{Settings}
+use Rattle.gix_ref_listing.specs.Items.{IsItem}
+use Rattle.gix_ref_listing.specs.Listings.{Listed}
+use Rattle.gix_ref_listing.specs.Listings.Listed.{Walked, InPacked}
+use Rattle.gix_ref_listing.specs.WholeListings.{HoldsFor, IsInStore, IsListing, IsName, key_in, listed_key}
+use Rattle.gix_ref_listing.specs.Walks.{Among}
+use Rattle.gix_ref_listing.specs.declared.error.Error.{Error}
+use Rattle.gix_ref_listing.specs.declared.found.Found.TheVariants.{File, Unlisted}
+use Rattle.gix_ref_listing.proofs.FolderWalks.{unchanged_on}
+use Rattle.gix_ref_store.specs.Listings.{AreFirst, AreHeldFor, IsReadFor, Lists, NextItem, count_in, store_of}
+use Rattle.gix_ref_store.specs.Lookup.{AreRecordsIn, LooksUp, settings_of, view_in}
+use Rattle.gix_ref_store.specs.Store.{files_of, folders, kind_of, meaning_of, IsSameStore}
+use Rattle.gix_ref_store.specs.declared.file.iter.LooseThenPacked.{LooseThenPacked}
+use Rattle.gix_ref_store.specs.declared.file.iter.Remaining.{Remaining}
+use Rattle.gix_ref_store.specs.declared.file.store.Store.{Store}
+use Rattle.gix_ref_store.proofs.Commits.{same_meaning}
+use Rattle.gix_ref_store.proofs.ListingRuns.{same_settings}
+use Rattle.gix_ref_whole.specs.ListedItems.{AreItemsIn, GivesAll, TakesNext}
+use Rattle.gix_ref_whole.specs.ListedReadings.{AreItemsOf, IsItemOf, IsNoFolder, ListsReadings}
+use Rattle.gix_ref_whole.specs.WholeRuns.{ListsEdited, ReadsEdited, reads_after}
+use Rattle.gix_ref_whole.proofs.Committed.{packed_back, same_on, still_made, still_split}
+use Rattle.gix_ref_whole.proofs.ListedNames.{all_given, one_target, only_given}
+use Rattle.gix_ref_whole.proofs.PackedAgain.{computed}
+
+-- ---- another reading of the same names
+
+module _ (settings : Settings) (plainly : settings.precompose_unicode ≡ false) (view : View) (records : List Record) (prefix : List ℕ) (listed : List Listed) (is : IsListing settings view records prefix listed) where
+  abbrev s : Places
+  s = meaning_in settings
+
+  abbrev found : List ℕ → Reading
+  found name = reading_among s view records name
+
+  in_prefix : (one : Listed) → IsName one → IsInStore settings view records prefix one → IsPartialName (listed_key one) × BeginsWith (listed_key one) prefix
+  in_prefix (Walked (key, File n path)) name (named, file) = (file.placed.valid, file.placed.begins)
+  in_prefix (Walked (key, Unlisted path e)) name there = absurd name
+  in_prefix (InPacked own) name (there, has) = (there.valid, there.begins)
+
+  module _ (reads : List ℕ → Reading) (agree : (name : List ℕ) → IsPartialName name → BeginsWith name prefix → reads name ≡ found name) (names : AllByRecursion IsName listed) where
+    agree_at : (one : Listed) → IsName one → IsInStore settings view records prefix one → reads (listed_key one) ≡ found (listed_key one)
+    agree_at one name there = let within = in_prefix one name there in agree (listed_key one) within.0 within.1
+
+    all_read : (ones : List Listed) → AllByRecursion IsName ones → AllByRecursion (IsInStore settings view records prefix) ones → AllByRecursion (λ one. is_there (found (listed_key one)) ≡ true) ones →
+        AllByRecursion (λ one. is_there (reads (listed_key one)) ≡ true) ones
+    all_read [] names there read = tt
+    all_read (one ∷ ones) names there read = (subst (λ r. is_there r ≡ true) (sym (agree_at one names.0 there.0)) read.0, all_read ones names.1 there.1 read.1)
+
+    one_item : (one : Listed) (item : Result Reference Error) → reads (listed_key one) ≡ found (listed_key one) → IsItemOf s found one item → IsItemOf s reads one item
+    one_item one (Err e) same item = tt
+    one_item one (Ok r) same (name, target) = (name, λ may. subst (λ n. reads n ≡ found n) (sym name) same ∙ target may)
+
+    module _ {F : Type 0} (honest : Type 0) (h : honest) (means : F → Meaning) (faults : F → ℕ) (now : ℕ) where
+      all_items : (items : List (Result Reference Error)) (before : ℕ) (ones : List Listed) → AllByRecursion IsName ones → AllByRecursion (IsInStore settings view records prefix) ones →
+          ((l : Listed) → Among (λ x. l ≡ x) ones → Among (λ x. l ≡ x) listed) → AreFirst honest means faults settings view before now ones [] items → AreItemsOf s reads ones items
+      all_items [] before ones names_are there within first = subst (λ os. AreItemsOf s reads os []) (sym first.1) tt
+      all_items (item ∷ items) before ones names_are there within (mid, one, more, same, up, is_item, later) =
+          let names' : AllByRecursion IsName (one ∷ more) = subst (AllByRecursion IsName) same names_are in
+          let there' : AllByRecursion (IsInStore settings view records prefix) (one ∷ more) = subst (AllByRecursion (IsInStore settings view records prefix)) same there in
+          let within' : (l : Listed) → Among (λ x. l ≡ x) (one ∷ more) → Among (λ x. l ≡ x) listed = λ l w. within l (subst (λ os. Among (λ x. l ≡ x) os) (sym same) w) in
+          subst (λ os. AreItemsOf s reads os (item ∷ items)) (sym same) (
+            one_item one item (agree_at one names'.0 there'.0) (one_target settings plainly view records prefix listed is honest h names before mid one item (within' one (inl refl)) there'.0 is_item),
+            all_items items mid more names'.1 there'.1 (λ l w. within' l (inr w)) later,
+          )
+
+      pub lists_readings : (items : List (Result Reference Error)) (before : ℕ) → AreFirst honest means faults settings view before now listed [] items → ListsReadings s reads prefix items
+      lists_readings items before first = record {
+        listed = listed;
+        ascending = is.ascending;
+        all = λ name listable there.
+            all_given settings plainly view records prefix listed is name listable (subst (λ r. is_there r ≡ true) (agree name listable.valid listable.begins) there);
+        only = all_read listed names is.only (only_given settings plainly view records prefix listed is names);
+        targets = all_items items before listed names is.only (λ l w. w) first;
+      }
+
+-- ---- items that are taken one after the other
+
+-- one item more
+yields_more : {S A : Type 0} (steps : S → Option A → S → Type 0) (s t u : S) (items : List A) (item : A) → Yields steps s items t → steps t (Some item) u → Yields steps s (items ++ item ∷ []) u
+yields_more steps s t u [] item gave next = (u, subst (λ x. steps x (Some item) u) (sym gave) next, refl)
+yields_more steps s t u (first ∷ items) item (mid, one, gave) next = (mid, one, yields_more steps mid t u items item gave next)
+
+true_is_not : true ≡ false → ⊥
+true_is_not h = cc
+
+module _ {F : Type 0} (honest : Type 0) (means : F → Meaning) (faults : F → ℕ) where
+  -- one look after another
+  pub looks_on : (old mid new : Store F) → LooksUp honest means old mid → LooksUp honest means mid new → LooksUp honest means old new
+  looks_on old mid new first second = record {
+    leaves = λ h. unchanged_on (means (files_of old)) (means (files_of mid)) (means (files_of new)) (first.leaves h) (second.leaves h);
+    same = same_on old mid new first.same second.same;
+  }
+
+  -- the items that an iterator gave so far, from its first state; the store is the same, with the same files
+  pub record AreSoFar (first it : LooseThenPacked F Remaining) (items : List (Result Reference Error)) : Type 0 where
+    pub gives : Yields (NextItem honest means faults) first items it
+    pub same_reference : it.store.ghost_name ≡ first.store.ghost_name
+    pub unchanged : LooksUp honest means (store_of first) (store_of it)
+
+  pub begins : (it : LooseThenPacked F Remaining) → AreSoFar it it []
+  begins it = record {
+    gives = refl;
+    same_reference = refl;
+    unchanged = record {
+      leaves = λ h. starts (means (files_of (store_of it))) _ refl;
+      same = record { dirs = refl; namespace = refl; of_kind = refl; reflogs = refl; composes = refl; prohibits = refl };
+    };
+  }
+
+  module _ (first it next : LooseThenPacked F Remaining) (before after : List (Result Reference Error)) (more : Bool) (so_far : AreSoFar first it before) (takes : TakesNext honest means faults it next before after more) where
+    follows : LooksUp honest means (store_of first) (store_of next)
+    follows = looks_on (store_of first) (store_of it) (store_of next) so_far.unchanged record { leaves = takes.gives.gives.leaves; same = takes.gives.same_store }
+
+    pub taken : more ≡ true → AreSoFar first next after
+    taken is = go takes.item takes.gives takes.more_is takes.adds
+      where
+        go : (item : Option (Result Reference Error)) → NextItem honest means faults it item next → more ≡ is_some item → after ≡ before ++ option_to_list item → AreSoFar first next after
+        go None gives told adds = absurd (true_is_not (sym is ∙ told))
+        go (Some item) gives told adds = record {
+          gives = subst (λ (items : List (Result Reference Error)). Yields (NextItem honest means faults) first items next) (sym adds) (yields_more (NextItem honest means faults) first it next before item so_far.gives gives);
+          same_reference = gives.same_reference ∙ so_far.same_reference;
+          unchanged = follows;
+        }
+
+    pub ended : more ≡ false → GivesAll honest means faults first next after
+    ended is = go takes.item takes.gives takes.more_is takes.adds
+      where
+        go : (item : Option (Result Reference Error)) → NextItem honest means faults it item next → more ≡ is_some item → after ≡ before ++ option_to_list item → GivesAll honest means faults first next after
+        go None gives told adds = record { last = it; gives = subst (λ (items : List (Result Reference Error)). Yields (NextItem honest means faults) first items it) (sym (adds ∙ append-nil before)) so_far.gives; ends = gives }
+        go (Some item) gives told adds = absurd (true_is_not (sym told ∙ is))
+
+  -- ---- the whole listing
+
+  pub items_in : (old : Store F) (records : List Record) (prefix : List ℕ) (it t : LooseThenPacked F Remaining) (items : List (Result Reference Error)) → Lists honest means faults old records prefix it →
+      GivesAll honest means faults it t items → AreItemsIn honest means faults old records prefix items
+  items_in old records prefix it t items l all =
+      let first = l.runs items all.last all.gives in
+      record {
+        listed = l.listed;
+        is = l.is;
+        before = count_in honest means faults it;
+        now = count_in honest means faults all.last;
+        first = subst (λ rest. AreFirst honest means faults (settings_of old) (view_in means old) (count_in honest means faults it) (count_in honest means faults all.last) l.listed rest items) (first.ends t all.ends) first.first;
+      }
+
+  -- the items of a listing of a store that was looked at before
+  abbrev AreOf : (records : List Record) (prefix : List ℕ) (items : List (Result Reference Error)) → Settings → View → Type 0
+  AreOf records prefix items settings view =
+      (listed : List Listed) × IsListing settings view records prefix listed × ((before now : ℕ) × AreFirst honest means faults settings view before now listed [] items)
+
+  pub items_from : (old mid : Store F) (records : List Record) (prefix : List ℕ) (items : List (Result Reference Error)) → honest → LooksUp honest means old mid → AreItemsIn honest means faults mid records prefix items →
+      AreItemsIn honest means faults old records prefix items
+  items_from old mid records prefix items h looks are =
+      let moved : AreOf records prefix items (settings_of old) (view_in means old) =
+      subst (λ (T : Tree). AreOf records prefix items (settings_of old) (view_of T)) (looks.leaves h).tree
+      (subst (λ (x : Settings). AreOf records prefix items x (view_in means mid)) (sym (same_settings old mid looks.same)) (are.listed, are.is, (are.before, are.now, are.first))) in
+      record { listed = moved.0; is = moved.1; before = moved.2.0; now = moved.2.1; first = moved.2.2 }
+
+  one_is_name : (settings : Settings) (view : View) (before now : ℕ) (one : Listed) (item : Result Reference Error) → IsItem honest settings view before now one item → IsNoFolder item → IsName one
+  one_is_name settings view before now (InPacked own) item is plain = tt
+  one_is_name settings view before now (Walked (key, File n path)) item is plain = tt
+  one_is_name settings view before now (Walked (key, Unlisted path source)) (Ok r) is plain = is
+  one_is_name settings view before now (Walked (key, Unlisted path source)) (Err e) is plain = subst (λ (x : Error). IsNoFolder (Err x)) is plain
+
+  -- where no item is a folder, each is a name
+  all_names : (settings : Settings) (view : View) (items : List (Result Reference Error)) (before now : ℕ) (ones : List Listed) → AreFirst honest means faults settings view before now ones [] items →
+      AllByRecursion IsNoFolder items → AllByRecursion IsName ones
+  all_names settings view [] before now ones first plain = subst (AllByRecursion IsName) (sym first.1) tt
+  all_names settings view (item ∷ items) before now ones (mid, one, more, same, up, is, later) plain =
+      subst (AllByRecursion IsName) (sym same) (one_is_name settings view before mid one item is plain.0, all_names settings view items mid now more later plain.1)
+
+  -- a valid name below `refs/` may be that of a reference
+  is_reference : (s : Store F) (name : List ℕ) → IsPartialName name → BeginsWith name (codes "refs/") → (meaning_of s).is_reference name ≡ true
+  is_reference s name valid begins = ap (λ e. is_none e && is_safe name) valid ∙ safe_is_tested name (inl begins)
+
+  begins_on : (name prefix front : List ℕ) → BeginsWith name prefix → BeginsWith prefix front → BeginsWith name front
+  begins_on name prefix front (rest, is) (more, begins) = (more ++ rest, is ∙ (ap (λ p. p ++ rest) begins ∙ append_assoc front more rest))
+
+  pub lists_edited : (old mid new : Store F) (given : List RefEdit) → ReadsEdited honest means faults old mid given → IsSameStore old mid → LooksUp honest means mid new → (prefix : List ℕ) (items : List (Result Reference Error)) →
+      (honest → (records : List Record) → AreRecordsIn means mid records → AreItemsIn honest means faults mid records prefix items) → ListsEdited honest means faults old new given prefix items
+  lists_edited old mid new given made same looks prefix items are = record {
+    made = still_made honest means faults old mid new given made same looks;
+    lists = λ h good below plain no_folder.
+        let again = made.good h good in
+        let all = are h again.0 again.1 in
+        let back = packed_back honest means faults old mid same again.0 again.1 in
+        let same_records = computed (folders old) (kind_of old) old.prohibit_windows_device_names (view_in means mid (meaning_of old).packed_path) again.0 back in
+        subst (λ (split : List RefEdit). ListsReadings (meaning_of old) (reads_after honest means faults old split) prefix items) (sym (still_split honest means faults old mid new given made same looks))
+        (subst (λ (s : Places). ListsReadings s (reads_after honest means faults old made.split) prefix items) (same_meaning old mid same)
+        (lists_readings (settings_of mid) (same.composes ∙ plain) (view_in means mid) again.0 prefix all.listed all.is (reads_after honest means faults old made.split)
+        (λ name valid begins.
+        sym (made.reads h good name (is_reference old name valid (begins_on name prefix (codes "refs/") begins below)))
+        ∙ (ap (λ rs. reading_among (meaning_of old) (view_in means mid) rs name) same_records
+        ∙ ap (λ s. reading_among s (view_in means mid) again.0 name) (sym (same_meaning old mid same))))
+        (all_names (settings_of mid) (view_in means mid) items all.before all.now all.listed all.first no_folder) honest h means faults all.now items all.before all.first));
+  }
+
+  -- and so as the result of a listing
+  pub listed_edited : {E : Type 0} (old mid new : Store F) (given : List RefEdit) → ReadsEdited honest means faults old mid given → IsSameStore old mid → LooksUp honest means mid new → (prefix : List ℕ) →
+      (r : Result (Vec (Result Reference Error) Global) E) → (honest → (records : List Record) → AreRecordsIn means mid records → IfOk r (λ all. AreItemsIn honest means faults mid records prefix all.items)) →
+      IfOk r (λ all. ListsEdited honest means faults old new given prefix all.items)
+  listed_edited old mid new given made same looks prefix (Ok all) are = lists_edited old mid new given made same looks prefix all.items are
+  listed_edited old mid new given made same looks prefix (Err e) are = tt
+
+  pub listed_from : {E : Type 0} (old mid : Store F) (records : List Record) (prefix : List ℕ) → honest → LooksUp honest means old mid → (r : Result (Vec (Result Reference Error) Global) E) →
+      IfOk r (λ all. AreItemsIn honest means faults mid records prefix all.items) → IfOk r (λ all. AreItemsIn honest means faults old records prefix all.items)
+  listed_from old mid records prefix h looks (Ok all) are = items_from old mid records prefix all.items h looks are
+  listed_from old mid records prefix h looks (Err e) are = tt
+
+  -- what was read for a prefix is held for it, as it is lent
+  pub read_for : (old mid : Store F) (prefix : List ℕ) (found : Option Buffer) (lent : Option (Bor Buffer)) (records : List Record) → LooksUp honest means old mid →
+      option_copied lent ≡ found → IsReadFor old prefix found records → AreHeldFor mid prefix lent records
+  read_for old mid prefix found None records looks value is = subst (λ (f : Option Buffer). IsReadFor old prefix f records) (sym value) is
+  read_for old mid prefix found (Some r) records looks value is =
+      subst (λ (x : Settings). HoldsFor (buffer_kind r.now) (key_in x prefix) records (buffer_text r.now)) (same_settings old mid looks.same)
+      (subst (λ (f : Option Buffer). IsReadFor old prefix f records) (sym value) is)

@@ -1,0 +1,139 @@
+-- Where `packed-refs` was well formed before edits, it is after them.
+use Rattle.std.proofs.Common.{◌≡◌, ◌⊎◌, ◌&&◌, inl, inr, ℕ, suc, Bool, true, false, List, [], ◌∷◌, refl, sym, ◌∙◌, ap, subst, arith, Option, Some, None, cond, bytes_eq}
+use Rattle.std.specs.Prelude.{AllPairs, MatchBool}
+use Rattle.std.specs.List.{All}
+use Rattle.std.specs.Cmp.Lexicographic.{slice_cmp}
+use Rattle.std.specs.Ordering.{nat_cmp, is_eq, ordering_reverse}
+use Rattle.std.specs.declared.cmp.Ordering.TheVariants.{Less}
+use Rattle.std.proofs.lemmas.Bool.{cond-true, cond-false, cases_Bool}
+use Rattle.std.proofs.lemmas.Cmp.{nat_list_cmp_total}
+use Rattle.std.proofs.lemmas.Map.Text.{is_eq-slice_cmp}
+use Rattle.std.proofs.lemmas.Slice.Eq.{bytes_eq-Decides}
+use Rattle.std.proofs.lemmas.List.Elements.{All-head, All-tail, All-cons, All-nil}
+use Rattle.gix_ref_hash.specs.declared.hash.Kind.{Kind}
+use Rattle.gix_ref_base.specs.Layout.{Layout}
+use Rattle.gix_ref_base.specs.PackedRecords.{Record, record_named}
+use Rattle.gix_ref_base.specs.Targets.TargetValue.{object_id, symbolic_name}
+use Rattle.gix_ref_records.specs.Positions.{IsObject, IsReadable}
+use Rattle.gix_ref_records.specs.RecordGrammar.{Peeled, Records, Below, Ascending}
+use Rattle.gix_ref_records.specs.WrittenText.{written_header}
+use Rattle.gix_ref_packed.proofs.RecordsOfText.{records_computed}
+use Rattle.gix_ref_rewrite.proofs.OutcomeLemmas.{well_formed}
+use Rattle.gix_ref_lookup.specs.Lookups.{ArePackedRecords}
+use Rattle.gix_ref_lookup.specs.StoreLayout.{git_options}
+use Rattle.gix_ref_theory.specs.Between.{IsMerged, IsPackedFile}
+use Rattle.gix_ref_theory.specs.ConcreteStore.{store_of}
+use Rattle.gix_ref_theory.specs.Edits.{Edit, Change, merged_record, record_after, alters_packed, file_of_records, is_key}
+use Rattle.gix_ref_theory.specs.Edits.Change.{Update, Delete}
+use Rattle.gix_ref_theory.specs.Edits.Mode.{DeletionsOnly}
+use Rattle.gix_ref_theory.specs.Readings.{Store, records_in}
+
+-- ---- the records that are left
+
+no_record : (r : Record) → None ≡ Some r → ⊥
+no_record r is = cc
+
+-- an edit leaves the record of a key as it was, or removes it
+one_kept : (key : List ℕ) (e : Edit) (change : Change) (old : Option Record) (r : Record) → record_after DeletionsOnly key e change old ≡ Some r → old ≡ Some r
+one_kept key e Delete old r is = absurd (no_record r is)
+one_kept key e (Update (symbolic_name name)) old r is = is
+one_kept key e (Update (object_id id)) old r is = is
+
+either : (b : Bool) (x y old : Option Record) (r : Record) → (x ≡ Some r → old ≡ Some r) → (y ≡ Some r → old ≡ Some r) → cond b x y ≡ Some r → old ≡ Some r
+either true x y old r first second is = first is
+either false x y old r first second is = second is
+
+-- and so all of them
+all_kept : (s : Store) (edits : List Edit) (key : List ℕ) (old : Option Record) (r : Record) → merged_record s DeletionsOnly edits key old ≡ Some r → old ≡ Some r
+all_kept s [] key old r is = is
+all_kept s (e ∷ edits) key old r is =
+    either (e.and_reference && is_key (s.key e.name) key) (record_after DeletionsOnly key e e.change old) (merged_record s DeletionsOnly edits key old) old r
+    (one_kept key e e.change old r) (all_kept s edits key old r) is
+
+-- ---- records found by their names
+
+picked : (P : Record → Type 0) (b : Bool) (s r : Record) (rest : Option Record) → P s → (rest ≡ Some r → P r) → cond b (Some s) rest ≡ Some r → P r
+picked P true s r rest here later is = let same : s ≡ r = cc in subst P same here
+picked P false s r rest here later is = later is
+
+-- a record that is found is one of them
+found_one : (P : Record → Type 0) (key : List ℕ) (rs : List Record) (r : Record) → All P rs → record_named key rs ≡ Some r → P r
+found_one P key [] r all is = absurd (no_record r is)
+found_one P key (s ∷ rs) r all is = picked P (bytes_eq s.name key) s r (record_named key rs) (All-head P s rs all) (found_one P key rs r (All-tail P s rs all)) is
+
+above_apart : (a b : List ℕ) → Below b a → bytes_eq a b ≡ false
+above_apart a b below = sym (is_eq-slice_cmp a b) ∙ ap is_eq (nat_list_cmp_total.antisymm a b ∙ ap ordering_reverse below)
+
+none_above : (name : List ℕ) (rs : List Record) → All (λ s. Below name s.name) rs → record_named name rs ≡ None
+none_above name [] all = refl
+none_above name (s ∷ rs) all =
+    cond-false (bytes_eq s.name name) (Some s) (record_named name rs) (above_apart s.name name (All-head (λ s. Below name s.name) s rs all))
+    ∙ none_above name rs (All-tail (λ s. Below name s.name) s rs all)
+
+first_named : (r : Record) (rs : List Record) → record_named r.name (r ∷ rs) ≡ Some r
+first_named r rs = cond-true (bytes_eq r.name r.name) (Some r) (record_named r.name rs) ((bytes_eq-Decides r.name r.name).1 refl)
+
+-- a later record is found behind the first
+behind : (key : List ℕ) (r q : Record) (rs : List Record) → All (λ s. Below r.name s.name) rs → record_named key rs ≡ Some q → record_named key (r ∷ rs) ≡ Some q
+behind key r q rs above is = go (cases_Bool (bytes_eq r.name key))
+  where
+    go : (bytes_eq r.name key ≡ true) ⊎ (bytes_eq r.name key ≡ false) → record_named key (r ∷ rs) ≡ Some q
+    go (inl here) =
+        let same = (bytes_eq-Decides r.name key).0 here in
+        absurd (no_record q (sym (none_above r.name rs above) ∙ (ap (λ n. record_named n rs) same ∙ is)))
+    go (inr other) = cond-false (bytes_eq r.name key) (Some r) (record_named key rs) other ∙ is
+
+-- what each record has that is found by its name, all have
+all_found : (P : Record → Type 0) (rs : List Record) → Ascending rs → ((key : List ℕ) (r : Record) → record_named key rs ≡ Some r → P r) → All P rs
+all_found P [] up has = All-nil P
+all_found P (r ∷ rs) up has = All-cons P r rs (has r.name r (first_named r rs)) (all_found P rs up.1 (λ key q is. has key q (behind key r q rs up.0 is)))
+
+pairs_ascend : (rs : List Record) → AllPairs (λ (r later : Record). slice_cmp nat_cmp r.name later.name ≡ Less) rs → Ascending rs
+pairs_ascend [] up = tt
+pairs_ascend (r ∷ rs) up = (λ k d lt. up 0 (suc k) d (omega arith) (omega arith), pairs_ascend rs (λ i j d lt le. up (suc i) (suc j) d (omega arith) (omega arith)))
+
+-- ---- records that can be read
+
+object_read : (k : Kind) (t : List ℕ) (o : Option (List ℕ)) (rest : List ℕ) → Peeled k t o rest → IsObject k o
+object_read k t None rest f = tt
+object_read k t (Some object) rest f = f.id
+
+records_read : (k : Kind) (t : List ℕ) (rs : List Record) → Records k t rs → All (IsReadable k) rs
+records_read k t [] h = All-nil (IsReadable k)
+records_read k t (r ∷ rs) h =
+    All-cons (IsReadable k) r rs (record { name = h.1.valid; target = h.1.id; object = object_read k h.1.after r.object h.0 h.1.peeled }) (records_read k h.0 rs h.2)
+
+-- ---- the file
+
+module _ (f : Layout) (k : Kind) (prohibits : Bool) where
+  abbrev git : Store
+  git = store_of f (git_options k prohibits)
+
+  -- they are the records that are computed
+  pub computed : (file : Option (List ℕ)) (rs : List Record) → ArePackedRecords k file rs → records_in git file ≡ rs
+  computed None rs are = sym are
+  computed (Some text) rs are = records_computed k text are.0 rs are.1.whole
+
+  readable : (file : Option (List ℕ)) (rs : List Record) → ArePackedRecords k file rs → All (IsReadable k) rs
+  readable None rs are = subst (All (IsReadable k)) (sym are) (All-nil (IsReadable k))
+  readable (Some text) rs are = let whole = are.1.whole in records_read k whole.0 rs whole.2
+
+  -- merged records can be read
+  merged_read : (edits : List Edit) (old new : List Record) → IsMerged git DeletionsOnly edits old new → All (IsReadable k) old → All (IsReadable k) new
+  merged_read edits old new m all =
+      all_found (IsReadable k) new (pairs_ascend new m.ascending)
+      (λ key r is. found_one (IsReadable k) key old r all (all_kept git edits key (record_named key old) r (sym (m.each key) ∙ is)))
+
+  merged_has : (merged : List Record) → AllPairs (λ (r later : Record). slice_cmp nat_cmp r.name later.name ≡ Less) merged → All (IsReadable k) merged → ArePackedRecords k (file_of_records git merged) merged
+  merged_has [] m all = refl
+  merged_has (r ∷ rs) m all = (Some written_header, well_formed k (r ∷ rs) (pairs_ascend (r ∷ rs) m) all)
+
+  -- its records after edits
+  pub has_again : (edits : List Edit) (old new : Option (List ℕ)) (rs : List Record) → ArePackedRecords k old rs → IsPackedFile git DeletionsOnly edits old new → (left : List Record) × ArePackedRecords k new left
+  has_again edits old new rs are file = go (alters_packed git DeletionsOnly (records_in git old) edits) file
+    where
+      go : (b : Bool) → MatchBool b ((merged : List Record) × IsMerged git DeletionsOnly edits (records_in git old) merged × (new ≡ file_of_records git merged)) (new ≡ old) → (left : List Record) × ArePackedRecords k new left
+      go false same = (rs, subst (λ file. ArePackedRecords k file rs) (sym same) are)
+      go true (merged, m, is) =
+          let all = merged_read edits (records_in git old) merged m (subst (All (IsReadable k)) (sym (computed old rs are)) (readable old rs are)) in
+          (merged, subst (λ file. ArePackedRecords k file merged) (sym is) (merged_has merged m.ascending all))

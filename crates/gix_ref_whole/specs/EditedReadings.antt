@@ -1,0 +1,44 @@
+-- What a reference reads after edits, and what a lookup of its full name finds then.
+use Rattle.std.specs.Prelude.{◌≡◌, ◌||◌, ℕ, List, Bool, true, drop, Option, Some, None, Result, Ok, Err}
+use Rattle.gix_ref_name.specs.Candidates.{candidates, is_pseudo, is_rooted, remote_head}
+use Rattle.gix_ref_name.specs.Names.{full_bytes}
+use Rattle.gix_ref_base.specs.Targets.{target_value}
+use Rattle.gix_ref_records.specs.declared.raw.Reference.{Reference}
+use Rattle.gix_ref_theory.specs.Edits.{Edit, edited_reading}
+use Rattle.gix_ref_theory.specs.Lookups.{hit_name, lookup}
+use Rattle.gix_ref_theory.specs.Readings.{Store, Reading, reading, records_in}
+use Rattle.gix_ref_theory.specs.Readings.Reading.{Is, Fault, Absent}
+use Rattle.gix_ref_theory.specs.Views.{View}
+use Rattle.gix_ref_lookup.specs.Lookups.{Answers, IsSound, name_asked}
+use Rattle.gix_ref_lookup.specs.declared.find.existing.Error.{Error as Missing}
+use Rattle.gix_ref_lookup.specs.declared.find.existing.Error.TheVariants.{Find, NotFound}
+
+-- what a reference reads after these edits, where these were the files before
+abbrev pub reading_after : Store → View → List Edit → List ℕ → Reading
+reading_after s view edits name = edited_reading s edits name (reading s view name)
+
+-- A full name that a lookup takes as itself first: it begins with `refs/`, `main-worktree/` or `worktrees/`, or has only capitals and
+-- underscores; it may be that of a reference; and it is not composed to another name.
+pub record IsAskedFirst (s : Store) (composes : Bool) (name : List ℕ) : Type 0 where
+  pub reference : s.is_reference name ≡ true
+  pub first : (is_pseudo name || is_rooted name) ≡ true
+  pub composed : name_asked composes name ≡ name
+
+-- what it may be short for beside itself
+abbrev pub further : List ℕ → List (List ℕ)
+further name = drop 1 (candidates name)
+
+-- What a lookup of such a name finds where it reads this: its target. Where it reads nothing, the lookup goes on with the names that it
+-- may be short for; and a fault is an error.
+abbrev pub AnswersName : Store → View → List ℕ → Reading → Option Reference → Type 0
+AnswersName s view name (Is target) (Some r) =
+    (target_value r.target ≡ target) × (full_bytes r.name ≡ hit_name s name (s.key name) (view (s.place name)))
+AnswersName s view name (Is target) None = ⊥
+AnswersName s view name Fault found = ⊥
+AnswersName s view name Absent found = Answers (lookup s view (records_in s (view s.packed_path)) (further name) (remote_head name)) found
+
+-- and so as the result of `find`; the error of a lookup is a fault of files, a file that cannot be decoded, or want of memory
+abbrev pub IsFoundAs : Store → View → List ℕ → Reading → Result Reference Missing → Type 0
+IsFoundAs s view name reading (Ok r) = AnswersName s view name reading (Some r)
+IsFoundAs s view name reading (Err (NotFound partial)) = AnswersName s view name reading None
+IsFoundAs s view name reading (Err (Find error)) = IsSound error

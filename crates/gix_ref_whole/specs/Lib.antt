@@ -1,0 +1,4 @@
+pub mod EditedReadings
+pub mod ListedItems
+pub mod ListedReadings
+pub mod WholeRuns

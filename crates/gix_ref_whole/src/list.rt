@@ -1,0 +1,132 @@
+//! A listing after a transaction.
+ghost use Rattle.std.specs.Prelude.{◌≡◌, ◌<◌, List, true, IfOk, IfErr};
+ghost use Rattle.gix_ref_base.specs.PackedRecords.{Record};
+ghost use Rattle.gix_ref_packed.specs.OpenFiles.{HasReadFault};
+ghost use Rattle.gix_ref_store.specs.Listings.{AreHeldFor, items_left, store_of};
+ghost use Rattle.gix_ref_store.specs.Lookup.{AreRecordsIn, LooksUp};
+ghost use Rattle.gix_ref_whole.specs.ListedItems.{TakesNext, GivesAll, AreItemsIn};
+ghost use Rattle.gix_ref_whole.specs.WholeRuns.{ListsEdited, IsNotMade};
+
+use crate::error::Error;
+use crate::make::make;
+use gix_ref_edits::transaction::RefEdit;
+use gix_ref_files::files::Files;
+use gix_ref_log::actor::SignatureRef;
+use gix_ref_packed::packed::Buffer;
+use gix_ref_store::file::Store;
+use gix_ref_store::file::iter::{self, LooseThenPacked, loose_then_packed};
+use gix_ref_store::file::transaction::Done;
+use gix_ref_store::raw::Reference;
+use std::alloc::{AllocError, Global};
+
+/// Edits that were committed, and what was listed after them.
+#[derive(Debug, Drop)]
+pub struct Listed {
+    /// What the commit returned.
+    pub done: Done,
+    /// The items of the listing, or why there is none.
+    pub items: Result<Vec<Result<Reference, loose_then_packed::Error>>, iter::Error>,
+}
+
+/// Adds the next item of a listing, if there is one. Returns whether there was.
+fn take_next<F: Files>(
+    all: &mut Vec<Result<Reference, loose_then_packed::Error>>,
+    items: &mut LooseThenPacked<'_, F>,
+) -> Result<bool, AllocError>
+    ensures same_reference { items.new.store.ghost_name ≡ items.old.store.ghost_name }
+    ensures takes { IfOk result (TakesNext F.honest F.means F.faults items.old items.new
+        all.old.items all.new.items) }
+    ensures unchanged { LooksUp F.honest F.means (store_of items.old) (store_of items.new) }
+    ensures left { IfOk result (λ more. more ≡ true → items_left items.new < items_left items.old) }
+{
+    match items.next() {
+        Some(item) => {
+            all.push(item).map_err(AllocError::from)?;
+            Ok(true)
+        }
+        None => Ok(false),
+    }
+}
+
+/// The items of a listing, up to its end.
+fn collect<F: Files>(
+    alloc: Global,
+    items: &mut LooseThenPacked<'_, F>,
+) -> Result<Vec<Result<Reference, loose_then_packed::Error>>, AllocError>
+    ensures same_reference { items.new.store.ghost_name ≡ items.old.store.ghost_name }
+    ensures gives { IfOk result (λ all. GivesAll F.honest F.means F.faults items.old items.new
+        all.items) }
+    ensures unchanged { LooksUp F.honest F.means (store_of items.old) (store_of items.new) }
+{
+    let mut all = Vec::new(alloc);
+    while take_next(&mut all, items)? {}
+    Ok(all)
+}
+
+/// The items of the listing of a prefix, among the records of a buffer that was read for it.
+fn list_among<F: Files>(
+    alloc: Global,
+    store: &mut Store<F>,
+    prefix: &[u8],
+    packed: Option<&Buffer>,
+) -> Result<Vec<Result<Reference, loose_then_packed::Error>>, iter::Error>
+    ensures lists { F.honest → (records : List Record) →
+        AreHeldFor store.old prefix.now packed.entry records →
+        IfOk result (λ all. AreItemsIn F.honest F.means F.faults store.old records prefix.now
+        all.items) }
+    ensures unchanged { LooksUp F.honest F.means store.old store.new }
+{
+    match store.iter_prefixed_packed(alloc, prefix, packed) {
+        Ok(mut items) => {
+            let all = collect(alloc, &mut items);
+            items.into_store();
+            match all {
+                Ok(all) => Ok(all),
+                Err(_) => Err(iter::Error::Memory),
+            }
+        }
+        Err(error) => Err(error),
+    }
+}
+
+/// The items of the listing of a prefix.
+fn list<F: Files>(
+    alloc: Global,
+    store: &mut Store<F>,
+    prefix: &[u8],
+) -> Result<Vec<Result<Reference, loose_then_packed::Error>>, iter::Error>
+    ensures lists { F.honest → (records : List Record) → AreRecordsIn F.means store.old records →
+        IfOk result (λ all. AreItemsIn F.honest F.means F.faults store.old records prefix.now
+        all.items) }
+    ensures unchanged { LooksUp F.honest F.means store.old store.new }
+{
+    match store.open_packed_prefixed(alloc, prefix) {
+        Ok(packed) => list_among(alloc, store, prefix, packed.as_ref()),
+        Err(error) => Err(iter::Error::PackedOpen(error)),
+    }
+}
+
+/// Prepares the edits, commits them, and lists the names that begin with the prefix: below `refs/` just those that read something
+/// once the edits are made, by ascending names, each with its target.
+///
+/// `Prepare` where the edits are refused, and `Commit` where their commit fails; then nothing is listed.
+pub fn commit_then_list<F: Files>(
+    alloc: Global,
+    store: &mut Store<F>,
+    edits: Vec<RefEdit>,
+    committer: Option<SignatureRef<'_>>,
+    prefix: &[u8],
+) -> Result<Listed, Error>
+    ensures listed { IfOk result (λ r. IfOk r.items (λ all. ListsEdited F.honest F.means F.faults
+        store.old store.new edits.items prefix.now all.items)) }
+    ensures not_made { IfErr result (IsNotMade F.honest F.means F.faults
+        (HasReadFault F.Reader.faults) store.old store.new committer.entry edits.items) }
+{
+    match make(alloc, store, edits, committer) {
+        Ok(done) => {
+            let items = list(alloc, store, prefix);
+            Ok(Listed { done, items })
+        }
+        Err(error) => Err(error),
+    }
+}

@@ -1,0 +1,35 @@
+//! Edits from their preparation to their commit.
+ghost use Rattle.std.specs.Prelude.{IfOk, IfErr};
+ghost use Rattle.gix_ref_packed.specs.OpenFiles.{HasReadFault};
+ghost use Rattle.gix_ref_store.specs.Store.{IsSameStore};
+ghost use Rattle.gix_ref_whole.specs.WholeRuns.{ReadsEdited, IsNotMade};
+
+use crate::error::Error;
+use gix_ref_edits::transaction::RefEdit;
+use gix_ref_files::files::Files;
+use gix_ref_log::actor::SignatureRef;
+use gix_ref_store::file::Store;
+use gix_ref_store::file::transaction::Done;
+use std::alloc::Global;
+
+/// Prepares the edits and commits them.
+pub(crate) fn make<F: Files>(
+    alloc: Global,
+    store: &mut Store<F>,
+    edits: Vec<RefEdit>,
+    committer: Option<SignatureRef<'_>>,
+) -> Result<Done, Error>
+    ensures made { IfOk result (λ done. ReadsEdited F.honest F.means F.faults store.old store.new
+        edits.items) }
+    ensures not_made { IfErr result (IsNotMade F.honest F.means F.faults
+        (HasReadFault F.Reader.faults) store.old store.new committer.entry edits.items) }
+    ensures same { IsSameStore store.old store.new }
+{
+    match store.transaction().prepare(alloc, edits) {
+        Err(refused) => Err(Error::Prepare(refused)),
+        Ok(prepared) => match prepared.commit(alloc, committer) {
+            Err(failed) => Err(Error::Commit(failed)),
+            Ok(done) => Ok(done),
+        },
+    }
+}
