@@ -41,7 +41,7 @@ use Rattle.gix_ref_store.specs.declared.file.store.Store.{Store}
 use Rattle.gix_ref_store.proofs.Commits.{same_meaning}
 use Rattle.gix_ref_store.proofs.ListingRuns.{same_settings}
 use Rattle.gix_ref_whole.specs.ListedItems.{AreItemsIn, GivesAll, TakesNext}
-use Rattle.gix_ref_whole.specs.ListedReadings.{AreItemsOf, IsItemOf, IsNoFolder, ListsReadings}
+use Rattle.gix_ref_whole.specs.ListedReadings.{AreItemsOf, IsFaultOf, IsItemOf, IsNoFolder, ListsReadings}
 use Rattle.gix_ref_whole.specs.WholeRuns.{ListsEdited, ReadsEdited, reads_after}
 use Rattle.gix_ref_whole.proofs.Committed.{packed_back, same_on, still_made, still_split}
 use Rattle.gix_ref_whole.proofs.ListedNames.{all_given, one_target, only_given}
@@ -71,7 +71,7 @@ module _ (settings : Settings) (plainly : settings.precompose_unicode ≡ false)
     all_read (one ∷ ones) names there read = (subst (λ r. is_there r ≡ true) (sym (agree_at one names.0 there.0)) read.0, all_read ones names.1 there.1 read.1)
 
     one_item : (one : Listed) (item : Result Reference Error) → reads (listed_key one) ≡ found (listed_key one) → IsItemOf s found one item → IsItemOf s reads one item
-    one_item one (Err e) same item = tt
+    one_item one (Err e) same item = subst (λ r. IsFaultOf r e) (sym same) item
     one_item one (Ok r) same (name, target) = (name, λ may. subst (λ n. reads n ≡ found n) (sym name) same ∙ target may)
 
     module _ {F : Type 0} (honest : Type 0) (h : honest) (means : F → Meaning) (faults : F → ℕ) (now : ℕ) where
@@ -83,7 +83,7 @@ module _ (settings : Settings) (plainly : settings.precompose_unicode ≡ false)
           let there' : AllByRecursion (IsInStore settings view records prefix) (one ∷ more) = subst (AllByRecursion (IsInStore settings view records prefix)) same there in
           let within' : (l : Listed) → Among (λ x. l ≡ x) (one ∷ more) → Among (λ x. l ≡ x) listed = λ l w. within l (subst (λ os. Among (λ x. l ≡ x) os) (sym same) w) in
           subst (λ os. AreItemsOf s reads os (item ∷ items)) (sym same) (
-            one_item one item (agree_at one names'.0 there'.0) (one_target settings plainly view records prefix listed is honest h names before mid one item (within' one (inl refl)) there'.0 is_item),
+            one_item one item (agree_at one names'.0 there'.0) (one_target settings plainly view records prefix listed is honest h names before mid one item names'.0 (within' one (inl refl)) there'.0 is_item),
             all_items items mid more names'.1 there'.1 (λ l w. within' l (inr w)) later,
           )
 

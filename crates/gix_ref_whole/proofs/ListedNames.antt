@@ -19,7 +19,7 @@ use Rattle.gix_ref_theory.specs.Readings.Reading.{Is, Fault, Absent}
 use Rattle.gix_ref_theory.specs.Views.{View}
 use Rattle.gix_ref_lookup.specs.Lookups.{meaning_in, name_asked}
 use Rattle.gix_ref_lookup.specs.declared.settings.Settings.{Settings}
-use Rattle.gix_ref_listing.specs.Items.{IsItem}
+use Rattle.gix_ref_listing.specs.Items.{IsItem, IsUnread}
 use Rattle.gix_ref_listing.specs.Listings.{Listed}
 use Rattle.gix_ref_listing.specs.Listings.Listed.{Walked, InPacked}
 use Rattle.gix_ref_listing.specs.LooseListings.{IsFront, IsLooseListed}
@@ -28,7 +28,10 @@ use Rattle.gix_ref_listing.specs.Walks.{Among}
 use Rattle.gix_ref_listing.specs.WholeListings.{IsInStore, IsListing, IsLooseOf, IsName, IsOf, Rises, key_in, listed_key}
 use Rattle.gix_ref_listing.specs.declared.error.Error.{Error}
 use Rattle.gix_ref_listing.specs.declared.found.Found.TheVariants.{File, Unlisted}
-use Rattle.gix_ref_whole.specs.ListedReadings.{IsAllowed, IsItemOf, IsListable}
+use Rattle.gix_ref_listing.specs.declared.error.Error.TheVariants.{Traversal, ReadFileContents, ReferenceCreation, PackedReference, Memory}
+use Rattle.gix_ref_lookup.specs.declared.find.error.ReadError.TheVariants.{File as file_error, DeviceName}
+use Rattle.gix_ref_lookup.proofs.LooseLemmas.{refused_none}
+use Rattle.gix_ref_whole.specs.ListedReadings.{IsFaultOf, IsAllowed, IsItemOf, IsListable}
 use Rattle.gix_ref_whole.proofs.OwnPlaces.{own_key, own_place, place_of_own_key}
 
 -- ---- lists
@@ -166,12 +169,31 @@ module _ (settings : Settings) (plainly : settings.precompose_unicode ≡ false)
     pub only_given : AllByRecursion IsName listed → AllByRecursion (λ one. is_there (reads (listed_key one)) ≡ true) listed
     only_given names = all_there listed names is.only
 
+    -- a file that holds no target reads a fault
+    fault_of : (honest : Type 0) → honest → (before now : ℕ) (name key path : List ℕ) (e : Error) → s.place key ≡ path → IsUnread honest settings.kind s view before now name path e → IsFaultOf (reads key) e
+    fault_of honest h before now name key path (ReadFileContents (file_error source) p) at unread = tt
+    fault_of honest h before now name key path (ReadFileContents DeviceName p) at unread = tt
+    fault_of honest h before now name key path Memory at unread = tt
+    fault_of honest h before now name key path (Traversal source p) at unread = unread
+    fault_of honest h before now name key path (PackedReference line number) at unread = unread
+    fault_of honest h before now name key path (ReferenceCreation source p) at unread =
+        let undecoded = unread.1 h in
+        let none = refused_none settings.kind undecoded.0 source undecoded.2 undecoded.3 in
+        by (s.is_prohibited (s.place key)) (ap (λ f. reading_by s (s.key key) f records) (ap view at ∙ undecoded.1) ∙ ap (reading_of_loose s) none)
+      where
+        by : (prohibited : Bool) → reading_by s (s.key key) (view (s.place key)) records ≡ Fault → (if prohibited then Fault else reading_by s (s.key key) (view (s.place key)) records) ≡ Fault
+        by true is = refl
+        by false is = is
+
     -- and each reference has the target that it reads
-    pub one_target : (honest : Type 0) → honest → AllByRecursion IsName listed → (before now : ℕ) (one : Listed) (item : Result Reference Error) → Among (λ l. one ≡ l) listed → IsInStore settings view records prefix one →
+    pub one_target : (honest : Type 0) → honest → AllByRecursion IsName listed → (before now : ℕ) (one : Listed) (item : Result Reference Error) → IsName one → Among (λ l. one ≡ l) listed → IsInStore settings view records prefix one →
         IsItem honest settings view before now one item → IsItemOf s reads one item
-    one_target honest h names before now one (Err e) within found item = tt
-    one_target honest h names before now (Walked (key, Unlisted path e)) (Ok r) within found item = absurd item
-    one_target honest h names before now (Walked (key, File n path)) (Ok r) within (named, file) item =
+    one_target honest h names before now (Walked (key, Unlisted path source)) (Err e) is_name within found item = absurd is_name
+    one_target honest h names before now (Walked (key, File n path)) (Err e) is_name within (named, file) item =
+        fault_of honest h before now (full_bytes n) key.items path.items e (file.placed.own ∙ (ap (λ d. file.front ++ d) (file.asked ∙ asked_plainly file.disk) ∙ sym file.at)) item
+    one_target honest h names before now (InPacked own) (Err e) is_name within found item = subst (IsFaultOf (reads own.name)) (sym item) tt
+    one_target honest h names before now (Walked (key, Unlisted path e)) (Ok r) is_name within found item = absurd item
+    one_target honest h names before now (Walked (key, File n path)) (Ok r) is_name within (named, file) item =
         let name : full_bytes r.name ≡ key.items = ap full_bytes item.0 ∙ named in
         let at : s.place key.items ≡ path.items = file.placed.own ∙ (ap (λ d. file.front ++ d) (file.asked ∙ asked_plainly file.disk) ∙ sym file.at) in
         let loose = item.1 h in (
@@ -179,7 +201,7 @@ module _ (settings : Settings) (plainly : settings.precompose_unicode ≡ false)
           subst (λ n. IsAllowed s n → reads n ≡ Is (target_value r.target)) (sym name)
               (λ may. allowed key.items may ∙ (ap (λ f. reading_by s (s.key key.items) f records) (ap view at ∙ loose.1) ∙ loose.2)),
         )
-    one_target honest h names before now (InPacked own) (Ok r) within (there, has) item =
+    one_target honest h names before now (InPacked own) (Ok r) is_name within (there, has) item =
         (item.0, subst (λ n. IsAllowed s n → reads n ≡ Is (target_value r.target)) (sym item.0) (λ may. allowed own.name may ∙ by (view (s.place own.name)) refl))
       where
         by : (file : Option (List ℕ)) → view (s.place own.name) ≡ file → reading_by s (s.key own.name) (view (s.place own.name)) records ≡ Is (target_value r.target)

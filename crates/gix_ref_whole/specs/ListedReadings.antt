@@ -8,12 +8,12 @@ use Rattle.gix_ref_base.specs.Targets.{target_value}
 use Rattle.gix_ref_records.specs.declared.raw.Reference.{Reference}
 use Rattle.gix_ref_theory.specs.Lookups.{is_there}
 use Rattle.gix_ref_theory.specs.Readings.{Store, Reading}
-use Rattle.gix_ref_theory.specs.Readings.Reading.{Is}
+use Rattle.gix_ref_theory.specs.Readings.Reading.{Is, Fault}
 use Rattle.gix_ref_listing.specs.Listings.{Listed}
 use Rattle.gix_ref_listing.specs.Walks.{Among}
 use Rattle.gix_ref_listing.specs.WholeListings.{IsOf, Rises, listed_key}
 use Rattle.gix_ref_listing.specs.declared.error.Error.{Error}
-use Rattle.gix_ref_listing.specs.declared.error.Error.TheVariants.{Traversal}
+use Rattle.gix_ref_listing.specs.declared.error.Error.TheVariants.{Traversal, ReadFileContents, ReferenceCreation, Memory}
 
 -- the store prohibits nothing at the place of the name
 abbrev pub IsAllowed : Store → List ℕ → Type 0
@@ -26,10 +26,18 @@ pub record IsListable (s : Store) (prefix name : List ℕ) : Type 0 where
   pub below_refs : BeginsWith name (codes "refs/")
   pub allowed : IsAllowed s name
 
+-- Why a reference is not given: its file holds no target, and so it reads a fault; the file could not be read, or has the name of a
+-- device; or there was no memory.
+abbrev pub IsFaultOf : Reading → Error → Type 0
+IsFaultOf reading (ReferenceCreation source path) = reading ≡ Fault
+IsFaultOf reading (ReadFileContents source path) = Unit {0}
+IsFaultOf reading Memory = Unit {0}
+IsFaultOf reading other = ⊥
+
 -- an item is the reference of this name, with the target that it reads; or a fault in its place
 abbrev pub IsItemOf : Store → (List ℕ → Reading) → Listed → Result Reference Error → Type 0
 IsItemOf s reads one (Ok r) = (full_bytes r.name ≡ listed_key one) × (IsAllowed s (full_bytes r.name) → reads (full_bytes r.name) ≡ Is (target_value r.target))
-IsItemOf s reads one (Err error) = Unit {0}
+IsItemOf s reads one (Err error) = IsFaultOf (reads (listed_key one)) error
 
 -- and so each of them
 abbrev pub AreItemsOf : Store → (List ℕ → Reading) → List Listed → List (Result Reference Error) → Type 0

@@ -6,3 +6,4 @@ pub mod error;
 pub mod find;
 pub mod list;
 mod make;
+pub mod read;

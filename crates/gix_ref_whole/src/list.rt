@@ -90,7 +90,7 @@ fn list_among<F: Files>(
 }
 
 /// The items of the listing of a prefix.
-fn list<F: Files>(
+pub(crate) fn list<F: Files>(
     alloc: Global,
     store: &mut Store<F>,
     prefix: &[u8],
