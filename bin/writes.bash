@@ -73,7 +73,7 @@ ROWS
 }
 
 # differences: FILES|MESSAGE|CHANGE, the changes that both make, but in another way, or of which one refuses: then just these
-# files differ; `-` where none does. Each is below its reason, of which docs/DIFFERENCES.md says more.
+# files differ; `-` where none does. Each is below its reason.
 differences() {
     cat <<ROWS
 # git adds a line to the log of HEAD also where its branch is changed by its own name
