@@ -72,6 +72,20 @@ symbolic worktrees/$1/HEAD refs/heads/unborn
 ROWS
 }
 
+# folders: the same where only empty folders are left in the way.
+folders() {
+    cat <<ROWS
+delete refs/heads/a/b
+update refs/heads/a $one
+update refs/heads/a0/below $one
+delete refs/heads/a0
+update refs/heads/a0 $two $null
+update refs/tags/deep/er/name $one
+delete refs/tags/deep/er/name
+update refs/tags/deep $one
+ROWS
+}
+
 # differences: FILES|MESSAGE|CHANGE, the changes that both make, but in another way, or of which one refuses: then just these
 # files differ; `-` where none does. Each is below its reason.
 differences() {

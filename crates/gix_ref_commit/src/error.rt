@@ -15,7 +15,8 @@ pub enum Error {
     /// A log line could not be added. It was refused before the first write, and nothing but locks has changed: `MissingCommitter`,
     /// `MessageWithNewlines`, `SignatureUnwritable`, or `CreateLeadingDirectories`. Or a call of files failed where the folders of the
     /// log were made (`CreateLeadingDirectories` with its source), or where the line was added or synced (`Append`); then the edits
-    /// before this one are done, its reference reads as before, and the log may have any beginning of the line.
+    /// before this one are done, its reference reads as before, and the log may have any beginning of the line. Or a folder in the way of the
+    /// log could not be listed (`Append`), and nothing but locks has changed.
     #[error("{0}")]
     CreateOrUpdateRefLog(create_or_update::Error),
     /// A call of files failed where the lock of the reference was renamed to its place, or where the folders above it were
@@ -38,7 +39,7 @@ pub enum Error {
         full_name: FullName,
         source: FileError,
     },
-    /// A folder is where the loose file of a reference, its log, or `packed-refs` goes.
+    /// A folder with a file below it is where the loose file of a reference, its log, or `packed-refs` goes. Empty folders are removed.
     #[error("a folder is in the place of a reference, of its log, or of packed-refs")]
     FolderInPlace {
         path: Vec<u8>,

@@ -240,7 +240,9 @@ impl<F: Files> Prepared<'_, F> {
     /// records of deleted references, to its place, or removes that file, where no record is left; removes the loose files of
     /// deletions; and removes the other locks. What becomes of each log and of `packed-refs` is decided before the first of these, and
     /// the new text is in the lock by then. Which lines are due is said by `Options::write_reflog` and the edits; `committer` is
-    /// written in each, trimmed, and may be `None` where no line is due (`git reflog`).
+    /// written in each, trimmed, and may be `None` where no line is due (`git reflog`). Empty folders in the way of a loose file or of a
+    /// log are removed before it is written, and those above deleted references and logs after a commit that succeeds, but for
+    /// `logs`, `refs` and the folders right below `refs`.
     ///
     /// At every stop on the way, and after every loss of power, each reference reads as before or as edited, no deletion shows
     /// before every update, and updates show in their order: texts are synced before they are renamed, a line before the rename of its
@@ -252,8 +254,9 @@ impl<F: Files> Prepared<'_, F> {
     /// `CreateOrUpdateRefLog` where a line is due that cannot be made, where a file is in the path of its log, or where a call of
     /// files failed as the log was looked for, its folders were made or the line was added. `LockCommit`, `DeleteReflog`,
     /// `PackedTransactionCommit` and `DeleteReference` where a call of files failed in that step, or a sync after it;
-    /// `FolderInPlace` where a folder is at the place of a reference, of its log, or of `packed-refs`. The steps before that one
-    /// are done then, and the locks are removed but for those that are named. `PackedTransactionCommit` also where `packed-refs`
+    /// `FolderInPlace` where a folder that holds a file is at the place of a reference, of its log, or of `packed-refs`. The steps before
+    /// that one are done then, and the locks are removed but for those that are named. `Append` and `LockCommit` also where such a folder
+    /// could not be listed, and then nothing is done but the removal of locks. `PackedTransactionCommit` also where `packed-refs`
     /// could not be read or has a line that is no record, and `Memory` where there was none for the plan; then, as where a line was
     /// refused, nothing is done but the removal of locks.
     pub fn commit(self, alloc: Global, committer: Option<SignatureRef<'_>>) -> Result<Done, Failed>

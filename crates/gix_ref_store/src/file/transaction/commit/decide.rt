@@ -202,14 +202,7 @@ impl<F: Files> Store<F> {
             (F.faults (files_of self.new))) }
         ensures same { self.new ≡ with_files self.old (files_of self.new) }
     {
-        run_plan(
-            alloc,
-            &mut self.files,
-            &self.dirs,
-            edits,
-            packed,
-            rewrite,
-            ways,
-        )
+        let dirs = &self.dirs;
+        run_plan(alloc, &mut self.files, dirs, edits, packed, rewrite, ways)
     }
 }
