@@ -12,6 +12,7 @@
 pub mod file;
 pub mod files;
 pub mod log;
+pub mod packed;
 pub mod theorems;
 
 pub use gix_ref_base::{layout, target};
@@ -22,5 +23,5 @@ pub use gix_ref_hash::hash;
 pub use gix_ref_log::actor;
 pub use gix_ref_name::{name, namespace};
 pub use gix_ref_object::object;
-pub use gix_ref_packed::{packed, raw};
+pub use gix_ref_packed::raw;
 pub use gix_ref_store::store;

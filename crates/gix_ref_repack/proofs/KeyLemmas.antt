@@ -42,9 +42,10 @@ use Rattle.gix_ref_transaction.specs.PackedCauses.{ids_among}
 use Rattle.gix_ref_transaction.specs.PrepareSteps.{ids_in, updates}
 use Rattle.gix_ref_transaction.specs.declared.edit.Edit.{Edit}
 use Rattle.gix_ref_transaction.proofs.Held.{heads}
-use Rattle.gix_ref_repack.specs.Repacks.{deletes_reference, removes_record}
+use Rattle.gix_ref_transaction.specs.PackedCauses.{deletes_reference}
+use Rattle.gix_ref_repack.specs.Repacks.{removes_record}
 use Rattle.gix_ref_repack.specs.internal.RemovedKeys.{removed_key, removed_keys}
-use Rattle.gix_ref_repack.specs.internal.Removals.{finds_some, is_among, record_without}
+use Rattle.gix_ref_repack.specs.Removals.{finds_some, is_among, record_without}
 
 -- ---- the ids of records
 

@@ -17,7 +17,7 @@ use Rattle.gix_ref_lookup.proofs.Opening.{opens_sound}
 use Rattle.gix_ref_repack.specs.Refusals.{IsIoOrMemory, of_opening}
 use Rattle.gix_ref_repack.specs.declared.error.Error.{Error}
 use Rattle.gix_ref_repack.specs.declared.error.Error.TheVariants.{Memory}
-use Rattle.gix_ref_repack.specs.internal.Removals.{finds_some}
+use Rattle.gix_ref_repack.specs.Removals.{finds_some}
 
 -- an opened file of these records holds them
 pub holds : (kind : Kind) (content : Option Content) (rs : List Record) (b : Buffer) → ArePackedRecords kind (file_of content) rs → is_file content ≡ true → Opened kind (bytes_of content) b →

@@ -21,7 +21,7 @@ use Rattle.gix_ref_rewrite.specs.declared.outcome.Rewrite.TheVariants.{Unchanged
 use Rattle.gix_ref_rewrite.specs.MergedRecords.{IsMerged}
 use Rattle.gix_ref_rewrite.specs.RecordEdits.{KeysAscend, new_record, record_after, record_put}
 use Rattle.gix_ref_rewrite.specs.Rewrites.{IsReadableIfAny, IsRewrite, are_altered}
-use Rattle.gix_ref_repack.specs.internal.Removals.{AreRemovals, AreWithout, IsWithout, edit_keys, finds_some, is_among, record_without}
+use Rattle.gix_ref_repack.specs.Removals.{AreRemovals, AreWithout, IsWithout, edit_keys, finds_some, is_among, record_without}
 
 abbrev pub AreBare : List RecordEdit → Type 0
 AreBare edits = All (λ (e : RecordEdit). e.put ≡ None) edits

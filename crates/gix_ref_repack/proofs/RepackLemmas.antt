@@ -28,7 +28,7 @@ use Rattle.gix_ref_transaction.specs.PrepareSteps.{ids_in, updates}
 use Rattle.gix_ref_transaction.specs.declared.edit.Edit.{Edit}
 use Rattle.gix_ref_repack.specs.Repacks.{IsRepack, removes_record}
 use Rattle.gix_ref_repack.specs.internal.RemovedKeys.{removed_keys}
-use Rattle.gix_ref_repack.specs.internal.Removals.{AreWithout, IsWithout, finds_some}
+use Rattle.gix_ref_repack.specs.Removals.{AreWithout, IsWithout, finds_some}
 use Rattle.gix_ref_repack.proofs.KeyLemmas.{distinct, found_is, merged_is, no_keys, packed_have_ids, strictly_sorted}
 
 -- the file of some records is their text

@@ -1,3 +1,4 @@
 pub mod Refusals
+pub mod Removals
 pub mod Repacks
 pub mod internal

@@ -11,15 +11,8 @@ use Rattle.gix_ref_theory.specs.Edits as plan
 use Rattle.gix_ref_theory.specs.Edits.{alters_packed, file_of_records}
 use Rattle.gix_ref_theory.specs.Edits.Mode.{DeletionsOnly}
 use Rattle.gix_ref_theory.specs.Readings.{Store, records_in}
-use Rattle.gix_ref_edits.specs.RefEdits.{is_of_reference}
-use Rattle.gix_ref_edits.specs.declared.transaction.Change.{Change}
-use Rattle.gix_ref_edits.specs.declared.transaction.Change.TheVariants.{Update, Delete}
+use Rattle.gix_ref_transaction.specs.PackedCauses.{deletes_reference}
 use Rattle.gix_ref_transaction.specs.declared.edit.Edit.{Edit}
-
--- the change deletes its reference, and not its log alone
-abbrev pub deletes_reference : Change → Bool
-deletes_reference (Update log expected new) = false
-deletes_reference (Delete expected log) = is_of_reference log
 
 -- the edit deletes a reference of which a record was found
 abbrev pub removes_record : Edit → Bool

@@ -1,2 +1,1 @@
 pub mod RemovedKeys
-pub mod Removals

@@ -6,29 +6,18 @@ ghost use Rattle.std.specs.List.Sorted.{IsPermutation, IsSorted};
 ghost use Rattle.std.specs.Option.{option_map};
 ghost use Rattle.std.specs.Ordering.{nat_cmp};
 ghost use Rattle.gix_ref_transaction.specs.PrepareSteps.{setting_of};
-ghost use Rattle.gix_ref_repack.specs.Repacks.{deletes_reference, removes_record};
+ghost use Rattle.gix_ref_repack.specs.Repacks.{removes_record};
 ghost use Rattle.gix_ref_repack.specs.internal.RemovedKeys.{removed_key, removed_keys};
 
-use gix_ref_edits::transaction::{Change, RefLog};
 use gix_ref_lookup::settings::Settings;
-use gix_ref_transaction::edit::Edit;
+use gix_ref_transaction::edit::{Edit, deletes_reference};
 use std::alloc::{AllocError, Global};
-
-/// Whether a change deletes its reference, and not its log alone.
-fn is_deletion(change: &Change) -> bool
-    ensures { result ≡ deletes_reference change.now }
-{
-    match change {
-        Change::Delete { log, .. } => *log == RefLog::AndReference,
-        Change::Update { .. } => false,
-    }
-}
 
 /// Whether an edit deletes a reference of which a record was found.
 fn removes(edit: &Edit) -> bool
     ensures { result ≡ removes_record edit.now }
 {
-    is_deletion(&edit.update.change) && edit.packed.is_some()
+    deletes_reference(&edit.update.change) && edit.packed.is_some()
 }
 
 /// Whether one of these edits does.

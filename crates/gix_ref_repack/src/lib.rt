@@ -4,6 +4,7 @@
 #![tactic(auto)]
 
 pub mod error;
+pub mod fill;
 mod keys;
-mod removal;
+pub mod removal;
 pub mod repack;

@@ -10,7 +10,7 @@ ghost use Rattle.gix_ref_files.specs.Files.{disk_of, Leaves, Passes};
 ghost use Rattle.gix_ref_packed.specs.Buffers.{buffer_text, buffer_line, HoldsRecords};
 ghost use Rattle.gix_ref_lookup.specs.Lookups.{meaning_in, packed_refs_in, ArePackedRecords};
 ghost use Rattle.gix_ref_repack.specs.Refusals.{of_opening, of_rewrite, IsCounted, IsIoOrMemory, IsRefused};
-ghost use Rattle.gix_ref_repack.specs.internal.Removals.{AreRemovals, IsStuckIn, IsWithout};
+ghost use Rattle.gix_ref_repack.specs.Removals.{AreRemovals, IsStuckIn, IsWithout};
 
 use crate::error::Error;
 use gix_ref_files::files::Files;
@@ -58,7 +58,12 @@ fn removals<'a>(alloc: Global, keys: &'a [Vec<u8>]) -> Result<Vec<RecordEdit<'a>
 }
 
 /// What becomes of the records of a buffer without those of the keys, which are in order.
-fn without(alloc: Global, buffer: &Buffer, kind: Kind, keys: &[Vec<u8>]) -> Result<Rewrite, Error>
+pub fn without(
+    alloc: Global,
+    buffer: &Buffer,
+    kind: Kind,
+    keys: &[Vec<u8>],
+) -> Result<Rewrite, Error>
     ensures rewritten { (rs : List Record) → HoldsRecords kind rs (buffer_text buffer.now) →
         IsStrictlySortedBy (slice_cmp nat_cmp) (map vec_items keys.now) →
         MatchResult result (IsWithout kind (map vec_items keys.now) rs)

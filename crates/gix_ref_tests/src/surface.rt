@@ -18,6 +18,12 @@ fn has_log<T: file::LooseReferenceExt>() {}
 /// Names a finder of objects.
 fn finds<T: object::Find>() {}
 
+/// Names files, and a reader of one.
+fn reads<T: files::Files, R: files::ReadAt>() {}
+
+/// Names an entry of a list of edits, and the calls of such a list.
+fn edits<T: transaction::EditEntry, L: transaction::RefEditsExt<T>>() {}
+
 #[test]
 fn types_of_names_and_values() {
     named::<hash::Kind>();
@@ -56,6 +62,12 @@ fn types_of_formats() {
     named::<packed::iter::Error<'_>>();
     named::<packed::find::Error>();
     named::<packed::find::existing::Error>();
+    named::<packed::file::PackedFile<files::DiskReader>>();
+    named::<packed::Found>();
+    named::<packed::Transaction>();
+    named::<packed::transaction::Failed>();
+    named::<packed::transaction::prepare::Error>();
+    named::<packed::transaction::commit::Error>();
     named::<log::Line>();
     named::<log::LineRef<'_>>();
     named::<log::iter::Forward<'_>>();
@@ -63,6 +75,10 @@ fn types_of_formats() {
     named::<log::iter::EmptyBuffer>();
     named::<log::iter::decode::Error>();
     named::<log::iter::decode::LineNumber>();
+    named::<log::iter::Reverse<'_, files::DiskReader>>();
+    named::<log::WriteError>();
+    named::<log::AppendError>();
+    named::<actor::WriteError>();
 }
 
 #[test]
@@ -73,7 +89,13 @@ fn types_of_files_and_the_store() {
     named::<files::Rename>();
     named::<files::Memory>();
     named::<files::Disk>();
+    named::<files::Entry>();
+    reads::<files::Disk, files::DiskReader>();
     named::<lock::Lock>();
+    named::<lock::LockFile>();
+    named::<lock::Acquire>();
+    named::<lock::Commit>();
+    named::<lock::Unspent>();
     named::<steps::Action>();
     named::<store::Options>();
     named::<store::WriteReflog>();
@@ -94,6 +116,8 @@ fn types_of_files_and_the_store() {
     has_log::<file::loose::Reference>();
     named::<peel::to_object::Error>();
     named::<peel::to_id::Error>();
+    named::<file::transaction::Transaction<'_, files::Memory>>();
+    named::<file::transaction::Prepared<'_, files::Memory>>();
     named::<file::transaction::PackedRefs>();
     named::<file::transaction::Refused>();
     named::<file::transaction::Done>();
@@ -106,6 +130,10 @@ fn types_of_files_and_the_store() {
     named::<transaction::Change>();
     named::<transaction::RefEdit>();
     named::<transaction::RefLog>();
+    named::<transaction::EditError>();
+    named::<transaction::SplitError<files::FileError>>();
+    edits::<transaction::RefEdit, Vec<transaction::RefEdit>>();
+    named::<file::log::create_or_update::Error>();
 }
 
 #[test]

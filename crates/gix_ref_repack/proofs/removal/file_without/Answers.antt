@@ -2,7 +2,7 @@ use Rattle.std.proofs.Common.{◌≡◌, ◌∙◌, true, false, map, vec_items,
 use Rattle.gix_ref_files.specs.Tree.{Path, is_file, bytes_of}
 use Rattle.gix_ref_packed.specs.Buffers.{IsRefusedFile, Opened}
 use Rattle.gix_ref_lookup.specs.Lookups.{meaning_in}
-use Rattle.gix_ref_repack.specs.internal.Removals.{IsWithout}
+use Rattle.gix_ref_repack.specs.Removals.{IsWithout}
 use Rattle.gix_ref_repack.proofs.Opening.{holds, memory_only, none_found, sound}
 use Rattle.gix_ref_repack.proofs.removal.file_without.Goals as goal
 

@@ -1,5 +1,5 @@
 use Rattle.std.proofs.Common.{map, take, vec_items}
-use Rattle.gix_ref_repack.specs.internal.Removals.{AreRemovals}
+use Rattle.gix_ref_repack.specs.Removals.{AreRemovals}
 use Rattle.gix_ref_repack.proofs.removal.removals.Given as goal
 
 -- the edits so far remove the records of the keys so far

@@ -1,7 +1,7 @@
 use Rattle.std.proofs.Common.{ℕ, List, map, vec_items, sym, ap, ◌∙◌, subst}
 use Rattle.gix_ref_records.specs.RecordGrammar.{Records}
 use Rattle.gix_ref_repack.specs.Refusals.{of_rewrite}
-use Rattle.gix_ref_repack.specs.internal.Removals.{AreRemovals}
+use Rattle.gix_ref_repack.specs.Removals.{AreRemovals}
 use Rattle.gix_ref_repack.proofs.RemovalLemmas.{keys_ascend, rewrite_without}
 use Rattle.gix_ref_repack.proofs.removal.without.Goals as goal
 

@@ -9,7 +9,7 @@ use Rattle.gix_ref_transaction.specs.PrepareSteps.{setting_of, updates}
 use Rattle.gix_ref_repack.specs.Refusals.{IsIoOrMemory}
 use Rattle.gix_ref_repack.specs.Repacks.{IsRepack}
 use Rattle.gix_ref_repack.specs.internal.RemovedKeys.{removed_keys}
-use Rattle.gix_ref_repack.specs.internal.Removals.{IsWithout}
+use Rattle.gix_ref_repack.specs.Removals.{IsWithout}
 use Rattle.gix_ref_repack.proofs.RepackLemmas.{err_part, ok_part, repack_is, sorted_keys, unaltered}
 use Rattle.gix_ref_repack.proofs.repack.repack.Goals as goal
 

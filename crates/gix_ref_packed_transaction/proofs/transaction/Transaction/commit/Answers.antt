@@ -1,0 +1,52 @@
+use Rattle.std.proofs.Common.{sym, subst, map, vec_items, ℕ, List, Vec, Global}
+use Rattle.gix_ref_files.proofs.Moments.{joins, losses, passes_joins, passes_weaken, weaken}
+use Rattle.gix_ref_files.specs.Files.{disk_of}
+use Rattle.gix_ref_packed_transaction.specs.PackedTransactions.{kind_of, records_of, removed_keys, place_of, IsMadeOf, SaysWhy}
+use Rattle.gix_ref_packed_transaction.proofs.LockSteps.{left_as_before, left_rewritten, off_lock, why_after}
+use Rattle.gix_ref_packed_transaction.proofs.Losses.{keeps_unlock, lost_before, lost_of, lost_unlocking}
+use Rattle.gix_ref_packed_transaction.proofs.transaction.Transaction.commit.Goals as goal
+
+pub returns-in-Err-clause-leaves : goal.returns-in-Err-clause-leaves
+returns-in-Err-clause-leaves g c honest empty =
+    let t = c.args.self in
+    weaken (c.release.ensures.leaves honest) (λ T goes. left_as_before (kind_of t) (records_of t) (removed_keys t) (place_of t) _ T goes.0)
+
+pub returns-clause-leaves : goal.returns-clause-leaves
+returns-clause-leaves g c honest empty =
+    let t = c.args.self in
+    let before = (g.F.Files.means c.args.files.now).tree in
+    let rewrite = c.in-Ok.rewrite in
+    let made = subst (λ (keys : List (Vec ℕ Global)). IsMadeOf (kind_of t) (records_of t) (map vec_items keys) rewrite) c.deref.ensures.value c.in-Ok.ensures.made in
+    let put = c.put_rewrite.ensures.leaves honest empty in
+    weaken
+    (joins put (weaken (c.release-in-Err-put_rewrite.ensures.leaves honest) (λ T goes. off_lock before (place_of t) rewrite _ T put.tree goes.0)))
+    (λ T was. left_rewritten (kind_of t) (records_of t) (removed_keys t) (place_of t) before rewrite made T was)
+
+pub returns-clause-why : goal.returns-clause-why
+returns-clause-why g c =
+    let t = c.args.self in
+    subst (SaysWhy g.F.Files.honest (kind_of t) (records_of t) (place_of t) (g.F.Files.faults c.args.files.now) (g.F.Files.faults c.release-in-Err-put_rewrite.new.files) (g.F.Files.means c.release-in-Err-put_rewrite.new.files).tree) (sym c.release-in-Err-put_rewrite.ensures.error)
+    (why_after g.F.Files.honest (kind_of t) (records_of t) (place_of t) _ _ _ _ _ _ c.release-in-Err-put_rewrite.ensures.no_fewer (λ honest. (c.release-in-Err-put_rewrite.ensures.leaves honest).tree) c.in-Err-put_rewrite.ensures.why)
+
+pub returns-in-Err-clause-lost : goal.returns-in-Err-clause-lost
+returns-in-Err-clause-lost g c honest ready =
+    let t = c.args.self in
+    losses _ (λ E unlocks T lost. lost_before (kind_of t) (records_of t) (removed_keys t) (place_of t) _ T ready (lost_unlocking (place_of t) _ E T unlocks lost)) (c.release.ensures.passes honest)
+
+pub returns-in-Ok-put_rewrite-clause-lost : goal.returns-in-Ok-put_rewrite-clause-lost
+returns-in-Ok-put_rewrite-clause-lost g c honest ready =
+    let t = c.args.self in
+    let D = disk_of (g.F.Files.means c.args.files.now) in
+    let rewrite = c.in-Ok.rewrite in
+    let made = subst (λ (keys : List (Vec ℕ Global)). IsMadeOf (kind_of t) (records_of t) (map vec_items keys) rewrite) c.deref.ensures.value c.in-Ok.ensures.made in
+    losses _ (λ E keeps T lost. lost_of rewrite (place_of t) D (kind_of t) (records_of t) (removed_keys t) made E T keeps lost) (c.put_rewrite.ensures.passes honest ready)
+
+pub returns-clause-lost : goal.returns-clause-lost
+returns-clause-lost g c honest ready =
+    let t = c.args.self in
+    let D = disk_of (g.F.Files.means c.args.files.now) in
+    let rewrite = c.in-Ok.rewrite in
+    let made = subst (λ (keys : List (Vec ℕ Global)). IsMadeOf (kind_of t) (records_of t) (map vec_items keys) rewrite) c.deref.ensures.value c.in-Ok.ensures.made in
+    let put = c.put_rewrite.ensures.passes honest ready in
+    losses _ (λ E keeps T lost. lost_of rewrite (place_of t) D (kind_of t) (records_of t) (removed_keys t) made E T keeps lost)
+    (passes_joins put (passes_weaken (c.release-in-Err-put_rewrite.ensures.passes honest) (λ E unlocks. keeps_unlock rewrite (place_of t) D _ E unlocks put.disk)))

@@ -1,0 +1,3 @@
+pub mod PackedTransactions
+pub mod PackedLosses
+pub mod internal

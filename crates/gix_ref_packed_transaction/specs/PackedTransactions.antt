@@ -1,0 +1,114 @@
+-- A transaction of `packed-refs` alone: what it keeps, and what its commit leaves.
+use Rattle.std.specs.Prelude.{◌≡◌, ◌≢◌, ◌⊎◌, ℕ, List, Option, Some, None, true, false, map, vec_items, if◌then◌else◌, [], ◌∷◌}
+use Rattle.std.specs.Cmp.Lexicographic.{slice_cmp}
+use Rattle.std.specs.List.{flat_map}
+use Rattle.std.specs.List.Sorted.{IsStrictlySortedBy}
+use Rattle.std.specs.Ordering.{nat_cmp}
+use Rattle.gix_ref_hash.specs.declared.hash.Kind.{Kind}
+use Rattle.gix_ref_base.specs.PackedRecords.{Record}
+use Rattle.gix_ref_files.specs.Files.{HasRisen}
+use Rattle.gix_ref_files.specs.Lock.{lock_of}
+use Rattle.gix_ref_files.specs.Tree.{Tree, Path, Content, is_file, is_folder}
+use Rattle.gix_ref_files.specs.Tree.Content.{File}
+use Rattle.gix_ref_files.specs.declared.files.FileError.{FileError}
+use Rattle.gix_ref_files.specs.declared.files.FileError.TheVariants.{Memory as no_memory}
+use Rattle.gix_ref_packed.specs.Buffers.{buffer_text, buffer_line, HoldsRecords}
+use Rattle.gix_ref_packed.specs.declared.packed.buffer.Buffer.{Buffer}
+use Rattle.gix_ref_rewrite.specs.declared.outcome.Rewrite.{Rewrite}
+use Rattle.gix_ref_rewrite.specs.declared.outcome.Rewrite.TheVariants.{Unchanged, Removed, Text}
+use Rattle.gix_ref_edits.specs.RefEdits.{name_of}
+use Rattle.gix_ref_edits.specs.declared.transaction.RefEdit.{RefEdit}
+use Rattle.gix_ref_transaction.specs.PackedCauses.{deletes_reference}
+use Rattle.gix_ref_repack.specs.Removals.{IsWithout, IsStuckIn}
+use Rattle.gix_ref_repack.specs.declared.error.Error.{Error}
+use Rattle.gix_ref_repack.specs.declared.error.Error.TheVariants.{Commit, Iteration, Io, Memory}
+use Rattle.gix_ref_packed_transaction.specs.declared.transaction.Transaction.{Transaction}
+
+-- the records that it was made with, as they are in the file; none where there was no file
+abbrev pub records_of : Transaction → Option Buffer
+records_of t = t.buffer
+
+-- the path of `packed-refs`, whose lock it holds
+abbrev pub place_of : Transaction → Path
+place_of t = t.lock
+
+abbrev pub kind_of : Transaction → Kind
+kind_of t = t.kind
+
+-- the keys of the records that it removes
+abbrev pub removed_keys : Transaction → List (List ℕ)
+removed_keys t = map vec_items t.keys.items
+
+-- the names of the references that edits delete, and not their logs alone
+abbrev pub deleted_name : RefEdit → List (List ℕ)
+deleted_name edit = if deletes_reference edit.change then name_of edit ∷ [] else []
+
+abbrev pub deleted_names : List RefEdit → List (List ℕ)
+deleted_names edits = flat_map deleted_name edits
+
+-- keys in order, each once
+abbrev pub AreDistinct : List (List ℕ) → Type 0
+AreDistinct keys = IsStrictlySortedBy (slice_cmp nat_cmp) keys
+
+-- what becomes of the file: nothing where there is none; else, where it holds these records in the order of their names, what they are
+-- without those of the keys
+abbrev pub IsMadeOf : Kind → Option Buffer → List (List ℕ) → Rewrite → Type 0
+IsMadeOf kind None keys rewrite = rewrite ≡ Unchanged
+IsMadeOf kind (Some buffer) keys rewrite =
+    (rs : List Record) → HoldsRecords kind rs (buffer_text buffer) → AreDistinct keys → IsWithout kind keys rs rewrite
+
+-- what the file is then
+abbrev pub HoldsRewrite : Rewrite → (before now : Option Content) → Type 0
+HoldsRewrite Unchanged before now = now ≡ before
+HoldsRewrite Removed before now = is_file now ≡ false
+HoldsRewrite (Text text) before now = now ≡ Some (File text.items)
+
+-- nothing but `packed-refs` and its lock has changed
+abbrev pub OnlyAt : (place : Path) → (before T : Tree) → Type 0
+OnlyAt place before T = (q : Path) → q ≢ place → q ≢ lock_of place → T q ≡ before q
+
+-- nothing but the lock of the place has changed
+abbrev pub OnlyLockChanges : (place : Path) → (before T : Tree) → Type 0
+OnlyLockChanges place before T = (q : Path) → q ≢ lock_of place → T q ≡ before q
+
+-- nothing has changed but that the lock may be gone
+abbrev pub OnlyLockGoes : (place : Path) → (before T : Tree) → Type 0
+OnlyLockGoes place before T = OnlyLockChanges place before T × ((T (lock_of place) ≡ before (lock_of place)) ⊎ (T (lock_of place) ≡ None))
+
+-- the lock is there and empty, as it was taken
+abbrev pub IsLockEmpty : (place : Path) → Tree → Type 0
+IsLockEmpty place T = T (lock_of place) ≡ Some (File [])
+
+-- `packed-refs` is as before, or what the rewrite makes of it
+abbrev pub IsOldOrRewritten : Rewrite → (place : Path) → (before T : Tree) → Type 0
+IsOldOrRewritten rewrite place before T =
+    OnlyAt place before T × ((T place ≡ before place) ⊎ HoldsRewrite rewrite (before place) (T place))
+
+-- A commit that succeeds: `packed-refs` is rewritten, its lock is gone, and nothing else has changed.
+pub record IsRewritten (rewrite : Rewrite) (place : Path) (before T : Tree) : Type 0 where
+  pub is : HoldsRewrite rewrite (before place) (T place)
+  pub unlocked : is_file (T (lock_of place)) ≡ false
+  pub only : OnlyAt place before T
+
+module _ (kind : Kind) (records : Option Buffer) (keys : List (List ℕ)) (place : Path) where
+  abbrev pub Commits : (before T : Tree) → Type 0
+  Commits before T = (rewrite : Rewrite) × IsMadeOf kind records keys rewrite × IsRewritten rewrite place before T
+
+  -- a stop in it, or a failure, leaves `packed-refs` as before or as it is then, and nothing else has changed but its lock
+  abbrev pub IsLeft : (before T : Tree) → Type 0
+  IsLeft before T =
+      OnlyAt place before T
+      × ((T place ≡ before place) ⊎ ((rewrite : Rewrite) × IsMadeOf kind records keys rewrite × HoldsRewrite rewrite (before place) (T place)))
+
+-- why the records cannot be rewritten: a line is no record, or there was no memory
+abbrev pub IsStuckBuffer : Kind → Option Buffer → Error → Type 0
+IsStuckBuffer kind None error = ⊥
+IsStuckBuffer kind (Some buffer) error = IsStuckIn kind (buffer_line buffer) (buffer_text buffer) error
+
+-- Why a commit failed: the rename failed, or a folder is at the place; another call of files failed; a line of the records is no record; or
+-- there was no memory.
+abbrev pub SaysWhy : (honest : Type 0) → Kind → Option Buffer → (place : Path) → (before now : ℕ) → Tree → Error → Type 0
+SaysWhy honest kind records place before now T (Commit error) = (HasRisen before now ⊎ (honest → is_folder (T place) ≡ true)) × (error ≢ no_memory)
+SaysWhy honest kind records place before now T (Io error) = HasRisen before now × (error ≢ no_memory)
+SaysWhy honest kind records place before now T (Iteration line) = IsStuckBuffer kind records (Iteration line)
+SaysWhy honest kind records place before now T Memory = Unit {0}

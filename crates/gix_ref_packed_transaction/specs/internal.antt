@@ -1,0 +1,2 @@
+pub mod LockSteps
+pub mod Keeping

@@ -1,0 +1,176 @@
+//! The commit of a transaction of `packed-refs`: the new text goes into the lock, which is synced and then renamed to the file; or, where no
+//! record is left, the file is removed.
+ghost use Rattle.std.specs.Prelude.{◌≡◌, ◌≤◌, OnOk, IfOk, IfErr, map, true, vec_items};
+ghost use Rattle.gix_ref_files.specs.Calls.{Renaming, Unchanged};
+ghost use Rattle.gix_ref_files.specs.Disk.{folder_of, folder_synced};
+ghost use Rattle.gix_ref_files.specs.DiskCalls.{RemovingFileOn, RenamingOn, SyncingOn};
+ghost use Rattle.gix_ref_files.specs.Files.{Leaves, Passes, disk_of};
+ghost use Rattle.gix_ref_files.specs.Lock.{lock_of};
+ghost use Rattle.gix_ref_files.specs.Tree.{is_folder, moved};
+ghost use Rattle.gix_ref_packed_transaction.specs.PackedLosses.{IsReady, SettlesFrom};
+ghost use Rattle.gix_ref_packed_transaction.specs.PackedTransactions.{IsLockEmpty, IsMadeOf, IsOldOrRewritten, IsRewritten, IsStuckBuffer, OnlyLockChanges, OnlyLockGoes};
+ghost use Rattle.gix_ref_packed_transaction.specs.internal.Keeping.{IsMoved, Keeps};
+ghost use Rattle.gix_ref_packed_transaction.specs.internal.LockSteps.{IsUnlocked, IsWhyNotPut};
+
+use gix_ref_files::files::{FileError, Files, Rename};
+use gix_ref_files::lock::LockFile;
+use gix_ref_files::paths::folder;
+use gix_ref_hash::hash::Kind;
+use gix_ref_packed::packed::Buffer;
+pub use gix_ref_repack::error::Error;
+use gix_ref_repack::fill::fill;
+use gix_ref_repack::removal::without;
+use gix_ref_rewrite::outcome::Rewrite;
+use std::alloc::Global;
+use std::io::ErrorKind;
+
+/// What becomes of the records without those of the keys, which are in order.
+pub(crate) fn rewritten(
+    alloc: Global,
+    buffer: &Option<Buffer>,
+    kind: Kind,
+    keys: &[Vec<u8>],
+) -> Result<Rewrite, Error>
+    ensures made { IfOk result (IsMadeOf kind buffer.now (map vec_items keys.now)) }
+    ensures refused { IfErr result (IsStuckBuffer kind buffer.now) }
+{
+    match buffer {
+        Some(buffer) => without(alloc, buffer, kind, keys),
+        None => Ok(Rewrite::Unchanged),
+    }
+}
+
+/// Removes the lock.
+fn unlock<F: Files>(files: &mut F, lock: &LockFile) -> Result<(), Error>
+    ensures done { F.honest → OnOk result (IsUnlocked lock.now (F.means files.old).tree
+        (F.means files.new).tree) }
+    ensures leaves { F.honest → Leaves (F.means files.old) (F.means files.new)
+        (OnlyLockGoes lock.now (F.means files.old).tree) }
+    ensures passes { F.honest → Passes (F.means files.old) (F.means files.new)
+        (RemovingFileOn (disk_of (F.means files.old)) (lock_of lock.now)) }
+    ensures why { IfErr result (IsWhyNotPut F.honest lock.now (F.faults files.old)
+        (F.faults files.new) (F.means files.new).tree) }
+    ensures no_fewer { F.faults files.old ≤ F.faults files.new }
+{
+    match files.remove_file(lock.path()) {
+        Ok(_) => Ok(()),
+        Err(error) => Err(Error::Io(error)),
+    }
+}
+
+/// Syncs the folder of the file.
+fn settle<F: Files>(files: &mut F, lock: &LockFile) -> Result<(), Error>
+    ensures leaves { F.honest → Leaves (F.means files.old) (F.means files.new)
+        (Unchanged (F.means files.old).tree) }
+    ensures passes { F.honest → Passes (F.means files.old) (F.means files.new)
+        (SyncingOn (is_folder ((F.means files.old).tree (folder_of lock.now)))
+        (disk_of (F.means files.old))
+        (folder_synced (disk_of (F.means files.old)) (folder_of lock.now))) }
+    ensures synced { F.honest → is_folder ((F.means files.old).tree (folder_of lock.now)) ≡ true →
+        OnOk result (disk_of (F.means files.new)
+        ≡ folder_synced (disk_of (F.means files.old)) (folder_of lock.now)) }
+    ensures why { IfErr result (IsWhyNotPut F.honest lock.now (F.faults files.old)
+        (F.faults files.new) (F.means files.new).tree) }
+    ensures no_fewer { F.faults files.old ≤ F.faults files.new }
+{
+    match files.sync_folder(folder(lock.place())) {
+        Ok(_) => Ok(()),
+        Err(error) => Err(Error::Io(error)),
+    }
+}
+
+/// Removes the file, and then the lock.
+fn remove_both<F: Files>(files: &mut F, lock: &LockFile) -> Result<(), Error>
+    ensures done { F.honest → OnOk result (IsRewritten Rewrite.Removed lock.now
+        (F.means files.old).tree (F.means files.new).tree) }
+    ensures leaves { F.honest → Leaves (F.means files.old) (F.means files.new)
+        (IsOldOrRewritten Rewrite.Removed lock.now (F.means files.old).tree) }
+    ensures passes { F.honest → IsReady lock.now (disk_of (F.means files.old)) →
+        Passes (F.means files.old) (F.means files.new)
+        (Keeps Rewrite.Removed lock.now (disk_of (F.means files.old))) }
+    ensures settled { F.honest → IsReady lock.now (disk_of (F.means files.old)) → OnOk result
+        (SettlesFrom lock.now (disk_of (F.means files.old)) (disk_of (F.means files.new))) }
+    ensures why { IfErr result (IsWhyNotPut F.honest lock.now (F.faults files.old)
+        (F.faults files.new) (F.means files.new).tree) }
+    ensures no_fewer { F.faults files.old ≤ F.faults files.new }
+{
+    if let Err(error) = files.remove_file(lock.place()) {
+        return Err(Error::Io(error));
+    }
+    settle(files, lock)?;
+    unlock(files, lock)
+}
+
+/// Renames the lock to the file.
+fn move_lock<F: Files>(files: &mut F, lock: &LockFile) -> Result<(), Error>
+    ensures moved { F.honest → OnOk result ((F.means files.new).tree
+        ≡ moved (F.means files.old).tree (lock_of lock.now) lock.now) }
+    ensures leaves { F.honest → Leaves (F.means files.old) (F.means files.new)
+        (Renaming (F.means files.old).tree (lock_of lock.now) lock.now) }
+    ensures moved_on { F.honest → OnOk result
+        (IsMoved lock.now (disk_of (F.means files.old)) (disk_of (F.means files.new))) }
+    ensures passes { F.honest → Passes (F.means files.old) (F.means files.new)
+        (RenamingOn (disk_of (F.means files.old)) (lock_of lock.now) lock.now) }
+    ensures why { IfErr result (IsWhyNotPut F.honest lock.now (F.faults files.old)
+        (F.faults files.new) (F.means files.new).tree) }
+    ensures no_fewer { F.faults files.old ≤ F.faults files.new }
+{
+    match files.rename(lock.path(), lock.place()) {
+        Ok(Rename::Moved) => Ok(()),
+        Ok(Rename::FolderStands) => {
+            Err(Error::Commit(FileError::Device(ErrorKind::IsADirectory)))
+        }
+        Err(error) => Err(Error::Commit(error)),
+    }
+}
+
+/// Puts a text into the lock, which is empty, and the lock in the place of the file.
+fn put_text<F: Files>(files: &mut F, lock: &LockFile, text: &Vec<u8>) -> Result<(), Error>
+    ensures done { F.honest → IsLockEmpty lock.now (F.means files.old).tree → OnOk result
+        (IsRewritten (Rewrite.Text text.now) lock.now (F.means files.old).tree
+        (F.means files.new).tree) }
+    ensures leaves { F.honest → IsLockEmpty lock.now (F.means files.old).tree →
+        Leaves (F.means files.old) (F.means files.new)
+        (IsOldOrRewritten (Rewrite.Text text.now) lock.now (F.means files.old).tree) }
+    ensures passes { F.honest → IsReady lock.now (disk_of (F.means files.old)) →
+        Passes (F.means files.old) (F.means files.new)
+        (Keeps (Rewrite.Text text.now) lock.now (disk_of (F.means files.old))) }
+    ensures settled { F.honest → IsReady lock.now (disk_of (F.means files.old)) → OnOk result
+        (SettlesFrom lock.now (disk_of (F.means files.old)) (disk_of (F.means files.new))) }
+    ensures why { IfErr result (IsWhyNotPut F.honest lock.now (F.faults files.old)
+        (F.faults files.new) (F.means files.new).tree) }
+    ensures no_fewer { F.faults files.old ≤ F.faults files.new }
+{
+    if let Err(error) = fill(files, lock, text) {
+        return Err(Error::Io(error));
+    }
+    move_lock(files, lock)?;
+    settle(files, lock)
+}
+
+/// Carries a rewrite out, and removes the lock or renames it.
+pub(crate) fn put_rewrite<F: Files>(
+    files: &mut F,
+    lock: &LockFile,
+    rewrite: &Rewrite,
+) -> Result<(), Error>
+    ensures done { F.honest → IsLockEmpty lock.now (F.means files.old).tree → OnOk result
+        (IsRewritten rewrite.now lock.now (F.means files.old).tree (F.means files.new).tree) }
+    ensures leaves { F.honest → IsLockEmpty lock.now (F.means files.old).tree →
+        Leaves (F.means files.old) (F.means files.new)
+        (IsOldOrRewritten rewrite.now lock.now (F.means files.old).tree) }
+    ensures passes { F.honest → IsReady lock.now (disk_of (F.means files.old)) →
+        Passes (F.means files.old) (F.means files.new)
+        (Keeps rewrite.now lock.now (disk_of (F.means files.old))) }
+    ensures settled { F.honest → IsReady lock.now (disk_of (F.means files.old)) → OnOk result
+        (SettlesFrom lock.now (disk_of (F.means files.old)) (disk_of (F.means files.new))) }
+    ensures why { IfErr result (IsWhyNotPut F.honest lock.now (F.faults files.old)
+        (F.faults files.new) (F.means files.new).tree) }
+    ensures no_fewer { F.faults files.old ≤ F.faults files.new }
+{
+    match rewrite {
+        Rewrite::Unchanged => unlock(files, lock),
+        Rewrite::Removed => remove_both(files, lock),
+        Rewrite::Text(text) => put_text(files, lock, text),
+    }
+}

@@ -1,0 +1,7 @@
+//! Tests of transactions of `packed-refs` alone.
+#![tactic(auto)]
+
+#[cfg(test)]
+mod rows;
+#[cfg(test)]
+mod stops;
