@@ -1,3 +1,4 @@
 pub mod Followed
+pub mod Orders
 pub mod Following
 pub mod Peelings

@@ -4,6 +4,7 @@
 mod chain;
 pub mod laws;
 mod loose_reference_ext;
+pub mod orders;
 pub mod peel;
 mod reference_ext;
 mod sealed;

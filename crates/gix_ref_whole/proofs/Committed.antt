@@ -1,39 +1,50 @@
 -- What a store reads after a commit, and what a lookup finds then.
-use Rattle.std.proofs.Common.{◌≡◌, inl, inr, ⊎_elim, ℕ, Bool, true, List, [], ◌∷◌, refl, sym, ◌∙◌, ap, subst, Option, Some, None, Result, IfOk, IfErr, ◌&&◌, bytes_eq, if◌then◌else◌}
+use Rattle.std.proofs.Common.{◌≡◌, ◌≢◌, inl, inr, ⊎_elim, ℕ, Bool, true, false, List, [], ◌∷◌, refl, sym, ◌∙◌, ap, subst, Option, Some, None, Result, IfOk, IfErr, ◌&&◌, bytes_eq, if◌then◌else◌, arith}
 use Rattle.gix_ref_hash.specs.declared.hash.Kind.{Kind}
 use Rattle.gix_ref_base.specs.PackedRecords.{Record}
-use Rattle.gix_ref_files.specs.Files.{Meaning}
+use Rattle.gix_ref_files.specs.Disk.{Disk, Lost}
+use Rattle.gix_ref_files.specs.Files.{Meaning, Loses}
 use Rattle.gix_ref_files.specs.Lock.{lock_of}
-use Rattle.gix_ref_files.specs.Tree.{Path}
+use Rattle.gix_ref_files.specs.Settled.{IsAllSettled}
+use Rattle.gix_ref_files.specs.Tree.{Path, Tree}
+use Rattle.gix_ref_files.proofs.Moments.{joins, weaken}
+use Rattle.gix_ref_files.proofs.Settling.{lost_holds}
 use Rattle.gix_ref_theory.specs.Between.{IsCommitted}
 use Rattle.gix_ref_theory.specs.Edits.{edited_reading, new_reading}
 use Rattle.gix_ref_theory.specs.Edits.Mode.{DeletionsOnly}
 use Rattle.gix_ref_theory.specs.OnRealTrees.{view_of}
-use Rattle.gix_ref_theory.specs.Readings.{Store as Places, Reading, reading, reading_among}
+use Rattle.gix_ref_theory.specs.Readings.{Store as Places, HasLaws, Reading, reading, reading_among, reading_by, records_in}
+use Rattle.gix_ref_theory.specs.Readings.Reading.{Fault}
 use Rattle.gix_ref_theory.specs.Views.{View, IsOwnLock}
+use Rattle.gix_ref_theory.proofs.OnDisks.{own_is_lock}
+use Rattle.gix_ref_theory.proofs.PlaceLaws.{laws_hold}
 use Rattle.gix_ref_records.specs.declared.raw.Reference.{Reference}
 use Rattle.gix_ref_log.specs.declared.actor.SignatureRef.{SignatureRef}
 use Rattle.gix_ref_edits.specs.declared.transaction.RefEdit.{RefEdit}
 use Rattle.gix_ref_lookup.specs.Lookups.{Answers, ArePackedRecords, lookup_of}
+use Rattle.gix_ref_lookup.specs.StoreLayout.{git_options}
 use Rattle.gix_ref_lookup.specs.declared.find.existing.Error.{Error as Missing}
+use Rattle.gix_ref_lookup.proofs.Laying.{folders_laid}
 use Rattle.gix_ref_transaction.specs.CarriedEdits.{edit_of}
 use Rattle.gix_ref_transaction.specs.Causes.{locks_of}
 use Rattle.gix_ref_transaction.specs.CommittedEdits.{planned}
 use Rattle.gix_ref_transaction.specs.OwnLocks.{is_in}
 use Rattle.gix_ref_transaction.specs.PrepareSteps.{places_of, possible_locks}
 use Rattle.gix_ref_transaction.specs.declared.edit.Edit.{Edit}
-use Rattle.gix_ref_transaction.proofs.LockRounds.{own_lock}
-use Rattle.gix_ref_transaction.proofs.Adds.{any_cases, in_one}
+use Rattle.gix_ref_transaction.proofs.LockRounds.{own_all, own_lock}
+use Rattle.gix_ref_transaction.proofs.Adds.{any_cases, in_one, is_false}
 use Rattle.gix_ref_commit.specs.LogEffects.{with_lines}
 use Rattle.gix_ref_store.specs.CommitLines.{lines_due}
-use Rattle.gix_ref_store.specs.CommitResult.{CommitsFrom, EveryStopFrom}
+use Rattle.gix_ref_store.specs.CommitResult.{CommitsFrom, EveryLossFrom, EveryStopFrom, SettlesFrom}
 use Rattle.gix_ref_store.specs.Lookup.{LooksUp, AreRecordsIn, FindsAmong, MissesAmong, composes_in, view_in}
-use Rattle.gix_ref_store.specs.Prepared.{HasGoodRecords, PreparesGiven}
+use Rattle.gix_ref_store.specs.Prepared.{HasGoodRecords, IsAtRest, PreparesGiven, disk_in, locks_in, places_in, tree_of}
 use Rattle.gix_ref_store.specs.Store.{folders, kind_of, meaning_of, IsSameStore}
 use Rattle.gix_ref_store.specs.declared.file.store.Store.{Store}
-use Rattle.gix_ref_store.proofs.Commits.{same_meaning}
-use Rattle.gix_ref_whole.specs.WholeRuns.{ReadsEdited, FindsEdited, reads_after}
+use Rattle.gix_ref_store.proofs.Commits.{same_meaning, started}
+use Rattle.gix_ref_whole.specs.Outside.{IsLock, IsOneOf}
+use Rattle.gix_ref_whole.specs.WholeRuns.{FindsEdited, IsSameOutside, KeepsEdited, LossesOutside, ReadsEdited, StopsOutside, reads_after}
 use Rattle.gix_ref_whole.proofs.FoundNames.{found_as}
+use Rattle.gix_ref_whole.proofs.OutsideLemmas.{committed_outside, locking_outside, losses_outside, stops_outside, unlocked, unlost_outside}
 use Rattle.gix_ref_whole.proofs.PackedAgain.{computed, has_again}
 
 -- log lines change no reading
@@ -67,6 +78,33 @@ same_on first mid last a b = record {
   prohibits = b.prohibits ∙ a.prohibits;
 }
 
+-- what losses of power leave has a weaker property
+loses_weaken : {old new : Meaning} {P Q : Tree → Type 0} → Loses old new P → ((T : Tree) → P T → Q T) → Loses old new Q
+loses_weaken run wider = record {
+  now = λ T lost. wider T (run.now T lost);
+  later = run.later;
+  since = λ t T le lost. ⊎_elim (λ past. inl past) (λ p. inr (wider T p)) (run.since t T le lost);
+  keeps = run.keeps;
+}
+
+-- one run, and then another
+loses_joins : {old mid new : Meaning} {P : Tree → Type 0} → Loses old mid P → Loses mid new P → Loses old new P
+loses_joins first second = record {
+  now = second.now;
+  later = omega (arith, first.later, second.later);
+  since = λ t T le lost. ⊎_elim (first.since t T le) (λ p. inr p) (second.since t T (omega (arith, le, first.later)) lost);
+  keeps = λ t T le lost. second.keeps t T (omega (arith, le, first.later)) (first.keeps t T le lost);
+}
+
+-- after a loss of power on a settled disk each reference reads as on the disk
+lost_reading : (s : Places) → HasLaws s → (D : Disk) (T : Tree) → IsAllSettled D → Lost D T → (name : List ℕ) → s.is_reference name ≡ true → reading s (view_of T) name ≡ reading s (view_of D.tree) name
+lost_reading s laws D T settled lost name is =
+    ap (λ (file : Option (List ℕ)). if s.is_prohibited (s.place name) then Fault else reading_by s (s.key name) file (records_in s (view_of T s.packed_path))) (kept (s.place name) (λ p. laws.place_is_no_lock name p is))
+    ∙ ap (λ (file : Option (List ℕ)). if s.is_prohibited (s.place name) then Fault else reading_by s (s.key name) (view_of D.tree (s.place name)) (records_in s file)) (kept s.packed_path (λ p. laws.packed_is_no_lock p))
+  where
+    kept : (q : Path) → ((p : Path) → q ≢ lock_of p) → view_of T q ≡ view_of D.tree q
+    kept q no_lock = lost_holds D T (view_of D.tree q) (λ (file : Option (List ℕ)). file ≡ view_of D.tree q) q (settled q no_lock) refl lost
+
 module _ {F : Type 0} (honest : Type 0) (means : F → Meaning) (faults : F → ℕ) where
   -- the same view in a store that means the same
   packed_same : (old new : Store F) → IsSameStore old new → (rs : List Record) → ArePackedRecords (kind_of old) (view_in means new (meaning_of old).packed_path) rs → AreRecordsIn means new rs
@@ -75,25 +113,73 @@ module _ {F : Type 0} (honest : Type 0) (means : F → Meaning) (faults : F → 
       (subst (λ (s : Places). ArePackedRecords (kind_of old) (view_in means new s.packed_path) rs) (sym (same_meaning old new same)) are)
 
   module _ (old mid new : Store F) (given : List RefEdit) (committer : Option SignatureRef) (packed : Option Path) (held : List Edit) (left : List Path) (from : PreparesGiven honest means faults old mid given packed held)
-      (same : IsSameStore old new) (commits : CommitsFrom honest means faults mid new committer packed held left) (stops : EveryStopFrom honest means faults mid new committer packed held left) where
+      (stops : EveryStopFrom honest means faults mid new committer packed held left) where
     abbrev s : Places
     s = meaning_of old
 
-    committed : honest → HasGoodRecords means old → IsCommitted s DeletionsOnly (s.packed_path ∷ places_of s from.split) (with_lines from.split (lines_due means mid committer held)) (view_in means old) (view_in means new)
-    committed h good =
-        commits old from.split from.prepared h good (s.packed_path ∷ places_of s from.split)
-        (λ q within. own_possible s from.split q ((stops old from.split from.prepared).ours q within))
+    laws : HasLaws s
+    laws = laws_hold (folders old) (git_options (kind_of old) old.prohibit_windows_device_names) (folders_laid old.dirs old.namespace)
 
-    pub made : ReadsEdited honest means faults old new given
-    made = record {
-      split = from.split;
-      splits = from.splits;
-      good = λ h good.
-          let again = has_again (folders old) (kind_of old) old.prohibit_windows_device_names (with_lines from.split (lines_due means mid committer held)) (view_in means old s.packed_path) (view_in means new s.packed_path) good.0 good.1 (committed h good).packed in
-          (again.0, packed_same old new same again.0 again.1);
-      reads = λ h good name is.
-          (committed h good).readings name is ∙ without_lines s from.split (lines_due means mid committer held) name (reading s (view_in means old) name);
-    }
+    -- a lock of the edits is none that is at `packed-refs`
+    packed_apart : is_in (locks_in means old from.split) s.packed_path ≡ false
+    packed_apart = is_false (is_in (locks_in means old from.split) s.packed_path)
+        (λ within. let l = own_is_lock (places_in means old from.split) s.packed_path (own_all s (tree_of means old) from.split s.packed_path within) in laws.packed_is_no_lock l.0 l.1)
+
+    -- at every stop inside the `prepare` and the commit
+    pub stops_same : honest → HasGoodRecords means old → StopsOutside honest means faults old new from.split
+    stops_same h good = joins
+        (weaken (from.prepared.held.leaves h) (λ T adds. locking_outside (folders old) (kind_of old) old.prohibit_windows_device_names (locks_in means old from.split) (tree_of means old) T packed_apart adds))
+        (weaken ((stops old from.split from.prepared).leaves h)
+        (λ T well. stops_outside (folders old) (kind_of old) old.prohibit_windows_device_names from.split (lines_due means mid committer held) (tree_of means old) T good (well good)))
+
+    -- and after every loss of power inside them
+    pub losses_same : EveryLossFrom honest means faults mid new committer packed held → honest → HasGoodRecords means old → IsAtRest means old → LossesOutside honest means faults old new
+    losses_same lost h good at_rest = loses_joins
+        (loses_weaken (from.prepared.lost h).loses
+        (λ T spoken. unlost_outside (folders old) (kind_of old) old.prohibit_windows_device_names (places_in means old from.split) (disk_in means old) T laws.packed_is_no_lock at_rest.0 spoken))
+        (loses_weaken (lost old from.split from.prepared h good at_rest).loses
+        (λ T well. losses_outside (folders old) (kind_of old) old.prohibit_windows_device_names from.split (lines_due means mid committer held) (disk_in means mid) (tree_of means old) T good
+        (started honest means faults old mid committer from.split packed held from.prepared h at_rest).0 well))
+
+    module _ (same : IsSameStore old new) (commits : CommitsFrom honest means faults mid new committer packed held left) where
+      committed : honest → HasGoodRecords means old → IsCommitted s DeletionsOnly (s.packed_path ∷ places_of s from.split) (with_lines from.split (lines_due means mid committer held)) (view_in means old) (view_in means new)
+      committed h good =
+          commits old from.split from.prepared h good (s.packed_path ∷ places_of s from.split)
+          (λ q within. own_possible s from.split q ((stops old from.split from.prepared).ours q within))
+
+      -- the locks that stay are locks
+      are_locks : (q : Path) → is_in left q ≡ true → IsLock q
+      are_locks q within = own_is_lock (s.packed_path ∷ places_of s from.split) q (own_possible s from.split q ((stops old from.split from.prepared).ours q within))
+
+      -- of these places
+      named : (places : List Path) × ((q : Path) → is_in left q ≡ true → IsOwnLock places q) × ((q : Path) → IsOwnLock places q → is_in left q ≡ true)
+      named = unlocked left are_locks
+
+      pub made : ReadsEdited honest means faults old new given left
+      made = record {
+        split = from.split;
+        splits = from.splits;
+        good = λ h good.
+            let again = has_again (folders old) (kind_of old) old.prohibit_windows_device_names (with_lines from.split (lines_due means mid committer held)) (view_in means old s.packed_path) (view_in means new s.packed_path) good.0 good.1 (committed h good).packed in
+            (again.0, packed_same old new same again.0 again.1);
+        reads = λ h good name is.
+            (committed h good).readings name is ∙ without_lines s from.split (lines_due means mid committer held) name (reading s (view_in means old) name);
+        named = are_locks;
+        outside = λ h good.
+            committed_outside (folders old) (kind_of old) old.prohibit_windows_device_names (with_lines from.split (lines_due means mid committer held)) named.0 (IsOneOf left) named.2 (tree_of means old) good.0 good.1 (tree_of means new)
+            (commits old from.split from.prepared h good named.0 named.1);
+        stops = stops_same;
+      }
+
+      -- and it is kept, where the commit leaves all at rest
+      pub keeps : SettlesFrom honest means faults mid new packed held → EveryLossFrom honest means faults mid new committer packed held → KeepsEdited honest means faults old new given left
+      keeps settles losses = record {
+        made = made;
+        rests = λ h at_rest. settles old from.split from.prepared h at_rest;
+        kept = λ h good at_rest T lost name is.
+            lost_reading s laws (disk_in means new) T (settles old from.split from.prepared h at_rest).0 lost name is ∙ made.reads h good name is;
+        losses = losses_same losses;
+      }
 
   -- the other way round
   pub packed_back : (old new : Store F) → IsSameStore old new → (rs : List Record) → AreRecordsIn means new rs → ArePackedRecords (kind_of old) (view_in means new (meaning_of old).packed_path) rs
@@ -101,7 +187,7 @@ module _ {F : Type 0} (honest : Type 0) (means : F → Meaning) (faults : F → 
       subst (λ (s : Places). ArePackedRecords (kind_of old) (view_in means new s.packed_path) rs) (same_meaning old new same)
       (subst (λ (k : Kind). ArePackedRecords k (view_in means new (meaning_of new).packed_path) rs) same.of_kind are)
 
-  module _ (old mid new : Store F) (given : List RefEdit) (made : ReadsEdited honest means faults old mid given) (same : IsSameStore old mid) (looks : LooksUp honest means mid new) where
+  module _ (old mid new : Store F) (given : List RefEdit) (left : List Path) (made : ReadsEdited honest means faults old mid given left) (same : IsSameStore old mid) (looks : LooksUp honest means mid new) where
     view_is : honest → view_in means new ≡ view_in means mid
     view_is h = ap view_of (looks.leaves h).tree
 
@@ -115,13 +201,17 @@ module _ {F : Type 0} (honest : Type 0) (means : F → Meaning) (faults : F → 
         (again.0, subst (λ (v : View). ArePackedRecords (kind_of old) (v (meaning_of old).packed_path) again.0) (sym (view_is h)) (packed_back old mid same again.0 again.1))
 
     -- a call that only looks up leaves what the commit made
-    pub still_made : ReadsEdited honest means faults old new given
+    pub still_made : ReadsEdited honest means faults old new given left
     still_made = record {
       split = made.split;
       splits = made.splits;
-      good = λ h good. let left = records_left h good in (left.0, packed_same old new still_same left.0 left.1);
+      good = λ h good. let rs = records_left h good in (rs.0, packed_same old new still_same rs.0 rs.1);
       reads = λ h good name is.
           subst (λ (v : View). reading (meaning_of old) v name ≡ reads_after honest means faults old made.split name) (sym (view_is h)) (made.reads h good name is);
+      named = made.named;
+      outside = λ h good. subst (IsSameOutside honest means faults old (IsOneOf left)) (sym (looks.leaves h).tree) (made.outside h good);
+      stops = λ h good.
+          joins (made.stops h good) (weaken (looks.leaves h) (λ T is. subst (IsSameOutside honest means faults old (IsOneOf (locks_in means old made.split))) (sym is) (made.stops h good).tree));
     }
 
     pub still_split : still_made.split ≡ made.split
@@ -136,17 +226,17 @@ module _ {F : Type 0} (honest : Type 0) (means : F → Meaning) (faults : F → 
           (subst (λ (s : Places). Answers (lookup_of (composes_in true old) s (view_in means mid) rs name) r) (same_meaning old mid same)
           (subst (λ (b : Bool). Answers (lookup_of (b && true) (meaning_of mid) (view_in means mid) rs name) r) same.composes is))
 
-      pub found_edited : FindsEdited honest means faults old new given name found
+      pub found_edited : FindsEdited honest means faults old new given left name found
       unfolding still_made records_left
       found_edited = record {
         made = still_made;
         finds = λ h good asked.
             let again = made.good h good in
-            let left : (rs : List Record) × ArePackedRecords (kind_of old) (view_in means new (meaning_of old).packed_path) rs = records_left h good in
-            let same_records = computed (folders old) (kind_of old) old.prohibit_windows_device_names (view_in means new (meaning_of old).packed_path) left.0 left.1 in
-            found_as (meaning_of old) (view_in means new) left.0 same_records name (composes_in true old) asked (reads_after honest means faults old made.split name) found
+            let there : (rs : List Record) × ArePackedRecords (kind_of old) (view_in means new (meaning_of old).packed_path) rs = records_left h good in
+            let same_records = computed (folders old) (kind_of old) old.prohibit_windows_device_names (view_in means new (meaning_of old).packed_path) there.0 there.1 in
+            found_as (meaning_of old) (view_in means new) there.0 same_records name (composes_in true old) asked (reads_after honest means faults old made.split name) found
             (sym (ap (λ rs. reading_among (meaning_of old) (view_in means new) rs name) same_records) ∙ still_made.reads h good name asked.reference)
-            (λ r is. as_old h left.0 (Some r) (subst (λ x. IfOk x (λ r. FindsAmong means mid left.0 name (Some r))) is (finds h again.0 again.1)))
-            (λ n is. as_old h left.0 None (subst (λ x. IfErr x (MissesAmong means mid left.0 name)) is (misses h again.0 again.1)))
-            (λ e is. subst (λ x. IfErr x (MissesAmong means mid left.0 name)) is (misses h again.0 again.1));
+            (λ r is. as_old h there.0 (Some r) (subst (λ x. IfOk x (λ r. FindsAmong means mid there.0 name (Some r))) is (finds h again.0 again.1)))
+            (λ n is. as_old h there.0 None (subst (λ x. IfErr x (MissesAmong means mid there.0 name)) is (misses h again.0 again.1)))
+            (λ e is. subst (λ x. IfErr x (MissesAmong means mid there.0 name)) is (misses h again.0 again.1));
       }

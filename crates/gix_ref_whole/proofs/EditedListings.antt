@@ -12,7 +12,7 @@ use Rattle.gix_ref_base.specs.Locations.{is_safe}
 use Rattle.gix_ref_base.specs.PackedRecords.{Record}
 use Rattle.gix_ref_base.proofs.LocationLemmas.{safe_is_tested}
 use Rattle.gix_ref_files.specs.Files.{Meaning}
-use Rattle.gix_ref_files.specs.Tree.{Tree}
+use Rattle.gix_ref_files.specs.Tree.{Path, Tree}
 use Rattle.gix_ref_files.proofs.Moments.{starts}
 use Rattle.gix_ref_packed.specs.Buffers.{buffer_kind, buffer_text}
 use Rattle.gix_ref_packed.specs.declared.packed.buffer.Buffer.{Buffer}
@@ -200,16 +200,16 @@ module _ {F : Type 0} (honest : Type 0) (means : F → Meaning) (faults : F → 
   begins_on : (name prefix front : List ℕ) → BeginsWith name prefix → BeginsWith prefix front → BeginsWith name front
   begins_on name prefix front (rest, is) (more, begins) = (more ++ rest, is ∙ (ap (λ p. p ++ rest) begins ∙ append_assoc front more rest))
 
-  pub lists_edited : (old mid new : Store F) (given : List RefEdit) → ReadsEdited honest means faults old mid given → IsSameStore old mid → LooksUp honest means mid new → (prefix : List ℕ) (items : List (Result Reference Error)) →
-      (honest → (records : List Record) → AreRecordsIn means mid records → AreItemsIn honest means faults mid records prefix items) → ListsEdited honest means faults old new given prefix items
-  lists_edited old mid new given made same looks prefix items are = record {
-    made = still_made honest means faults old mid new given made same looks;
+  pub lists_edited : (old mid new : Store F) (given : List RefEdit) (left : List Path) → ReadsEdited honest means faults old mid given left → IsSameStore old mid → LooksUp honest means mid new → (prefix : List ℕ) (items : List (Result Reference Error)) →
+      (honest → (records : List Record) → AreRecordsIn means mid records → AreItemsIn honest means faults mid records prefix items) → ListsEdited honest means faults old new given left prefix items
+  lists_edited old mid new given left made same looks prefix items are = record {
+    made = still_made honest means faults old mid new given left made same looks;
     lists = λ h good below plain no_folder.
         let again = made.good h good in
         let all = are h again.0 again.1 in
         let back = packed_back honest means faults old mid same again.0 again.1 in
         let same_records = computed (folders old) (kind_of old) old.prohibit_windows_device_names (view_in means mid (meaning_of old).packed_path) again.0 back in
-        subst (λ (split : List RefEdit). ListsReadings (meaning_of old) (reads_after honest means faults old split) prefix items) (sym (still_split honest means faults old mid new given made same looks))
+        subst (λ (split : List RefEdit). ListsReadings (meaning_of old) (reads_after honest means faults old split) prefix items) (sym (still_split honest means faults old mid new given left made same looks))
         (subst (λ (s : Places). ListsReadings s (reads_after honest means faults old made.split) prefix items) (same_meaning old mid same)
         (lists_readings (settings_of mid) (same.composes ∙ plain) (view_in means mid) again.0 prefix all.listed all.is (reads_after honest means faults old made.split)
         (λ name valid begins.
@@ -220,11 +220,11 @@ module _ {F : Type 0} (honest : Type 0) (means : F → Meaning) (faults : F → 
   }
 
   -- and so as the result of a listing
-  pub listed_edited : {E : Type 0} (old mid new : Store F) (given : List RefEdit) → ReadsEdited honest means faults old mid given → IsSameStore old mid → LooksUp honest means mid new → (prefix : List ℕ) →
+  pub listed_edited : {E : Type 0} (old mid new : Store F) (given : List RefEdit) (left : List Path) → ReadsEdited honest means faults old mid given left → IsSameStore old mid → LooksUp honest means mid new → (prefix : List ℕ) →
       (r : Result (Vec (Result Reference Error) Global) E) → (honest → (records : List Record) → AreRecordsIn means mid records → IfOk r (λ all. AreItemsIn honest means faults mid records prefix all.items)) →
-      IfOk r (λ all. ListsEdited honest means faults old new given prefix all.items)
-  listed_edited old mid new given made same looks prefix (Ok all) are = lists_edited old mid new given made same looks prefix all.items are
-  listed_edited old mid new given made same looks prefix (Err e) are = tt
+      IfOk r (λ all. ListsEdited honest means faults old new given left prefix all.items)
+  listed_edited old mid new given left made same looks prefix (Ok all) are = lists_edited old mid new given left made same looks prefix all.items are
+  listed_edited old mid new given left made same looks prefix (Err e) are = tt
 
   pub listed_from : {E : Type 0} (old mid : Store F) (records : List Record) (prefix : List ℕ) → honest → LooksUp honest means old mid → (r : Result (Vec (Result Reference Error) Global) E) →
       IfOk r (λ all. AreItemsIn honest means faults mid records prefix all.items) → IfOk r (λ all. AreItemsIn honest means faults old records prefix all.items)

@@ -128,6 +128,12 @@ module _ (f : Layout) (k : Kind) (prohibits : Bool) where
   merged_has [] m all = refl
   merged_has (r ∷ rs) m all = (Some written_header, well_formed k (r ∷ rs) (pairs_ascend (r ∷ rs) m) all)
 
+  -- merged records are those of their file
+  pub read_again : (edits : List Edit) (old : Option (List ℕ)) (rs merged : List Record) → ArePackedRecords k old rs → IsMerged git DeletionsOnly edits (records_in git old) merged → records_in git (file_of_records git merged) ≡ merged
+  read_again edits old rs merged are m =
+      computed (file_of_records git merged) merged
+      (merged_has merged m.ascending (merged_read edits (records_in git old) merged m (subst (All (IsReadable k)) (sym (computed old rs are)) (readable old rs are))))
+
   -- its records after edits
   pub has_again : (edits : List Edit) (old new : Option (List ℕ)) (rs : List Record) → ArePackedRecords k old rs → IsPackedFile git DeletionsOnly edits old new → (left : List Record) × ArePackedRecords k new left
   has_again edits old new rs are file = go (alters_packed git DeletionsOnly (records_in git old) edits) file

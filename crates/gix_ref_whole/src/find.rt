@@ -2,6 +2,7 @@
 ghost use Rattle.std.specs.Prelude.{IfOk, IfErr};
 ghost use Rattle.gix_ref_name.specs.Names.{partial_ref_bytes};
 ghost use Rattle.gix_ref_packed.specs.OpenFiles.{HasReadFault};
+ghost use Rattle.gix_ref_transaction.specs.OwnLocks.{paths_of};
 ghost use Rattle.gix_ref_whole.specs.WholeRuns.{FindsEdited, IsNotMade};
 
 use crate::error::Error;
@@ -36,7 +37,7 @@ pub fn commit_then_find<F: Files>(
     name: PartialNameRef<'_>,
 ) -> Result<Found, Error>
     ensures found { IfOk result (λ r. FindsEdited F.honest F.means F.faults store.old store.new
-        edits.items (partial_ref_bytes name.entry) r.found) }
+        edits.items (paths_of r.done.locks_left.items) (partial_ref_bytes name.entry) r.found) }
     ensures not_made { IfErr result (IsNotMade F.honest F.means F.faults
         (HasReadFault F.Reader.faults) store.old store.new committer.entry edits.items) }
 {

@@ -1,9 +1,11 @@
-//! What a store reads after a transaction: lookups and listings answer the edited references. Each function here calls `prepare`,
-//! `commit` and then `find` or a listing, and its contract is proved of their public contracts alone.
+//! What a store reads after a transaction: lookups and listings answer the edited references, and outside of its namespace all is as
+//! before. Each function here calls `prepare`, `commit` and then `find` or a listing, and its contract is proved of their public contracts
+//! alone.
 #![tactic(auto)]
 
 pub mod error;
 pub mod find;
+pub mod laws;
 pub mod list;
-mod make;
+pub mod make;
 pub mod read;

@@ -2,6 +2,7 @@
 ghost use Rattle.std.specs.Prelude.{◌≡◌, ◌<◌, List, true, IfOk, IfErr};
 ghost use Rattle.gix_ref_base.specs.PackedRecords.{Record};
 ghost use Rattle.gix_ref_packed.specs.OpenFiles.{HasReadFault};
+ghost use Rattle.gix_ref_transaction.specs.OwnLocks.{paths_of};
 ghost use Rattle.gix_ref_store.specs.Listings.{AreHeldFor, items_left, store_of};
 ghost use Rattle.gix_ref_store.specs.Lookup.{AreRecordsIn, LooksUp};
 ghost use Rattle.gix_ref_whole.specs.ListedItems.{TakesNext, GivesAll, AreItemsIn};
@@ -118,7 +119,8 @@ pub fn commit_then_list<F: Files>(
     prefix: &[u8],
 ) -> Result<Listed, Error>
     ensures listed { IfOk result (λ r. IfOk r.items (λ all. ListsEdited F.honest F.means F.faults
-        store.old store.new edits.items prefix.now all.items)) }
+        store.old store.new edits.items (paths_of r.done.locks_left.items) prefix.now
+        all.items)) }
     ensures not_made { IfErr result (IsNotMade F.honest F.means F.faults
         (HasReadFault F.Reader.faults) store.old store.new committer.entry edits.items) }
 {

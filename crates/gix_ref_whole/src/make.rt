@@ -1,8 +1,9 @@
 //! Edits from their preparation to their commit.
 ghost use Rattle.std.specs.Prelude.{IfOk, IfErr};
 ghost use Rattle.gix_ref_packed.specs.OpenFiles.{HasReadFault};
+ghost use Rattle.gix_ref_transaction.specs.OwnLocks.{paths_of};
 ghost use Rattle.gix_ref_store.specs.Store.{IsSameStore};
-ghost use Rattle.gix_ref_whole.specs.WholeRuns.{ReadsEdited, IsNotMade};
+ghost use Rattle.gix_ref_whole.specs.WholeRuns.{KeepsEdited, IsNotMade};
 
 use crate::error::Error;
 use gix_ref_edits::transaction::RefEdit;
@@ -12,15 +13,17 @@ use gix_ref_store::file::Store;
 use gix_ref_store::file::transaction::Done;
 use std::alloc::Global;
 
-/// Prepares the edits and commits them.
-pub(crate) fn make<F: Files>(
+/// Prepares the edits and commits them: each reference then reads as edited, and does so after every later loss of power.
+///
+/// `Prepare` where the edits are refused, and `Commit` where their commit fails.
+pub fn make<F: Files>(
     alloc: Global,
     store: &mut Store<F>,
     edits: Vec<RefEdit>,
     committer: Option<SignatureRef<'_>>,
 ) -> Result<Done, Error>
-    ensures made { IfOk result (λ done. ReadsEdited F.honest F.means F.faults store.old store.new
-        edits.items) }
+    ensures made { IfOk result (λ done. KeepsEdited F.honest F.means F.faults store.old store.new
+        edits.items (paths_of done.locks_left.items)) }
     ensures not_made { IfErr result (IsNotMade F.honest F.means F.faults
         (HasReadFault F.Reader.faults) store.old store.new committer.entry edits.items) }
     ensures same { IsSameStore store.old store.new }

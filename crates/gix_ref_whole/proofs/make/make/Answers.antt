@@ -3,8 +3,8 @@ use Rattle.gix_ref_files.specs.Tree.{Path}
 use Rattle.gix_ref_transaction.specs.OwnLocks.{paths_of}
 use Rattle.gix_ref_store.specs.CommitResult.{left_of, EveryStopFrom}
 use Rattle.gix_ref_store.specs.Prepared.{PreparesGiven}
-use Rattle.gix_ref_whole.specs.WholeRuns.{HasFailed, ReadsEdited}
-use Rattle.gix_ref_whole.proofs.Committed.{at_same, made, same_on}
+use Rattle.gix_ref_whole.specs.WholeRuns.{HasFailed, KeepsEdited}
+use Rattle.gix_ref_whole.proofs.Committed.{at_same, keeps, losses_same, same_on, stops_same}
 use Rattle.gix_ref_whole.proofs.make.make.Goals as goal
 
 pub returns-in-Err-commit-clause-not_made : goal.returns-in-Err-commit-clause-not_made
@@ -18,14 +18,19 @@ returns-in-Err-commit-clause-not_made g c =
     let held = c.in-Ok.prepared.plan.edits.items in
     let failed = c.in-Err-commit.failed in
     let from : PreparesGiven F.honest F.means F.faults old mid edits packed held = rw c.transaction.ensures.value at c.in-Ok.ensures.prepared in
-    at_same (λ now. HasFailed F.honest F.means F.faults old now c.args.committer edits failed.error (paths_of failed.locks_left.items)) {x = c.store-in-Ok-1.given.0} {y = new} (search rules)
+    let left = paths_of failed.locks_left.items in
+    let stops : EveryStopFrom F.honest F.means F.faults mid new c.args.committer packed held left =
+    subst (λ (l : List Path). EveryStopFrom F.honest F.means F.faults mid new c.args.committer packed held l) (ap left_of c.in-Err-commit.is) c.commit.ensures.ended in
+    at_same (λ now. HasFailed F.honest F.means F.faults old now c.args.committer edits failed.error left) {x = c.store-in-Ok-1.given.0} {y = new} (search rules)
     (record {
       mid = mid;
       packed = packed;
       held = held;
       prepared = from;
       fails = c.in-Err-commit.ensures.failed;
-      stops = subst (λ (left : List Path). EveryStopFrom F.honest F.means F.faults mid new c.args.committer packed held left) (ap left_of c.in-Err-commit.is) c.commit.ensures.ended;
+      stops = stops;
+      outside = stops_same F.honest F.means F.faults old mid new edits c.args.committer packed held left from stops;
+      losses = losses_same F.honest F.means F.faults old mid new edits c.args.committer packed held left from stops c.commit.ensures.lost;
     })
 
 pub returns-in-Ok-commit-clause-made : goal.returns-in-Ok-commit-clause-made
@@ -41,5 +46,6 @@ returns-in-Ok-commit-clause-made g c =
     let from : PreparesGiven F.honest F.means F.faults old mid edits packed held = rw c.transaction.ensures.value at c.in-Ok.ensures.prepared in
     let stops : EveryStopFrom F.honest F.means F.faults mid new c.args.committer packed held left =
     subst (λ (l : List Path). EveryStopFrom F.honest F.means F.faults mid new c.args.committer packed held l) (ap left_of c.in-Ok-commit.is) c.commit.ensures.ended in
-    at_same (λ now. ReadsEdited F.honest F.means F.faults old now edits) {x = c.store-in-Ok-1.given.0} {y = new} (search rules)
-    (made F.honest F.means F.faults old mid new edits c.args.committer packed held left from (same_on old mid new from.prepared.held.same c.commit.ensures.same) c.in-Ok-commit.ensures.committed stops)
+    at_same (λ now. KeepsEdited F.honest F.means F.faults old now edits left) {x = c.store-in-Ok-1.given.0} {y = new} (search rules)
+    (keeps F.honest F.means F.faults old mid new edits c.args.committer packed held left from stops (same_on old mid new from.prepared.held.same c.commit.ensures.same) c.in-Ok-commit.ensures.committed
+    c.in-Ok-commit.ensures.settled c.commit.ensures.lost)
