@@ -23,7 +23,7 @@ use Rattle.gix_ref_commit.specs.Entries.{Entry, bare, planned_entries}
 use Rattle.gix_ref_commit.specs.Failures.{AllWrite, IsNameAt, IsOfListing, IsWriteOf, SaysUnlisted, SaysWhyUnlisted}
 use Rattle.gix_ref_commit.specs.LogEffects.{line_in}
 use Rattle.gix_ref_commit.specs.declared.error.Error.{Error}
-use Rattle.gix_ref_commit.specs.declared.error.Error.TheVariants.{CreateOrUpdateRefLog, PackedTransactionCommit, LockCommit, DeleteReference, DeleteReflog, FolderInPlace, Memory}
+use Rattle.gix_ref_commit.specs.declared.error.Error.TheVariants.{CreateOrUpdateRefLog, PackedTransactionCommit, LockCommit, DeleteReference, DeleteReflog, FolderInPlace, PreprocessingFailed, Memory}
 use Rattle.gix_ref_commit.specs.declared.plan.About.{About}
 use Rattle.gix_ref_commit.specs.declared.plan.About.TheVariants as about
 use Rattle.gix_ref_commit.specs.declared.run.Unfinished.{Unfinished}
@@ -84,6 +84,7 @@ module _ (dirs : Dirs) (edits : List Edit) (packed : Option Path) (rewrite : Rew
   at_step (about.Line at) fault (DeleteReference name source) fails says = absurd says
   at_step (about.Line at) fault (DeleteReflog name source) fails says = absurd says
   at_step (about.Line at) fault (FolderInPlace path) fails says = absurd says
+  at_step (about.Line at) fault (PreprocessingFailed source) fails says = absurd says
   at_step (about.Rename at) fault (LockCommit source name) fails (same, is) =
       ((fails.2.counted, λ want. fails.2.no_want (sym same ∙ want)), (at, all_write (AtStep (about.Rename at) (Fault fault)) fails, is))
   at_step (about.Rename at) fault (CreateOrUpdateRefLog error) fails says = absurd says
@@ -91,6 +92,7 @@ module _ (dirs : Dirs) (edits : List Edit) (packed : Option Path) (rewrite : Rew
   at_step (about.Rename at) fault (DeleteReference name source) fails says = absurd says
   at_step (about.Rename at) fault (DeleteReflog name source) fails says = absurd says
   at_step (about.Rename at) fault (FolderInPlace path) fails says = absurd says
+  at_step (about.Rename at) fault (PreprocessingFailed source) fails says = absurd says
   at_step about.Packed fault (PackedTransactionCommit error) fails says =
       subst (λ e. IsOfListing edits before now (PackedTransactionCommit e)) (sym says) (fails.2.counted, fails.2.no_want)
   at_step about.Packed fault (CreateOrUpdateRefLog error) fails says = absurd says
@@ -98,6 +100,7 @@ module _ (dirs : Dirs) (edits : List Edit) (packed : Option Path) (rewrite : Rew
   at_step about.Packed fault (DeleteReference name source) fails says = absurd says
   at_step about.Packed fault (DeleteReflog name source) fails says = absurd says
   at_step about.Packed fault (FolderInPlace path) fails says = absurd says
+  at_step about.Packed fault (PreprocessingFailed source) fails says = absurd says
 
   pub of_listing : (u : Unfinished) (error : Error) → FailsToList (planned_entries dirs edits packed rewrite) before now u → SaysWhyUnlisted edits u error → IsOfListing edits before now error
   of_listing u Memory fails says = tt
@@ -110,6 +113,7 @@ module _ (dirs : Dirs) (edits : List Edit) (packed : Option Path) (rewrite : Rew
   of_listing no_memory (DeleteReference name source) fails says = absurd says
   of_listing no_memory (DeleteReflog name source) fails says = absurd says
   of_listing no_memory (FolderInPlace path) fails says = absurd says
+  of_listing no_memory (PreprocessingFailed source) fails says = absurd says
 
 -- the name of the edit at a place of the list
 pub name_at : (edits : List Edit) (k : ℕ) (d : Edit) (name : FullName) → k < length edits → full_bytes name ≡ full_bytes (get_or edits k d).update.name → IsNameAt (updates edits) k name

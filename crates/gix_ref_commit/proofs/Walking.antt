@@ -260,10 +260,3 @@ no_folder T p node is other = by (T p) refl
     by (Some Folder) at = absurd (other (is ∙ ap (λ (c : Option Content). node_of c (is_blocked T p)) at))
     by (Some (File bytes)) at = ap is_folder at
     by None at = ap is_folder at
-
--- one call that changes nothing after another
-pub then_unchanged : {old mid new : Meaning} → Leaves old mid (Unchanged old.tree) → Leaves mid new (Unchanged mid.tree) → Leaves old new (Unchanged old.tree)
-then_unchanged {old} {mid} {new} first second = joins first (weaken second (λ T same. same ∙ first.tree))
-
-pub then_untouched : {old mid new : Meaning} → Passes old mid (Untouched (disk_of old)) → Passes mid new (Untouched (disk_of mid)) → Passes old new (Untouched (disk_of old))
-then_untouched {old} {mid} {new} first second = passes_joins first (passes_weaken second (λ D same. same ∙ first.disk))

@@ -22,7 +22,6 @@ ghost use Rattle.gix_ref_commit.specs.Failures.{IsOfListing};
 
 use crate::error as commit;
 use crate::failure::unlisted;
-use crate::fill::fill;
 use crate::folders::{InWay, all_in_way};
 use crate::plan::plan_commit;
 use gix_ref_files::files::Files;
@@ -30,6 +29,7 @@ use gix_ref_files::lock::LockFile;
 use gix_ref_lookup::folders::Dirs;
 use gix_ref_lookup::settings::Settings;
 use gix_ref_repack::error::Error;
+use gix_ref_repack::fill::fill;
 use gix_ref_repack::repack::repack;
 use gix_ref_rewrite::outcome::Rewrite;
 use gix_ref_transaction::edit::Edit;

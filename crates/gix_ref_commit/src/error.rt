@@ -1,7 +1,9 @@
 //! Why a transaction is not committed.
+use gix_ref_edits::transaction::SplitError;
 use gix_ref_files::files::FileError;
 use gix_ref_lines::create_or_update;
 use gix_ref_name::name::FullName;
+use std::convert::Infallible;
 use thiserror::Error;
 
 /// Why a commit ended. As `commit::Error` of gix-ref's `file::transaction`.
@@ -43,6 +45,11 @@ pub enum Error {
     #[error("a folder is in the place of a reference, of its log, or of packed-refs")]
     FolderInPlace {
         path: Vec<u8>,
+    },
+    /// Never returned: the list of edits is split and compared by `prepare`. As the variant of gix-ref, which returns it as little.
+    #[error("{source}")]
+    PreprocessingFailed {
+        source: SplitError<Infallible>,
     },
     /// A growth of memory was refused. Nothing but locks has changed.
     #[error("out of memory")]

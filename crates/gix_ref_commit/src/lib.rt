@@ -5,7 +5,6 @@
 pub mod decide;
 pub mod error;
 pub mod failure;
-pub mod fill;
 pub mod folders;
 pub mod plan;
 pub mod run;

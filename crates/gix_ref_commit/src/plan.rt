@@ -5,8 +5,8 @@ ghost use Rattle.std.specs.Prelude.{◌≡◌, OnOk, IfOk, ◌++◌};
 ghost use Rattle.gix_ref_commit.specs.Entries.{entry_of, entries, folders_entry, line_entry, rename_entry, log_removal_entry, removal_entry, packed_entry, each, update_entries, planned_entries};
 
 use gix_ref_files::lock::LockFile;
+use gix_ref_files::paths::folder;
 use gix_ref_files::steps::{Action, Planned, Settle};
-use gix_ref_lines::logs::folder;
 use gix_ref_lookup::folders::Dirs;
 use gix_ref_rewrite::outcome::Rewrite;
 use gix_ref_transaction::edit::{Edit, Effect, LogEffect};

@@ -72,16 +72,6 @@ with_item D p item = record {
   };
 }
 
--- the entry at p becomes this, and is synced
-abbrev pub with_synced_item : Disk → Path → Item → Disk
-with_synced_item D p item = record {
-  tree = put D.tree p item.content;
-  unsynced = record {
-    synced = λ q. if bytes_eq p q then item.synced else D.unsynced.synced q;
-    past = λ q. if bytes_eq p q then [] else D.unsynced.past q;
-  };
-}
-
 -- nothing
 abbrev pub nothing : Item
 nothing = record { content = None; synced = 0 }

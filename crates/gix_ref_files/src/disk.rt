@@ -16,11 +16,22 @@ use std::{fs, io};
 /// A FIFO, a socket or a device is never opened: it counts as nothing, and as `Standing` for `create_new`. So no call
 /// waits for another program. What a path names is asked before it is opened; another program that puts a FIFO there
 /// between the two can still make a call wait.
+///
+/// The file that `create_new` made last stays open until it is renamed or removed, or another one is made: so what is added to it and
+/// synced is one system call each.
 #[derive(Drop)]
 pub struct Disk {
     rt: HostRuntime,
     faults: u64,
     syncs: bool,
+    made: Option<MadeFile>,
+}
+
+/// A file that was made and is open.
+#[derive(Drop)]
+struct MadeFile {
+    path: Vec<u8>,
+    file: File,
 }
 
 /// A file of the disk that is open for reading. As `File`.
@@ -67,6 +78,7 @@ impl Disk {
             rt,
             faults: 0,
             syncs: true,
+            made: None,
         }
     }
 
@@ -83,6 +95,7 @@ impl Disk {
             rt,
             faults: 0,
             syncs: false,
+            made: None,
         }
     }
 }
@@ -90,6 +103,14 @@ impl Disk {
 impl Disk {
     ghost use Rattle.std.specs.Prelude.{IsErrOf};
     ghost use Rattle.gix_ref_files.specs.Files.{count_after};
+
+    /// Whether the file that was made last is the one at a path, and is open.
+    fn made_here(&self, path: &[u8]) -> bool {
+        match &self.made {
+            Some(made) => made.path.as_slice() == path,
+            None => false,
+        }
+    }
 
     /// Syncs a file or a folder, whichever is asked for; false where there is no such thing.
     fn sync(&mut self, path: &[u8], what: Node) -> Result<bool, FileError>
@@ -217,15 +238,19 @@ impl Files for Disk {
         }
     }
 
-    /// Two system calls.
+    /// One system call, and one to close the file that was made before.
     fn create_new(&mut self, path: &[u8]) -> Result<Create, FileError> {
-        let path = text_of(&mut self.faults, path)?;
+        self.made = None;
+        let name = text_of(&mut self.faults, path)?;
         let made = OpenOptions::new()
-            .write(true)
+            .append(true)
             .create_new(true)
-            .open(&self.rt, path);
+            .open(&self.rt, name);
         match made {
-            Ok(_) => Ok(Create::Made),
+            Ok(file) => {
+                self.made = kept(self.rt.alloc(), path, file);
+                Ok(Create::Made)
+            }
             Err(error) => match error.kind() {
                 ErrorKind::AlreadyExists => Ok(Create::Standing),
                 ErrorKind::NotADirectory => Ok(Create::Blocked),
@@ -249,10 +274,13 @@ impl Files for Disk {
         }
     }
 
-    /// Four system calls.
+    /// Four system calls, and one for the file that was made last.
     fn append(&mut self, path: &[u8], bytes: &[u8]) -> Result<bool, FileError> {
-        let path = text_of(&mut self.faults, path)?;
-        match append_to(&self.rt, path, bytes) {
+        let appended = match &mut self.made {
+            Some(made) if made.path.as_slice() == path => write_to(&mut made.file, bytes),
+            _ => append_to(&self.rt, text_of(&mut self.faults, path)?, bytes),
+        };
+        match appended {
             Ok(appended) => Ok(appended),
             Err(error) => match error.kind() {
                 ErrorKind::NotFound | ErrorKind::NotADirectory => Ok(false),
@@ -261,11 +289,19 @@ impl Files for Disk {
         }
     }
 
-    /// Two system calls: the first one looks whether it is a file, since the second would move a folder too.
+    /// Two system calls: the first one looks whether it is a file, since the second would move a folder too. For the file that was made
+    /// last the second alone, and one that closes it.
     fn rename(&mut self, from: &[u8], to: &[u8]) -> Result<Rename, FileError> {
+        let is_made = self.made_here(from);
+        self.made = None;
         let from = text_of(&mut self.faults, from)?;
         let to = text_of(&mut self.faults, to)?;
-        match rename_file(&self.rt, from, to) {
+        let renamed = if is_made {
+            move_file(&self.rt, from, to)
+        } else {
+            rename_file(&self.rt, from, to)
+        };
+        match renamed {
             Ok(rename) => Ok(rename),
             Err(error) => Err(fault(&mut self.faults, error.kind())),
         }
@@ -273,6 +309,7 @@ impl Files for Disk {
 
     /// Two system calls: the first one looks whether it is a file.
     fn remove_file(&mut self, path: &[u8]) -> Result<bool, FileError> {
+        self.made = None;
         let path = text_of(&mut self.faults, path)?;
         match remove_if_file(&self.rt, path) {
             Ok(removed) => Ok(removed),
@@ -283,9 +320,19 @@ impl Files for Disk {
         }
     }
 
-    /// Four system calls: a look at what is there, open, `fsync` and close; none for a disk `without_syncs`.
+    /// Four system calls: a look at what is there, open, `fsync` and close; one for the file that was made last, and none for a disk
+    /// `without_syncs`.
     fn sync_file(&mut self, path: &[u8]) -> Result<bool, FileError> {
-        self.sync(path, Node::File)
+        if !self.syncs {
+            return Ok(true);
+        }
+        match &self.made {
+            Some(made) if made.path.as_slice() == path => match made.file.sync_all() {
+                Ok(()) => Ok(true),
+                Err(error) => Err(fault(&mut self.faults, error.kind())),
+            },
+            _ => self.sync(path, Node::File),
+        }
     }
 
     /// Four system calls, as `sync_file`; none for a disk `without_syncs`.
@@ -355,14 +402,25 @@ fn open_file(rt: &HostRuntime, path: &str) -> io::Result<Option<DiskReader>> {
     }))
 }
 
+/// Adds bytes to a file that is open.
+fn write_to(file: &mut File, bytes: &[u8]) -> io::Result<bool> {
+    file.write_all(bytes)?;
+    Ok(true)
+}
+
 /// Appends to a file; false where there is something else.
 fn append_to(rt: &HostRuntime, path: &str, bytes: &[u8]) -> io::Result<bool> {
     if !fs::metadata(rt, path)?.is_file() {
         return Ok(false);
     }
     let mut file = OpenOptions::new().append(true).open(rt, path)?;
-    file.write_all(bytes)?;
-    Ok(true)
+    write_to(&mut file, bytes)
+}
+
+/// A file that was made, with its path; `None` where there is no memory for that, and then it is closed.
+fn kept(alloc: Global, path: &[u8], file: File) -> Option<MadeFile> {
+    let path = path.to_vec(alloc).ok()?;
+    Some(MadeFile { path, file })
 }
 
 /// Syncs what is at a path; false where it is something else than what is asked for.
@@ -383,10 +441,16 @@ fn remove_if_file(rt: &HostRuntime, path: &str) -> io::Result<bool> {
     Ok(true)
 }
 
+/// Renames a file; an error where there is something else.
 fn rename_file(rt: &HostRuntime, from: &str, to: &str) -> io::Result<Rename> {
     if !fs::metadata(rt, from)?.is_file() {
         return Err(io::Error::from(ErrorKind::IsADirectory));
     }
+    move_file(rt, from, to)
+}
+
+/// Renames what is known to be a file.
+fn move_file(rt: &HostRuntime, from: &str, to: &str) -> io::Result<Rename> {
     match fs::rename(rt, from, to) {
         Ok(()) => Ok(Rename::Moved),
         Err(error) if error.kind() == ErrorKind::IsADirectory => Ok(Rename::FolderStands),

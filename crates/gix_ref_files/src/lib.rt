@@ -4,5 +4,6 @@
 pub mod disk;
 pub mod files;
 pub mod lock;
+pub mod paths;
 pub mod steps;
 pub mod theorems;

@@ -8,6 +8,7 @@ ghost use Rattle.gix_ref_files.specs.Calls.{Creates, Creating, Appends, Appendin
 ghost use Rattle.gix_ref_files.specs.Lock.{lock_of, Readies, Readying, after_readying, ReadyingOn, MakesLock, after_locking, LockingOn, Acquires, Acquiring, after_acquire, Commits, after_commit, count_unspent, folders_up_to};
 
 use crate::files::{Create, FileError, Files, Rename};
+use crate::paths::folder_end;
 use std::alloc::{AllocError, Global};
 use std::marker::Model;
 
@@ -72,20 +73,6 @@ pub struct Unspent {
     pub error: FileError,
     /// The lock, which must still be spent.
     pub lock: Lock,
-}
-
-/// The last slash of a path that is not its first byte; 0 if it has no such slash.
-fn folder_end(path: &[u8]) -> usize
-    ensures folders { fronts path.now ≡ folders_up_to path.now result }
-    ensures within { result ≤ length path.now }
-{
-    let mut end = 0;
-    for i in 1..path.len() {
-        if path[i] == b'/' {
-            end = i;
-        }
-    }
-    end
 }
 
 /// Makes the folders that lead to a path; false where a file is in it.
@@ -233,7 +220,8 @@ fn file_at(alloc: Global, path: &[u8]) -> Result<LockFile, AllocError>
 
 impl Lock {
     /// Takes the lock of a path: makes the folders that lead there, and then the file with `.lock` after the path.
-    /// `Memory` where a growth was refused, before anything was done. After another error folders may have been made.
+    /// `Memory` where a growth was refused, before anything was done. After another error folders may have been made. As
+    /// `File::acquire_to_update_resource` of gix-lock, with `Fail::Immediately`.
     ///
     /// ```text
     /// match Lock::acquire(alloc, &mut files, b".git/refs/heads/a")? {
@@ -277,7 +265,7 @@ impl Lock {
     }
 
     /// Adds bytes to the file of the lock and syncs it, so that a loss of power leaves them all once the lock is renamed;
-    /// false where it does not exist. A fault leaves any beginning of them there, and the lock held.
+    /// false where it does not exist. A fault leaves any beginning of them there, and the lock held. As `File::write` of gix-lock.
     pub fn write<F: Files>(&self, files: &mut F, bytes: &[u8]) -> Result<bool, FileError>
         ensures answer { F.honest →
             IfOk result (Appends (F.means files.old).tree (lock_of self.now) bytes.now
@@ -298,7 +286,7 @@ impl Lock {
     }
 
     /// Renames the file of the lock to the place. A fault gives the lock back; its file is where it was, or at
-    /// the place.
+    /// the place. As `File::commit` of gix-lock.
     pub fn commit<F: Files>(self, files: &mut F) -> Result<Commit, Unspent>
         ensures answer { F.honest →
             IfOk result (Commits (F.means files.old).tree self (F.means files.new).tree) }
@@ -323,7 +311,7 @@ impl Lock {
     }
 
     /// Removes the file of the lock; false where it does not exist. A fault gives the lock back; its file exists, or
-    /// it is gone.
+    /// it is gone. As the drop of a `File` of gix-lock.
     pub fn remove<F: Files>(self, files: &mut F) -> Result<bool, Unspent>
         ensures answer { F.honest →
             IfOk result (RemovesFile (F.means files.old).tree (lock_of self)
@@ -345,6 +333,14 @@ impl Lock {
             }
             Err(error) => Err(Unspent { error, lock: self }),
         }
+    }
+
+    /// Gives the lock up as its file, which stays: the caller sees to its removal.
+    pub fn into_file(self) -> LockFile
+        ensures { result ≡ self }
+    {
+        let Lock { file } = self;
+        file
     }
 
     /// Gives the lock up and leaves its file as it is: for a lock that could not be removed, whose path is reported.

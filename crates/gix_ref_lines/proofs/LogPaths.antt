@@ -16,26 +16,6 @@ use Rattle.gix_ref_files.specs.Disk.{folder_of, folder_after}
 use Rattle.gix_ref_files.specs.Tree.{Path, fronts, fronts_after}
 use Rattle.gix_ref_lines.specs.internal.SeenLogs.{is_among}
 
--- the folder of a text with one byte more
-after_snoc : (seen folder : Path) (xs : List ℕ) (c : ℕ) → folder_after seen folder (xs ++ c ∷ []) ≡ (if c == 47 then seen ++ xs else folder_after seen folder xs)
-after_snoc seen folder [] c = ap (λ (l : Path). if c == 47 then l else folder) (sym (append-nil seen))
-after_snoc seen folder (x ∷ xs) c =
-    after_snoc (seen ++ x ∷ []) (if x == 47 then seen else folder) xs c
-    ∙ ap (λ (l : Path). if c == 47 then l else folder_after seen folder (x ∷ xs)) (append_assoc seen (x ∷ []) xs)
-
-folder_snoc : (q : Path) (c : ℕ) → 0 < length q → folder_of (q ++ c ∷ []) ≡ (if c == 47 then q else folder_of q)
-folder_snoc [] c some = absurd (omega arith)
-folder_snoc (b ∷ q) c some = after_snoc (b ∷ []) [] q c
-
-pub folder_next : (p : Path) (i : ℕ) (slash : Bool) → 1 ≤ i → i < length p → (get_or p i 0 == 47) ≡ slash → folder_of (take (i + 1) p) ≡ (if slash then take i p else folder_of (take i p))
-folder_next p i slash some lt is =
-    ap folder_of (take_more p i 0 lt) ∙ folder_snoc (take i p) (get_or p i 0) (let le : i ≤ length p = omega arith in omega (arith, length-take-le i p le))
-    ∙ ap (λ (b : Bool). if b then take i p else folder_of (take i p)) is
-
-pub folder_first : (p : Path) → folder_of (take 1 p) ≡ []
-folder_first [] = refl
-folder_first (b ∷ p) = refl
-
 -- the fronts of a path that are still to come, past the first byte and past the next one
 pub fronts_first : (p : Path) → fronts p ≡ fronts_after (take 1 p) (drop 1 p)
 fronts_first [] = refl

@@ -9,8 +9,8 @@ ghost use Rattle.gix_ref_lines.specs.internal.LineSteps.{refusal_of, IsInPath, I
 use crate::create_or_update;
 use crate::error::Error;
 use crate::ids::LineIds;
-use crate::logs::folder;
 use crate::place::Place;
+use gix_ref_files::paths::folder;
 use gix_ref_log::actor::SignatureRef;
 use gix_ref_log::log::{AppendError, appended_line};
 use std::alloc::Global;

@@ -1,7 +1,6 @@
 //! The logs that have a line due, by their paths, and what lies in the path of a log.
-ghost use Rattle.std.specs.Prelude.{◌≡◌, ◌≤◌, ◌||◌, OnOk, bytes_eq, false, length, take};
+ghost use Rattle.std.specs.Prelude.{◌≡◌, ◌||◌, OnOk, bytes_eq, false};
 ghost use Rattle.std.specs.List.{list_any};
-ghost use Rattle.gix_ref_files.specs.Disk.{folder_of};
 ghost use Rattle.gix_ref_files.specs.Tree.{fronts, Path};
 ghost use Rattle.gix_ref_lines.specs.internal.SeenLogs.{paths_in, is_among};
 
@@ -51,25 +50,4 @@ impl DueLogs {
         }
         false
     }
-}
-
-/// Where the folder of a path ends: at its last slash, unless that is its first byte.
-pub fn folder_end(path: &[u8]) -> usize
-    ensures within { result ≤ length path.now }
-    ensures folder { take result path.now ≡ folder_of path.now }
-{
-    let mut end = 0;
-    for i in 1..path.len() {
-        if path[i] == b'/' {
-            end = i;
-        }
-    }
-    end
-}
-
-/// The folder of a path: what is before its last slash, unless that is its first byte.
-pub fn folder(path: &[u8]) -> &[u8]
-    ensures { result.now ≡ folder_of path.now }
-{
-    &path[..folder_end(path)]
 }

@@ -12,8 +12,9 @@ ghost use Rattle.gix_ref_lines.specs.internal.SeenLogs.{is_among, paths_in};
 
 use crate::create_or_update;
 use crate::error::Error;
-use crate::logs::{DueLogs, folder};
+use crate::logs::DueLogs;
 use gix_ref_files::files::{FileError, Files, Node};
+use gix_ref_files::paths::folder;
 use std::alloc::Global;
 
 /// What there is at the path of a log.

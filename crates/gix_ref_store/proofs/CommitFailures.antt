@@ -52,7 +52,7 @@ use Rattle.gix_ref_commit.specs.Failures.{AllOfEdits, IsNameAt, IsOfListing, Say
 use Rattle.gix_ref_commit.specs.LogEffects.{AreLogsOf, IsLogOf}
 use Rattle.gix_ref_commit.specs.Unfinished.{EndsAtStep, EndsIn, IsRaised}
 use Rattle.gix_ref_commit.specs.declared.error.Error.{Error}
-use Rattle.gix_ref_commit.specs.declared.error.Error.TheVariants.{CreateOrUpdateRefLog, PackedTransactionCommit, LockCommit, DeleteReference, DeleteReflog, FolderInPlace, Memory}
+use Rattle.gix_ref_commit.specs.declared.error.Error.TheVariants.{CreateOrUpdateRefLog, PackedTransactionCommit, LockCommit, DeleteReference, DeleteReflog, FolderInPlace, PreprocessingFailed, Memory}
 use Rattle.gix_ref_commit.specs.declared.folders.InWay.{InWay}
 use Rattle.gix_ref_commit.specs.declared.plan.About.{About}
 use Rattle.gix_ref_commit.specs.declared.plan.About.TheVariants.{Folders, Line, Rename, LogRemoval, Packed, Removal}
@@ -162,6 +162,7 @@ of_no_line edits place log packed u (LockCommit source name) says bad = bad
 of_no_line edits place log packed u (DeleteReference name source) says bad = bad
 of_no_line edits place log packed u (DeleteReflog name source) says bad = bad
 of_no_line edits place log packed u (FolderInPlace path) says bad = bad
+of_no_line edits place log packed u (PreprocessingFailed source) says bad = bad
 of_no_line edits place log packed u Memory says bad = bad
 
 -- what was counted is counted afterwards too
@@ -192,6 +193,7 @@ undecided_wider honest means faults start mid new committer held (LockCommit sou
 undecided_wider honest means faults start mid new committer held (DeleteReference name source) le is = is
 undecided_wider honest means faults start mid new committer held (DeleteReflog name source) le is = is
 undecided_wider honest means faults start mid new committer held (FolderInPlace path) le is = is
+undecided_wider honest means faults start mid new committer held (PreprocessingFailed source) le is = is
 undecided_wider honest means faults start mid new committer held Memory le is = is
 
 -- a bad line is never the cause where `packed-refs` is well formed
@@ -207,6 +209,7 @@ never_bad honest means faults start mid committer held (LockCommit source name) 
 never_bad honest means faults start mid committer held (DeleteReference name source) is bad h apart rs are = bad
 never_bad honest means faults start mid committer held (DeleteReflog name source) is bad h apart rs are = bad
 never_bad honest means faults start mid committer held (FolderInPlace path) is bad h apart rs are = bad
+never_bad honest means faults start mid committer held (PreprocessingFailed source) is bad h apart rs are = bad
 
 -- the rise of a fault at a step, seen from around it
 pub raised_wider : (a b c d : ℕ) (u : Unfinished) → a ≤ b → c ≤ d → IsRaised b c u → IsRaised a d u
@@ -257,6 +260,7 @@ unlisted_by honest means faults start new committer held ran mid (PackedTransact
 unlisted_by honest means faults start new committer held ran mid (DeleteReference name source) alike outcomes le is = absurd is
 unlisted_by honest means faults start new committer held ran mid (DeleteReflog name source) alike outcomes le is = absurd is
 unlisted_by honest means faults start new committer held ran mid (FolderInPlace path) alike outcomes le is = absurd is
+unlisted_by honest means faults start new committer held ran mid (PreprocessingFailed source) alike outcomes le is = absurd is
 
 module _ {F : Type 0} (honest : Type 0) (means : F → Meaning) (faults : F → ℕ) (start new : Store F) (committer : Option SignatureRef) (packed : Option Path) (held ran : List Edit) (alike : all_but_logs ran ≡ all_but_logs held) where
   -- the locks that are released are some of those that are held
@@ -317,6 +321,7 @@ module _ {F : Type 0} (honest : Type 0) (means : F → Meaning) (faults : F → 
   undecided_fails (DeleteReference name source) is only = absurd is
   undecided_fails (DeleteReflog name source) is only = absurd is
   undecided_fails (FolderInPlace path) is only = absurd is
+  undecided_fails (PreprocessingFailed source) is only = absurd is
 
   -- The log of the edit at which the run ended is at the path that is reported.
   module _ (log : Path) where
@@ -363,36 +368,42 @@ module _ {F : Type 0} (honest : Type 0) (means : F → Meaning) (faults : F → 
     faults_at (Folders at) fault (DeleteReference name source) is isf logged within stop = absurd is
     faults_at (Folders at) fault (DeleteReflog name source) is isf logged within stop = absurd is
     faults_at (Folders at) fault (FolderInPlace path) is isf logged within stop = absurd is
+    faults_at (Folders at) fault (PreprocessingFailed source) is isf logged within stop = absurd is
     faults_at (Folders at) fault Memory is isf logged within stop = absurd is
     faults_at (Line at) fault (PackedTransactionCommit error) is isf logged within stop = absurd is
     faults_at (Line at) fault (LockCommit source name) is isf logged within stop = absurd is
     faults_at (Line at) fault (DeleteReference name source) is isf logged within stop = absurd is
     faults_at (Line at) fault (DeleteReflog name source) is isf logged within stop = absurd is
     faults_at (Line at) fault (FolderInPlace path) is isf logged within stop = absurd is
+    faults_at (Line at) fault (PreprocessingFailed source) is isf logged within stop = absurd is
     faults_at (Line at) fault Memory is isf logged within stop = absurd is
     faults_at (Rename at) fault (PackedTransactionCommit error) is isf logged within stop = absurd is
     faults_at (Rename at) fault (LockCommit source name) is isf logged within stop = subst (λ (f : FileError). FailsAtWrite honest means faults start new committer packed held Rename f (λ k. IsNameAt (updates held) k name)) (sym is.0) (isf, (at, within, is.1, inr stop))
     faults_at (Rename at) fault (DeleteReference name source) is isf logged within stop = absurd is
     faults_at (Rename at) fault (DeleteReflog name source) is isf logged within stop = absurd is
     faults_at (Rename at) fault (FolderInPlace path) is isf logged within stop = absurd is
+    faults_at (Rename at) fault (PreprocessingFailed source) is isf logged within stop = absurd is
     faults_at (Rename at) fault Memory is isf logged within stop = absurd is
     faults_at (LogRemoval at) fault (PackedTransactionCommit error) is isf logged within stop = absurd is
     faults_at (LogRemoval at) fault (LockCommit source name) is isf logged within stop = absurd is
     faults_at (LogRemoval at) fault (DeleteReference name source) is isf logged within stop = absurd is
     faults_at (LogRemoval at) fault (DeleteReflog name source) is isf logged within stop = subst (λ (f : FileError). FailsAt honest means faults start new committer packed held LogRemoval f (λ k. IsNameAt (updates held) k name)) (sym is.0) (isf, (at, within, is.1, stop))
     faults_at (LogRemoval at) fault (FolderInPlace path) is isf logged within stop = absurd is
+    faults_at (LogRemoval at) fault (PreprocessingFailed source) is isf logged within stop = absurd is
     faults_at (LogRemoval at) fault Memory is isf logged within stop = absurd is
     faults_at Packed fault (PackedTransactionCommit error) is isf logged within stop = subst (λ (e : RepackError). FailsFor honest means faults start new committer packed held (PackedTransactionCommit e)) (sym is) (isf, inr stop)
     faults_at Packed fault (LockCommit source name) is isf logged within stop = absurd is
     faults_at Packed fault (DeleteReference name source) is isf logged within stop = absurd is
     faults_at Packed fault (DeleteReflog name source) is isf logged within stop = absurd is
     faults_at Packed fault (FolderInPlace path) is isf logged within stop = absurd is
+    faults_at Packed fault (PreprocessingFailed source) is isf logged within stop = absurd is
     faults_at Packed fault Memory is isf logged within stop = absurd is
     faults_at (Removal at) fault (PackedTransactionCommit error) is isf logged within stop = absurd is
     faults_at (Removal at) fault (LockCommit source name) is isf logged within stop = absurd is
     faults_at (Removal at) fault (DeleteReference name source) is isf logged within stop = subst (λ (f : FileError). FailsAt honest means faults start new committer packed held Removal f (λ k. IsNameAt (updates held) k name)) (sym is.0) (isf, (at, within, is.1, stop))
     faults_at (Removal at) fault (DeleteReflog name source) is isf logged within stop = absurd is
     faults_at (Removal at) fault (FolderInPlace path) is isf logged within stop = absurd is
+    faults_at (Removal at) fault (PreprocessingFailed source) is isf logged within stop = absurd is
     faults_at (Removal at) fault Memory is isf logged within stop = absurd is
 
   -- The run of the steps ended early.
@@ -564,15 +575,21 @@ module _ {F : Type 0} (honest : Type 0) (means : F → Meaning) (faults : F → 
       in_way : (a : About) (error : Error) → Ends a Unexpected → ToldAt a → SaysInWay place log told a error → FailsFor honest means faults start new committer packed held error
       in_way (Folders n) (CreateOrUpdateRefLog error) e tells says = in_way_of_log n error e tells says
       in_way (Line n) (FolderInPlace path) e tells says = met_line n path.items e tells says
+      in_way (Line n) (PreprocessingFailed source) e tells says = absurd says
       in_way (Rename n) (FolderInPlace path) e tells says = met_rename n path.items e tells says
+      in_way (Rename n) (PreprocessingFailed source) e tells says = absurd says
       in_way (LogRemoval n) (FolderInPlace path) e tells says = met_removal (LogRemoval n) path.items e (λ none. none)
+      in_way (LogRemoval n) (PreprocessingFailed source) e tells says = absurd says
       in_way Packed (FolderInPlace path) e tells says = met_packed path.items e tells says
+      in_way Packed (PreprocessingFailed source) e tells says = absurd says
       in_way (Removal n) (FolderInPlace path) e tells says = met_removal (Removal n) path.items e (λ none. none)
+      in_way (Removal n) (PreprocessingFailed source) e tells says = absurd says
       in_way (Folders n) (PackedTransactionCommit error) e tells says = absurd says
       in_way (Folders n) (LockCommit source name) e tells says = absurd says
       in_way (Folders n) (DeleteReference name source) e tells says = absurd says
       in_way (Folders n) (DeleteReflog name source) e tells says = absurd says
       in_way (Folders n) (FolderInPlace path) e tells says = absurd says
+      in_way (Folders n) (PreprocessingFailed source) e tells says = absurd says
       in_way (Folders n) Memory e tells says = absurd says
       in_way (Line n) (CreateOrUpdateRefLog error) e tells says = absurd says
       in_way (Line n) (PackedTransactionCommit error) e tells says = absurd says
@@ -616,6 +633,7 @@ module _ {F : Type 0} (honest : Type 0) (means : F → Meaning) (faults : F → 
       run_fails no_memory (DeleteReference name source) ended tells says raised only = absurd says
       run_fails no_memory (DeleteReflog name source) ended tells says raised only = absurd says
       run_fails no_memory (FolderInPlace path) ended tells says raised only = absurd says
+      run_fails no_memory (PreprocessingFailed source) ended tells says raised only = absurd says
       run_fails (AtStep a (Fault fault)) error ended tells says raised only =
           faults_at log a fault error says raised (log_is a (Fault fault) ended tells) (edit_at a (Fault fault) ended) (stops a (Fault fault) ended)
       run_fails (AtStep a Unexpected) error ended tells says raised only = in_way a error ended tells says

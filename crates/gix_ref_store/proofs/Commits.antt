@@ -1,5 +1,5 @@
 -- A commit from the store before its `prepare`, from what it decides, what its steps leave, and the release of its locks.
-use Rattle.std.proofs.Common.{◌≡◌, ◌≢◌, inl, inr, ⊎_elim, ◌⊎◌, ℕ, suc, ◌<◌, ◌≤◌, List, [], ◌∷◌, ◌++◌, Bool, true, false, not, ◌&&◌, Option, Some, None, All, map, refl, sym, ◌∙◌, ap, subst, length, arith}
+use Rattle.std.proofs.Common.{◌≡◌, ◌≢◌, inl, inr, ⊎_elim, ◌⊎◌, ℕ, suc, ◌+◌, ◌<◌, ◌≤◌, List, [], ◌∷◌, ◌++◌, Bool, true, false, not, ◌&&◌, Option, Some, None, All, map, refl, sym, ◌∙◌, ap, subst, length, arith}
 use Rattle.std.specs.Prelude.{bytes_eq, if◌then◌else◌, nat_lt}
 use Rattle.std.proofs.lemmas.Bool.{ltb-true}
 use Rattle.gix_ref_hash.specs.declared.hash.Kind.{Kind}
@@ -41,7 +41,7 @@ use Rattle.gix_ref_edits.specs.declared.transaction.RefEdit.{RefEdit}
 use Rattle.gix_ref_transaction.specs.Causes.{locks_of}
 use Rattle.gix_ref_transaction.specs.CommitRenames.{is_written_at, lock_at, place_at, stays_at}
 use Rattle.gix_ref_transaction.specs.CommittedEdits.{planned}
-use Rattle.gix_ref_transaction.specs.OwnLocks.{is_in, AddsLocks, IsOurs, OnlyLocks, OnlyRemoves, RemovesLocks}
+use Rattle.gix_ref_transaction.specs.OwnLocks.{is_in, times, AddsLocks, IsOurs, OnlyLocks, OnlyRemoves, RemovesLocks}
 use Rattle.gix_ref_transaction.specs.PackedCauses.{ids_among}
 use Rattle.gix_ref_transaction.specs.PrepareSteps.{AreWholeLocks, HoldTexts, held_locks, ids_in, lock_paths, packed_ids, packed_locks, packed_places, updates, IsPackedPlace}
 use Rattle.gix_ref_transaction.specs.declared.edit.Edit.{Edit}
@@ -51,7 +51,7 @@ use Rattle.gix_ref_transaction.proofs.CommitLosses.{rest_kept}
 use Rattle.gix_ref_transaction.proofs.LockRounds.{own_all}
 use Rattle.gix_ref_transaction.proofs.PackedLemmas.{records_are}
 use Rattle.gix_ref_transaction.proofs.PackedLocks.{taken_was_free}
-use Rattle.gix_ref_transaction.proofs.Removing.{locks_by_places}
+use Rattle.gix_ref_transaction.proofs.Removing.{times_append, locks_by_places}
 use Rattle.gix_ref_transaction.proofs.Renames.{lock_found}
 use Rattle.gix_ref_repack.specs.Repacks.{IsRepack}
 use Rattle.gix_ref_commit.specs.Cleared.{AllInWay, FoldersGo, OnlyFolders, commit_entries, folder_lists, roots_of}
@@ -270,6 +270,21 @@ module _ {F : Type 0} (honest : Type 0) (means : F → Meaning) (faults : F → 
         (λ e. any_right (λ r. bytes_eq r q) (lock_of s.packed_path ∷ []) (locks_of s given) (subst (λ (l : List Path). is_in l q ≡ true) locks_are e))
         (any_cases (λ r. bytes_eq r q) (map lock_of (packed_places (if renamed then None else packed))) (lock_paths ran) within)
 
+    -- and no lock is held more often than the edits can have it
+    once_then : (q : Path) (renamed : Bool) → times q left ≤ times q (held_locks (if renamed then None else packed) ran) → times q left ≤ times q (lock_of s.packed_path ∷ locks_of s given)
+    once_then q renamed held' =
+        let ps = map lock_of (packed_places (if renamed then None else packed)) in
+        let one : times q ps ≤ times q (lock_of s.packed_path ∷ []) = packed_once q renamed packed refl in
+        let all : times q (ps ++ lock_paths ran) ≡ times q ps + times q (lock_paths ran) = times_append q ps (lock_paths ran) in
+        let rest : times q (lock_paths ran) ≡ times q (locks_of s given) = ap (times q) locks_are in
+        let both : times q (lock_of s.packed_path ∷ locks_of s given) ≡ times q (lock_of s.packed_path ∷ []) + times q (locks_of s given) = times_append q (lock_of s.packed_path ∷ []) (locks_of s given) in
+        omega (arith, held', one, all, rest, both)
+      where
+        packed_once : (q : Path) (b : Bool) (p : Option Path) → packed ≡ p → times q (map lock_of (packed_places (if b then None else p))) ≤ times q (lock_of s.packed_path ∷ [])
+        packed_once q true p is = omega arith
+        packed_once q false None is = omega arith
+        packed_once q false (Some path) is = subst (λ (l : Path). times q (lock_of l ∷ []) ≤ times q (lock_of s.packed_path ∷ [])) (sym (path_is path is)) (omega arith)
+
     -- all locks are gone that are not named
     gone_all : (U : Tree) (done : ℕ) (renamed : Bool) →
         ((q : Path) → is_in (map lock_of (packed_places (if renamed then None else packed))) q ≡ true → is_in left q ≡ false → is_file (U q) ≡ false) →
@@ -299,7 +314,8 @@ module _ {F : Type 0} (honest : Type 0) (means : F → Meaning) (faults : F → 
       module _ (releases : honest → Leaves decided now (RemovesLocks (held_locks packed ran) decided.tree)) (only : honest → OnlyRemoves (held_locks packed ran) decided now)
           (packed_gone : honest → (q : Path) → is_in (map lock_of (packed_places packed)) q ≡ true → is_in left q ≡ false → is_file (now.tree q) ≡ false)
           (locks_gone : honest → (k : ℕ) → k < length ran → stays_at ran 0 k ≡ true → is_in left (lock_at ran k) ≡ false → is_file (now.tree (lock_at ran k)) ≡ false)
-          (ours : (q : Path) → is_in left q ≡ true → is_in (held_locks packed ran) q ≡ true) where
+          (ours : (q : Path) → is_in left q ≡ true → is_in (held_locks packed ran) q ≡ true)
+          (once : (q : Path) → times q left ≤ times q (held_locks packed ran)) where
         pub undecided_well : EveryStopIsOldOrNew honest means faults old start new given lines left
         undecided_well = record {
           began = λ h good. began h good;
@@ -311,6 +327,7 @@ module _ {F : Type 0} (honest : Type 0) (means : F → Meaning) (faults : F → 
               ∙ (fills_alike h decided.tree (fills h).tree path other ∙ start_alike h path other))));
           gone = λ h. gone_all now.tree 0 false (packed_gone h) (λ yes. clash yes refl) (locks_gone h) (λ k lt early. absurd (omega (arith, early))) h;
           ours = λ q named. possible false q (ours q named);
+          once = λ q. once_then q false (once q);
         }
 
         pub undecided_lost : (h : honest) → HasGoodRecords means old → IsAtRest means old → EveryLossIsOldOrNew honest means faults old start new given lines
@@ -462,8 +479,9 @@ module _ {F : Type 0} (honest : Type 0) (means : F → Meaning) (faults : F → 
               (honest → renamed ≡ true → (path : Path) → packed ≡ Some path → is_file (released.tree (lock_of path)) ≡ false) →
               (honest → (k : ℕ) → k < length ran → stays_at ran done k ≡ true → is_in left (lock_at ran k) ≡ false → is_file (released.tree (lock_at ran k)) ≡ false) →
               (honest → (k : ℕ) → k < length ran → k < done → is_written_at ran k ≡ true → is_file (released.tree (lock_at ran k)) ≡ false) →
-              ((q : Path) → is_in left q ≡ true → is_in (held_locks (if renamed then None else packed) ran) q ≡ true) → EveryStopIsOldOrNew honest means faults old start new given lines left
-          ran_well done packed_gone packed_done locks_gone done_gone ours = record {
+              ((q : Path) → is_in left q ≡ true → is_in (held_locks (if renamed then None else packed) ran) q ≡ true) →
+              ((q : Path) → times q left ≤ times q (held_locks (if renamed then None else packed) ran)) → EveryStopIsOldOrNew honest means faults old start new given lines left
+          ran_well done packed_gone packed_done locks_gone done_gone ours once = record {
             began = λ h good. began h good;
             leaves = λ h.
                 joins (joins (joins (weaken (fills h) (λ T filled good. filled_well h good T filled)) (weaken (runs h) (λ T cut good. at_stop h good T cut)))
@@ -471,6 +489,7 @@ module _ {F : Type 0} (honest : Type 0) (means : F → Meaning) (faults : F → 
                 (weaken (tidies h) (λ T goes good. tidied_well h good T goes));
             gone = λ h q within out'. gone_still h q (gone_all released.tree done renamed (packed_gone h) (packed_done h) (locks_gone h) (done_gone h) h q within out');
             ours = λ q named. possible renamed q (ours q named);
+            once = λ q. once_then q renamed (once q);
           }
 
           -- locks that were renamed are gone after the whole run

@@ -1,5 +1,5 @@
 -- What `commit` returns and leaves.
-use Rattle.std.specs.Prelude.{◌≡◌, ◌≢◌, ◌<◌, ◌⊎◌, ℕ, List, [], true, false, Option, Some, None, Result, Ok, Err, map, length}
+use Rattle.std.specs.Prelude.{◌≡◌, ◌≢◌, ◌<◌, ◌≤◌, ◌⊎◌, ℕ, List, [], true, false, Option, Some, None, Result, Ok, Err, map, length}
 use Rattle.gix_ref_base.specs.PackedRecords.{Record}
 use Rattle.gix_ref_files.specs.Tree.{Tree, Path, is_file, is_folder, IsEmptyFolder}
 use Rattle.gix_ref_files.specs.declared.files.FileError.{FileError}
@@ -18,7 +18,7 @@ use Rattle.gix_ref_theory.specs.OnRealTrees.{view_of}
 use Rattle.gix_ref_edits.specs.declared.transaction.RefEdit.{RefEdit}
 use Rattle.gix_ref_transaction.specs.CommitRenames.{place_at}
 use Rattle.gix_ref_transaction.specs.CommittedEdits.{planned}
-use Rattle.gix_ref_transaction.specs.OwnLocks.{is_in, paths_of, RemovesLocks}
+use Rattle.gix_ref_transaction.specs.OwnLocks.{is_in, paths_of, times, RemovesLocks}
 use Rattle.gix_ref_transaction.specs.PackedCauses.{ids_among}
 use Rattle.gix_ref_transaction.specs.PrepareSteps.{AreEmpty, held_locks, ids_in, packed_places, possible_locks, updates, IsPackedPlace}
 use Rattle.gix_ref_transaction.specs.declared.edit.Edit.{Edit}
@@ -40,7 +40,7 @@ use Rattle.gix_ref_commit.specs.Failures.{IsNameAt}
 use Rattle.gix_ref_commit.specs.LogEffects.{with_lines}
 use Rattle.gix_ref_commit.specs.Unfinished.{EndsAtStep}
 use Rattle.gix_ref_commit.specs.declared.error.Error.{Error}
-use Rattle.gix_ref_commit.specs.declared.error.Error.TheVariants.{CreateOrUpdateRefLog, PackedTransactionCommit, LockCommit, DeleteReference, DeleteReflog, FolderInPlace, Memory}
+use Rattle.gix_ref_commit.specs.declared.error.Error.TheVariants.{CreateOrUpdateRefLog, PackedTransactionCommit, LockCommit, DeleteReference, DeleteReflog, FolderInPlace, PreprocessingFailed, Memory}
 use Rattle.gix_ref_commit.specs.declared.folders.InWay.{InWay}
 use Rattle.gix_ref_commit.specs.declared.plan.About.{About}
 use Rattle.gix_ref_commit.specs.declared.plan.About.TheVariants.{Folders, Line, Rename, LogRemoval, Packed, Removal}
@@ -48,19 +48,20 @@ use Rattle.gix_ref_store.specs.CommitLines.{LinesPass, line_rules, lines_due, lo
 use Rattle.gix_ref_store.specs.Prepared.{PreparesFrom, HasGoodRecords, tree_of, disk_in, IsAtRest, locks_in, places_in}
 use Rattle.gix_ref_store.specs.Store.{files_of, kind_of, meaning_of}
 use Rattle.gix_ref_store.specs.declared.file.store.Store.{Store}
-use Rattle.gix_ref_store.specs.declared.file.transaction.Done.{Done}
-use Rattle.gix_ref_store.specs.declared.file.transaction.PackedRefs.{PackedRefs}
-use Rattle.gix_ref_store.specs.declared.file.transaction.Failed.{Failed}
+use Rattle.gix_ref_store.specs.declared.file.transaction.outcome.Done.{Done}
+use Rattle.gix_ref_store.specs.declared.file.transaction.packed_refs.PackedRefs.{PackedRefs}
+use Rattle.gix_ref_store.specs.declared.file.transaction.outcome.Failed.{Failed}
 
--- the locks that the result of a commit names
-abbrev pub left_of : Result Done Failed → List Path
-left_of (Ok done) = paths_of done.locks_left.items
-left_of (Err failed) = paths_of failed.locks_left.items
+module _ {T : Type 0} where
+  -- the locks that the result of a commit names
+  abbrev pub left_of : Result (Done T) (Failed T) → List Path
+  left_of (Ok done) = paths_of done.locks_left.items
+  left_of (Err failed) = paths_of failed.locks_left.items
 
--- the mode that the result of a commit hands back
-abbrev pub mode_of : Result Done Failed → PackedRefs
-mode_of (Ok done) = done.packed_refs
-mode_of (Err failed) = failed.packed_refs
+  -- the mode that the result of a commit hands back
+  abbrev pub mode_of : Result (Done T) (Failed T) → PackedRefs T
+  mode_of (Ok done) = done.packed_refs
+  mode_of (Err failed) = failed.packed_refs
 
 -- `packed-refs` has a line that is no record
 abbrev pub IsOfBadLine : Error → Type 0
@@ -80,6 +81,8 @@ module _ {F : Type 0} (honest : Type 0) (means : F → Meaning) (faults : F → 
     pub leaves : honest → Leaves (means (files_of start)) (means (files_of new)) (λ T. HasGoodRecords means old → IsOldOrNew (meaning_of old) given lines (tree_of means old) T)
     pub gone : honest → (q : Path) → is_in (locks_in means old given) q ≡ true → is_in left q ≡ false → is_file (tree_of means new q) ≡ false
     pub ours : (q : Path) → is_in left q ≡ true → is_in (possible_locks (meaning_of old) given) q ≡ true
+    -- and each is named once: no more often than it is among the locks that the edits can have
+    pub once : (q : Path) → times q left ≤ times q (possible_locks (meaning_of old) given)
 
   -- and so for every store and all edits from which `prepare` gave these
   abbrev pub EveryStopFrom : (start new : Store F) → Option SignatureRef → Option Path → List Edit → List Path → Type 0
@@ -199,6 +202,7 @@ module _ {F : Type 0} (honest : Type 0) (means : F → Meaning) (faults : F → 
       × OnlyItsLocks start new packed held
   FailsFor start new committer packed held (PackedTransactionCommit other) = ⊥
   FailsFor start new committer packed held (FolderInPlace path) = honest → MeetsFolder start new committer packed held path.items
+  FailsFor start new committer packed held (PreprocessingFailed source) = ⊥
   FailsFor start new committer packed held Memory = OnlyItsLocks start new packed held
 
   -- where `packed-refs` was well formed, none of its lines is the cause

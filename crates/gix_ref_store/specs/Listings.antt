@@ -13,7 +13,7 @@ use Rattle.gix_ref_listing.specs.Listings.{Listed, merge_left}
 use Rattle.gix_ref_listing.specs.OwnRecords.{own_of}
 use Rattle.gix_ref_listing.specs.PrefixedRecords.{IsHeldFor}
 use Rattle.gix_ref_listing.specs.PseudoListings.{IsPseudoListing}
-use Rattle.gix_ref_listing.specs.Steps.{GivesNext, GivesRecord}
+use Rattle.gix_ref_listing.specs.Steps.{AreYet, GivesNext, GivesRecord}
 use Rattle.gix_ref_listing.specs.WholeListings.{AreHeld, IsListing, IsName, key_in}
 use Rattle.gix_ref_listing.specs.declared.error.Error.{Error}
 use Rattle.gix_ref_listing.specs.declared.own_records.OwnRecord.{OwnRecord}
@@ -58,6 +58,10 @@ module _ {F : Type 0} where
   -- the buffer has the records of the prefix of these; or there is none, and there are none
   abbrev pub AreHeldFor : Store F → (prefix : List ℕ) → Option (Bor Buffer) → List Record → Type 0
   AreHeldFor store prefix packed records = AreHeld (key_in (settings_of store) prefix) packed records
+
+  -- these are yet to come of an iterator
+  abbrev pub AreYetIn : LooseThenPacked F Remaining → List Listed → Type 0
+  AreYetIn it listed = AreYet (settings_of it.store.now) it.rest.merge listed
 
   -- the store of a platform
   abbrev pub platform_store : Platform F (Option Buffer) → Store F

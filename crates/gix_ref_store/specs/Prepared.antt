@@ -11,7 +11,8 @@ use Rattle.gix_ref_files.specs.Settled.{AllStay, IsAllSettled}
 use Rattle.gix_ref_theory.specs.OnDisks.{IsSpokenOf, IsAsBefore}
 use Rattle.gix_ref_theory.specs.OnRealTrees.{view_of}
 use Rattle.gix_ref_theory.specs.Roots.{roots}
-use Rattle.gix_ref_transaction.specs.OwnLocks.{is_in, AddsLocks, RemovesLocks, OnlyRemoves}
+use Rattle.gix_ref_theory.specs.Views.{IsOwnLock}
+use Rattle.gix_ref_transaction.specs.OwnLocks.{is_in, times, AddsLocks, RemovesLocks, OnlyRemoves}
 use Rattle.gix_ref_transaction.specs.Causes.{AllValid, IsAccepted, IsCountedWith, IsDoubling, IsIoOrMemory, IsLockCause, IsPackedRefusal, IsPackedWell, names_of, packed_taken}
 use Rattle.gix_ref_store.specs.Store.{files_of, kind_of, folders, meaning_of, IsSameStore}
 use Rattle.gix_ref_transaction.specs.PrepareSteps.{AreEmpty, AreLockable, AreWholeLocks, effects_of, effects_on, HoldTexts, ids_in, packed_ids, IsPackedPlace, old_targets, own_locks, own_places, packed_places, place_paths, places_of, possible_locks, updates}
@@ -51,17 +52,26 @@ module _ {F : Type 0} (means : F → Meaning) where
   abbrev pub IsAtRest : Store F → Type 0
   IsAtRest store = IsAllSettled (disk_in store) × AllStay (disk_in store) (roots (folders store))
 
-  -- from the store `old` to `new`, every disk that is found is as that of `old` but for locks of a transaction of these edits
-  abbrev pub KeepsAll : (old new : Store F) → List RefEdit → Type 0
-  KeepsAll old new edits =
+  -- from the store `old` to `new`, every disk that is found is as that of `old` but for the locks of these places
+  abbrev pub KeepsAllBut : (old new : Store F) (places : List Path) → Type 0
+  KeepsAllBut old new places =
       (staying : List Path) → AllStay (disk_in old) staying →
-      Passes (means (files_of old)) (means (files_of new)) (IsAsBefore (places_in old edits) staying (disk_in old))
+      Passes (means (files_of old)) (means (files_of new)) (IsAsBefore places staying (disk_in old))
 
-  -- Every loss of power meanwhile leaves each file that was settled, but for these locks; and all stays as settled as it was.
-  pub record LosesNothing (old new : Store F) (edits : List RefEdit) : Type 0 where
-    pub keeps : KeepsAll old new edits
+  -- and but for the locks of a transaction of these edits
+  abbrev pub KeepsAll : (old new : Store F) → List RefEdit → Type 0
+  KeepsAll old new edits = KeepsAllBut old new (places_in old edits)
+
+  -- Every loss of power meanwhile leaves each file that was settled, but for the locks of these places; and all stays as settled as it
+  -- was.
+  pub record LosesNothingBut (old new : Store F) (places : List Path) : Type 0 where
+    pub keeps : KeepsAllBut old new places
     pub loses : Loses (means (files_of old)) (means (files_of new))
-        (λ T. (q : Path) → IsSpokenOf (places_in old edits) (disk_in old) q → view_of T q ≡ view_of (tree_of old) q)
+        (λ T. (q : Path) → IsSpokenOf places (disk_in old) q → view_of T q ≡ view_of (tree_of old) q)
+
+  -- and so but for the locks of a transaction of these edits
+  abbrev pub LosesNothing : (old new : Store F) → List RefEdit → Type 0
+  LosesNothing old new edits = LosesNothingBut old new (places_in old edits)
 
 -- There is room for what remains of these edits and of the lock of `packed-refs`, and nothing is in it yet.
 pub record HasRoom (held : Vec Edit Global) (remains : Remains) : Type 0 where
@@ -158,7 +168,11 @@ module _ {F : Type 0} (honest : Type 0) (means : F → Meaning) (faults : F → 
   pub record RollsBackFrom (old new : Store F) (locks left : List Path) : Type 0 where
     pub gone : honest → (q : Path) → is_in locks q ≡ true → is_in left q ≡ false → is_file (tree_of means new q) ≡ false
     pub ours : (q : Path) → is_in left q ≡ true → is_in locks q ≡ true
+    -- and each is named once: no more often than it is held
+    pub once : (q : Path) → times q left ≤ times q locks
     pub named : (left ≡ []) ⊎ HasRisen (faults (files_of old)) (faults (files_of new))
     pub leaves : honest → Leaves (means (files_of old)) (means (files_of new)) (RemovesLocks locks (tree_of means old))
     pub removes : honest → OnlyRemoves locks (means (files_of old)) (means (files_of new))
+    -- every loss of power meanwhile leaves each file that was settled, but for these locks, whatever places they are the locks of
+    pub lost : honest → (places : List Path) → ((q : Path) → is_in locks q ≡ true → IsOwnLock places q) → LosesNothingBut means old new places
     pub same : IsSameStore old new

@@ -15,7 +15,6 @@ use Rattle.gix_ref_theory.proofs.LockPlaces.{no_lock_below, no_lock_below_packed
 use Rattle.gix_ref_theory.proofs.PlaceLaws.{laws_hold}
 use Rattle.gix_ref_transaction.specs.OwnLocks.{is_in}
 use Rattle.gix_ref_transaction.specs.Causes.{AllValid, IsApartFromPacked, LocksAreApart, locks_of}
-use Rattle.gix_ref_transaction.specs.DirectUpdates.{AreDirectUpdates}
 use Rattle.gix_ref_edits.specs.RefEdits.{name_of, AreUpdates}
 use Rattle.gix_ref_edits.specs.declared.transaction.RefEdit.{RefEdit}
 use Rattle.gix_ref_transaction.proofs.Adds.{false_is_true, is_false, in_one, any_cases}
@@ -82,6 +81,3 @@ module _ (f : Layout) (o : Options) (laid : IsLayout f) (kind : Kind) where
     packed_locks = λ k d lt. from_packed _ (references [] edits valid k d lt);
     packed_lock = (laws_hold f o laid).packed_is_no_lock s.packed_path;
   }
-
-pub updates_are : (edits : List RefEdit) → AreDirectUpdates edits → AreUpdates edits
-updates_are edits direct k d lt = (direct k d lt).0

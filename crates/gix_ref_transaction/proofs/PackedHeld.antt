@@ -17,7 +17,7 @@ use Rattle.gix_ref_transaction.specs.OwnLocks.{is_in}
 use Rattle.gix_ref_transaction.specs.PrepareSteps.{packed_ids, effect_on, effects_on, lock_text, old_targets, updates, AreLockable, AreSettled, HoldTexts, IsPackedPlace, TakesPacked}
 use Rattle.gix_ref_transaction.specs.declared.edit.Edit.{Edit}
 use Rattle.gix_ref_transaction.specs.declared.prepare.error.Error.{Error}
-use Rattle.gix_ref_transaction.specs.declared.prepare.error.Error.TheVariants.{UnsafeName, DeviceName, DeleteMustNotExist, TargetNotFull, OtherHashKind, PreprocessingFailed, PackedTransactionAcquire, Packed, PackedFind, PathCollision, LockAcquire, DeleteReferenceMustExist, MustExist, MustNotExist, ReferenceOutOfDate, Io, Memory}
+use Rattle.gix_ref_transaction.specs.declared.prepare.error.Error.TheVariants.{UnsafeName, DeviceName, DeleteMustNotExist, TargetNotFull, OtherHashKind, PreprocessingFailed, PackedTransactionAcquire, Packed, PackedFind, PathCollision, LockAcquire, DeleteReferenceMustExist, MustExist, MustNotExist, ReferenceOutOfDate, ReferenceDecode, Io, Memory}
 use Rattle.gix_ref_transaction.proofs.Adds.{any_same, clash}
 use Rattle.gix_ref_transaction.proofs.LookupLemmas.{effect_alike}
 
@@ -72,6 +72,7 @@ module _ (s : Store) (kind : Kind) (plain held : Tree) (off : (q : Path) → q �
     unlockable_on seen (MustExist name expected) why = absurd why
     unlockable_on seen (MustNotExist name actual new) why = absurd why
     unlockable_on seen (ReferenceOutOfDate name expected actual) why = absurd why
+    unlockable_on seen (ReferenceDecode source) why = absurd why
 
     fault_on : (seen : List RefEdit) (error : Error) → IsFault s kind held seen edit error → IsFault s kind plain seen edit error
     fault_on seen error (inl outside) = inl outside

@@ -11,7 +11,10 @@ use Rattle.gix_ref_transaction.specs.declared.edit.Edit.{Edit}
 use Rattle.gix_ref_hash.specs.declared.hash.Kind.{Kind}
 use Rattle.gix_ref_hash.specs.declared.hash.ObjectId.{ObjectId}
 use Rattle.gix_ref_base.specs.PackedRecords.{Record, record_named, id_read}
-use Rattle.gix_ref_files.specs.Files.{HasRisen}
+use Rattle.gix_ref_files.specs.Calls.{Unchanged}
+use Rattle.gix_ref_files.specs.DiskCalls.{Untouched}
+use Rattle.gix_ref_files.specs.Files.{HasRisen, Meaning, disk_of, Leaves, Passes}
+use Rattle.gix_ref_files.proofs.Moments.{joins, weaken, passes_joins, passes_weaken}
 use Rattle.gix_ref_files.specs.Tree.{Content, Path, Tree}
 use Rattle.gix_ref_packed.proofs.RecordsOfText.{records_computed}
 use Rattle.gix_ref_packed.specs.declared.packed.buffer.open.Error.{Error as OpenError}
@@ -31,7 +34,7 @@ use Rattle.gix_ref_theory.specs.OnRealTrees.{view_of}
 use Rattle.gix_ref_edits.specs.RefEdits.{name_of}
 use Rattle.gix_ref_edits.specs.declared.transaction.RefEdit.{RefEdit}
 use Rattle.gix_ref_transaction.specs.declared.prepare.error.Error.{Error}
-use Rattle.gix_ref_transaction.specs.declared.prepare.error.Error.TheVariants.{UnsafeName, DeviceName, DeleteMustNotExist, PackedTransactionAcquire, DeleteReferenceMustExist, TargetNotFull, OtherHashKind, PreprocessingFailed, Packed, PackedFind, PathCollision, LockAcquire, MustExist, MustNotExist, ReferenceOutOfDate, Io, Memory as NoMemory}
+use Rattle.gix_ref_transaction.specs.declared.prepare.error.Error.TheVariants.{UnsafeName, DeviceName, DeleteMustNotExist, PackedTransactionAcquire, DeleteReferenceMustExist, TargetNotFull, OtherHashKind, PreprocessingFailed, Packed, PackedFind, PathCollision, LockAcquire, MustExist, MustNotExist, ReferenceOutOfDate, ReferenceDecode, Io, Memory as NoMemory}
 
 -- why no record is found, as it is reported
 pub counted_cause : (honest fault unreadable read : Type 0) (refused : OpenError → Type 0) (before now : ℕ) (error : LookupError) → (fault → HasRisen before now ⊎ read) →
@@ -67,6 +70,7 @@ counted_by honest other read before now (DeleteReferenceMustExist name) follows 
 counted_by honest other read before now (MustExist name expected) follows told = told
 counted_by honest other read before now (MustNotExist name actual new) follows told = told
 counted_by honest other read before now (ReferenceOutOfDate name expected actual) follows told = told
+counted_by honest other read before now (ReferenceDecode source) follows told = told
 counted_by honest other read before now NoMemory follows told = told
 
 -- a search refuses no file
@@ -131,6 +135,7 @@ not_packed kind packed before now (DeleteReferenceMustExist name) told = (tt, λ
 not_packed kind packed before now (MustExist name expected) told = (tt, λ honest read. told)
 not_packed kind packed before now (MustNotExist name actual new) told = (tt, λ honest read. told)
 not_packed kind packed before now (ReferenceOutOfDate name expected actual) told = (tt, λ honest read. told)
+not_packed kind packed before now (ReferenceDecode source) told = (tt, λ honest read. told)
 not_packed kind packed before now NoMemory told = (tt, λ honest read. told)
 not_packed kind packed before now (Io error) told = (tt, λ honest read. told)
 
@@ -160,6 +165,7 @@ counted_later honest read a b d (DeleteReferenceMustExist name) le told = tt
 counted_later honest read a b d (MustExist name expected) le told = tt
 counted_later honest read a b d (MustNotExist name actual new) le told = tt
 counted_later honest read a b d (ReferenceOutOfDate name expected actual) le told = tt
+counted_later honest read a b d (ReferenceDecode source) le told = tt
 counted_later honest read a b d NoMemory le told = tt
 
 -- a count with reads of `packed-refs`, from an earlier moment
@@ -183,6 +189,7 @@ counted_on honest read a b d (DeleteReferenceMustExist name) le told = tt
 counted_on honest read a b d (MustExist name expected) le told = tt
 counted_on honest read a b d (MustNotExist name actual new) le told = tt
 counted_on honest read a b d (ReferenceOutOfDate name expected actual) le told = tt
+counted_on honest read a b d (ReferenceDecode source) le told = tt
 counted_on honest read a b d NoMemory le told = tt
 
 -- what is the same of edits that ask for the same
@@ -254,3 +261,10 @@ ids_more s rs old now same i e lt is new before here =
 
     more : take (i + 1) (updates old) ≡ take i (updates old) ++ e.update ∷ []
     more = take_more (updates old) i e.update lt_all ∙ ap (λ u. take i (updates old) ++ u ∷ []) at
+
+-- one call that changes nothing after another
+pub then_unchanged : {old mid new : Meaning} → Leaves old mid (Unchanged old.tree) → Leaves mid new (Unchanged mid.tree) → Leaves old new (Unchanged old.tree)
+then_unchanged {old} {mid} {new} first second = joins first (weaken second (λ T same. same ∙ first.tree))
+
+pub then_untouched : {old mid new : Meaning} → Passes old mid (Untouched (disk_of old)) → Passes mid new (Untouched (disk_of mid)) → Passes old new (Untouched (disk_of old))
+then_untouched {old} {mid} {new} first second = passes_joins first (passes_weaken second (λ D same. same ∙ first.disk))

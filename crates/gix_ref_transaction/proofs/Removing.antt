@@ -1,5 +1,5 @@
 -- One lock less.
-use Rattle.std.proofs.Common.{◌≡◌, ◌⊎◌, inl, inr, ⊎_elim, ℕ, List, [], ◌∷◌, ◌++◌, Bool, true, false, None, refl, sym, ◌∙◌, ap, subst, Vec, take}
+use Rattle.std.proofs.Common.{◌≡◌, ◌⊎◌, inl, inr, ⊎_elim, ℕ, List, [], ◌∷◌, ◌++◌, Bool, true, false, None, refl, sym, ◌∙◌, ap, subst, Vec, take, ◌+◌, ◌≤◌, arith}
 use Rattle.std.specs.Prelude.{bytes_eq, if◌then◌else◌, map, Option}
 use Rattle.std.specs.declared.alloc.Global.{Global}
 use Rattle.std.proofs.lemmas.List.{append-nil, map-append, take-map}
@@ -8,7 +8,7 @@ use Rattle.gix_ref_files.specs.Tree.{Tree, Path, is_file}
 use Rattle.gix_ref_files.specs.Files.{Meaning, disk_of, Leaves, Passes}
 use Rattle.gix_ref_files.specs.DiskCalls.{RemovingFileOn}
 use Rattle.gix_ref_files.proofs.Moments.{weaken, joins, passes_weaken, passes_joins}
-use Rattle.gix_ref_transaction.specs.OwnLocks.{paths_of, is_in, RemovesLocks, OnlyRemoves, AddsLocks}
+use Rattle.gix_ref_transaction.specs.OwnLocks.{paths_of, is_in, times, RemovesLocks, OnlyRemoves, AddsLocks}
 use Rattle.gix_ref_transaction.specs.PrepareSteps.{lock_paths, place_paths, places_of, updates, given, all_given}
 use Rattle.gix_ref_hash.specs.declared.hash.ObjectId.{ObjectId}
 use Rattle.gix_ref_transaction.specs.Causes.{locks_of}
@@ -42,6 +42,28 @@ named_here names lock removed kept = subst (λ (b : Bool). is_in (names ++ (if b
 pub named_cases : (names : List Path) (lock : Path) (removed : Bool) (q : Path) → is_in (names ++ (if removed then [] else lock ∷ [])) q ≡ true → (is_in names q ≡ true) ⊎ (lock ≡ q)
 named_cases names lock true q h = inl (subst (λ (l : List Path). is_in l q ≡ true) (append-nil names) h)
 named_cases names lock false q h = ⊎_elim (λ left. inl left) (λ right. inr (in_one lock q right)) (any_cases (λ p. bytes_eq p q) names (lock ∷ []) h)
+
+-- how often a path is among some and others
+pub times_append : (q : Path) (some others : List Path) → times q (some ++ others) ≡ times q some + times q others
+times_append q [] others = omega arith
+times_append q (p ∷ some) others =
+    let rest = times_append q some others in
+    omega (arith, rest)
+
+-- one lock more that is named
+pub one_more_once : (q : Path) (names more : List (Vec ℕ Global)) (path : Vec ℕ Global) (lock : Path) → more ≡ names ++ path ∷ [] → path.items ≡ lock → times q (paths_of more) ≤ times q (paths_of names) + times q (lock ∷ [])
+one_more_once q names more path lock is same =
+    let all : paths_of more ≡ paths_of names ++ lock ∷ [] = ap paths_of is ∙ (map-append (λ (p : Vec ℕ Global). p.items) names (path ∷ []) ∙ ap (λ (l : Path). paths_of names ++ l ∷ []) same) in
+    omega (arith, ap (times q) all, times_append q (paths_of names) (lock ∷ []))
+
+-- a lock that is named, of those that were held
+pub named_once : (q : Path) (names before : List Path) (all : ℕ) (rest : List Path) (lock : Path) (removed : Bool) →
+    times q names + times q (rest ++ lock ∷ []) ≤ times q before + all →
+    times q (names ++ (if removed then [] else lock ∷ [])) + times q rest ≤ times q before + all
+named_once q names before all rest lock true held =
+    omega (arith, held, times_append q rest (lock ∷ []), times_append q names [])
+named_once q names before all rest lock false held =
+    omega (arith, held, times_append q rest (lock ∷ []), times_append q names (lock ∷ []))
 
 -- and so the locks of some paths and one more
 pub lock_left : (paths : List Own) (path : Own) (q : Path) → is_in (lock_paths paths) q ≡ true → is_in (lock_paths (paths ++ path ∷ [])) q ≡ true

@@ -15,7 +15,7 @@ use Rattle.gix_ref_edits.specs.RefEdits.{name_of}
 use Rattle.gix_ref_files.specs.Lock.{lock_of}
 use Rattle.gix_ref_edits.specs.declared.transaction.RefEdit.{RefEdit}
 use Rattle.gix_ref_transaction.specs.declared.prepare.error.Error.{Error}
-use Rattle.gix_ref_transaction.specs.declared.prepare.error.Error.TheVariants.{UnsafeName, DeviceName, DeleteMustNotExist, TargetNotFull, OtherHashKind, PreprocessingFailed, PackedTransactionAcquire, Packed, PackedFind, PathCollision, LockAcquire, DeleteReferenceMustExist, MustExist, MustNotExist, ReferenceOutOfDate, Io, Memory}
+use Rattle.gix_ref_transaction.specs.declared.prepare.error.Error.TheVariants.{UnsafeName, DeviceName, DeleteMustNotExist, TargetNotFull, OtherHashKind, PreprocessingFailed, PackedTransactionAcquire, Packed, PackedFind, PathCollision, LockAcquire, DeleteReferenceMustExist, MustExist, MustNotExist, ReferenceOutOfDate, ReferenceDecode, Io, Memory}
 use Rattle.gix_ref_transaction.proofs.LookupLemmas.{effect_alike}
 use Rattle.gix_ref_transaction.proofs.Adds.{clash, is_false, either_way, any_left, any_right, any_cases, in_one, in_here, any_same, leads_in, leads_one, no_way, adds_wider, adds_then, same_view, same_lock, same_path, is_same_path}
 
@@ -90,6 +90,7 @@ module _ (s : Store) (kind : Kind) (edits : List RefEdit) (apart : LocksAreApart
     refused (MustExist name expected) why = absurd why
     refused (MustNotExist name actual new) why = absurd why
     refused (ReferenceOutOfDate name expected actual) why = absurd why
+    refused (ReferenceDecode source) why = absurd why
 
     wider : (xs : List Path) (S U : Tree) → AddsLocks xs (lock ∷ []) S U → AddsLocks xs all S U
     wider xs S U adds = adds_wider xs xs (lock ∷ []) all S U (λ q h. h) (λ q leads. leads_in all lock q within (leads_one lock q leads)) adds

@@ -2,7 +2,6 @@ pub mod CarriedEdits
 pub mod Causes
 pub mod CommitRenames
 pub mod CommittedEdits
-pub mod DirectUpdates
 pub mod Effects
 pub mod First
 pub mod OwnLocks

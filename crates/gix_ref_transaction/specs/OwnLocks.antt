@@ -1,5 +1,5 @@
 -- What the locks of a transaction add to a tree, and what is left of it when they are removed again.
-use Rattle.std.specs.Prelude.{◌≡◌, ◌⊎◌, ℕ, List, Bool, true, Option, Some, None, bytes_eq, map, Vec}
+use Rattle.std.specs.Prelude.{◌≡◌, ◌⊎◌, ℕ, ◌+◌, List, [], ◌∷◌, Bool, true, Option, Some, None, bytes_eq, map, Vec, if◌then◌else◌}
 use Rattle.std.specs.List.{list_any}
 use Rattle.std.specs.declared.alloc.Global.{Global}
 use Rattle.gix_ref_files.specs.Tree.{Tree, Path, Content, fronts, is_file}
@@ -12,6 +12,11 @@ use Rattle.gix_ref_files.specs.Tree.Content.{File, Folder}
 -- q is one of these
 abbrev pub is_in : List Path → Path → Bool
 is_in paths q = list_any (λ p. bytes_eq p q) paths
+
+-- how often q is among these
+abbrev pub times : Path → List Path → ℕ
+times q [] = 0
+times q (p ∷ paths) = (if bytes_eq p q then 1 else 0) + times q paths
 
 -- q is on the way to one of these
 abbrev pub leads_to : List Path → Path → Bool

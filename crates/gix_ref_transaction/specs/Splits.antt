@@ -1,7 +1,7 @@
 -- Splits of a transaction's edits, by what the loose files of a store lead to, and why they are refused.
 use Rattle.std.specs.Prelude.{◌≡◌, ◌⊎◌, ◌≤◌, ℕ, List, [], ◌∷◌, ◌++◌, true, false, Option, Some, None, map, All}
 use Rattle.gix_ref_hash.specs.declared.hash.Kind.{Kind}
-use Rattle.gix_ref_base.specs.Targets.{TargetValue}
+use Rattle.gix_ref_base.specs.Targets.{TargetValue, target_name}
 use Rattle.gix_ref_base.specs.Targets.TargetValue.{object_id, symbolic_name}
 use Rattle.gix_ref_files.specs.Calls.{Unchanged}
 use Rattle.gix_ref_files.specs.DiskCalls.{Untouched}
@@ -19,15 +19,10 @@ use Rattle.gix_ref_transaction.specs.Causes.{decoded, names_of, AllValid, IsDoub
 use Rattle.gix_ref_transaction.specs.declared.prepare.error.Error.{Error}
 use Rattle.gix_ref_transaction.specs.declared.prepare.error.Error.TheVariants.{PreprocessingFailed}
 
--- the name that a target is
-abbrev pub symbolic_in : TargetValue → Option (List ℕ)
-symbolic_in (object_id id) = None
-symbolic_in (symbolic_name name) = Some name
-
 -- the name that the target of a loose file is, without the namespace
 abbrev pub name_in : Store → Option TargetValue → Option (List ℕ)
 name_in s None = None
-name_in s (Some target) = symbolic_in (as_read s target)
+name_in s (Some target) = target_name (as_read s target)
 
 -- Where the reference of a name leads: to the symbolic target of its loose file. A record names an object.
 abbrev pub leads_to : Store → View → List ℕ → Option (List ℕ)

@@ -13,6 +13,7 @@ ghost use Rattle.gix_ref_files.specs.Tree.Content.{File};
 ghost use Rattle.gix_ref_lookup.specs.StoreLayout.{namespace_text};
 ghost use Rattle.gix_ref_theory.specs.OnRealTrees.{view_of};
 ghost use Rattle.gix_ref_edits.specs.RefEdits.{name_of, new_of, is_of_reference};
+ghost use Rattle.gix_ref_transaction.specs.PackedCauses.{deletes_reference};
 ghost use Rattle.gix_ref_transaction.specs.OwnLocks.{AddsLocks};
 ghost use Rattle.gix_ref_transaction.specs.Causes.{found, found_by, decoded, packed_of, IsCounted, IsNotIo, IsMismatch, IsIoOrMemory, IsPossible};
 ghost use Rattle.gix_ref_transaction.specs.PrepareSteps.{setting_of, value_of, lock_text, effect_value, text_of_new, decision, decision_of, given, is_new, is_damaged, is_undecodable, target_by, IsDecided, IsSomeWhole, IsRefusedLock, IsNewLock, FillsLock, FillingOn};
@@ -84,6 +85,16 @@ pub struct Edit {
     pub effect: Effect,
     /// What becomes of the log. A commit decides it before its first write.
     pub log: LogEffect,
+}
+
+/// Whether a change deletes its reference, and not its log alone.
+pub fn deletes_reference(change: &Change) -> bool
+    ensures { result ≡ deletes_reference change.now }
+{
+    match change {
+        Change::Delete { log, .. } => *log == RefLog::AndReference,
+        Change::Update { .. } => false,
+    }
 }
 
 /// What there is of a reference before its edit.

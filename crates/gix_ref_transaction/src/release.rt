@@ -6,7 +6,7 @@ ghost use Rattle.gix_ref_files.specs.Lock.{lock_of};
 ghost use Rattle.gix_ref_files.specs.Tree.{Path, is_file};
 ghost use Rattle.gix_ref_files.specs.Files.{disk_of, Leaves, Passes, HasRisen};
 ghost use Rattle.gix_ref_files.specs.DiskCalls.{RemovingFileOn};
-ghost use Rattle.gix_ref_transaction.specs.OwnLocks.{paths_of, RemovesLocks, OnlyRemoves, is_in};
+ghost use Rattle.gix_ref_transaction.specs.OwnLocks.{paths_of, RemovesLocks, OnlyRemoves, is_in, times};
 ghost use Rattle.gix_ref_transaction.specs.CommitRenames.{lock_at, log_at, path_in, place_at, stays_at};
 ghost use Rattle.gix_ref_transaction.specs.Effects.{is_write};
 ghost use Rattle.gix_ref_transaction.specs.PrepareSteps.{held_locks, lock_paths, packed_places, updates};
@@ -123,6 +123,8 @@ pub fn release_packed<F: Files>(files: &mut F, packed: Option<LockFile>, left: &
         is_in (paths_of left.new.items) q ≡ false → is_file ((F.means files.new).tree q) ≡ false }
     ensures left { (paths_of left.new.items ≡ paths_of left.old.items) ⊎ (paths_of left.new.items
         ≡ paths_of left.old.items ++ map lock_of (packed_places packed)) }
+    ensures once { (q : Path) → times q (paths_of left.new.items)
+        ≤ times q (paths_of left.old.items) + times q (map lock_of (packed_places packed)) }
     ensures leaves { F.honest → Leaves (F.means files.old) (F.means files.new)
         (RemovesLocks (map lock_of (packed_places packed)) (F.means files.old).tree) }
     ensures passes { F.honest → OnlyRemoves (map lock_of (packed_places packed))
@@ -185,6 +187,8 @@ pub fn release_locks<F: Files>(
         ⊎ (is_in (lock_paths edits.items) q ≡ true) }
     ensures kept { (q : Path) → is_in (paths_of remains.left.items) q ≡ true →
         is_in (paths_of result.left.items) q ≡ true }
+    ensures once { (q : Path) → times q (paths_of result.left.items)
+        ≤ times q (paths_of remains.left.items) + times q (lock_paths edits.items) }
     ensures leaves { F.honest → Leaves (F.means files.old) (F.means files.new)
         (RemovesLocks (lock_paths edits.items) (F.means files.old).tree) }
     ensures passes { F.honest → OnlyRemoves (lock_paths edits.items) (F.means files.old)
@@ -229,6 +233,8 @@ pub fn release_all<F: Files>(
         is_file ((F.means files.new).tree q) ≡ false }
     ensures ours { (q : Path) → is_in (paths_of result.left.items) q ≡ true →
         is_in (held_locks packed edits.items) q ≡ true }
+    ensures once { (q : Path) → times q (paths_of result.left.items)
+        ≤ times q (held_locks packed edits.items) }
     ensures leaves { F.honest → Leaves (F.means files.old) (F.means files.new)
         (RemovesLocks (held_locks packed edits.items) (F.means files.old).tree) }
     ensures passes { F.honest → OnlyRemoves (held_locks packed edits.items)

@@ -149,11 +149,17 @@ pub fn has_bad_record(kept: &Kept) -> bool {
     false
 }
 
-/// Whether the record of an edit is bad.
-fn asks_bad_record(kept: &Kept, edits: &[Edit]) -> bool {
+/// Whether an edit deletes its reference, and not its log alone.
+fn deletes(edit: &Edit) -> bool {
+    edit.new.is_none() && !edit.is_of_log
+}
+
+/// Whether the record of an edit is bad and is asked for: no loose target hides it, or the edit deletes it.
+fn asks_bad_record(rt: &impl Abort, alloc: Global, kept: &Kept, edits: &[Edit]) -> bool {
     for edit in edits {
         if let Some(record) = record(kept, edit.name)
             && record.digit == 'z'
+            && (deletes(edit) || loose(rt, alloc, kept, edit.name).is_none())
         {
             return true;
         }
@@ -162,14 +168,14 @@ fn asks_bad_record(kept: &Kept, edits: &[Edit]) -> bool {
 }
 
 /// The cause of `packed-refs`.
-fn packed(kept: &Kept, edits: &[Edit]) -> Option<Cause> {
+fn packed(rt: &impl Abort, alloc: Global, kept: &Kept, edits: &[Edit]) -> Option<Cause> {
     if may_change_records(kept, edits) && is_taken(&kept.files, "/r/packed-refs.lock") {
         return Some(Cause::PackedTransactionAcquire);
     }
     match kept.packed {
         Packed::BadHeader => Some(Cause::Packed),
         Packed::Unsorted if has_bad_record(kept) => Some(Cause::Packed),
-        _ if asks_bad_record(kept, edits) => Some(Cause::PackedFind),
+        _ if asks_bad_record(rt, alloc, kept, edits) => Some(Cause::PackedFind),
         _ => None,
     }
 }
@@ -262,7 +268,7 @@ pub fn prepare(
     if let Some(cause) = doubled(edits) {
         return Some(cause);
     }
-    if let Some(cause) = packed(kept, edits) {
+    if let Some(cause) = packed(rt, alloc, kept, edits) {
         return Some(cause);
     }
     take_all(rt, alloc, kept, edits)

@@ -136,7 +136,7 @@ fn count_in(
 }
 
 /// The number of files in memory.
-fn count(rt: &impl Abort, alloc: Global, memory: &mut Memory) -> usize {
+pub fn count(rt: &impl Abort, alloc: Global, memory: &mut Memory) -> usize {
     let mut folders = Vec::new(alloc);
     let mut count = 0usize;
     let mut folder = String::from_str(alloc, "/r").expect(rt, "memory");

@@ -3,6 +3,7 @@
 //! the lines that are due.
 use crate::made::{Edit, Expect, To, UPDATE, Who, given, signature, store};
 use crate::names::Setting;
+use crate::random::count;
 use gix_ref_memory::memory::Memory;
 use gix_ref_store::file::Store;
 use gix_ref_store::file::transaction::commit;
@@ -130,6 +131,15 @@ const STAYING: [(&str, &[u8]); 3] = [
     ("/r/refs/x/o", TWO),
 ];
 
+/// The files that are made.
+const MADE: [&str; 5] = [
+    "/r/logs/refs/heads/b",
+    "/r/logs/refs/heads/m",
+    "/r/logs/refs/x/f",
+    "/r/refs/heads/b",
+    "/r/refs/x/f",
+];
+
 /// The locks.
 const LOCKS: [&str; 10] = [
     "/r/HEAD.lock",
@@ -180,7 +190,9 @@ fn failure_of(error: &commit::Error) -> Outcome {
         commit::Error::DeleteReflog { .. } => Outcome::DeleteReflog,
         commit::Error::PackedTransactionCommit(_) => Outcome::PackedRefs,
         commit::Error::DeleteReference { .. } => Outcome::DeleteReference,
-        commit::Error::FolderInPlace { .. } | commit::Error::Memory => Outcome::Other,
+        commit::Error::PreprocessingFailed { .. }
+        | commit::Error::FolderInPlace { .. }
+        | commit::Error::Memory => Outcome::Other,
     }
 }
 
@@ -323,6 +335,23 @@ fn shown(rt: &impl Abort, memory: &Memory, lost: bool) -> usize {
     updates.saturating_add(deletions)
 }
 
+/// Whether there is no file but those before, those that are made, and locks.
+fn has_no_other(rt: &impl Abort, alloc: Global, memory: &mut Memory) -> bool {
+    let mut known = 0usize;
+    for path in BEFORE
+        .iter()
+        .map(|(path, _)| *path)
+        .chain(MADE)
+        .chain(LOCKS)
+    {
+        if memory.get(path.as_bytes()).is_some() {
+            known = known.saturating_add(1);
+        }
+    }
+    memory.restart();
+    count(rt, alloc, memory) == known
+}
+
 /// The number of calls of files of the whole run, and one more.
 fn behind_calls(rt: &impl Abort, alloc: Global) -> u64 {
     let (outcome, memory, named) = run(rt, alloc, End::Done);
@@ -332,7 +361,8 @@ fn behind_calls(rt: &impl Abort, alloc: Global) -> u64 {
     memory.calls().saturating_add(1)
 }
 
-/// Which numbers of what is not synced are kept: none, all, and each single one.
+/// Which numbers of what is not synced are kept: none, all, and each single one below 12. No number is higher, which
+/// `higher_numbers_choose_nothing` looks at.
 fn pick_at(row: u32) -> u64 {
     match row {
         0 => 0,
@@ -341,6 +371,9 @@ fn pick_at(row: u32) -> u64 {
     }
 }
 
+/// How many of these choices there are.
+const PICKS: u32 = 14;
+
 /// The run ends so, and then power is lost in this way: what became of the edits, and how far they show.
 fn lost(rt: &impl Abort, alloc: Global, end: End, row: u32) -> (Outcome, usize) {
     let (outcome, mut memory, _) = run(rt, alloc, end);
@@ -348,16 +381,14 @@ fn lost(rt: &impl Abort, alloc: Global, end: End, row: u32) -> (Outcome, usize) 
     (outcome, shown(rt, &memory, true))
 }
 
-/// The run ends so, and then power is lost in each of so many ways; in two, where only locks can have changed.
-fn lose(rt: &impl Abort, alloc: Global, end: End, rows: u32) {
-    for row in 0..rows {
+/// The run ends so, and then power is lost in each of these ways.
+fn lose(rt: &impl Abort, alloc: Global, end: End) {
+    for row in 0..PICKS {
         let (outcome, at) = lost(rt, alloc, end, row);
-        if outcome == Outcome::Refused {
-            assert_eq!(rt; at, 0, "{end:?}, loss {row}");
-            if row > 0 {
-                return;
-            }
-        }
+        assert!(rt;
+            outcome != Outcome::Refused || at == 0,
+            "{end:?}, loss {row}"
+        );
         assert!(rt;
             outcome != Outcome::Done || at == ALL,
             "{end:?}, loss {row}"
@@ -365,10 +396,14 @@ fn lose(rt: &impl Abort, alloc: Global, end: End, rows: u32) {
     }
 }
 
+/// After how many parts a call stops: at once, after the first one, in the middle of the text of a lock and of that of a log,
+/// and after all.
+const PARTS: [usize; 5] = [0, 1, 20, 60, 200];
+
 #[test]
 fn what_is_done_stays(rt: HostRuntime) {
     let alloc = rt.alloc();
-    lose(&rt, alloc, End::Done, 34);
+    lose(&rt, alloc, End::Done);
     assert!(rt; behind_calls(&rt, alloc) > 100, "many calls");
 }
 
@@ -377,48 +412,83 @@ fn each_stop_shows_the_first_edits(rt: HostRuntime) {
     let alloc = rt.alloc();
     let mut last = 0usize;
     for k in 1..behind_calls(&rt, alloc) {
-        for n in [0usize, 1, 60, 200] {
-            let (outcome, memory, _) = run(&rt, alloc, End::Stops(k, n));
+        for n in PARTS {
+            let (outcome, mut memory, _) = run(&rt, alloc, End::Stops(k, n));
             let now = shown(&rt, &memory, false);
             assert!(rt; outcome != Outcome::Done || now == ALL, "call {k}");
             assert!(rt; outcome != Outcome::Refused || now == 0, "call {k}");
             assert!(rt; now >= last, "call {k}, {n} parts");
+            assert!(rt;
+                has_no_other(&rt, alloc, &mut memory),
+                "another file, call {k}, {n} parts"
+            );
             last = now;
         }
     }
     assert_eq!(rt; last, ALL);
 }
 
-#[test]
-fn a_stop_before_a_call_and_a_loss(rt: HostRuntime) {
-    let alloc = rt.alloc();
-    for k in 1..behind_calls(&rt, alloc) {
-        lose(&rt, alloc, End::Stops(k, 0), 34);
+/// The run stops in each call after so many parts, and then power is lost.
+fn stop_and_lose(rt: &impl Abort, alloc: Global, n: usize) {
+    for k in 1..behind_calls(rt, alloc) {
+        lose(rt, alloc, End::Stops(k, n));
     }
 }
 
 #[test]
-fn a_stop_in_a_call_and_a_loss(rt: HostRuntime) {
-    let alloc = rt.alloc();
-    for k in 1..behind_calls(&rt, alloc) {
-        lose(&rt, alloc, End::Stops(k, 1), 34);
-        lose(&rt, alloc, End::Stops(k, 60), 34);
-    }
+fn a_stop_before_a_call_and_a_loss(rt: HostRuntime) {
+    stop_and_lose(&rt, rt.alloc(), 0);
+}
+
+#[test]
+fn a_stop_after_the_first_part_and_a_loss(rt: HostRuntime) {
+    stop_and_lose(&rt, rt.alloc(), 1);
+}
+
+#[test]
+fn a_stop_in_the_text_of_a_lock_and_a_loss(rt: HostRuntime) {
+    stop_and_lose(&rt, rt.alloc(), 20);
+}
+
+#[test]
+fn a_stop_in_the_text_of_a_log_and_a_loss(rt: HostRuntime) {
+    stop_and_lose(&rt, rt.alloc(), 60);
 }
 
 #[test]
 fn a_stop_after_a_call_and_a_loss(rt: HostRuntime) {
-    let alloc = rt.alloc();
-    for k in 1..behind_calls(&rt, alloc) {
-        lose(&rt, alloc, End::Stops(k, 200), 34);
-    }
+    stop_and_lose(&rt, rt.alloc(), 200);
 }
 
 #[test]
 fn a_fault_and_a_loss(rt: HostRuntime) {
     let alloc = rt.alloc();
     for k in 1..behind_calls(&rt, alloc) {
-        lose(&rt, alloc, End::Fails(k), 34);
+        lose(&rt, alloc, End::Fails(k));
+    }
+}
+
+#[test]
+fn higher_numbers_choose_nothing(rt: HostRuntime) {
+    let alloc = rt.alloc();
+    for k in 1..behind_calls(&rt, alloc) {
+        // After all of a call as much is unsynced as after some of it.
+        let end = End::Stops(k, 200);
+        let (_, mut none, _) = run(&rt, alloc, end);
+        none.lose_power(0).expect(&rt, "memory");
+        let (_, mut high, _) = run(&rt, alloc, end);
+        high.lose_power(!0xfff).expect(&rt, "memory");
+        for path in BEFORE
+            .iter()
+            .map(|(path, _)| *path)
+            .chain(MADE)
+            .chain(LOCKS)
+        {
+            assert!(rt;
+                none.get(path.as_bytes()) == high.get(path.as_bytes()),
+                "{path}, call {k}"
+            );
+        }
     }
 }
 

@@ -72,9 +72,7 @@ impl<'p, F: Files> LooseThenPacked<'p, F> {
     ghost use Rattle.std.specs.Prelude.{◌≡◌, ◌≤◌, ◌+◌, List, IfSome, IfNone};
     ghost use Rattle.std.specs.Option.{option_len};
     ghost use Rattle.gix_ref_listing.specs.Listings.{Listed, IsNoRecord};
-    ghost use Rattle.gix_ref_listing.specs.Steps.{AreYet};
-    ghost use Rattle.gix_ref_store.specs.Lookup.{settings_of};
-    ghost use Rattle.gix_ref_store.specs.Listings.{LendsNext, items_left};
+    ghost use Rattle.gix_ref_store.specs.Listings.{AreYetIn, LendsNext, items_left};
 
     /// The next item, where it is a record of `packed-refs`: the record is lent from the buffer, where `next` would make a
     /// `Reference` of it. `None` where the next item is anything else, which then stays the next, and at the end. Takes no
@@ -88,7 +86,7 @@ impl<'p, F: Files> LooseThenPacked<'p, F> {
     pub fn next_record(&mut self) -> Option<OwnRecord<'p>>
         ensures lends { IfSome result (LendsNext F.honest F.means F.faults self.old self.new) }
         ensures none { IfNone result ((listed : List Listed) →
-            AreYet (settings_of self.old.store.now) self.old.rest.merge listed → IsNoRecord listed) }
+            AreYetIn self.old listed → IsNoRecord listed) }
         ensures same_store { self.new.store ≡ self.old.store }
         ensures stays { IfNone result (self.new ≡ self.old) }
         ensures left { option_len result + items_left self.new ≤ items_left self.old }
@@ -268,7 +266,8 @@ impl<F: Files> Store<F> {
             (λ n. OnErr result (LooksUp F.honest F.means self.entry.now n))) }
         ensures same_reference { IfOk result
             (λ it. it.store.ghost_name ≡ self.entry.ghost_name) }
-        ensures looks_up { IfOk result (λ it. LooksUp F.honest F.means self.entry.now it.store.now) }
+        ensures looks_up { IfOk result
+            (λ it. LooksUp F.honest F.means self.entry.now it.store.now) }
         ensures lists { F.honest → (records : List Record) →
             AreHeldFor self.entry.now prefix.now packed.entry records →
             IfOk result (Lists F.honest F.means F.faults self.entry.now records prefix.now) }
@@ -315,9 +314,11 @@ impl<F: Files> Store<F> {
             (λ n. OnErr result (LooksUp F.honest F.means self.entry.now n))) }
         ensures same_reference { IfOk result
             (λ it. it.store.ghost_name ≡ self.entry.ghost_name) }
-        ensures looks_up { IfOk result (λ it. LooksUp F.honest F.means self.entry.now it.store.now) }
+        ensures looks_up { IfOk result
+            (λ it. LooksUp F.honest F.means self.entry.now it.store.now) }
         ensures lists { F.honest → (records : List Record) →
-            AreHeldFor self.entry.now (prefix_of_all self.entry.now.namespace) packed.entry records →
+            AreHeldFor self.entry.now (prefix_of_all self.entry.now.namespace) packed.entry
+            records →
             IfOk result (Lists F.honest F.means F.faults self.entry.now records
             (prefix_of_all self.entry.now.namespace)) }
         ensures memory { IfErr result (λ error. error ≡ Memory) }
@@ -349,7 +350,8 @@ impl<F: Files> Store<F> {
             (λ n. OnErr result (LooksUp F.honest F.means self.entry.now n))) }
         ensures same_reference { IfOk result
             (λ it. it.store.ghost_name ≡ self.entry.ghost_name) }
-        ensures looks_up { IfOk result (λ it. LooksUp F.honest F.means self.entry.now it.store.now) }
+        ensures looks_up { IfOk result
+            (λ it. LooksUp F.honest F.means self.entry.now it.store.now) }
         ensures lists { F.honest → (records : List Record) →
             AreHeldFor self.entry.now prefix.now packed.entry records →
             IfOk result (Lists F.honest F.means F.faults self.entry.now records prefix.now) }
@@ -370,7 +372,8 @@ impl<F: Files> Store<F> {
             (λ n. OnErr result (LooksUp F.honest F.means self.entry.now n))) }
         ensures same_reference { IfOk result
             (λ it. it.store.ghost_name ≡ self.entry.ghost_name) }
-        ensures looks_up { IfOk result (λ it. LooksUp F.honest F.means self.entry.now it.store.now) }
+        ensures looks_up { IfOk result
+            (λ it. LooksUp F.honest F.means self.entry.now it.store.now) }
         ensures lists { F.honest → IfOk result (Lists F.honest F.means F.faults self.entry.now []
             (prefix_of_all self.entry.now.namespace)) }
         ensures memory { IfErr result (λ error. error ≡ Memory) }
@@ -389,7 +392,8 @@ impl<F: Files> Store<F> {
             (λ n. OnErr result (LooksUp F.honest F.means self.entry.now n))) }
         ensures same_reference { IfOk result
             (λ it. it.store.ghost_name ≡ self.entry.ghost_name) }
-        ensures looks_up { IfOk result (λ it. LooksUp F.honest F.means self.entry.now it.store.now) }
+        ensures looks_up { IfOk result
+            (λ it. LooksUp F.honest F.means self.entry.now it.store.now) }
         ensures lists { F.honest → IfOk result
             (Lists F.honest F.means F.faults self.entry.now [] prefix.now) }
         ensures taken { OnOk result (IsTaken self.entry.now.namespace prefix.now) }
@@ -450,7 +454,8 @@ impl<F: Files> Store<F> {
             (λ n. OnErr result (LooksUp F.honest F.means self.entry.now n))) }
         ensures same_reference { IfOk result
             (λ it. it.store.ghost_name ≡ self.entry.ghost_name) }
-        ensures looks_up { IfOk result (λ it. LooksUp F.honest F.means self.entry.now it.store.now) }
+        ensures looks_up { IfOk result
+            (λ it. LooksUp F.honest F.means self.entry.now it.store.now) }
         ensures lists { F.honest → IfOk result
             (ListsPseudo F.honest F.means F.faults self.entry.now) }
         ensures memory { IfErr result (λ error. error ≡ Memory) }

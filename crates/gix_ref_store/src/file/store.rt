@@ -22,7 +22,7 @@ pub struct Store<F> {
     pub write_reflog: WriteReflog,
     /// The namespace in which all names are read and written, if there is one (`gitnamespaces`).
     pub namespace: Option<Namespace>,
-    /// Whether references with a component such as `CON` are faults. Without effect on transactions yet.
+    /// Whether references with a component such as `CON` are faults, and edits of them refused.
     pub prohibit_windows_device_names: bool,
     /// Whether lookups that ask records look for names in composed Unicode (`core.precomposeUnicode` of `git config`).
     /// Without effect on transactions yet.

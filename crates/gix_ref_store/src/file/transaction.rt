@@ -8,53 +8,38 @@ ghost use Rattle.gix_ref_transaction.specs.OwnLocks.{paths_of};
 ghost use Rattle.gix_ref_store.specs.Prepared.{RefusesFrom, PreparesGiven, RollsBackFrom, HasRoom};
 
 pub mod commit;
+pub mod outcome;
+pub mod packed_refs;
 pub mod prepare;
 
 use crate::file::store::Store;
 use crate::file::transaction::commit::carry_out::EndedEarly;
+pub use crate::file::transaction::outcome::{Done, Failed, Refused, RolledBack};
+pub use crate::file::transaction::packed_refs::PackedRefs;
 use gix_ref_edits::transaction::RefEdit;
 use gix_ref_files::files::Files;
 use gix_ref_files::lock::LockFile;
 use gix_ref_log::actor::SignatureRef;
+use gix_ref_object::object::{Find, Never};
 use gix_ref_transaction::edit::Edit;
 use gix_ref_transaction::prepare::carry::carry_all;
 use gix_ref_transaction::prepare::hold::{HeldLocks, LockFailure};
 use gix_ref_transaction::release::{Remains, release_all};
 use std::alloc::Global;
 use std::fmt;
-use thiserror::Error;
-
-/// What a transaction does with `packed-refs`.
-#[derive(Clone, Copy, Debug, PartialEq, Eq)]
-pub enum PackedRefs {
-    /// Records of deleted references are removed, and nothing else changes.
-    DeletionsOnly,
-}
-
-/// `DeletionsOnly`.
-impl Default for PackedRefs {
-    ghost use Rattle.std.specs.Prelude.{◌≡◌};
-    ghost use Rattle.gix_ref_store.specs.declared.file.transaction.PackedRefs.TheVariants.{DeletionsOnly};
-
-    ghost is_default = { λ mode. mode ≡ DeletionsOnly };
-
-    fn default() -> PackedRefs {
-        PackedRefs::DeletionsOnly
-    }
-}
 
 /// A transaction that is not prepared yet. It must be spent, by `prepare` or `rollback`.
-pub struct Transaction<'s, F: Files> {
+pub struct Transaction<'s, F: Files, P = PackedRefs> {
     pub(crate) store: &'s mut Store<F>,
-    pub(crate) packed_refs: PackedRefs,
+    pub(crate) packed_refs: P,
 }
 
 /// The edits of a prepared transaction, and its locks.
-#[derive(Debug, Drop)]
-pub struct Plan {
+#[derive(Drop)]
+pub struct Plan<T: Find = Never> {
     packed: Option<LockFile>,
     edits: Vec<Edit>,
-    packed_refs: PackedRefs,
+    packed_refs: PackedRefs<T>,
     remains: Remains,
     pub ghost room: { HasRoom edits remains },
 }
@@ -65,55 +50,9 @@ pub struct Prepared<'s, F: Files, P = Plan> {
     plan: P,
 }
 
-/// A transaction that was not prepared.
-#[derive(Debug, Drop, Error)]
-#[error("the transaction was refused: {error}")]
-pub struct Refused {
-    /// The first cause that applies.
-    pub error: prepare::Error,
-    /// As it was given.
-    pub packed_refs: PackedRefs,
-    /// The paths of locks that could not be removed again.
-    pub locks_left: Vec<Vec<u8>>,
-}
-
-/// A transaction that was committed.
-#[derive(Debug, Drop)]
-pub struct Done {
-    /// The edits as they were prepared.
-    pub edits: Vec<RefEdit>,
-    /// As it was given.
-    pub packed_refs: PackedRefs,
-    /// The paths of locks that could not be removed.
-    pub locks_left: Vec<Vec<u8>>,
-}
-
-/// A transaction whose commit failed on its way.
-#[derive(Debug, Drop, Error)]
-#[error("the transaction failed: {error}")]
-pub struct Failed {
-    /// Why it ended.
-    pub error: commit::Error,
-    /// As it was given.
-    pub packed_refs: PackedRefs,
-    /// The paths of locks that could not be removed.
-    pub locks_left: Vec<Vec<u8>>,
-}
-
-/// A transaction that was given up.
-#[derive(Debug, Drop)]
-pub struct RolledBack {
-    /// The edits as they were prepared; none where nothing was.
-    pub edits: Vec<RefEdit>,
-    /// As it was given.
-    pub packed_refs: PackedRefs,
-    /// The paths of locks that could not be removed.
-    pub locks_left: Vec<Vec<u8>>,
-}
-
 impl<F: Files> Store<F> {
     /// A transaction on this store, which changes `packed-refs` for deletions alone. It borrows the store until it is committed
-    /// or rolled back.
+    /// or rolled back. As gix-ref's `file::Store::transaction`.
     ///
     /// ```text
     /// match store.transaction().prepare(alloc, edits) {
@@ -133,11 +72,14 @@ impl<F: Files> Store<F> {
     }
 }
 
-impl<'s, F: Files> Transaction<'s, F> {
+impl<'s, F: Files, T: Find> Transaction<'s, F, PackedRefs<T>> {
     ghost use Rattle.std.specs.Prelude.{◌≡◌};
 
-    /// The transaction with another use of `packed-refs`.
-    pub fn packed_refs(self, packed_refs: PackedRefs) -> Transaction<'s, F>
+    /// The transaction with another use of `packed-refs`. As gix-ref's `Transaction::packed_refs`.
+    pub fn packed_refs<U: Find>(
+        self,
+        packed_refs: PackedRefs<U>,
+    ) -> Transaction<'s, F, PackedRefs<U>>
         ensures same_reference { result.store.ghost_name ≡ self.entry.store.ghost_name }
         ensures value { result.store.now ≡ self.entry.store.now }
         ensures packed_refs { result.packed_refs ≡ packed_refs }
@@ -150,7 +92,7 @@ impl<'s, F: Files> Transaction<'s, F> {
     }
 }
 
-impl<'s, F: Files> Transaction<'s, F> {
+impl<'s, F: Files, T: Find> Transaction<'s, F, PackedRefs<T>> {
     ghost use Rattle.gix_ref_store.specs.contracts.file.store.Store.{the_row};
     ghost use Rattle.gix_ref_store.specs.PreparedFields.{held_edits, held_packed, prepared_mode};
 
@@ -163,7 +105,11 @@ impl<'s, F: Files> Transaction<'s, F> {
     /// the locks that it names, and folders on the way to locks. Reads one file for each edit, and makes one, and reads one more for
     /// each that follows; `packed-refs` is
     /// opened once, and searched once for each edit whose reference can be in it; the names of the edits are sorted.
-    pub fn prepare(self, alloc: Global, edits: Vec<RefEdit>) -> Result<Prepared<'s, F>, Refused>
+    pub fn prepare(
+        self,
+        alloc: Global,
+        edits: Vec<RefEdit>,
+    ) -> Result<Prepared<'s, F, Plan<T>>, Refused<T>>
         ensures* rests { sem 𝓛 (RestsIfErr (the_row F.row) self.entry.store
             (λ p. p.store.ghost_name) result
             (λ n. IfErr result (λ r. RefusesFrom F.honest (HasReadFault F.Reader.faults)
@@ -207,10 +153,10 @@ impl<'s, F: Files> Transaction<'s, F> {
     }
 }
 
-impl<F: Files> Transaction<'_, F> {
+impl<F: Files, T: Find> Transaction<'_, F, PackedRefs<T>> {
     /// Gives the transaction up before it was prepared: nothing was done, and nothing is. The allocator is for the empty
-    /// lists of the result, which take no memory.
-    pub fn rollback(self, alloc: Global) -> RolledBack
+    /// lists of the result, which take no memory. As gix-ref's `Transaction::rollback`.
+    pub fn rollback(self, alloc: Global) -> RolledBack<T>
         ensures same { self.exit.0.now ≡ self.entry.store.now }
         ensures edits { result.edits.items ≡ [] }
         ensures packed_refs { result.packed_refs ≡ self.entry.packed_refs }
@@ -228,7 +174,7 @@ impl<F: Files> Transaction<'_, F> {
     }
 }
 
-impl<F: Files> Prepared<'_, F> {
+impl<F: Files, T: Find> Prepared<'_, F, Plan<T>> {
     ghost use Rattle.gix_ref_store.specs.CommitLines.{LinesPass};
     ghost use Rattle.gix_ref_store.specs.CommitResult.{left_of, mode_of, EveryStopFrom, EveryLossFrom, SettlesFrom, CommitsFrom, FailsFor, NoBadLineFrom};
     ghost use Rattle.gix_ref_transaction.specs.PrepareSteps.{held_locks};
@@ -259,7 +205,11 @@ impl<F: Files> Prepared<'_, F> {
     /// could not be listed, and then nothing is done but the removal of locks. `PackedTransactionCommit` also where `packed-refs`
     /// could not be read or has a line that is no record, and `Memory` where there was none for the plan; then, as where a line was
     /// refused, nothing is done but the removal of locks.
-    pub fn commit(self, alloc: Global, committer: Option<SignatureRef<'_>>) -> Result<Done, Failed>
+    pub fn commit(
+        self,
+        alloc: Global,
+        committer: Option<SignatureRef<'_>>,
+    ) -> Result<Done<T>, Failed<T>>
         ensures edits { IfOk result (λ done. done.edits.items ≡ prepared_edits self.entry.plan) }
         ensures packed_refs { mode_of result ≡ prepared_mode self.entry.plan }
         ensures committed { IfOk result (λ done. CommitsFrom F.honest F.means F.faults
@@ -268,13 +218,14 @@ impl<F: Files> Prepared<'_, F> {
         ensures passed { OnOk result (LinesPass F.honest F.means self.entry.store.now
             committer.entry (held_edits self.entry.plan)) }
         ensures failed { IfErr result (λ f. FailsFor F.honest F.means F.faults self.entry.store.now
-            self.exit.0.now committer.entry (held_packed self.entry.plan) (held_edits self.entry.plan)
-            f.error) }
+            self.exit.0.now committer.entry (held_packed self.entry.plan)
+            (held_edits self.entry.plan) f.error) }
         ensures sound { IfErr result (λ f. NoBadLineFrom F.honest F.means F.faults
             self.entry.store.now (held_packed self.entry.plan) (held_edits self.entry.plan)
             f.error) }
         ensures ended { EveryStopFrom F.honest F.means F.faults self.entry.store.now self.exit.0.now
-            committer.entry (held_packed self.entry.plan) (held_edits self.entry.plan) (left_of result) }
+            committer.entry (held_packed self.entry.plan) (held_edits self.entry.plan)
+            (left_of result) }
         ensures lost { EveryLossFrom F.honest F.means F.faults self.entry.store.now self.exit.0.now
             committer.entry (held_packed self.entry.plan) (held_edits self.entry.plan) }
         ensures settled { OnOk result (SettlesFrom F.honest F.means F.faults self.entry.store.now
@@ -309,7 +260,7 @@ impl<F: Files> Prepared<'_, F> {
 
     /// Gives the transaction up: removes its locks, and hands the edits back as they were prepared. A lock that could not
     /// be removed is named. Takes no memory. (`abort` of `git update-ref --stdin`)
-    pub fn rollback(self) -> RolledBack
+    pub fn rollback(self) -> RolledBack<T>
         ensures rolled { RollsBackFrom F.honest F.means F.faults self.entry.store.now
             self.exit.0.now (held_locks (held_packed self.entry.plan) (held_edits self.entry.plan))
             (paths_of result.locks_left.items) }
@@ -332,13 +283,13 @@ impl<F: Files> Prepared<'_, F> {
     }
 }
 
-impl<F: Files> fmt::Debug for Prepared<'_, F> {
+impl<F: Files, T: Find> fmt::Debug for Prepared<'_, F, Plan<T>> {
     fn fmt<W: fmt::Write>(&self, f: &mut fmt::Formatter<W>) -> fmt::Result {
         f.write_str("Prepared")
     }
 }
 
-impl<F: Files> fmt::Debug for Transaction<'_, F> {
+impl<F: Files, T: Find> fmt::Debug for Transaction<'_, F, PackedRefs<T>> {
     fn fmt<W: fmt::Write>(&self, f: &mut fmt::Formatter<W>) -> fmt::Result {
         f.write_str("Transaction")
     }

@@ -4,7 +4,7 @@ use Rattle.std.specs.Option.{option_map}
 use Rattle.gix_ref_hash.specs.declared.hash.Kind.{Kind}
 use Rattle.gix_ref_name.specs.Names.{full_bytes}
 use Rattle.gix_ref_name.specs.declared.name.FullName.{FullName}
-use Rattle.gix_ref_base.specs.Targets.{TargetValue, target_value, stripped_target}
+use Rattle.gix_ref_base.specs.Targets.{TargetValue, target_name, target_value, stripped_target}
 use Rattle.gix_ref_lookup.specs.declared.find.loose.Loose.{Loose}
 use Rattle.gix_ref_lookup.specs.declared.find.loose.Loose.TheVariants as loose_files
 use Rattle.gix_ref_theory.specs.Readings.{Store}
@@ -15,11 +15,10 @@ use Rattle.gix_ref_edits.specs.SplitLists.{looked_up, child_list, referent, afte
 use Rattle.gix_ref_edits.specs.declared.transaction.RefEdit.{RefEdit}
 use Rattle.gix_ref_transaction.specs.Causes.{IsFullTarget, IsOfKind, IsWellNamed, IsWholeTarget}
 use Rattle.gix_ref_transaction.specs.Parents.{parent_list}
-use Rattle.gix_ref_transaction.specs.Splits.{symbolic_in}
 
 -- the name that a loose file leads to
 abbrev pub name_by : List ℕ → Loose → Option (List ℕ)
-name_by namespace (loose_files.Holds target) = symbolic_in (stripped_target namespace (target_value target))
+name_by namespace (loose_files.Holds target) = target_name (stripped_target namespace (target_value target))
 name_by namespace other = None
 
 -- the bytes of names that may be missing

@@ -2,6 +2,7 @@
 use gix_ref_base::target::Target;
 use gix_ref_edits::transaction::SplitError;
 use gix_ref_files::files::FileError;
+use gix_ref_lookup::loose;
 use gix_ref_name::name::FullName;
 use gix_ref_packed::packed;
 use std::alloc::AllocError;
@@ -43,12 +44,12 @@ pub enum Error {
     #[error("a search in packed-refs failed: {0}")]
     PackedFind(packed::find::Error),
     /// A file is in the path of the edit's lock.
-    #[error("a file stands in the path of the lock of {full_name}")]
+    #[error("a file is in the path of the lock of {full_name}")]
     PathCollision {
         full_name: FullName,
     },
     /// Something is at the path of the edit's lock already.
-    #[error("the lock of {full_name} stands already")]
+    #[error("the lock of {full_name} exists already")]
     LockAcquire {
         full_name: FullName,
     },
@@ -77,6 +78,9 @@ pub enum Error {
         expected: Target,
         actual: Target,
     },
+    /// Never returned: a loose file that cannot be decoded counts as absent. As the variant of gix-ref, where such a file is an error.
+    #[error("{0}")]
+    ReferenceDecode(loose::Error),
     /// A call of files failed.
     #[error("{0}")]
     Io(FileError),

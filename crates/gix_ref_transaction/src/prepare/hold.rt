@@ -176,8 +176,9 @@ fn find_and_hold<F: Files>(
         (F.means files.old).tree [] (updates edits.items)) }
     ensures refused { F.honest → IsPackedWell settings.now.kind (packed_refs_in settings.now
         (F.means files.old)) →
-        IfErr result (λ failure. IsIoOrMemory failure.error ⊎ IsFirstCause (setting_of settings.now) settings.now.kind
-        (F.means files.old).tree [] (updates edits.items) failure.error) }
+        IfErr result (λ failure. IsIoOrMemory failure.error
+        ⊎ IsFirstCause (setting_of settings.now) settings.now.kind (F.means files.old).tree []
+        (updates edits.items) failure.error) }
     ensures opened { F.honest → IfErr result (λ failure. IsPackedRefusal settings.now.kind
         ((F.means files.old).tree (setting_of settings.now).packed_path) failure.error) }
     ensures as_before { F.honest →

@@ -8,16 +8,18 @@ ghost use Rattle.gix_ref_files.specs.Calls.{Unchanged};
 ghost use Rattle.gix_ref_files.specs.DiskCalls.{Untouched};
 ghost use Rattle.gix_ref_files.specs.Files.{disk_of, Leaves, Passes};
 ghost use Rattle.gix_ref_packed.specs.OpenFiles.{HasReadFault};
+ghost use Rattle.gix_ref_edits.specs.RefEdits.{name_of};
 ghost use Rattle.gix_ref_lookup.specs.Lookups.{packed_refs_in, ArePackedRecords, AreAsked, AreHonest, IsReady, HasKey};
-ghost use Rattle.gix_ref_transaction.specs.Causes.{id_of_record, packed_id, IsCountedWith, IsIoOrMemory, IsPackedRefusal};
+ghost use Rattle.gix_ref_transaction.specs.Causes.{id_of_record, packed_id, IsCounted, IsCountedWith, IsIoOrMemory, IsPackedRefusal};
 ghost use Rattle.gix_ref_transaction.specs.PackedCauses.{as_cause, ids_among};
 ghost use Rattle.gix_ref_transaction.specs.PrepareSteps.{setting_of, updates, all_asked, ids_in};
 
-use crate::edit::Edit;
+use crate::edit::{Edit, deletes_reference};
 use crate::prepare::Error;
 use gix_ref_files::files::{Files, ReadAt};
-use gix_ref_hash::hash::ObjectId;
+use gix_ref_hash::hash::{Kind, ObjectId};
 use gix_ref_lookup::find;
+use gix_ref_lookup::find::loose::{Loose, loose_at};
 use gix_ref_lookup::find::records::Records;
 use gix_ref_lookup::settings::Settings;
 use gix_ref_name::name::FullNameRef;
@@ -69,7 +71,8 @@ fn id_of<R: ReadAt + Drop>(
 ) -> Result<Option<ObjectId>, Error>
     requires { IsReady records.now }
     ensures found { (kind : Kind) (rs : List Record) → AreAsked kind None records.old rs →
-        IfOk result (λ id. id ≡ packed_id ((setting_of settings.now).key (full_ref_bytes name.entry)) rs) }
+        IfOk result (λ id. id ≡ packed_id ((setting_of settings.now).key
+        (full_ref_bytes name.entry)) rs) }
     ensures sound { (kind : Kind) (rs : List Record) → AreAsked kind None records.old rs →
         IfErr result IsIoOrMemory }
     ensures refused { AreHonest records.old → (kind : Kind) (packed : Option Content) →
@@ -90,12 +93,80 @@ fn id_of<R: ReadAt + Drop>(
     }
 }
 
-/// Gives each edit the id of its record, once `packed-refs` is open.
-fn find_ids<R: ReadAt + Drop>(
+/// Passes over a search that failed for the record of an edit whose loose file holds a target, which hides the record; not that of a
+/// deletion of the reference, which removes the record too. One call of files at the most.
+fn pass_hidden<F: Files>(
     alloc: Global,
+    files: &mut F,
+    kind: Kind,
+    edit: &Edit,
+    error: Error,
+) -> Result<(), Error>
+    ensures hidden { OnOk result (IsIoOrMemory error → ⊥) }
+    ensures sound { IsIoOrMemory error → IfErr result IsIoOrMemory }
+    ensures refused { (packed : Option Content) → IsPackedRefusal kind packed error →
+        IfErr result (IsPackedRefusal kind packed) }
+    ensures counted { IfErr result (λ e. (e ≡ error)
+        ⊎ IsCounted (F.faults files.old) (F.faults files.new) e) }
+    ensures leaves { F.honest → Leaves (F.means files.old) (F.means files.new)
+        (Unchanged (F.means files.old).tree) }
+    ensures passes { F.honest → Passes (F.means files.old) (F.means files.new)
+        (Untouched (disk_of (F.means files.old))) }
+    ensures no_fewer { F.faults files.old ≤ F.faults files.new }
+{
+    if deletes_reference(&edit.update.change) || !matches!(&error, Error::PackedFind(_)) {
+        return Err(error);
+    }
+    match loose_at(alloc, files, edit.lock.place(), kind)? {
+        Loose::Holds(_) => Ok(()),
+        Loose::Absent | Loose::Undecodable(_) => Err(error),
+    }
+}
+
+/// The id of the record of an edit, once `packed-refs` is open; `None` also where the record cannot be found and is hidden.
+fn id_unless_hidden<F: Files>(
+    alloc: Global,
+    files: &mut F,
+    settings: &Settings<'_>,
+    edit: &Edit,
+    records: &mut Records<'_, F::Reader>,
+) -> Result<Option<ObjectId>, Error>
+    requires { IsReady records.now }
+    ensures found { (kind : Kind) (rs : List Record) → AreAsked kind None records.old rs →
+        IfOk result (λ id. id ≡ packed_id ((setting_of settings.now).key
+        (name_of edit.now.update)) rs) }
+    ensures sound { (kind : Kind) (rs : List Record) → AreAsked kind None records.old rs →
+        IfErr result IsIoOrMemory }
+    ensures refused { AreHonest records.old → (packed : Option Content) →
+        IfErr result (IsPackedRefusal settings.now.kind packed) }
+    ensures counted { IfErr result (IsCountedWith (AreHonest records.old)
+        (HasReadFault F.Reader.faults) (F.faults files.old) (F.faults files.new)) }
+    ensures asked { (kind : Kind) (rs : List Record) → AreAsked kind None records.old rs →
+        AreAsked kind None records.new rs }
+    ensures honest { AreHonest records.old → AreHonest records.new }
+    ensures ready { IsReady records.new }
+    ensures leaves { F.honest → Leaves (F.means files.old) (F.means files.new)
+        (Unchanged (F.means files.old).tree) }
+    ensures passes { F.honest → Passes (F.means files.old) (F.means files.new)
+        (Untouched (disk_of (F.means files.old))) }
+    ensures no_fewer { F.faults files.old ≤ F.faults files.new }
+{
+    match id_of(alloc, settings, edit.update.name.as_ref(), records) {
+        Ok(id) => Ok(id),
+        Err(error) => {
+            pass_hidden(alloc, files, settings.kind, edit, error)?;
+            Ok(None)
+        }
+    }
+}
+
+/// Gives each edit the id of its record, once `packed-refs` is open.
+fn find_ids<F: Files>(
+    alloc: Global,
+    files: &mut F,
     settings: &Settings<'_>,
     edits: &mut [Edit],
-    records: &mut Records<'_, R>,
+    records: &mut Records<'_, F::Reader>,
 ) -> Result<(), Error>
     requires { IsReady records.old }
     ensures asked { all_asked edits.new ≡ all_asked edits.old }
@@ -104,19 +175,24 @@ fn find_ids<R: ReadAt + Drop>(
         (updates edits.old)) }
     ensures sound { (kind : Kind) (rs : List Record) → AreAsked kind None records.old rs →
         IfErr result IsIoOrMemory }
-    ensures refused { AreHonest records.old → (kind : Kind) (packed : Option Content) →
-        IfErr result (IsPackedRefusal kind packed) }
-    ensures counted { (before now : ℕ) →
-        IfErr result (IsCountedWith (AreHonest records.old) (HasReadFault R.faults) before now) }
+    ensures refused { AreHonest records.old → (packed : Option Content) →
+        IfErr result (IsPackedRefusal settings.now.kind packed) }
+    ensures counted { IfErr result (IsCountedWith (AreHonest records.old)
+        (HasReadFault F.Reader.faults) (F.faults files.old) (F.faults files.new)) }
+    ensures leaves { F.honest → Leaves (F.means files.old) (F.means files.new)
+        (Unchanged (F.means files.old).tree) }
+    ensures passes { F.honest → Passes (F.means files.old) (F.means files.new)
+        (Untouched (disk_of (F.means files.old))) }
+    ensures no_fewer { F.faults files.old ≤ F.faults files.new }
 {
     for edit in edits.iter_mut() {
-        edit.packed = id_of(alloc, settings, edit.update.name.as_ref(), records)?;
+        edit.packed = id_unless_hidden(alloc, files, settings, edit, records)?;
     }
     Ok(())
 }
 
 /// Opens `packed-refs`, if there is one, and gives each edit the id of its record: one search for each edit whose reference has a
-/// key.
+/// key. A search that fails is passed over where the edit is no deletion of the reference and its loose file holds a target.
 pub fn find_records<F: Files>(
     alloc: Global,
     files: &mut F,
@@ -143,7 +219,7 @@ pub fn find_records<F: Files>(
 {
     let mut records = Records::Unopened;
     match records.open(alloc, files, *settings) {
-        Ok(()) => find_ids(alloc, settings, edits, &mut records),
+        Ok(()) => find_ids(alloc, files, settings, edits, &mut records),
         Err(error) => Err(refused(error)),
     }
 }

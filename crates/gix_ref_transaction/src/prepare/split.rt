@@ -2,7 +2,7 @@
 ghost use Rattle.std.specs.Prelude.{◌≡◌, ◌<◌, ◌+◌, ◌^◌, ◌⊎◌, [], true, OnOk, IfOk, IfErr, MatchBool, All, length, vec_len};
 ghost use Rattle.std.specs.Option.{option_map};
 ghost use Rattle.gix_ref_name.specs.Names.{full_bytes, full_ref_bytes};
-ghost use Rattle.gix_ref_base.specs.Targets.{target_value};
+ghost use Rattle.gix_ref_base.specs.Targets.{target_name, target_value};
 ghost use Rattle.gix_ref_theory.specs.OnRealTrees.{view_of};
 ghost use Rattle.gix_ref_lookup.specs.StoreLayout.{namespace_text};
 ghost use Rattle.gix_ref_edits.specs.EditValues.{edit_value};
@@ -11,7 +11,7 @@ ghost use Rattle.gix_ref_edits.specs.SplitLists.{child_list, looked_up, referent
 ghost use Rattle.gix_ref_transaction.specs.Causes.{AllValid, IsCounted, IsIoOrMemory, IsMisnamed, IsWellNamed};
 ghost use Rattle.gix_ref_transaction.specs.Parents.{parents_from, parents_given, split_parents};
 ghost use Rattle.gix_ref_transaction.specs.PrepareSteps.{setting_of};
-ghost use Rattle.gix_ref_transaction.specs.Splits.{symbolic_in, leads_to, values_of, all_rounds, AreDirect, AreSplit, CanFollow, IsFirstMisnamed, IsTooLong, OnlyReads};
+ghost use Rattle.gix_ref_transaction.specs.Splits.{leads_to, values_of, all_rounds, AreDirect, AreSplit, CanFollow, IsFirstMisnamed, IsTooLong, OnlyReads};
 ghost use Rattle.gix_ref_transaction.specs.internal.SplitRounds.{name_by, led_to, led_by, after_by, children_by, child_values, parents_by, IsRoundBy, IsRoundOver};
 
 use crate::prepare::Error;
@@ -36,7 +36,7 @@ pub struct SplitEdits {
 
 /// The name of a symbolic target.
 fn symbolic(target: Target) -> Option<FullName>
-    ensures { option_map full_bytes result ≡ symbolic_in (target_value target) }
+    ensures { option_map full_bytes result ≡ target_name (target_value target) }
 {
     match target {
         Target::Symbolic(name) => Some(name),

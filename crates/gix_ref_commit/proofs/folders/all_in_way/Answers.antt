@@ -1,5 +1,6 @@
 use Rattle.std.proofs.Common.{arith}
-use Rattle.gix_ref_commit.proofs.Walking.{fails_at, then_unchanged, then_untouched, way_next}
+use Rattle.gix_ref_transaction.proofs.PackedLemmas.{then_unchanged, then_untouched}
+use Rattle.gix_ref_commit.proofs.Walking.{fails_at, way_next}
 use Rattle.gix_ref_commit.proofs.folders.all_in_way.Goals as goal
 
 pub returns-in-Err-clause-failed : goal.returns-in-Err-clause-failed

@@ -9,7 +9,8 @@ use Rattle.gix_ref_files.specs.Tree.{Tree}
 use Rattle.gix_ref_transaction.specs.OwnLocks.{paths_of}
 use Rattle.gix_ref_commit.specs.Cleared.{HoldsMore, IsAtOrBelow}
 use Rattle.gix_ref_commit.specs.internal.Walks.{IsWalked}
-use Rattle.gix_ref_commit.proofs.Walking.{holds_above, then_untouched, then_unchanged, walked_at, walked_more}
+use Rattle.gix_ref_transaction.proofs.PackedLemmas.{then_unchanged, then_untouched}
+use Rattle.gix_ref_commit.proofs.Walking.{holds_above, walked_at, walked_more}
 use Rattle.gix_ref_commit.proofs.folders.walk.Goals as goal
 
 pub returns-in_err-add_folders-clause-walked : goal.returns-in_err-add_folders-clause-walked

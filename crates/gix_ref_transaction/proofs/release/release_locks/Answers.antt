@@ -1,18 +1,18 @@
-use Rattle.std.proofs.Common.{◌≡◌, ◌≤◌, ◌<◌, ◌⊎◌, inl, inr, ⊎_elim, ℕ, List, [], ◌∷◌, ◌++◌, Bool, true, false, not, ◌&&◌, if◌then◌else◌, refl, sym, ◌∙◌, ap, subst, arith, reverse, vec_len, length, append_assoc}
+use Rattle.std.proofs.Common.{◌≡◌, ◌≤◌, ◌<◌, ◌+◌, ◌⊎◌, inl, inr, ⊎_elim, ℕ, List, [], ◌∷◌, ◌++◌, Bool, true, false, not, ◌&&◌, if◌then◌else◌, refl, sym, ◌∙◌, ap, subst, arith, reverse, vec_len, length, append_assoc}
 use Rattle.std.specs.Prelude.{nat_lt, nat_eq}
 use Rattle.std.specs.Bool.{OnFalse}
 use Rattle.std.proofs.lemmas.Bool.{eqb-true, eqb-false}
-use Rattle.std.proofs.lemmas.List.{reverse-append, reverse-reverse}
+use Rattle.std.proofs.lemmas.List.{map-append, reverse-append, reverse-reverse}
 use Rattle.gix_ref_files.specs.Files.{HasRisen}
 use Rattle.gix_ref_files.specs.Lock.{lock_of}
 use Rattle.gix_ref_files.specs.Tree.{Path}
-use Rattle.gix_ref_transaction.specs.OwnLocks.{paths_of, is_in}
+use Rattle.gix_ref_transaction.specs.OwnLocks.{paths_of, is_in, times}
 use Rattle.gix_ref_transaction.specs.Effects.{is_write}
 use Rattle.gix_ref_transaction.specs.CommitRenames.{lock_at, log_at, path_in, place_at, is_written_at}
 use Rattle.gix_ref_transaction.specs.PrepareSteps.{lock_paths, updates}
 use Rattle.gix_ref_transaction.specs.declared.edit.Edit.{Edit}
 use Rattle.gix_ref_transaction.proofs.Adds.{clash}
-use Rattle.gix_ref_transaction.proofs.Removing.{leaves_then, removes_more, named_cases, named_here, named_kept}
+use Rattle.gix_ref_transaction.proofs.Removing.{leaves_then, removes_more, named_cases, named_here, named_kept, named_once}
 use Rattle.gix_ref_transaction.proofs.Renames.{flag_there, log_there, lock_there, lock_within, place_there, released}
 use Rattle.gix_ref_transaction.proofs.release.release_locks.Goals as goal
 
@@ -88,6 +88,9 @@ loop-edit-preserved g c =
       log = λ some less. place_then c.len-at.result c.args.done (path_in own.log) _ _ (path_in (log_at all c.args.done)) c.add.ensures.log (λ same. sym (ap path_in log_is) ∙ ap (λ n. path_in (log_at all n)) same) (λ more. x.log some (omega (arith, more, c.in-Some.ensures.len, c.len-at.ensures))) (omega (arith, less, c.len-at.ensures));
       ours = λ q h. ⊎_elim (λ old. x.ours q old) (λ e. inr (subst (λ (p : Path). is_in (lock_paths all) p ≡ true) e within)) (named_cases names lock removed q (subst (λ (l : List Path). is_in l q ≡ true) named h));
       kept = λ q h. subst (λ (l : List Path). is_in l q ≡ true) (sym named) (named_kept names _ q (x.kept q h));
+      once = λ q. subst (λ (l : List Path). times q l + times q (lock_paths rest) ≤ times q (paths_of c.args.remains.left.items) + times q (lock_paths all)) (sym named)
+          (named_once q names (paths_of c.args.remains.left.items) (times q (lock_paths all)) (lock_paths rest) lock removed
+          (subst (λ (l : List Path). times q names + times q l ≤ times q (paths_of c.args.remains.left.items) + times q (lock_paths all)) (ap lock_paths split ∙ map-append (λ (e : Edit). lock_of e.lock) rest (own ∷ [])) (x.once q)));
       gone = λ h.
           let next = c.release-removed.ensures.leaves h in
           λ j first_le. released all (vec_len c.args.edits) c.args.done c.len-at.result lock at mid.tree now.tree next.tree names (paths_of c.add.new.self.left.items)

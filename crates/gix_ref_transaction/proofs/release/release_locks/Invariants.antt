@@ -4,7 +4,7 @@ use Rattle.gix_ref_files.specs.Files.{Leaves, HasRisen}
 use Rattle.gix_ref_files.specs.Tree.{Path, is_file}
 use Rattle.gix_ref_transaction.specs.CommitRenames.{lock_at, log_at, path_in, place_at, stays_at}
 use Rattle.gix_ref_transaction.specs.PrepareSteps.{lock_paths, updates}
-use Rattle.gix_ref_transaction.specs.OwnLocks.{paths_of, RemovesLocks, OnlyRemoves, is_in}
+use Rattle.gix_ref_transaction.specs.OwnLocks.{paths_of, RemovesLocks, OnlyRemoves, is_in, times}
 use Rattle.gix_ref_transaction.specs.declared.edit.Edit.{Edit}
 use Rattle.gix_ref_transaction.proofs.release.release_locks.Given as goal
 
@@ -32,6 +32,7 @@ invariant-loop-edit g l =
       log : l.done < vec_len l.fn.edits → vec_len l.edits ≤ l.done → l.remains.log.items ≡ path_in (log_at all l.done);
       ours : (q : Path) → is_in left q ≡ true → (is_in before q ≡ true) ⊎ (is_in (lock_paths all) q ≡ true);
       kept : (q : Path) → is_in before q ≡ true → is_in left q ≡ true;
+      once : (q : Path) → times q left + times q (lock_paths l.edits.items) ≤ times q before + times q (lock_paths all);
       gone : g.F.Files.honest → (k : ℕ) → vec_len l.edits ≤ k → k < vec_len l.fn.edits → stays_at all l.done k ≡ true → is_in left (lock_at all k) ≡ false → is_file (now.tree (lock_at all k)) ≡ false;
       passes : g.F.Files.honest → OnlyRemoves (lock_paths all) first now;
       leaves : g.F.Files.honest → Leaves first now (RemovesLocks (lock_paths all) first.tree);

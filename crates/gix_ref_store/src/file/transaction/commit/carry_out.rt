@@ -51,8 +51,8 @@ impl<F: Files> Store<F> {
             committer.entry packed edits.items e.error) }
         ensures sound { IfErr result (λ e. NoBadLineFrom F.honest F.means F.faults self.old
             packed edits.items e.error) }
-        ensures ended { EveryStopFrom F.honest F.means F.faults self.old self.new committer.entry packed
-            edits.items (left_in result) }
+        ensures ended { EveryStopFrom F.honest F.means F.faults self.old self.new committer.entry
+            packed edits.items (left_in result) }
         ensures lost { EveryLossFrom F.honest F.means F.faults self.old self.new committer.entry
             packed edits.items }
         ensures settled { OnOk result (SettlesFrom F.honest F.means F.faults self.old self.new

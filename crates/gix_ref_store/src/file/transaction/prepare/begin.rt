@@ -77,8 +77,8 @@ impl<F: Files> Store<F> {
             (meaning_of self.old) split.edits.items) }
         ensures parents { IfOk result (λ held. parents_in held.edits.items
             ≡ split.parents.items) }
-        ensures packed { IfOk result (λ held. HoldsPacked F.honest F.means F.faults self.old self.new
-            split.edits.items held.packed) }
+        ensures packed { IfOk result (λ held. HoldsPacked F.honest F.means F.faults self.old
+            self.new split.edits.items held.packed) }
         ensures room { IfOk result (λ held. HasRoom held.edits held.remains) }
     {
         let settings = Settings {
@@ -155,8 +155,8 @@ impl<F: Files> Store<F> {
         ensures parents { F.honest → IfOk result (λ held. parents_in held.edits.items
             ≡ split_parents (leads_to (meaning_of self.old) (view_of (tree_of F.means self.old)))
             (values_of edits.items)) }
-        ensures packed { IfOk result (λ held. HoldsPacked F.honest F.means F.faults self.old self.new
-            (updates held.edits.items) held.packed) }
+        ensures packed { IfOk result (λ held. HoldsPacked F.honest F.means F.faults self.old
+            self.new (updates held.edits.items) held.packed) }
         ensures room { IfOk result (λ held. HasRoom held.edits held.remains) }
     {
         match self.split(alloc, edits) {

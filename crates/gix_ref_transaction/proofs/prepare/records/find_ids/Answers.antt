@@ -3,18 +3,18 @@ use Rattle.std.proofs.Math.Seq.{map-set_same}
 use Rattle.std.proofs.lemmas.Result.{err_from_is_err_and}
 use Rattle.gix_ref_transaction.specs.PrepareSteps.{setting_of}
 use Rattle.gix_ref_transaction.specs.declared.edit.Edit.{Edit}
-use Rattle.gix_ref_transaction.proofs.PackedLemmas.{counted_by, ids_more}
+use Rattle.gix_ref_transaction.proofs.PackedLemmas.{counted_by, counted_on, ids_more, then_unchanged, then_untouched}
 use Rattle.gix_ref_transaction.proofs.prepare.records.find_ids.Goals as goal
 
 pub returns-in_err-edit-clause-refused : goal.returns-in_err-edit-clause-refused
-returns-in_err-edit-clause-refused g c h kind packed =
+returns-in_err-edit-clause-refused g c h packed =
     let told = err_from_is_err_and c.from_residual.result c.from_residual.ensures.1 in
-    rw (told.1, told.2) (c.in_err-edit.ensures.refused (c.loop-edit.invariant.honest h) kind packed)
+    rw (told.1, told.2) (c.in_err-edit.ensures.refused (c.loop-edit.invariant.honest h) packed)
 
 pub returns-in_err-edit-clause-counted : goal.returns-in_err-edit-clause-counted
-returns-in_err-edit-clause-counted g c before now =
+returns-in_err-edit-clause-counted g c =
     let told = err_from_is_err_and c.from_residual.result c.from_residual.ensures.1 in
-    rw (told.1, told.2) (counted_by _ _ _ before now _ c.loop-edit.invariant.honest (c.in_err-edit.ensures.counted before now))
+    rw (told.1, told.2) (counted_by _ _ _ _ _ _ c.loop-edit.invariant.honest (counted_on _ _ _ _ _ _ c.loop-edit.invariant.no_fewer c.in_err-edit.ensures.counted))
 
 pub loop-edit-preserved : goal.loop-edit-preserved
 loop-edit-preserved g c =
@@ -30,5 +30,8 @@ loop-edit-preserved g c =
       same = map-set_same (λ (a : Edit). (a.update, a.lock, a.parent)) edits i _ e (ap (λ (a : Edit). (a.update, a.lock, a.parent)) is) ∙ x.same;
       asked = λ kind rs asked. c.in_ok-edit.ensures.asked kind rs (x.asked kind rs asked);
       honest = λ h. c.in_ok-edit.ensures.honest (x.honest h);
-      found = λ kind rs asked. ids_more s rs c.args.edits.now edits x.same i e lt is _ (x.found kind rs asked) (rw c.as_ref.ensures at (c.in_ok-edit.ensures.found kind rs (x.asked kind rs asked)));
+      no_fewer = omega (arith, x.no_fewer, c.in_ok-edit.ensures.no_fewer);
+      leaves = λ h. then_unchanged (x.leaves h) (c.in_ok-edit.ensures.leaves h);
+      passes = λ h. then_untouched (x.passes h) (c.in_ok-edit.ensures.passes h);
+      found = λ kind rs asked. ids_more s rs c.args.edits.now edits x.same i e lt is _ (x.found kind rs asked) (c.in_ok-edit.ensures.found kind rs (x.asked kind rs asked));
     }

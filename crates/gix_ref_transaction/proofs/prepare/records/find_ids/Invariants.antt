@@ -1,4 +1,7 @@
-use Rattle.std.proofs.Common.{◌≡◌, List, None, take}
+use Rattle.std.proofs.Common.{◌≡◌, ◌≤◌, List, None, take}
+use Rattle.gix_ref_files.specs.Calls.{Unchanged}
+use Rattle.gix_ref_files.specs.DiskCalls.{Untouched}
+use Rattle.gix_ref_files.specs.Files.{disk_of, Leaves, Passes}
 use Rattle.gix_ref_hash.specs.declared.hash.Kind.{Kind}
 use Rattle.gix_ref_base.specs.PackedRecords.{Record}
 use Rattle.gix_ref_lookup.specs.Lookups.{AreAsked, AreHonest, IsReady}
@@ -13,5 +16,8 @@ invariant-loop-edit g l = record {
   same : all_asked l.edits ≡ all_asked l.fn.edits;
   asked : (kind : Kind) (rs : List Record) → AreAsked kind None l.fn.records rs → AreAsked kind None l.records rs;
   honest : AreHonest l.fn.records → AreHonest l.records;
+  no_fewer : g.F.Files.faults l.fn.files ≤ g.F.Files.faults l.files;
+  leaves : g.F.Files.honest → Leaves (g.F.Files.means l.fn.files) (g.F.Files.means l.files) (Unchanged (g.F.Files.means l.fn.files).tree);
+  passes : g.F.Files.honest → Passes (g.F.Files.means l.fn.files) (g.F.Files.means l.files) (Untouched (disk_of (g.F.Files.means l.fn.files)));
   found : (kind : Kind) (rs : List Record) → AreAsked kind None l.fn.records rs → ids_in (take l.edit-index l.edits) ≡ ids_among (setting_of l.settings) rs (take l.edit-index (updates l.fn.edits));
 }

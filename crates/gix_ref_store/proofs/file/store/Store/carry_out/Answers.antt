@@ -49,7 +49,7 @@ returns-in-Err-clause-ended g c old given from =
     let ran = c.decide.new.edits in
     undecided_well F.honest F.means F.faults old c.args.self.now c.args.committer given c.args.packed c.args.edits.items from ran.items c.decide.ensures.alike _ (paths_of c.release_all-remains.result.left.items) (F.means c.decide.new.self.files)
     (λ h. c.decide.ensures.leaves h (from.packed.empty h)) (λ h. c.decide.ensures.passes h (from.packed.empty h))
-    (λ h. e.leaves h) (λ h. e.passes h) (λ h. e.packed_gone h) (λ h k lt. e.gone h k (omega (arith, lt, ran.ok))) e.ours
+    (λ h. e.leaves h) (λ h. e.passes h) (λ h. e.packed_gone h) (λ h k lt. e.gone h k (omega (arith, lt, ran.ok))) e.ours e.once
 
 pub returns-in-Err-clause-lost : goal.returns-in-Err-clause-lost
 returns-in-Err-clause-lost g c old given from h good at_rest =
@@ -58,7 +58,7 @@ returns-in-Err-clause-lost g c old given from h good at_rest =
     let ran = c.decide.new.edits in
     undecided_lost F.honest F.means F.faults old c.args.self.now c.args.committer given c.args.packed c.args.edits.items from ran.items c.decide.ensures.alike _ (paths_of c.release_all-remains.result.left.items) (F.means c.decide.new.self.files)
     (λ h. c.decide.ensures.leaves h (from.packed.empty h)) (λ h. c.decide.ensures.passes h (from.packed.empty h))
-    (λ h. e.leaves h) (λ h. e.passes h) (λ h. e.packed_gone h) (λ h k lt. e.gone h k (omega (arith, lt, ran.ok))) e.ours h good at_rest
+    (λ h. e.leaves h) (λ h. e.passes h) (λ h. e.packed_gone h) (λ h k lt. e.gone h k (omega (arith, lt, ran.ok))) e.ours e.once h good at_rest
 
 pub failure-requires : goal.failure-requires
 failure-requires g c =
@@ -157,7 +157,7 @@ returns-in-Err-publish-clause-ended g c old given from =
     (λ h. c.decide.ensures.leaves h (from.packed.empty h)) (λ h. c.decide.ensures.passes h (from.packed.empty h))
     c.in-Ok.ensures.logs rewrite c.in-Ok.ensures.repacked (λ h. c.in-Ok.ensures.filled h (from.packed.empty h)) (λ h. c.in-Ok.ensures.wholes h (from.packed.empty h)) ways in_way
     mid released renamed [] runs releases tidies u ends h k lt (subst (λ n. k < n) done_is early) written)
-    (rw c.unless_renamed-packed.ensures at e.ours)
+    (rw c.unless_renamed-packed.ensures at e.ours) (rw c.unless_renamed-packed.ensures at e.once)
 
 pub returns-clause-ended : goal.returns-clause-ended
 returns-clause-ended g c old given from =
@@ -204,7 +204,7 @@ returns-clause-ended g c old given from =
     (λ h. c.decide.ensures.leaves h (from.packed.empty h)) (λ h. c.decide.ensures.passes h (from.packed.empty h))
     c.in-Ok.ensures.logs rewrite c.in-Ok.ensures.repacked (λ h. c.in-Ok.ensures.filled h (from.packed.empty h)) (λ h. c.in-Ok.ensures.wholes h (from.packed.empty h)) ways in_way
     mid released renamed paths runs releases tidies after h k lt written)
-    (rw c.unless_renamed-packed-2.ensures at e.ours)
+    (rw c.unless_renamed-packed-2.ensures at e.ours) (rw c.unless_renamed-packed-2.ensures at e.once)
 
 pub returns-clause-committed : goal.returns-clause-committed
 returns-clause-committed g c old given from h good =

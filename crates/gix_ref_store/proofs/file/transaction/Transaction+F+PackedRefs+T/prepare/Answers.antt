@@ -1,6 +1,6 @@
 use Rattle.std.proofs.Common.{refl}
 use Rattle.gix_ref_store.proofs.Preparing.{prepares}
-use Rattle.gix_ref_store.proofs.file.transaction.Transaction.prepare.Goals as goal
+use Rattle.gix_ref_store.proofs.file.transaction.Transaction+F+PackedRefs+T.prepare.Goals as goal
 
 pub returns-in-Ok : goal.returns-in-Ok
 returns-in-Ok g c =

@@ -2,10 +2,11 @@ use Rattle.std.proofs.Common.{inl, inr, ⊎_elim, map, refl, sym, ap}
 use Rattle.std.specs.Prelude.{bytes_eq}
 use Rattle.gix_ref_files.specs.Lock.{lock_of}
 use Rattle.gix_ref_transaction.specs.OwnLocks.{paths_of}
-use Rattle.gix_ref_transaction.specs.PrepareSteps.{lock_paths, packed_places}
+use Rattle.gix_ref_transaction.specs.PrepareSteps.{held_locks, lock_paths, packed_places}
 use Rattle.gix_ref_transaction.proofs.Adds.{any_cases}
+use Rattle.gix_ref_store.proofs.PreparedLosses.{removing_loses}
 use Rattle.gix_ref_store.proofs.Releasing.{all_gone}
-use Rattle.gix_ref_store.proofs.file.transaction.Prepared+F.rollback.Goals as goal
+use Rattle.gix_ref_store.proofs.file.transaction.Prepared+F+Plan+T.rollback.Goals as goal
 
 pub returns-clause-rolled : goal.returns-clause-rolled
 returns-clause-rolled g c =
@@ -20,8 +21,10 @@ returns-clause-rolled g c =
           (λ own. all_gone held plan.edits.len (paths_of left) now.tree (sym plan.edits.ok.0) (e.gone h) q own out)
           (any_cases (λ r. bytes_eq r q) (map lock_of (packed_places plan.packed)) (lock_paths held) within);
       ours = e.ours;
+      once = e.once;
       named = ⊎_elim (λ none. inl (ap paths_of none)) (λ risen. inr risen) e.named;
       leaves = e.leaves;
       removes = e.passes;
+      lost = λ h places own. removing_loses F.means _ _ (held_locks plan.packed held) places (e.passes h) own;
       same = record { dirs = refl; namespace = refl; of_kind = refl; reflogs = refl; composes = refl; prohibits = refl };
     }
