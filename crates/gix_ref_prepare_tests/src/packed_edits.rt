@@ -1,8 +1,9 @@
 //! Updates in a repository with `packed-refs`: what is found, what is expected, and which files are written.
-use crate::made::{Id, files, object, store};
-use crate::transactions::{Answer, Expect, answer_of, committed, expected, prepared, update};
+use crate::transactions::committed;
 use gix_ref_memory::memory::Memory;
 use gix_ref_store::store::WriteReflog;
+use gix_ref_test_values::edits::{Answer, Expect, answer_of, expected, prepared, update};
+use gix_ref_test_values::values::{Id, files, object, store};
 use std::alloc::Global;
 use std::process::Abort;
 
@@ -195,6 +196,34 @@ fn the_record_is_what_is_found(rt: HostRuntime) {
             "packed-refs stays"
         );
     }
+}
+
+/// A `packed-refs` with a branch below it.
+const BELOW: &[u8] = b"# pack-refs with: peeled fully-peeled sorted \n\
+    1111111111111111111111111111111111111111 refs/heads/a/b\n";
+
+#[test]
+fn a_file_on_the_way_of_a_packed_branch(rt: HostRuntime) {
+    let alloc = rt.alloc();
+    let first = store(&rt, alloc, made(&rt, alloc, BELOW, ONE), "", "");
+    let edits = update(
+        &rt,
+        alloc,
+        "refs/heads/a/b",
+        expected(&rt, Expect::Match(Id::One)),
+        object(&rt, Id::Two),
+    );
+    let (answer, memory) = prepared(alloc, first, edits);
+    assert_eq!(rt; answer, Answer::PathCollision);
+    assert!(rt;
+        memory.get(b"/r/packed-refs") == Some(BELOW),
+        "its record stays"
+    );
+    assert!(rt; memory.get(A.as_bytes()) == Some(ONE), "the file stays");
+    assert!(rt;
+        memory.get(b"/r/packed-refs.lock").is_none(),
+        "no lock is left"
+    );
 }
 
 #[test]

@@ -1,13 +1,13 @@
 //! Transactions with deletions: what becomes of loose files, of logs and of `packed-refs`, and what stops, faults and losses of power
 //! leave.
-use crate::made::{Id, bytes, full_name, object, store};
-use crate::power::pick_at;
 use gix_ref_edits::transaction::{Change, LogChange, PreviousValue, RefEdit, RefLog};
 use gix_ref_files::files::Files;
 use gix_ref_memory::memory::Memory;
 use gix_ref_store::file::Store;
 use gix_ref_store::file::transaction::{Failed, commit};
 use gix_ref_store::store::WriteReflog;
+use gix_ref_test_values::edits::{Answer, pick_at, prepared};
+use gix_ref_test_values::values::{Id, bytes, full_name, object, store};
 use std::alloc::Global;
 use std::process::Abort;
 
@@ -99,6 +99,7 @@ fn failure_of(error: &commit::Error) -> Outcome {
         commit::Error::DeleteReference { .. } => Outcome::DeleteReference,
         commit::Error::CreateOrUpdateRefLog(_)
         | commit::Error::FolderInPlace { .. }
+        | commit::Error::PreprocessingFailed { .. }
         | commit::Error::Memory => Outcome::Other,
     }
 }
@@ -263,6 +264,38 @@ fn files_before_and_after(rt: HostRuntime) {
 }
 
 #[test]
+fn a_lock_of_another_on_packed_refs(rt: HostRuntime) {
+    let alloc = rt.alloc();
+    let rows: [(&str, RefLog, Answer); 2] = [
+        (
+            "a packed tag",
+            RefLog::AndReference,
+            Answer::PackedTransactionAcquire,
+        ),
+        // It asks nothing of `packed-refs` but the record.
+        ("its log alone", RefLog::Only, Answer::Prepared),
+    ];
+    for (meaning, log, want) in rows {
+        let texts: [(&str, &[u8]); 3] = [
+            ("/r/packed-refs", BOTH),
+            ("/r/packed-refs.lock", b"theirs"),
+            ("/r/logs/refs/tags/t", LINE),
+        ];
+        let first = store(&rt, alloc, made(&rt, alloc, &texts), "", "");
+        let mut edits = Vec::with_capacity(alloc, 1).expect(&rt, "memory");
+        edits
+            .push(deletion(&rt, alloc, "refs/tags/t", log))
+            .expect(&rt, "room");
+        let (answer, memory) = prepared(alloc, first, edits);
+        assert_eq!(rt; answer, want, "{meaning}");
+        for (path, text) in texts {
+            assert!(rt; text_at(&memory, path) == text, "{meaning}: {path} stays");
+        }
+        assert!(rt; memory.get(b"/r/refs/tags/t.lock").is_none(), "{meaning}");
+    }
+}
+
+#[test]
 fn an_empty_folder_at_the_place(rt: HostRuntime) {
     let alloc = rt.alloc();
     let mut memory = made(&rt, alloc, &[("/r/packed-refs", FIRST)]);
@@ -393,16 +426,82 @@ fn each_stop_shows_the_first_edits(rt: HostRuntime) {
     assert_eq!(rt; last, 3);
 }
 
+/// The number of parts below which a stop in this call is looked at. An append has as many parts as bytes; other calls have no
+/// more than eight, so a greater number leaves the same.
+fn behind_parts(rt: &impl Abort, alloc: Global, k: u64) -> usize {
+    let (_, some, _) = run(rt, alloc, End::Stops(k, 8));
+    let (_, all, _) = run(rt, alloc, End::Stops(k, 160));
+    for lock in LOCKS {
+        if some.get(lock.as_bytes()) != all.get(lock.as_bytes()) {
+            return 161;
+        }
+    }
+    9
+}
+
+/// The run stops in each call after each number of parts, and then power is lost in the ways of these rows. No number of what is
+/// unsynced is higher than theirs, which `higher_numbers_choose_nothing` looks at.
+fn stop_and_lose(rt: &impl Abort, alloc: Global, from: u64, end: u64) {
+    let mut appends = 0usize;
+    for k in 1..behind_calls(rt, alloc) {
+        let behind = behind_parts(rt, alloc, k);
+        if behind > 9 {
+            appends = appends.saturating_add(1);
+        }
+        for n in 0..behind {
+            for row in from..end {
+                let (_, mut memory, _) = run(rt, alloc, End::Stops(k, n));
+                memory.lose_power(pick_at(row)).expect(rt, "memory");
+                let _ = shown(rt, &memory);
+            }
+        }
+    }
+    assert_eq!(rt; appends, 3, "the texts of two locks and of packed-refs");
+}
+
 #[test]
-fn each_stop_and_loss_shows_the_first_edits(rt: HostRuntime) {
+fn each_stop_and_loss_of_all_or_nothing(rt: HostRuntime) {
+    stop_and_lose(&rt, rt.alloc(), 0, 2);
+}
+
+#[test]
+fn each_stop_and_loss_of_all_but_one_of_the_first(rt: HostRuntime) {
+    stop_and_lose(&rt, rt.alloc(), 2, 6);
+}
+
+#[test]
+fn each_stop_and_loss_of_all_but_one_of_the_others(rt: HostRuntime) {
+    stop_and_lose(&rt, rt.alloc(), 6, 9);
+}
+
+/// The files of the run.
+const FILES: [&str; 9] = [
+    "/r/HEAD",
+    "/r/logs/refs/tags/t",
+    "/r/packed-refs",
+    "/r/packed-refs.lock",
+    "/r/refs/heads/a",
+    "/r/refs/heads/a.lock",
+    "/r/refs/heads/b",
+    "/r/refs/heads/b.lock",
+    "/r/refs/tags/t.lock",
+];
+
+#[test]
+fn higher_numbers_choose_nothing(rt: HostRuntime) {
     let alloc = rt.alloc();
     for k in 1..behind_calls(&rt, alloc) {
-        for n in [0usize, 1, 76, 160] {
-            for row in 0..9u64 {
-                let (_, mut memory, _) = run(&rt, alloc, End::Stops(k, n));
-                memory.lose_power(pick_at(row)).expect(&rt, "memory");
-                let _ = shown(&rt, &memory);
-            }
+        // After all of a call as much is unsynced as after some of it.
+        let end = End::Stops(k, 160);
+        let (_, mut none, _) = run(&rt, alloc, end);
+        none.lose_power(0).expect(&rt, "memory");
+        let (_, mut high, _) = run(&rt, alloc, end);
+        high.lose_power(!0x7f).expect(&rt, "memory");
+        for path in FILES {
+            assert!(rt;
+                none.get(path.as_bytes()) == high.get(path.as_bytes()),
+                "{path}, call {k}"
+            );
         }
     }
 }

@@ -1,14 +1,13 @@
 //! Transactions of several updates: the causes against them in their order, and what stops, faults and losses of power leave.
 
-use crate::made::{Id, bytes, full_name, object, store};
-use crate::power::pick_at;
-use crate::transactions::{Answer, Expect, answer_of, expected};
 use gix_ref_edits::transaction::{Change, LogChange, PreviousValue, RefEdit, RefLog, SplitError};
 use gix_ref_memory::memory::Memory;
 use gix_ref_store::file::Store;
 use gix_ref_store::file::transaction::commit;
 use gix_ref_store::file::transaction::prepare::Error;
 use gix_ref_store::store::WriteReflog;
+use gix_ref_test_values::edits::{Answer, Expect, answer_of, expected, pick_at};
+use gix_ref_test_values::values::{Id, bytes, full_name, object, store};
 use std::alloc::Global;
 use std::process::Abort;
 
@@ -96,6 +95,7 @@ enum Outcome {
     DeleteReference,
     FolderInPlace,
     LogLine,
+    Preprocessing,
     Memory,
 }
 
@@ -117,6 +117,7 @@ fn failure_of(error: &commit::Error) -> (Outcome, &[u8]) {
         ),
         commit::Error::CreateOrUpdateRefLog(_) => (Outcome::LogLine, b""),
         commit::Error::FolderInPlace { path } => (Outcome::FolderInPlace, path),
+        commit::Error::PreprocessingFailed { .. } => (Outcome::Preprocessing, b""),
         commit::Error::Memory => (Outcome::Memory, b""),
     }
 }
@@ -152,17 +153,20 @@ type CauseRow = (
 );
 
 /// The locks of the rows.
-const LOCKS: [&str; 4] = [
+const LOCKS: [&str; 7] = [
+    "/r/HEAD.lock",
     "/r/refs/heads/a.lock",
     "/r/refs/heads/b.lock",
     "/r/refs/heads/c.lock",
+    "/r/refs/heads/main.lock",
+    "/r/refs/heads/x.lock",
     "/r/worktrees/w/HEAD.lock",
 ];
 
 /// The branch of most rows.
 const A: &str = "/r/refs/heads/a";
 
-const CAUSES: [CauseRow; 11] = [
+const CAUSES: [CauseRow; 12] = [
     ("none", &[], "", &[], Answer::Prepared, ""),
     (
         "two updates",
@@ -221,6 +225,17 @@ const CAUSES: [CauseRow; 11] = [
         ],
         Answer::LockAcquire,
         "worktrees/w/HEAD",
+    ),
+    (
+        "two names of the place of a branch",
+        &["/r/refs/heads/x"],
+        "",
+        &[
+            ("refs/heads/x", Expect::Any, Id::Two),
+            ("main-worktree/refs/heads/x", Expect::Any, Id::Two),
+        ],
+        Answer::LockAcquire,
+        "main-worktree/refs/heads/x",
     ),
     (
         "a lock of another",
@@ -290,6 +305,15 @@ fn keeps_locks(memory: &Memory, others: &[&str]) -> bool {
     keeps
 }
 
+/// Whether the files are as they were made: of forty digits `1` each.
+fn hold_one(memory: &Memory, paths: &[&str]) -> bool {
+    let mut hold = true;
+    for path in paths {
+        hold = hold && memory.get(path.as_bytes()) == Some(ONE);
+    }
+    hold
+}
+
 #[test]
 fn the_first_cause(rt: HostRuntime) {
     let alloc = rt.alloc();
@@ -300,6 +324,50 @@ fn the_first_cause(rt: HostRuntime) {
         assert!(rt; reported, "{meaning}");
         let memory = store.into_files();
         assert!(rt; keeps_locks(&memory, paths), "{meaning}");
+        assert!(rt; hold_one(&memory, paths), "{meaning}");
+    }
+}
+
+/// `HEAD`, which leads to `refs/heads/main`, and two branches.
+const HEAD: Row = ("HEAD", Expect::Any, Id::Two);
+
+const MAIN: Row = ("refs/heads/main", Expect::Any, Id::Two);
+
+const OTHER: Row = ("refs/heads/a", Expect::Any, Id::Two);
+
+#[test]
+fn a_reference_that_is_followed_beside_its_target(rt: HostRuntime) {
+    let alloc = rt.alloc();
+    let rows: [(&str, [Row; 2], Answer, &str); 3] = [
+        (
+            "its target is the second",
+            [HEAD, MAIN],
+            Answer::PreprocessingFailed,
+            "refs/heads/main",
+        ),
+        (
+            "its target is the first",
+            [MAIN, HEAD],
+            Answer::PreprocessingFailed,
+            "refs/heads/main",
+        ),
+        ("another branch", [HEAD, OTHER], Answer::Prepared, ""),
+    ];
+    for (meaning, rows, want, name) in rows {
+        let mut memory = ones(&rt, alloc, &["/r/refs/heads/main"]);
+        let head = memory.put(b"/r/HEAD", b"ref: refs/heads/main\n");
+        assert!(rt; head.expect(&rt, "memory"));
+        let mut store = store(&rt, alloc, memory, "", "");
+        let mut edits = updates(&rt, alloc, &rows);
+        for edit in edits.iter_mut() {
+            edit.deref = true;
+        }
+        let (answer, reported) = prepared(alloc, &mut store, edits, name);
+        assert_eq!(rt; answer, want, "{meaning}");
+        assert!(rt; reported, "{meaning}");
+        let memory = store.into_files();
+        assert!(rt; keeps_locks(&memory, &[]), "{meaning}");
+        assert!(rt; memory.get(b"/r/refs/heads/main") == Some(ONE), "{meaning}");
     }
 }
 

@@ -1,6 +1,5 @@
 //! Transactions with log lines: what logs hold afterwards, why lines are refused, and what stops, faults and losses of power leave.
-use crate::made::{Id, full_name, object, store};
-use crate::power::pick_at;
+use gix_ref_base::target::Target;
 use gix_ref_edits::transaction::{Change, LogChange, PreviousValue, RefEdit, RefLog};
 use gix_ref_files::files::Files;
 use gix_ref_lines::create_or_update;
@@ -8,7 +7,10 @@ use gix_ref_log::actor::{SignatureRef, Time};
 use gix_ref_memory::memory::Memory;
 use gix_ref_store::file::Store;
 use gix_ref_store::file::transaction::commit;
+use gix_ref_store::file::transaction::prepare::Error;
 use gix_ref_store::store::WriteReflog;
+use gix_ref_test_values::edits::pick_at;
+use gix_ref_test_values::values::{Id, full_name, object, store};
 use std::alloc::Global;
 use std::process::Abort;
 
@@ -29,6 +31,10 @@ const BOTH: &[u8] = b"0000000000000000000000000000000000000000 \
     1111111111111111111111111111111111111111 \
     2222222222222222222222222222222222222222 C <c@example.com> 1234 +0800\tm\n";
 
+/// The first line, 99 hours and 59 minutes east of UTC.
+const EAST: &[u8] = b"0000000000000000000000000000000000000000 \
+    1111111111111111111111111111111111111111 C <c@example.com> 1234 +9959\tm\n";
+
 /// A line of 139 bytes.
 const PADDED: &[u8] = b"0000000000000000000000000000000000000000 \
     1111111111111111111111111111111111111111 committer <committer@example.com> 1234 +0800\tthe message\n";
@@ -40,21 +46,24 @@ pub enum Who {
     C,
     Padded,
     Bracket,
+    /// So many seconds east of UTC.
+    East(i32),
 }
 
 fn signature(who: Who) -> Option<SignatureRef<'static>> {
-    let (name, email) = match who {
+    let (name, email, offset) = match who {
         Who::Nobody => return None,
-        Who::C => ("C", "c@example.com"),
-        Who::Padded => ("  committer\n  ", "  committer@example.com\n  "),
-        Who::Bracket => ("a<b", "c@example.com"),
+        Who::C => ("C", "c@example.com", 28800),
+        Who::Padded => ("  committer\n  ", "  committer@example.com\n  ", 28800),
+        Who::Bracket => ("a<b", "c@example.com", 28800),
+        Who::East(offset) => ("C", "c@example.com", offset),
     };
     Some(SignatureRef {
         name: name.as_bytes(),
         email: email.as_bytes(),
         time: Time {
             seconds: 1234,
-            offset: 28800,
+            offset,
         },
     })
 }
@@ -132,7 +141,7 @@ const ROW: Row = Row {
     after: &[("/r/refs/heads/a", ONE), ("/r/logs/refs/heads/a", FIRST)],
 };
 
-const ROWS: [Row; 17] = [
+const ROWS: [Row; 21] = [
     ROW,
     Row {
         meaning: "a log of 226 bytes",
@@ -221,6 +230,16 @@ const ROWS: [Row; 17] = [
         ..ROW
     },
     Row {
+        meaning: "where all logs are made, one is made for FETCH_HEAD",
+        mode: WriteReflog::Always,
+        edits: &[Asked {
+            name: "FETCH_HEAD",
+            ..UPDATE
+        }],
+        after: &[("/r/FETCH_HEAD", ONE), ("/r/logs/FETCH_HEAD", FIRST)],
+        ..ROW
+    },
+    Row {
         meaning: "all logs are made",
         mode: WriteReflog::Always,
         edits: &[Asked {
@@ -273,6 +292,26 @@ const ROWS: [Row; 17] = [
     Row {
         meaning: "a bracket in a signature",
         who: Who::Bracket,
+        want: Outcome::SignatureUnwritable,
+        after: &[("/r/refs/heads/a", b""), ("/r/logs/refs/heads/a", b"")],
+        ..ROW
+    },
+    Row {
+        meaning: "the easternmost offset",
+        who: Who::East(359940),
+        after: &[("/r/refs/heads/a", ONE), ("/r/logs/refs/heads/a", EAST)],
+        ..ROW
+    },
+    Row {
+        meaning: "a second more",
+        who: Who::East(359941),
+        want: Outcome::SignatureUnwritable,
+        after: &[("/r/refs/heads/a", b""), ("/r/logs/refs/heads/a", b"")],
+        ..ROW
+    },
+    Row {
+        meaning: "a minute more",
+        who: Who::East(360000),
         want: Outcome::SignatureUnwritable,
         after: &[("/r/refs/heads/a", b""), ("/r/logs/refs/heads/a", b"")],
         ..ROW
@@ -426,6 +465,112 @@ fn files_before_and_after(rt: HostRuntime) {
             "no lock is left"
         );
     }
+}
+
+/// The name that `HEAD` holds.
+fn main_of_head(rt: &impl Abort, alloc: Global) -> Target {
+    Target::Symbolic(full_name(rt, alloc, "refs/heads/main"))
+}
+
+/// An update of `HEAD` and of the branch that it leads to, as it is handed back.
+fn update_of_head(rt: &impl Abort, alloc: Global, name: &str) -> RefEdit {
+    let (mode, expected) = if name == "HEAD" {
+        (
+            RefLog::Only,
+            PreviousValue::MustExistAndMatch(main_of_head(rt, alloc)),
+        )
+    } else {
+        (RefLog::AndReference, PreviousValue::Any)
+    };
+    RefEdit {
+        change: Change::Update {
+            log: LogChange {
+                mode,
+                force_create_reflog: false,
+                message: b"m".to_vec(alloc).expect(rt, "memory"),
+            },
+            expected,
+            new: object(rt, Id::One),
+        },
+        name: full_name(rt, alloc, name),
+        deref: false,
+    }
+}
+
+/// `HEAD` leads to a branch, whose first update is made through it: the files afterwards.
+const MADE: Texts = &[
+    ("/r/HEAD", b"ref: refs/heads/main\n"),
+    ("/r/refs/heads/main", ONE),
+    ("/r/logs/HEAD", FIRST),
+    ("/r/logs/refs/heads/main", FIRST),
+];
+
+/// Neither has a lock.
+const UNLOCKED: Texts = &[("/r/HEAD.lock", b""), ("/r/refs/heads/main.lock", b"")];
+
+#[test]
+fn an_update_that_follows_hands_back_both_edits(rt: HostRuntime) {
+    let alloc = rt.alloc();
+    let memory = made(&rt, alloc, &[("/r/HEAD", b"ref: refs/heads/main\n")]);
+    let mut store = store(&rt, alloc, memory, "", "");
+    store.write_reflog = WriteReflog::Normal;
+    let edits = edits_of(&rt, alloc, &[HEAD]);
+    match store.transaction().prepare(alloc, edits) {
+        Ok(prepared) => match prepared.commit(alloc, signature(Who::C)) {
+            Ok(done) => {
+                let names = ["HEAD", "refs/heads/main"];
+                assert_eq!(rt; done.edits.len(), names.len());
+                for (edit, name) in done.edits.iter().zip(names) {
+                    assert!(rt; *edit == update_of_head(&rt, alloc, name), "{name}");
+                }
+            }
+            Err(_) => panic!(rt; "nothing is in its way"),
+        },
+        Err(_) => panic!(rt; "nothing is against it"),
+    }
+    let memory = store.into_files();
+    hold(&rt, &memory, MADE, "a first update");
+    hold(&rt, &memory, UNLOCKED, "a first update");
+}
+
+#[test]
+fn a_deletion_that_follows_expects_it_of_both(rt: HostRuntime) {
+    let alloc = rt.alloc();
+    let mut store = store(&rt, alloc, made(&rt, alloc, MADE), "", "");
+    let mut edits = Vec::with_capacity(alloc, 1).expect(&rt, "memory");
+    let edit = RefEdit {
+        change: Change::Delete {
+            expected: PreviousValue::MustExistAndMatch(object(&rt, Id::One)),
+            log: RefLog::AndReference,
+        },
+        name: full_name(&rt, alloc, "HEAD"),
+        deref: true,
+    };
+    edits.push(edit).expect(&rt, "room");
+    match store.transaction().prepare(alloc, edits) {
+        Err(refused) => {
+            assert!(rt; refused.locks_left.is_empty(), "no lock is left");
+            match &refused.error {
+                Error::ReferenceOutOfDate {
+                    full_name,
+                    expected,
+                    actual,
+                } => {
+                    assert!(rt; full_name.eq_bytes(b"HEAD"), "the name");
+                    assert!(rt; *expected == object(&rt, Id::One), "what it expects");
+                    assert!(rt; *actual == main_of_head(&rt, alloc), "what is found");
+                }
+                _ => panic!(rt; "another cause"),
+            }
+        }
+        Ok(prepared) => {
+            let _ = prepared.rollback();
+            panic!(rt; "HEAD is no object");
+        }
+    }
+    let memory = store.into_files();
+    hold(&rt, &memory, MADE, "all as before");
+    hold(&rt, &memory, UNLOCKED, "all as before");
 }
 
 /// How a run ends.

@@ -1,13 +1,13 @@
 //! One update that is stopped at each of its file calls, or fails in it, and then loses power: the reference reads as before or as
 //! edited, and once the update is done it stays.
 
-use crate::made::{Id, object, store};
-use crate::transactions::update;
 use gix_ref_edits::transaction::{PreviousValue, RefEdit};
 use gix_ref_memory::memory::Memory;
 use gix_ref_store::file::Store;
 use gix_ref_store::file::transaction::commit;
 use gix_ref_store::store::WriteReflog;
+use gix_ref_test_values::edits::{pick_at, update};
+use gix_ref_test_values::values::{Id, object, store};
 use std::alloc::Global;
 use std::process::Abort;
 
@@ -68,6 +68,7 @@ fn answer_of(error: &commit::Error) -> Answer {
         | commit::Error::DeleteReflog { .. }
         | commit::Error::DeleteReference { .. }
         | commit::Error::FolderInPlace { .. }
+        | commit::Error::PreprocessingFailed { .. }
         | commit::Error::Memory => Answer::Other,
     }
 }
@@ -117,21 +118,6 @@ fn is_old_or_new(text: Option<&[u8]>, has_branch: bool) -> bool {
     match text {
         Some(text) => text == TWO || has_branch && text == ONE,
         None => !has_branch,
-    }
-}
-
-/// No choice, all, and each single one.
-pub fn pick_at(row: u64) -> u64 {
-    match row {
-        0 => 0,
-        1 => u64::MAX,
-        2 => 1,
-        3 => 2,
-        4 => 4,
-        5 => 8,
-        6 => 16,
-        7 => 32,
-        _ => 64,
     }
 }
 

@@ -1,15 +1,20 @@
 //! One update, prepared and then committed or rolled back: each cause, the files after it, and the values handed back.
 
-use crate::made::{Id, digits, files, full_name, object, partial, store};
 use gix_ref_base::target::Target;
-use gix_ref_edits::transaction::{Change, LogChange, PreviousValue, RefEdit};
+use gix_ref_edits::transaction::{Change, LogChange, PreviousValue, RefEdit, RefLog};
 use gix_ref_files::files::Files;
+use gix_ref_hash::hash::Kind;
 use gix_ref_memory::memory::Memory;
 use gix_ref_name::namespace::expand;
+use gix_ref_object::object::Never;
 use gix_ref_store::file::Store;
 use gix_ref_store::file::transaction::prepare::Error;
 use gix_ref_store::file::transaction::{PackedRefs, commit};
 use gix_ref_store::store::WriteReflog;
+use gix_ref_test_values::edits::{
+    Answer, Expect, answer_of, expected, prepared, update, update_by,
+};
+use gix_ref_test_values::values::{Id, digits, files, full_name, object, partial, store};
 use std::alloc::Global;
 use std::process::Abort;
 
@@ -21,119 +26,6 @@ const LOCK: &str = "/r/refs/heads/a.lock";
 
 /// A loose text of forty digits `1`.
 const ONE: &[u8] = b"1111111111111111111111111111111111111111\n";
-
-/// What an update expects.
-#[derive(Clone, Copy, Debug, PartialEq, Eq)]
-pub enum Expect {
-    Any,
-    MustExist,
-    MustNotExist,
-    Match(Id),
-    Existing(Id),
-}
-
-/// What `prepare` returns.
-#[derive(Clone, Copy, Debug, PartialEq, Eq)]
-pub enum Answer {
-    Prepared,
-    UnsafeName,
-    DeviceName,
-    TargetNotFull,
-    OtherHashKind,
-    PreprocessingFailed,
-    Packed,
-    PackedFind,
-    PathCollision,
-    LockAcquire,
-    MustExist,
-    MustNotExist,
-    DeleteMustNotExist,
-    DeleteReferenceMustExist,
-    PackedTransactionAcquire,
-    ReferenceOutOfDate,
-    Io,
-    Memory,
-}
-
-/// The variant of an error.
-pub fn answer_of(error: &Error) -> Answer {
-    match error {
-        Error::UnsafeName => Answer::UnsafeName,
-        Error::DeviceName => Answer::DeviceName,
-        Error::TargetNotFull => Answer::TargetNotFull,
-        Error::OtherHashKind => Answer::OtherHashKind,
-        Error::PreprocessingFailed { .. } => Answer::PreprocessingFailed,
-        Error::Packed(_) => Answer::Packed,
-        Error::PackedFind(_) => Answer::PackedFind,
-        Error::PathCollision { .. } => Answer::PathCollision,
-        Error::LockAcquire { .. } => Answer::LockAcquire,
-        Error::MustExist { .. } => Answer::MustExist,
-        Error::MustNotExist { .. } => Answer::MustNotExist,
-        Error::DeleteMustNotExist => Answer::DeleteMustNotExist,
-        Error::DeleteReferenceMustExist { .. } => Answer::DeleteReferenceMustExist,
-        Error::PackedTransactionAcquire => Answer::PackedTransactionAcquire,
-        Error::ReferenceOutOfDate { .. } => Answer::ReferenceOutOfDate,
-        Error::Io(_) => Answer::Io,
-        Error::Memory => Answer::Memory,
-    }
-}
-
-/// An expectation as the store takes it.
-pub fn expected(rt: &impl Abort, expect: Expect) -> PreviousValue {
-    match expect {
-        Expect::Any => PreviousValue::Any,
-        Expect::MustExist => PreviousValue::MustExist,
-        Expect::MustNotExist => PreviousValue::MustNotExist,
-        Expect::Match(id) => PreviousValue::MustExistAndMatch(object(rt, id)),
-        Expect::Existing(id) => PreviousValue::ExistingMustMatch(object(rt, id)),
-    }
-}
-
-/// One update of a name.
-pub fn update(
-    rt: &impl Abort,
-    alloc: Global,
-    name: &str,
-    expected: PreviousValue,
-    new: Target,
-) -> Vec<RefEdit> {
-    update_by(rt, alloc, name, expected, new, false)
-}
-
-/// One update of a name, which follows symbolic references or not.
-pub fn update_by(
-    rt: &impl Abort,
-    alloc: Global,
-    name: &str,
-    expected: PreviousValue,
-    new: Target,
-    deref: bool,
-) -> Vec<RefEdit> {
-    let edit = RefEdit {
-        change: Change::Update {
-            log: LogChange::new_in(alloc),
-            expected,
-            new,
-        },
-        name: full_name(rt, alloc, name),
-        deref,
-    };
-    let mut edits = Vec::with_capacity(alloc, 1).expect(rt, "memory");
-    edits.push(edit).expect(rt, "room");
-    edits
-}
-
-/// Prepares an update and rolls it back. Answers what `prepare` did, with the files.
-pub fn prepared(alloc: Global, mut store: Store<Memory>, edits: Vec<RefEdit>) -> (Answer, Memory) {
-    let answer = match store.transaction().prepare(alloc, edits) {
-        Err(refused) => answer_of(&refused.error),
-        Ok(prepared) => {
-            let _ = prepared.rollback();
-            Answer::Prepared
-        }
-    };
-    (answer, store.into_files())
-}
 
 /// A file before, the name, the new id, what is expected, and the result.
 type Row<'a> = (&'a str, (&'a str, &'a [u8]), &'a str, Id, Expect, Answer);
@@ -308,6 +200,86 @@ fn causes(rt: HostRuntime) {
             memory.get(LOCK.as_bytes()).is_some(),
             path == LOCK,
             "no other lock"
+        );
+    }
+}
+
+/// The edit of a branch that is not there: an update to forty digits `1`, or a deletion.
+fn edit_of_nothing(
+    rt: &impl Abort,
+    alloc: Global,
+    expect: Expect,
+    is_deletion: bool,
+) -> Vec<RefEdit> {
+    let expected = expected(rt, expect);
+    let change = if is_deletion {
+        Change::Delete {
+            expected,
+            log: RefLog::AndReference,
+        }
+    } else {
+        Change::Update {
+            log: LogChange::new_in(alloc),
+            expected,
+            new: object(rt, Id::One),
+        }
+    };
+    let edit = RefEdit {
+        change,
+        name: full_name(rt, alloc, "refs/heads/a"),
+        deref: false,
+    };
+    let mut edits = Vec::with_capacity(alloc, 1).expect(rt, "memory");
+    edits.push(edit).expect(rt, "room");
+    edits
+}
+
+#[test]
+fn what_is_reported_of_a_missing_reference(rt: HostRuntime) {
+    let alloc = rt.alloc();
+    let null = Target::Object(Kind::Sha1.null());
+    let rows: [(&str, Expect, bool, Option<Target>); 4] = [
+        ("an update", Expect::MustExist, false, Some(null)),
+        (
+            "an update that expects a target",
+            Expect::Match(Id::One),
+            false,
+            Some(object(&rt, Id::One)),
+        ),
+        ("a deletion", Expect::MustExist, true, None),
+        (
+            "a deletion that expects a target",
+            Expect::Match(Id::One),
+            true,
+            None,
+        ),
+    ];
+    for (meaning, expect, is_deletion, want) in rows {
+        let mut store = store(&rt, alloc, Memory::new(alloc), "", "");
+        let edits = edit_of_nothing(&rt, alloc, expect, is_deletion);
+        match store.transaction().prepare(alloc, edits) {
+            Err(refused) => match &refused.error {
+                Error::MustExist {
+                    full_name,
+                    expected,
+                } => {
+                    assert!(rt; full_name.eq_bytes(b"refs/heads/a"), "{meaning}");
+                    assert!(rt; want.as_ref() == Some(expected), "{meaning}");
+                }
+                Error::DeleteReferenceMustExist { full_name } => {
+                    assert!(rt; full_name.eq_bytes(b"refs/heads/a"), "{meaning}");
+                    assert!(rt; want.is_none(), "{meaning}");
+                }
+                _ => panic!(rt; "another cause: {meaning}"),
+            },
+            Ok(prepared) => {
+                let _ = prepared.rollback();
+                panic!(rt; "nothing is there: {meaning}");
+            }
+        }
+        assert!(rt;
+            store.into_files().get(LOCK.as_bytes()).is_none(),
+            "{meaning}"
         );
     }
 }
@@ -525,9 +497,9 @@ fn given_up_before(rt: HostRuntime) {
     let mut store = store(&rt, alloc, Memory::new(alloc), "", "");
     let back = store
         .transaction()
-        .packed_refs(PackedRefs::DeletionsOnly)
+        .packed_refs(PackedRefs::<Never>::DeletionsOnly)
         .rollback(alloc);
     assert!(rt; back.edits.is_empty() && back.locks_left.is_empty());
-    assert_eq!(rt; back.packed_refs, PackedRefs::DeletionsOnly);
+    assert!(rt; matches!(back.packed_refs, PackedRefs::DeletionsOnly));
     assert_eq!(rt; store.into_files().calls(), 0, "no file is touched");
 }
