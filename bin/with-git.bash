@@ -79,7 +79,7 @@ change() {
     git -C "$1" tag -a -m three late
 }
 
-# link REPOSITORY: a linked worktree with a branch and references of its own.
+# link REPOSITORY: a linked worktree with a branch and private references.
 link() {
     git -C "$1" worktree add -q -b linked "$1-linked" 2>/dev/null
     git -C "$1-linked" update-ref refs/bisect/bad HEAD

@@ -3,7 +3,8 @@
 //! `-make` is to write the files that the others read; `tiny` does a little of each.
 //!
 //! The modes `find-hit`, `find-miss` and `open-find` look up names in a repository, `list` and `list-prefix` list its references,
-//! `log10` and `logall` read a reflog, and `update` and `update-synced` make updates; they print `MODE TURNS NANOSECONDS HITS`.
+//! `log10` and `logall` read a reflog, and `update`, `update-synced`, `update-many`, `prepare-many` and `delete-many` make
+//! transactions; they print `MODE TURNS NANOSECONDS HITS`.
 #![tactic(auto)]
 
 mod listings;
@@ -26,12 +27,12 @@ fn tiny(rt: &HostRuntime, folder: &str, turns: u64) -> Result<u64> {
     Ok(packed.saturating_add(logs.unwrap_or(0)))
 }
 
-/// The disk of a mode: that of `update` syncs nothing.
+/// The disk of a mode: only that of `update-synced` syncs.
 fn disk_of(rt: &HostRuntime, mode: &str) -> Result<Disk> {
-    if mode == "update" {
-        return Ok(Disk::without_syncs(rt.clone()?));
+    if mode == "update-synced" {
+        return Ok(Disk::new(rt.clone()?));
     }
-    Ok(Disk::new(rt.clone()?))
+    Ok(Disk::without_syncs(rt.clone()?))
 }
 
 /// The work of a mode over a repository; `None` for another mode, or where the repository cannot be read.

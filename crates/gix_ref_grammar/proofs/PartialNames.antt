@@ -7,7 +7,7 @@ use Rattle.std.proofs.lemmas.List.Splits.{slice_split_at, slice_split_none}
 use Rattle.std.proofs.lemmas.List.Elements.{All-head, All-tail}
 use Rattle.gix_ref_grammar.specs.declared.name.error.Error.{Error}
 use Rattle.gix_ref_hash.specs.Bytes.{NoByte, is_empty, is_slash, occurs, components}
-use Rattle.gix_ref_grammar.specs.NameGrammar.{is_invalid, byte_error, is_dotted, is_locked, told_if, first_told, partial_error, IsPartialName}
+use Rattle.gix_ref_grammar.specs.NameGrammar.{is_invalid, byte_error, is_dotted, is_locked, reported_if, first_reported, partial_error, IsPartialName}
 use Rattle.gix_ref_hash.proofs.ByteLemmas.{IsApart, apart}
 
 -- every rule but the one that a name is not `@` alone
@@ -33,19 +33,19 @@ pub record IsComponent (c : List ℕ) : Type 0 where
   pub locked : is_locked c ≡ false
   pub portion : occurs (codes "@{") c ≡ false
 
-not_told : (b : Bool) (e : Error) (rest : List (Option Error)) → first_told (told_if b e ∷ rest) ≡ None → (b ≡ false) × (first_told rest ≡ None)
+not_told : (b : Bool) (e : Error) (rest : List (Option Error)) → first_reported (reported_if b e ∷ rest) ≡ None → (b ≡ false) × (first_reported rest ≡ None)
 not_told true e rest h = absurd (cc)
 not_told false e rest h = (refl, h)
 
-no_byte_told : (o : Option ℕ) (rest : List (Option Error)) → first_told (option_map byte_error o ∷ rest) ≡ None → (o ≡ None) × (first_told rest ≡ None)
+no_byte_told : (o : Option ℕ) (rest : List (Option Error)) → first_reported (option_map byte_error o ∷ rest) ≡ None → (o ≡ None) × (first_reported rest ≡ None)
 no_byte_told (Some b) rest h = absurd (cc)
 no_byte_told None rest h = (refl, h)
 
-tells_not : (b : Bool) (e : Error) (rest : List (Option Error)) → b ≡ false → first_told rest ≡ None → first_told (told_if b e ∷ rest) ≡ None
+tells_not : (b : Bool) (e : Error) (rest : List (Option Error)) → b ≡ false → first_reported rest ≡ None → first_reported (reported_if b e ∷ rest) ≡ None
 tells_not true e rest off h = absurd (cc)
 tells_not false e rest off h = h
 
-tells_no_byte : (o : Option ℕ) (rest : List (Option Error)) → o ≡ None → first_told rest ≡ None → first_told (option_map byte_error o ∷ rest) ≡ None
+tells_no_byte : (o : Option ℕ) (rest : List (Option Error)) → o ≡ None → first_reported rest ≡ None → first_reported (option_map byte_error o ∷ rest) ≡ None
 tells_no_byte (Some b) rest off h = absurd (cc)
 tells_no_byte None rest off h = h
 

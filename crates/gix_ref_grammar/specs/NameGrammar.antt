@@ -25,34 +25,34 @@ is_dotted c = starts_with nat_eq c (codes ".")
 abbrev pub is_locked : List ℕ → Bool
 is_locked c = ends_with nat_eq c (codes ".lock")
 
-abbrev pub told_if : Bool → Error → Option Error
-told_if true e = Some e
-told_if false e = None
+abbrev pub reported_if : Bool → Error → Option Error
+reported_if true e = Some e
+reported_if false e = None
 
-abbrev pub first_told : List (Option Error) → Option Error
-first_told [] = None
-first_told (Some e ∷ rest) = Some e
-first_told (None ∷ rest) = first_told rest
+abbrev pub first_reported : List (Option Error) → Option Error
+first_reported [] = None
+first_reported (Some e ∷ rest) = Some e
+first_reported (None ∷ rest) = first_reported rest
 
 -- the rules for partial names, each with the error for a name that breaks it
 abbrev pub partial_rules : List ℕ → List (Option Error)
 partial_rules n =
-    told_if (is_empty n) Empty
+    reported_if (is_empty n) Empty
     ∷ option_map byte_error (find is_invalid n)
-    ∷ told_if (starts_with nat_eq n (codes "/")) StartsWithSlash
-    ∷ told_if (ends_with nat_eq n (codes "/")) EndsWithSlash
-    ∷ told_if (occurs (codes "//") n) RepeatedSlash
-    ∷ told_if (list_any is_dotted (components n)) StartsWithDot
-    ∷ told_if (ends_with nat_eq n (codes ".")) EndsWithDot
-    ∷ told_if (occurs (codes "..") n) RepeatedDot
-    ∷ told_if (list_any is_locked (components n)) LockFileSuffix
-    ∷ told_if (occurs (codes "@{") n) ReflogPortion
-    ∷ told_if (pointwise nat_eq n (codes "@")) SingleAt
+    ∷ reported_if (starts_with nat_eq n (codes "/")) StartsWithSlash
+    ∷ reported_if (ends_with nat_eq n (codes "/")) EndsWithSlash
+    ∷ reported_if (occurs (codes "//") n) RepeatedSlash
+    ∷ reported_if (list_any is_dotted (components n)) StartsWithDot
+    ∷ reported_if (ends_with nat_eq n (codes ".")) EndsWithDot
+    ∷ reported_if (occurs (codes "..") n) RepeatedDot
+    ∷ reported_if (list_any is_locked (components n)) LockFileSuffix
+    ∷ reported_if (occurs (codes "@{") n) ReflogPortion
+    ∷ reported_if (pointwise nat_eq n (codes "@")) SingleAt
     ∷ []
 
 -- the first rule that a partial name breaks
 unfoldable pub partial_error : List ℕ → Option Error
-partial_error n = first_told (partial_rules n)
+partial_error n = first_reported (partial_rules n)
 
 -- a byte of a pseudo name: `A` to `Z` or an underscore
 abbrev pub is_pseudo_byte : ℕ → Bool
@@ -60,11 +60,11 @@ is_pseudo_byte b = (nat_le 65 b && nat_le b 90) || (b == 95)
 
 -- the one rule more for full names: without a slash only bytes of a pseudo name
 abbrev pub full_rule : List ℕ → Option Error
-full_rule n = told_if (not (list_any is_slash n) && not (list_all is_pseudo_byte n)) SomeLowercase
+full_rule n = reported_if (not (list_any is_slash n) && not (list_all is_pseudo_byte n)) SomeLowercase
 
 -- the first rule that a full name breaks
 unfoldable pub full_error : List ℕ → Option Error
-full_error n = first_told (partial_error n ∷ full_rule n ∷ [])
+full_error n = first_reported (partial_error n ∷ full_rule n ∷ [])
 
 abbrev pub IsPartialName : List ℕ → Type 0
 IsPartialName n = partial_error n ≡ None

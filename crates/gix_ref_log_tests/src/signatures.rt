@@ -103,7 +103,7 @@ fn written(rt: &(impl Abort + AllocGlobal), signature: SignatureRef<'_>) -> Opti
 }
 
 /// Signatures, each with its text, if it can be written.
-const WRITTEN: [(Parts, Option<&[u8]>, &str); 11] = [
+const WRITTEN: [(Parts, Option<&[u8]>, &str); 12] = [
     (
         (b"C", b"c@x", 1234, 28800),
         Some(b"C <c@x> 1234 +0800"),
@@ -124,6 +124,7 @@ const WRITTEN: [(Parts, Option<&[u8]>, &str); 11] = [
         Some(b"a <b> 0 -9959"),
         "99:59 west",
     ),
+    ((b"a", b"b", 0, 359941), None, "a second past 99:59"),
     ((b"a", b"b", 0, 360000), None, "100 hours"),
     ((b"a", b"b", 0, 1), None, "a second"),
     ((b"a", b"b", 0, i32::MIN), None, "the least offset"),

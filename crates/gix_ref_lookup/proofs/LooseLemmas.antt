@@ -12,7 +12,7 @@ use Rattle.hex.specs.declared.error.FromHexError.{FromHexError}
 use Rattle.hex.proofs.HexLemmas.{decode_of-ok}
 use Rattle.gix_ref_hash.specs.Bytes.{Spans, StopsAt, is_space, in_line, is_empty}
 use Rattle.gix_ref_hash.specs.Ids.{ReadsId, IsWhole, IsHexOf, kind_len, id_kind, id_bytes}
-use Rattle.gix_ref_grammar.specs.NameGrammar.{IsFullName, IsPartialName, full_error, partial_error, full_rule, first_told, is_invalid}
+use Rattle.gix_ref_grammar.specs.NameGrammar.{IsFullName, IsPartialName, full_error, partial_error, full_rule, first_reported, is_invalid}
 use Rattle.gix_ref_base.specs.Targets.{TargetValue}
 use Rattle.gix_ref_base.specs.Targets.TargetValue.{object_id, symbolic_name}
 use Rattle.gix_ref_grammar.specs.declared.name.error.Error.{Error as NameError}
@@ -237,7 +237,7 @@ full_is_partial : (n : List ℕ) → IsFullName n → IsPartialName n
 unfolding full_error
 full_is_partial n valid = go (partial_error n) valid
   where
-    go : (e : Option NameError) → first_told (e ∷ full_rule n ∷ []) ≡ None → e ≡ None
+    go : (e : Option NameError) → first_reported (e ∷ full_rule n ∷ []) ≡ None → e ≡ None
     go None h = refl
     go (Some e) h = absurd (cc)
 

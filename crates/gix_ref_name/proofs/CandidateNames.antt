@@ -9,17 +9,17 @@ use Rattle.std.proofs.lemmas.Slice.Eq.{starts_is}
 use Rattle.gix_ref_grammar.specs.declared.name.error.Error.TheVariants.{SomeLowercase}
 use Rattle.gix_ref_hash.specs.Bytes.{is_slash}
 use Rattle.gix_ref_hash.proofs.ByteLemmas.{no_byte}
-use Rattle.gix_ref_grammar.specs.NameGrammar.{is_pseudo_byte, first_told, told_if, full_rule, full_error, partial_error, IsPartialName, IsFullName}
+use Rattle.gix_ref_grammar.specs.NameGrammar.{is_pseudo_byte, first_reported, reported_if, full_rule, full_error, partial_error, IsPartialName, IsFullName}
 use Rattle.gix_ref_name.specs.Candidates.{is_rooted, is_pseudo, fronts_of}
 use Rattle.gix_ref_grammar.proofs.PartialNames.{IsPath, IsComponent, rules_of, first_component, last_component, behind_component}
 use Rattle.gix_ref_name.proofs.Expanding.{refs_component}
 
 -- ---- full names
-full_by : (n : List ℕ) (s q : Bool) → s ≡ true → first_told (told_if (not s && not q) SomeLowercase ∷ []) ≡ None
+full_by : (n : List ℕ) (s q : Bool) → s ≡ true → first_reported (reported_if (not s && not q) SomeLowercase ∷ []) ≡ None
 full_by n true q h = refl
 full_by n false q h = absurd (cc)
 
-full_pseudo : (s q : Bool) → q ≡ true → first_told (told_if (not s && not q) SomeLowercase ∷ []) ≡ None
+full_pseudo : (s q : Bool) → q ≡ true → first_reported (reported_if (not s && not q) SomeLowercase ∷ []) ≡ None
 full_pseudo true true h = refl
 full_pseudo false true h = refl
 full_pseudo s false h = absurd (cc)
@@ -28,13 +28,13 @@ full_pseudo s false h = absurd (cc)
 pub full_with_slash : (n : List ℕ) → IsPartialName n → list_any is_slash n ≡ true → IsFullName n
 unfolding full_error
 full_with_slash n valid slash =
-    ap (λ o. first_told (o ∷ full_rule n ∷ [])) valid ∙ full_by n (list_any is_slash n) (list_all is_pseudo_byte n) slash
+    ap (λ o. first_reported (o ∷ full_rule n ∷ [])) valid ∙ full_by n (list_any is_slash n) (list_all is_pseudo_byte n) slash
 
 -- a partial name with only bytes of a pseudo name
 full_without : (n : List ℕ) → IsPartialName n → is_pseudo n ≡ true → IsFullName n
 unfolding full_error
 full_without n valid pseudo =
-    ap (λ o. first_told (o ∷ full_rule n ∷ [])) valid ∙ full_pseudo (list_any is_slash n) (list_all is_pseudo_byte n) pseudo
+    ap (λ o. first_reported (o ∷ full_rule n ∷ [])) valid ∙ full_pseudo (list_any is_slash n) (list_all is_pseudo_byte n) pseudo
 
 -- ---- fronts
 pub record IsName (n : List ℕ) : Type 0 where

@@ -7,7 +7,7 @@ use Rattle.std.proofs.lemmas.Bool.Decides.{Decides-eqb}
 use Rattle.gix_ref_hash.specs.declared.hash.Kind.{Kind}
 use Rattle.gix_ref_grammar.specs.declared.name.error.Error.TheVariants.{SomeLowercase}
 use Rattle.gix_ref_hash.specs.Bytes.{is_slash}
-use Rattle.gix_ref_grammar.specs.NameGrammar.{IsFullName, IsPartialName, full_error, full_rule, first_told, told_if, is_pseudo_byte}
+use Rattle.gix_ref_grammar.specs.NameGrammar.{IsFullName, IsPartialName, full_error, full_rule, first_reported, reported_if, is_pseudo_byte}
 use Rattle.gix_ref_base.specs.Locations.{key_outside}
 use Rattle.gix_ref_records.specs.declared.packed.reference.Reference.{Reference}
 use Rattle.gix_ref_packed.specs.declared.packed.find.ParseError.{ParseError}
@@ -115,5 +115,5 @@ has_slash p rooted = ⊎_elim
 pub rooted_is_full : (p : List ℕ) → IsPartialName p → is_rooted p ≡ true → IsFullName p
 unfolding full_error
 rooted_is_full p valid rooted =
-    ap (λ o. first_told (o ∷ full_rule p ∷ [])) valid
-    ∙ ap (λ b. first_told (told_if (not b && not (list_all is_pseudo_byte p)) SomeLowercase ∷ [])) (has_slash p rooted)
+    ap (λ o. first_reported (o ∷ full_rule p ∷ [])) valid
+    ∙ ap (λ b. first_reported (reported_if (not b && not (list_all is_pseudo_byte p)) SomeLowercase ∷ [])) (has_slash p rooted)

@@ -70,6 +70,39 @@ fn every_front(rt: HostRuntime) {
     }
 }
 
+/// The text behind records that fill more than two windows of a search in a file.
+fn behind_many(rt: &impl Abort, alloc: Global, text: &[u8]) -> Vec<u8> {
+    let mut whole = sorted(rt, alloc, b"");
+    for number in 0..40u32 {
+        let line = format!(in alloc;
+            "1111111111111111111111111111111111111111 refs/heads/a{number:04}\n"
+        );
+        let line = line.expect(rt, "memory");
+        whole
+            .extend_from_slice(line.as_bytes())
+            .expect(rt, "memory");
+    }
+    whole.extend_from_slice(text).expect(rt, "memory");
+    whole
+}
+
+#[test]
+fn behind_several_windows(rt: HostRuntime) {
+    let alloc = rt.alloc();
+    for len in [0, 56, 57, 58, 100, 111, 112, 153, 154, 200, 206, 207] {
+        let whole = behind_many(&rt, alloc, &TEXT[..len]);
+        compare(&rt, alloc, whole.as_slice());
+    }
+    for (place, byte) in [(0, b'\n'), (40, b'x'), (57, b'^'), (98, b'\r'), (111, b'1')] {
+        let mut whole = behind_many(&rt, alloc, TEXT);
+        let at = whole.len().saturating_sub(TEXT.len()).saturating_add(place);
+        if let Some(old) = whole.get_mut(at) {
+            *old = byte;
+        }
+        compare(&rt, alloc, whole.as_slice());
+    }
+}
+
 #[test]
 fn every_byte_replaced(rt: HostRuntime) {
     let alloc = rt.alloc();

@@ -1,11 +1,12 @@
 //! How many looks a search makes, counted as the program runs.
 ghost use Rattle.std.specs.Prelude.{◌≡◌, ◌<◌};
 
-use crate::made::{NAMES, TEXT};
+use crate::made::{NAMES, TEXT, buffer, full, sorted};
 use gix_ref_hash::hash::Kind;
-use gix_ref_packed::packed::Probes;
+use gix_ref_name::name::FullNameRef;
 use gix_ref_packed::packed::search::search;
 use gix_ref_packed::packed::searchable::{InMemory, Look, Probe, SearchableRecords};
+use gix_ref_packed::packed::{Buffer, Probes};
 use std::convert::Infallible;
 use std::marker::Brand;
 use std::process::Abort;
@@ -66,6 +67,34 @@ fn looks_for<L: Ledger>(text: &[u8], name: &[u8], blank: Blank) -> (u64, bool)
 
 fn counted(text: &[u8], name: &[u8]) -> (u64, bool) {
     looks_for::<Brand>(text, name, Blank::new(1))
+}
+
+/// Whether the search of a buffer for a full name finds it.
+fn is_found<L: Ledger>(packed: &Buffer, name: FullNameRef<'_>, blank: Blank) -> bool
+    requires name { blank.name ≡ L.name }
+    requires parts { blank.parts ≡ L.parts }
+    requires some { 0 < blank.parts }
+{
+    let mut probes = Probes::<L>::new(blank);
+    matches!(packed.try_find_full(name, &mut probes), Ok(Some(_)))
+}
+
+fn finds(packed: &Buffer, name: FullNameRef<'_>) -> bool {
+    is_found::<Brand>(packed, name, Blank::new(1))
+}
+
+#[test]
+fn full_names_in_a_buffer(rt: HostRuntime) {
+    let alloc = rt.alloc();
+    let packed = buffer(&rt, alloc, sorted(&rt, alloc, TEXT).as_slice());
+    for name in NAMES {
+        let name = full(&rt, name);
+        assert!(rt; finds(&packed, name), "{name}");
+    }
+    let other = full(&rt, "refs/tags/v");
+    assert!(rt; !finds(&packed, other));
+    let empty = buffer(&rt, alloc, b"");
+    assert!(rt; !finds(&empty, other), "no record");
 }
 
 #[test]

@@ -16,8 +16,8 @@ use Rattle.gix_ref_store.specs.CommitLines.{lines_due}
 use Rattle.gix_ref_commit.specs.CommittedTrees.{IsOldOrNew}
 use Rattle.gix_ref_store.specs.Store.{files_of, folders, meaning_of}
 use Rattle.gix_ref_store.specs.declared.file.store.Store.{Store}
-use Rattle.gix_ref_store.specs.declared.file.transaction.Done.{Done}
-use Rattle.gix_ref_store.specs.declared.file.transaction.Failed.{Failed}
+use Rattle.gix_ref_store.specs.declared.file.transaction.outcome.Done.{Done}
+use Rattle.gix_ref_store.specs.declared.file.transaction.outcome.Failed.{Failed}
 use Rattle.gix_ref_program.specs.Updates.{HasFailed, IsBegun, IsMade, IsStopOf, IsLossOf, IsUpdateError, error_of}
 use Rattle.gix_ref_program.specs.declared.update.UpdateError.{UpdateError}
 use Rattle.gix_ref_program.specs.declared.update.UpdateError.TheVariants.{Commit}
@@ -76,7 +76,7 @@ module _ {F : Type 0} (honest : Type 0) (means : F → Meaning) (faults : F → 
   rises left (inl none) = inl none
   rises left (inr rose) = inr (rose_before _ _ _ from.prepared.held.no_fewer rose)
 
-  pub done : (answer : Result Done Failed) (error : Option UpdateError) (left : List Path) → error ≡ error_of answer → left ≡ left_of answer →
+  pub done : {T : Type 0} (answer : Result (Done T) (Failed T)) (error : Option UpdateError) (left : List Path) → error ≡ error_of answer → left ≡ left_of answer →
       IfOk answer (λ d. CommitsFrom honest means faults mid new committer packed held (paths_of d.locks_left.items)) → EveryStopFrom honest means faults mid new committer packed held (left_of answer) →
       (left_of answer ≡ []) ⊎ HasRisen (faults (files_of mid)) (faults (files_of new)) → error ≡ None → IsMade honest means faults old new committer edits left
   done (Ok d) error left told same commits ends counted none =
@@ -91,11 +91,11 @@ module _ {F : Type 0} (honest : Type 0) (means : F → Meaning) (faults : F → 
       loses_joins (loses_weaken (from.prepared.lost h).loses (λ T kept. inl (split, inl (from.splits.is h), kept)))
       (loses_weaken (losses old split from.prepared h good at_rest).loses (λ T well. inr (begun, (disk_in means mid, started.0, well))))
 
-  pub settles : (answer : Result Done Failed) (error : Option UpdateError) → error ≡ error_of answer → OnOk answer (SettlesFrom honest means faults mid new packed held) → honest → error ≡ None → IsAtRest means old → IsAtRest means new
+  pub settles : {T : Type 0} (answer : Result (Done T) (Failed T)) (error : Option UpdateError) → error ≡ error_of answer → OnOk answer (SettlesFrom honest means faults mid new packed held) → honest → error ≡ None → IsAtRest means old → IsAtRest means new
   settles (Ok d) error is settled h none at_rest = settled old from.split from.prepared h at_rest
   settles (Err f) error is settled h none at_rest = absurd (differ (Commit f.error) (sym is ∙ none))
 
-  pub told : (read : Type 0) (answer : Result Done Failed) (error : Option UpdateError) (left : List Path) → error ≡ error_of answer → left ≡ left_of answer →
+  pub told : (read : Type 0) {T : Type 0} (answer : Result (Done T) (Failed T)) (error : Option UpdateError) (left : List Path) → error ≡ error_of answer → left ≡ left_of answer →
       IfErr answer (λ f. FailsFor honest means faults mid new committer packed held f.error) → IfErr answer (λ f. NoBadLineFrom honest means faults mid packed held f.error) → EveryStopFrom honest means faults mid new committer packed held (left_of answer) →
       (left_of answer ≡ []) ⊎ HasRisen (faults (files_of mid)) (faults (files_of new)) → IfSome error (λ u. IsUpdateError honest means faults read old new committer edits u left)
   told read (Ok d) error left is same fails sound ends counted = subst (λ r. IfSome r (λ u. IsUpdateError honest means faults read old new committer edits u left)) (sym is) tt

@@ -64,6 +64,7 @@ prepare_word (prepare.DeleteReferenceMustExist name) = codes "DeleteReferenceMus
 prepare_word (prepare.MustExist name expected) = codes "MustExist"
 prepare_word (prepare.MustNotExist name actual new) = codes "MustNotExist"
 prepare_word (prepare.ReferenceOutOfDate name expected actual) = codes "ReferenceOutOfDate"
+prepare_word (prepare.ReferenceDecode error) = codes "ReferenceDecode"
 prepare_word (prepare.Io error) = codes "Io"
 prepare_word prepare.Memory = codes "Memory"
 
@@ -81,6 +82,7 @@ commit_word (commit.LockCommit source name) = codes "LockCommit"
 commit_word (commit.DeleteReference name source) = codes "DeleteReference"
 commit_word (commit.DeleteReflog name source) = codes "DeleteReflog"
 commit_word (commit.FolderInPlace path) = codes "FolderInPlace"
+commit_word (commit.PreprocessingFailed source) = codes "PreprocessingFailed"
 commit_word commit.Memory = codes "Memory"
 
 abbrev pub find_word : finds.Error → List ℕ

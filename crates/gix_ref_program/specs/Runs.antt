@@ -142,7 +142,7 @@ write_reflog_of (Some who) = Normal
 abbrev pub IsCommitterOf : Line → Option SignatureRef → Type 0
 IsCommitterOf line committer = option_map signature_ref_who committer ≡ line.committer
 
--- What a line comes to: an outcome, which is printed as a whole; or the items of a listing or of a reflog, each printed as it
+-- What becomes of a line: an outcome, which is printed as a whole; or the items of a listing or of a reflog, each printed as it
 -- comes, all where `whole` says so.
 pub data Ran : Type 0 where
   Said : Outcome → Ran
@@ -335,7 +335,7 @@ module _ {F : Type 0} where
     NotBegun line (Said (outcomes.Refused refusal locks)) = IsUnopened line refusal × (locks.items ≡ [])
     NotBegun line ran = ⊥
 
-    -- what a line comes to: it is begun in its store, or it is not, and the files are as before
+    -- what becomes of a line: it is begun in its store, or it is not, and the files are as before
     abbrev pub LineRan : {R : Type 0} (G : Ghosts R) → (files after : F) → Line → Ran → Type 0
     LineRan G files after line ran =
         ((old : Store F) × (new : Store F) × (committer : Option SignatureRef) × IsCommitterOf line committer × IsOpened files line old × (files_of new ≡ after) × CommandRan G old new committer line.kind line.message line.asked ran)
@@ -346,15 +346,15 @@ module _ {F : Type 0} where
     IsStopIn files line T =
         (T ≡ (means files).tree) ⊎ ((old : Store F) × (committer : Option SignatureRef) × IsCommitterOf line committer × IsOpened files line old × IsStop old committer line.kind line.message line.asked T)
 
-    -- A run of words that are no line: nothing changes, and it says so.
-    pub record RunsWrong {E : Type 0} (files after : F) (words : List (List ℕ)) (out now : Option (List ℕ)) (status : Result ℕ E) : Type 0 where
-      pub no_line : (line : Line) → IsLine words line → ⊥
-      pub same : after ≡ files
-      pub printed : IfOk status (λ s. (s ≡ 2) × Appends out now (codes "wrong words\n"))
-
-    -- A run of a line: what it comes to is printed, and gives the status; and each stop leaves what a stop in the line leaves.
+    -- A run of a line: what becomes of it is printed, and gives the status; and each stop leaves what a stop in the line leaves.
     pub record RunsLine {R : Type 0} (G : Ghosts R) {E : Type 0} (files after : F) (words : List (List ℕ)) (out now : Option (List ℕ)) (status : Result ℕ E) : Type 0 where
       pub line : Line
       pub is_line : IsLine words line
       pub prints : Prints (LineRan G files after line) out now status
       pub leaves : honest → Leaves (means files) (means after) (IsStopIn files line)
+
+-- A run of words that are no line: nothing changes, and it says so.
+pub record RunsWrong {F E : Type 0} (files after : F) (words : List (List ℕ)) (out now : Option (List ℕ)) (status : Result ℕ E) : Type 0 where
+  pub no_line : (line : Line) → IsLine words line → ⊥
+  pub same : after ≡ files
+  pub printed : IfOk status (λ s. (s ≡ 2) × Appends out now (codes "wrong words\n"))

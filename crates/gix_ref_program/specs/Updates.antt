@@ -18,8 +18,8 @@ use Rattle.gix_ref_store.specs.Prepared.{PreparesGiven, RefusesFrom, HasGoodReco
 use Rattle.gix_ref_store.specs.Store.{files_of, meaning_of}
 use Rattle.gix_ref_store.specs.declared.file.store.Store.{Store}
 use Rattle.gix_ref_edits.specs.declared.transaction.RefEdit.{RefEdit}
-use Rattle.gix_ref_store.specs.declared.file.transaction.Done.{Done}
-use Rattle.gix_ref_store.specs.declared.file.transaction.Failed.{Failed}
+use Rattle.gix_ref_store.specs.declared.file.transaction.outcome.Done.{Done}
+use Rattle.gix_ref_store.specs.declared.file.transaction.outcome.Failed.{Failed}
 use Rattle.gix_ref_commit.specs.CommittedTrees.{IsOldOrNew}
 use Rattle.gix_ref_commit.specs.LogEffects.{with_lines}
 use Rattle.gix_ref_commit.specs.declared.error.Error as commits
@@ -27,7 +27,7 @@ use Rattle.gix_ref_program.specs.declared.update.UpdateError.{UpdateError}
 use Rattle.gix_ref_program.specs.declared.update.UpdateError.TheVariants.{Prepare, Commit}
 
 -- why a commit did not do it, if it did not
-abbrev pub error_of : Result Done Failed → Option UpdateError
+abbrev pub error_of : {T : Type 0} → Result (Done T) (Failed T) → Option UpdateError
 error_of (Ok done) = None
 error_of (Err failed) = Some (Commit failed.error)
 

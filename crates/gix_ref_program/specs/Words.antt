@@ -92,7 +92,7 @@ abbrev pub option_words : List ℕ → Option (List ℕ) → List (List ℕ)
 option_words option None = []
 option_words option (Some value) = option ∷ (value ∷ [])
 
--- this option stands first with this value, or it does not stand first; and these words follow
+-- this option comes first with this value, or it does not come first; and these words follow
 pub record IsOption (option : List ℕ) (words : List (List ℕ)) (value : Option (List ℕ)) (rest : List (List ℕ)) : Type 0 where
   pub not_first : value ≡ None → first_is words option ≡ false
   pub words_are : words ≡ option_words option value ++ rest

@@ -77,8 +77,8 @@ fn print_next<F: Files, W: Write>(
     ensures same_reference { items.new.store.ghost_name ≡ items.old.store.ghost_name }
     ensures prints { IfOk result (PrintsNext F.honest F.means F.faults items.old items.new
         (W.contents out.old) (append_known (W.contents out.new) text.new.items) text.old.items) }
-    ensures rises { count_in F.honest F.means F.faults items.old ≤ count_in F.honest F.means F.faults
-        items.new }
+    ensures rises { count_in F.honest F.means F.faults items.old
+        ≤ count_in F.honest F.means F.faults items.new }
     ensures unchanged { LooksUp F.honest F.means (store_of items.old) (store_of items.new) }
     ensures left { IfOk result (λ fault.
         IfSome fault (λ _. items_left items.new < items_left items.old)) }

@@ -72,6 +72,7 @@ fn prepare_variant(error: &prepare::Error) -> &'static str
         prepare::Error::MustExist { .. } => "MustExist",
         prepare::Error::MustNotExist { .. } => "MustNotExist",
         prepare::Error::ReferenceOutOfDate { .. } => "ReferenceOutOfDate",
+        prepare::Error::ReferenceDecode(_) => "ReferenceDecode",
         prepare::Error::Io(_) => "Io",
         prepare::Error::Memory => "Memory",
     }
@@ -101,6 +102,7 @@ fn commit_variant(error: &commit::Error) -> &'static str
         commit::Error::DeleteReference { .. } => "DeleteReference",
         commit::Error::DeleteReflog { .. } => "DeleteReflog",
         commit::Error::FolderInPlace { .. } => "FolderInPlace",
+        commit::Error::PreprocessingFailed { .. } => "PreprocessingFailed",
         commit::Error::Memory => "Memory",
     }
 }

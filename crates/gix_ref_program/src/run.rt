@@ -503,7 +503,7 @@ fn run_line<F: Files, W: Write>(
 /// there was no memory for the text. (`git update-ref`, `git symbolic-ref`, `git show-ref`, `git for-each-ref`, `git reflog show`)
 ///
 /// The words are those behind the name of the program. With a SIGNATURE updates write log lines, with the TEXT as their
-/// message; without one there are none. Costs five calls of files for an update, one for a reference that
+/// message; without one there are none. Costs what `update` does, one call of files for a reference that
 /// is shown. A listing of a prefix reads the folders and files that its names may be in, and of a sorted `packed-refs` the
 /// records of the prefix. A listing and a reflog are written in blocks.
 pub fn run<F: Files, W: Write>(
@@ -514,7 +514,7 @@ pub fn run<F: Files, W: Write>(
     out: &mut W,
 ) -> RunResult<F>
     ensures packed_refs { result.packed_refs ≡ packed_refs }
-    ensures ran { RunsWrong F.honest F.means F.faults files result.files (texts words.now)
+    ensures ran { RunsWrong files result.files (texts words.now)
         (W.contents out.old) (W.contents out.new) result.status
         ⊎ RunsLine F.honest F.means F.faults F.Reader.ReadAt files result.files (texts words.now)
         (W.contents out.old) (W.contents out.new) result.status }

@@ -25,7 +25,7 @@ pub enum UpdateError {
 }
 
 /// What became of an update.
-#[derive(Debug, Drop)]
+#[derive(Drop)]
 pub struct UpdateReport {
     /// Why it was not made; none where it was.
     pub error: Option<UpdateError>,
@@ -39,7 +39,7 @@ pub struct UpdateReport {
 ///
 /// The result says why they were not made: the first cause against them, or what stopped their commit. Each lock that could
 /// not be removed is named. Costs what `prepare` and `commit` do: three calls of files for `packed-refs` and its lock, or four where
-/// it exists; five for a reference that changes, the sync of its lock, and one sync for each folder from that of its file up to
+/// it exists; six for a reference that changes, the sync of its lock, and one sync for each folder from that of its file up to
 /// the git folder; and for a log line three, its sync, and that of the folders of the log.
 /// (`git update-ref`)
 pub fn update<F: Files>(

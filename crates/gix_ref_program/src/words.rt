@@ -223,7 +223,7 @@ fn value_of<'w>(words: &'w [String], option: &[u8]) -> Option<(Option<&'w [u8]>,
     Some((Some(value.as_bytes()), rest))
 }
 
-/// The committer whose signature this text is; the first `None` is for a text that is none.
+/// The committer whose signature this text is; the outer `None` is for a text that is no signature.
 fn committer_of(signature: Option<&[u8]>) -> Option<Option<SignatureRef<'_>>>
     ensures { MatchOption result ((committer : Option Who) →
         IsSigned (option_map (λ text. text.now) signature.entry) committer → ⊥)

@@ -8,7 +8,7 @@ use Rattle.std.proofs.lemmas.List.Sums.{AllPass-from_list_all}
 use Rattle.gix_ref_hash.specs.declared.hash.Kind.{Kind}
 use Rattle.gix_ref_grammar.specs.declared.name.error.Error.{Error}
 use Rattle.gix_ref_hash.specs.Bytes.{StopsAt}
-use Rattle.gix_ref_grammar.specs.NameGrammar.{IsFullName, IsPartialName, is_invalid, first_told, full_error}
+use Rattle.gix_ref_grammar.specs.NameGrammar.{IsFullName, IsPartialName, is_invalid, first_reported, full_error}
 use Rattle.gix_ref_grammar.proofs.PartialNames.{rules_of}
 use Rattle.gix_ref_records.specs.declared.packed.decode.options.Header.{Header}
 use Rattle.gix_ref_base.specs.PackedRecords.{Record, object_line, record_text, header_text}
@@ -21,7 +21,7 @@ use Rattle.gix_ref_records.proofs.OneReading.{same_record, same_line}
 use Rattle.gix_ref_records.proofs.RecordPlaces.{shorter_record as shorter}
 use Rattle.gix_ref_records.proofs.RecordBytes.{records_stop}
 
-first_none : (o : Option Error) (rest : List (Option Error)) → first_told (o ∷ rest) ≡ None → o ≡ None
+first_none : (o : Option Error) (rest : List (Option Error)) → first_reported (o ∷ rest) ≡ None → o ≡ None
 first_none None rest h = refl
 first_none (Some e) rest h = absurd (cc)
 

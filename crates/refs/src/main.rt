@@ -30,7 +30,7 @@ fn main(rt: HostRuntime) -> ExitCode {
     let ran = run(
         alloc,
         Disk::new(rt),
-        PackedRefs::default(),
+        PackedRefs::DeletionsOnly,
         &words,
         &mut out,
     );

@@ -7,7 +7,7 @@ use thiserror::Error;
 pub enum Error {
     #[error("a reference name must not be empty")]
     Empty,
-    #[error("the byte {byte} may not stand in a reference name")]
+    #[error("the byte {byte} is not allowed in a reference name")]
     InvalidByte { byte: u8 },
     #[error("a reference name must not hold an asterisk")]
     Asterisk,

@@ -66,7 +66,7 @@ fn is_plain_byte(byte: u8) -> bool
 }
 
 /// The error for a byte that no name has.
-fn told_of_byte(byte: u8) -> Error
+fn error_of_byte(byte: u8) -> Error
     ensures { result ≡ byte_error byte }
 {
     match byte {
@@ -167,7 +167,7 @@ pub fn broken_partial_rule(name: &[u8]) -> Option<Error>
     }
     let seen = match scan(name) {
         Ok(seen) => seen,
-        Err(byte) => return Some(told_of_byte(byte)),
+        Err(byte) => return Some(error_of_byte(byte)),
     };
     if name.starts_with(b"/") {
         Some(Error::StartsWithSlash)

@@ -2,7 +2,7 @@
 ghost use Rattle.std.specs.Prelude.{◌≡◌, ◌≤◌, false, length};
 
 use super::changes::{Change, place};
-use super::sure::folder_of;
+use gix_ref_files::paths;
 use std::alloc::{AllocError, Global};
 
 /// The first unsynced change of an entry or of the end of a file: its place among the changes, and for a rename whether it is
@@ -15,7 +15,7 @@ pub struct Birth {
 
 /// The first unsynced change of an entry, if it is unsynced.
 fn entry_birth(changes: &[Change], path: &[u8]) -> Option<Birth> {
-    let folder = folder_of(path);
+    let folder = paths::folder(path);
     let mut birth = None;
     for at in 0..changes.len() {
         birth = birth_after(&changes[at], at, path, folder, birth);

@@ -5,6 +5,7 @@ ghost use Rattle.gix_ref_memory.specs.Changes.{found_item};
 ghost use Rattle.gix_ref_memory.specs.internal.Power.{entries, entry_after, entered, settled, no_entry, sure_entry};
 
 use super::changes::{Change, Known, Stands, len_of, stored_stands};
+use gix_ref_files::paths;
 
 /// What is known of an entry: what it is now, what it was when its folder was last synced, and whether it is unsynced.
 #[derive(Clone, Copy, Debug)]
@@ -12,19 +13,6 @@ pub struct Sure<'a> {
     pub now: Known<'a>,
     pub last: Known<'a>,
     pub is_new: bool,
-}
-
-/// The folder of a path: what is before its last slash, unless that is its first byte.
-pub fn folder_of(path: &[u8]) -> &[u8]
-    ensures { result.now ≡ folder_of path.now }
-{
-    let mut end = 0;
-    for i in 1..path.len() {
-        if path[i] == b'/' {
-            end = i;
-        }
-    }
-    &path[..end]
 }
 
 /// Nothing.
@@ -144,7 +132,7 @@ fn entry_after<'a>(change: &'a Change, path: &[u8], folder: &[u8], sure: Sure<'a
 pub fn sure_at<'a>(changes: &'a [Change], path: &[u8]) -> Sure<'a>
     ensures { sure_entry result ≡ entries changes.now path.now no_entry }
 {
-    let folder = folder_of(path);
+    let folder = paths::folder(path);
     let mut sure = settled(known_nothing());
     for change in changes {
         sure = entry_after(change, path, folder, sure);
