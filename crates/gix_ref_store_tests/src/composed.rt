@@ -1,9 +1,9 @@
 //! Lookups in composed Unicode (`core.precomposeUnicode` of `git config`): which name is asked, and which is given.
+use crate::made::{files, store};
 use gix_ref_memory::memory::Memory;
 use gix_ref_name::name::{FullName, PartialNameRef};
 use gix_ref_store::file::Store;
 use gix_ref_store::file::find::existing;
-use gix_ref_test_values::values::{files, store};
 use std::alloc::Global;
 use std::process::Abort;
 

@@ -1,9 +1,9 @@
 //! Lookups: a reference is found under its own full name, in its loose file, at the place of its name.
+use crate::made::{Id, digits, files, object, partial, store};
 use gix_ref_base::target::Target;
 use gix_ref_files::files::FileError;
 use gix_ref_store::file::find::{self, ReadError, existing};
 use gix_ref_store::raw::Reference;
-use gix_ref_test_values::values::{Id, digits, files, object, partial, store};
 use std::io::ErrorKind;
 
 /// The text of a loose file with forty digits `1`.

@@ -1,10 +1,10 @@
 //! Listings: loose references and those of `packed-refs` by ascending names, and faults in their places.
+use crate::made::{Id, digits, partial, store};
 use gix_ref_base::target::Target;
 use gix_ref_memory::memory::Memory;
 use gix_ref_store::file::Store;
 use gix_ref_store::file::iter::{Error, LooseThenPacked, loose_then_packed};
 use gix_ref_store::raw::Reference;
-use gix_ref_test_values::values::{Id, digits, partial, store};
 use std::alloc::Global;
 use std::process::Abort;
 

@@ -1,4 +1,5 @@
 //! Lookups of partial names among loose files and records of `packed-refs`: rows of stores, and reads that fail.
+use crate::made::{full_name, partial, store};
 use gix_ref_base::target::Target;
 use gix_ref_files::files::FileError;
 use gix_ref_hash::hash::ObjectId;
@@ -7,7 +8,6 @@ use gix_ref_packed::packed;
 use gix_ref_packed::packed::buffer::open;
 use gix_ref_store::file::find::{self, ReadError, existing};
 use gix_ref_store::raw::Reference;
-use gix_ref_test_values::values::{full_name, partial, store};
 use std::alloc::Global;
 use std::process::Abort;
 

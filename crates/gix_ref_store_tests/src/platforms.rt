@@ -1,8 +1,8 @@
 //! Listings of a store whose `packed-refs` was opened once.
 use crate::listings::{File, ONE, files_of, lines};
+use crate::made::store;
 use gix_ref_packed::packed::buffer::open;
 use gix_ref_store::file::iter::Error;
-use gix_ref_test_values::values::store;
 
 const MIXED: &[File] = &[
     ("/r/HEAD", b"ref: refs/heads/a/b\n"),

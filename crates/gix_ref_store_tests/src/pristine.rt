@@ -1,7 +1,7 @@
 //! Whether a store is as `git init` makes it.
 use crate::listings::{File, ONE, files_of};
+use crate::made::store;
 use gix_ref_name::name::FullNameRef;
-use gix_ref_test_values::values::store;
 
 /// `HEAD` of a new repository.
 const MAIN: &[u8] = b"ref: refs/heads/main\n";

@@ -1,6 +1,6 @@
 //! The listing of pseudo references.
 use crate::listings::{File, ONE, TWO, files_of, lines};
-use gix_ref_test_values::values::store;
+use crate::made::store;
 
 /// A store, and the lines of its listing.
 struct Row {

@@ -1,14 +1,15 @@
 //! Each call of `gix_ref_whole`, where the edits are committed, where they are refused, and where their commit fails.
-use gix_ref_edits::transaction::{Change, PreviousValue, RefEdit, RefLog};
-use gix_ref_files::files::Files;
+use gix_ref_base::target::Target;
+use gix_ref_edits::transaction::{Change, LogChange, PreviousValue, RefEdit, RefLog};
+use gix_ref_hash::hash::{Kind, ObjectId};
 use gix_ref_log::actor::{SignatureRef, Time};
 use gix_ref_memory::memory::Memory;
+use gix_ref_name::name::{FullNameRef, PartialNameRef};
 use gix_ref_store::file::Store;
 use gix_ref_store::file::find::existing;
 use gix_ref_store::file::iter::{self, loose_then_packed};
+use gix_ref_store::file::transaction::prepare;
 use gix_ref_store::raw::Reference;
-use gix_ref_test_values::edits::{Answer, answer_of, update};
-use gix_ref_test_values::values::{Id, full_name, object, partial, store};
 use gix_ref_whole::error::Error;
 use gix_ref_whole::find::commit_then_find;
 use gix_ref_whole::list::commit_then_list;
@@ -44,39 +45,66 @@ fn committer() -> Option<SignatureRef<'static>> {
     })
 }
 
+/// The target of these digits.
+fn object(rt: &impl Abort, digits: &[u8]) -> Target {
+    Target::Object(ObjectId::from_hex(digits).expect(rt, "an id"))
+}
+
+/// Forty digits `2` as a target.
+fn two(rt: &impl Abort) -> Target {
+    object(rt, &TWO[..40])
+}
+
+fn partial<'a>(rt: &impl Abort, text: &'a str) -> PartialNameRef<'a> {
+    PartialNameRef::try_from(text).expect(rt, "a partial name")
+}
+
 /// A store with `refs/heads/a` as a loose file, and two packed references.
 fn made(rt: &impl Abort, alloc: Global) -> Store<Memory> {
     let mut memory = Memory::new(alloc);
     assert!(rt; memory.put(b"/r/refs/heads/a", ONE).expect(rt, "memory"));
     assert!(rt; memory.put(b"/r/packed-refs", PACKED).expect(rt, "memory"));
-    store(rt, alloc, memory, "", "")
+    match Store::at(memory, b"/r".to_vec(alloc).expect(rt, "memory"), Kind::Sha1) {
+        Ok(store) => store,
+        Err(_) => panic!(rt; "a clean folder"),
+    }
 }
 
-/// The update of `refs/heads/a`, which has to exist, to forty digits `2`.
-fn update_of_a(rt: &impl Abort, alloc: Global) -> Vec<RefEdit> {
-    let two = object(rt, Id::Two);
-    update(rt, alloc, "refs/heads/a", PreviousValue::MustExist, two)
-}
-
-/// An update that is refused.
-fn refused_edits(rt: &impl Abort, alloc: Global) -> Vec<RefEdit> {
-    let two = object(rt, Id::Two);
-    update(rt, alloc, "refs/heads/a", PreviousValue::MustNotExist, two)
-}
-
-/// The deletion of `refs/heads/b`.
-fn deletion_of_b(rt: &impl Abort, alloc: Global) -> Vec<RefEdit> {
+/// The list of one edit.
+fn one_edit(rt: &impl Abort, alloc: Global, name: &str, change: Change) -> Vec<RefEdit> {
+    let name = FullNameRef::try_from(name).expect(rt, "a full name");
     let mut edits = Vec::with_capacity(alloc, 1).expect(rt, "memory");
     let edit = RefEdit {
-        change: Change::Delete {
-            expected: PreviousValue::MustExist,
-            log: RefLog::AndReference,
-        },
-        name: full_name(rt, alloc, "refs/heads/b"),
+        change,
+        name: name.to_owned(alloc).expect(rt, "memory"),
         deref: false,
     };
     edits.push(edit).expect(rt, "room");
     edits
+}
+
+/// The update of `refs/heads/a` to forty digits `2`.
+fn update_of_a(rt: &impl Abort, alloc: Global, expected: PreviousValue) -> Vec<RefEdit> {
+    let change = Change::Update {
+        log: LogChange::new_in(alloc),
+        expected,
+        new: two(rt),
+    };
+    one_edit(rt, alloc, "refs/heads/a", change)
+}
+
+/// An update that is refused.
+fn refused_edits(rt: &impl Abort, alloc: Global) -> Vec<RefEdit> {
+    update_of_a(rt, alloc, PreviousValue::MustNotExist)
+}
+
+/// The deletion of `refs/heads/b`.
+fn deletion_of_b(rt: &impl Abort, alloc: Global) -> Vec<RefEdit> {
+    let change = Change::Delete {
+        expected: PreviousValue::MustExist,
+        log: RefLog::AndReference,
+    };
+    one_edit(rt, alloc, "refs/heads/b", change)
 }
 
 /// Adds the line of an item: the first digit of its id, and its name.
@@ -87,10 +115,10 @@ fn push_item(
 ) {
     match item {
         Ok(reference) => {
-            let digit: &[u8] = if reference.target == object(rt, Id::One) {
-                b"1 "
-            } else {
+            let digit: &[u8] = if reference.target == two(rt) {
                 b"2 "
+            } else {
+                b"1 "
             };
             text.extend_from_slice(digit).expect(rt, "memory");
             text.extend_from_slice(reference.name.to_path())
@@ -119,10 +147,10 @@ fn lines(
     text
 }
 
-/// Whether a reference with this id was found.
-fn is_found(rt: &impl Abort, found: &Result<Reference, existing::Error>, id: Id) -> bool {
+/// Whether a reference to forty digits `2` was found.
+fn is_found(rt: &impl Abort, found: &Result<Reference, existing::Error>) -> bool {
     match found {
-        Ok(reference) => reference.target == object(rt, id),
+        Ok(reference) => reference.target == two(rt),
         Err(_) => false,
     }
 }
@@ -132,11 +160,11 @@ fn is_not_found(found: &Result<Reference, existing::Error>) -> bool {
     matches!(found, Err(existing::Error::NotFound { .. }))
 }
 
-/// What the preparation of the edits answered; `Prepared` where their commit failed.
-fn why(error: &Error) -> Answer {
+/// Whether `prepare` found a reference that must not exist.
+fn is_refused(error: &Error) -> bool {
     match error {
-        Error::Prepare(refused) => answer_of(&refused.error),
-        Error::Commit(_) => Answer::Prepared,
+        Error::Prepare(refused) => { matches!(&refused.error, prepare::Error::MustNotExist { .. }) }
+        Error::Commit(_) => false,
     }
 }
 
@@ -144,7 +172,7 @@ fn why(error: &Error) -> Answer {
 fn edits_are_made(rt: HostRuntime) {
     let (alloc, rt) = (rt.alloc(), &rt);
     let mut store = made(rt, alloc);
-    let edits = update_of_a(rt, alloc);
+    let edits = update_of_a(rt, alloc, PreviousValue::MustExist);
     match make(alloc, &mut store, edits, committer()) {
         Ok(done) => assert!(rt; done.locks_left.is_empty()),
         Err(error) => panic!(rt; "{error}"),
@@ -158,10 +186,10 @@ fn edits_are_made(rt: HostRuntime) {
 fn a_lookup_finds_what_was_committed(rt: HostRuntime) {
     let (alloc, rt) = (rt.alloc(), &rt);
     let mut store = made(rt, alloc);
-    let edits = update_of_a(rt, alloc);
+    let edits = update_of_a(rt, alloc, PreviousValue::MustExist);
     let name = partial(rt, "refs/heads/a");
     match commit_then_find(alloc, &mut store, edits, committer(), name) {
-        Ok(r) => assert!(rt; is_found(rt, &r.found, Id::Two)),
+        Ok(r) => assert!(rt; is_found(rt, &r.found)),
         Err(error) => panic!(rt; "{error}"),
     }
 }
@@ -170,7 +198,7 @@ fn a_lookup_finds_what_was_committed(rt: HostRuntime) {
 fn a_listing_has_what_was_committed(rt: HostRuntime) {
     let (alloc, rt) = (rt.alloc(), &rt);
     let mut store = made(rt, alloc);
-    let edits = update_of_a(rt, alloc);
+    let edits = update_of_a(rt, alloc, PreviousValue::MustExist);
     match commit_then_list(alloc, &mut store, edits, committer(), b"refs/") {
         Ok(r) => {
             let text = lines(rt, alloc, &r.items);
@@ -207,23 +235,23 @@ fn refused_edits_are_said(rt: HostRuntime) {
     let edits = refused_edits(rt, alloc);
     match make(alloc, &mut store, edits, None) {
         Ok(_) => panic!(rt; "a reference that exists must not exist"),
-        Err(error) => assert!(rt; why(&error) == Answer::MustNotExist),
+        Err(error) => assert!(rt; is_refused(&error)),
     }
     let name = partial(rt, "refs/heads/a");
     let edits = refused_edits(rt, alloc);
     match commit_then_find(alloc, &mut store, edits, None, name) {
         Ok(_) => panic!(rt; "a reference that exists must not exist"),
-        Err(error) => assert!(rt; why(&error) == Answer::MustNotExist),
+        Err(error) => assert!(rt; is_refused(&error)),
     }
     let edits = refused_edits(rt, alloc);
     match commit_then_list(alloc, &mut store, edits, None, b"refs/") {
         Ok(_) => panic!(rt; "a reference that exists must not exist"),
-        Err(error) => assert!(rt; why(&error) == Answer::MustNotExist),
+        Err(error) => assert!(rt; is_refused(&error)),
     }
     let edits = refused_edits(rt, alloc);
     match commit_then_read(alloc, &mut store, edits, None, name, b"refs/") {
         Ok(_) => panic!(rt; "a reference that exists must not exist"),
-        Err(error) => assert!(rt; why(&error) == Answer::MustNotExist),
+        Err(error) => assert!(rt; is_refused(&error)),
     }
     let memory = store.into_files();
     assert!(rt; memory.get(b"/r/refs/heads/a") == Some(ONE));
@@ -234,11 +262,11 @@ fn refused_edits_are_said(rt: HostRuntime) {
 fn a_failed_commit_is_said(rt: HostRuntime) {
     let (alloc, rt) = (rt.alloc(), &rt);
     let mut store = made(rt, alloc);
-    let edits = update_of_a(rt, alloc);
+    let edits = update_of_a(rt, alloc, PreviousValue::MustExist);
     let name = partial(rt, "refs/heads/a");
     match commit_then_read(alloc, &mut store, edits, None, name, b"refs/") {
         Ok(_) => panic!(rt; "a log line without a committer"),
-        Err(error) => assert!(rt; why(&error) == Answer::Prepared),
+        Err(error) => assert!(rt; matches!(error, Error::Commit(_))),
     }
     let memory = store.into_files();
     assert!(rt; memory.get(b"/r/refs/heads/a") == Some(ONE));

@@ -1,13 +1,13 @@
 //! Transactions of several updates: the causes against them in their order, and what stops, faults and losses of power leave.
 
+use crate::made::{Id, bytes, full_name, object, store};
+use crate::made_edits::{Answer, Expect, answer_of, expected, pick_at};
 use gix_ref_edits::transaction::{Change, LogChange, PreviousValue, RefEdit, RefLog, SplitError};
 use gix_ref_memory::memory::Memory;
 use gix_ref_store::file::Store;
 use gix_ref_store::file::transaction::commit;
 use gix_ref_store::file::transaction::prepare::Error;
 use gix_ref_store::store::WriteReflog;
-use gix_ref_test_values::edits::{Answer, Expect, answer_of, expected, pick_at};
-use gix_ref_test_values::values::{Id, bytes, full_name, object, store};
 use std::alloc::Global;
 use std::process::Abort;
 

@@ -1,4 +1,6 @@
 //! Transactions with log lines: what logs hold afterwards, why lines are refused, and what stops, faults and losses of power leave.
+use crate::made::{Id, full_name, object, store};
+use crate::made_edits::pick_at;
 use gix_ref_base::target::Target;
 use gix_ref_edits::transaction::{Change, LogChange, PreviousValue, RefEdit, RefLog};
 use gix_ref_files::files::Files;
@@ -9,8 +11,6 @@ use gix_ref_store::file::Store;
 use gix_ref_store::file::transaction::commit;
 use gix_ref_store::file::transaction::prepare::Error;
 use gix_ref_store::store::WriteReflog;
-use gix_ref_test_values::edits::pick_at;
-use gix_ref_test_values::values::{Id, full_name, object, store};
 use std::alloc::Global;
 use std::process::Abort;
 

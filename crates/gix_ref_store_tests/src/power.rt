@@ -1,13 +1,13 @@
 //! One update that is stopped at each of its file calls, or fails in it, and then loses power: the reference reads as before or as
 //! edited, and once the update is done it stays.
 
+use crate::made::{Id, object, store};
+use crate::made_edits::{pick_at, update};
 use gix_ref_edits::transaction::{PreviousValue, RefEdit};
 use gix_ref_memory::memory::Memory;
 use gix_ref_store::file::Store;
 use gix_ref_store::file::transaction::commit;
 use gix_ref_store::store::WriteReflog;
-use gix_ref_test_values::edits::{pick_at, update};
-use gix_ref_test_values::values::{Id, object, store};
 use std::alloc::Global;
 use std::process::Abort;
 

@@ -1,9 +1,9 @@
 //! Updates in a repository with `packed-refs`: what is found, what is expected, and which files are written.
+use crate::made::{Id, files, object, store};
+use crate::made_edits::{Answer, Expect, answer_of, expected, prepared, update};
 use crate::transactions::committed;
 use gix_ref_memory::memory::Memory;
 use gix_ref_store::store::WriteReflog;
-use gix_ref_test_values::edits::{Answer, Expect, answer_of, expected, prepared, update};
-use gix_ref_test_values::values::{Id, files, object, store};
 use std::alloc::Global;
 use std::process::Abort;
 

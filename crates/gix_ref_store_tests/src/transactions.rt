@@ -1,5 +1,7 @@
 //! One update, prepared and then committed or rolled back: each cause, the files after it, and the values handed back.
 
+use crate::made::{Id, digits, files, full_name, object, partial, store};
+use crate::made_edits::{Answer, Expect, answer_of, expected, prepared, update, update_by};
 use gix_ref_base::target::Target;
 use gix_ref_edits::transaction::{Change, LogChange, PreviousValue, RefEdit, RefLog};
 use gix_ref_files::files::Files;
@@ -11,10 +13,6 @@ use gix_ref_store::file::Store;
 use gix_ref_store::file::transaction::prepare::Error;
 use gix_ref_store::file::transaction::{PackedRefs, commit};
 use gix_ref_store::store::WriteReflog;
-use gix_ref_test_values::edits::{
-    Answer, Expect, answer_of, expected, prepared, update, update_by,
-};
-use gix_ref_test_values::values::{Id, digits, files, full_name, object, partial, store};
 use std::alloc::Global;
 use std::process::Abort;
 

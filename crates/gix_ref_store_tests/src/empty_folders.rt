@@ -3,10 +3,10 @@
 use crate::logs::{
     Asked, DELETION, FIRST, ONE, Outcome, Texts, UPDATE, Who, committed, edits_of, hold, made,
 };
+use crate::made::store;
 use gix_ref_files::files::{Files, Node};
 use gix_ref_memory::memory::Memory;
 use gix_ref_store::store::WriteReflog;
-use gix_ref_test_values::values::store;
 use std::alloc::Global;
 use std::process::Abort;
 
@@ -304,7 +304,7 @@ fn faults_above_deletions(rt: HostRuntime) {
     let calls = store.into_files().calls();
     let mut memory = made(&rt, alloc, before);
     memory.fail_at(calls);
-    let mut store = gix_ref_test_values::values::store(&rt, alloc, memory, "", "");
+    let mut store = crate::made::store(&rt, alloc, memory, "", "");
     let edits = edits_of(&rt, alloc, &[DEEP]);
     let (outcome, _) = committed(alloc, &mut store, Who::Nobody, edits, "");
     assert_eq!(rt; outcome, Outcome::Done);

@@ -1,13 +1,13 @@
 //! Transactions with deletions: what becomes of loose files, of logs and of `packed-refs`, and what stops, faults and losses of power
 //! leave.
+use crate::made::{Id, bytes, full_name, object, store};
+use crate::made_edits::{Answer, pick_at, prepared};
 use gix_ref_edits::transaction::{Change, LogChange, PreviousValue, RefEdit, RefLog};
 use gix_ref_files::files::Files;
 use gix_ref_memory::memory::Memory;
 use gix_ref_store::file::Store;
 use gix_ref_store::file::transaction::{Failed, commit};
 use gix_ref_store::store::WriteReflog;
-use gix_ref_test_values::edits::{Answer, pick_at, prepared};
-use gix_ref_test_values::values::{Id, bytes, full_name, object, store};
 use std::alloc::Global;
 use std::process::Abort;
 

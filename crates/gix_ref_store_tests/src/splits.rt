@@ -1,9 +1,9 @@
 //! Updates that follow symbolic references.
+use crate::made::{Id, object, store};
+use crate::made_edits::{Answer, Expect, expected, prepared, update_by};
 use crate::transactions::committed;
 use gix_ref_edits::transaction::{Change, RefLog};
 use gix_ref_memory::memory::Memory;
-use gix_ref_test_values::edits::{Answer, Expect, expected, prepared, update_by};
-use gix_ref_test_values::values::{Id, object, store};
 use std::alloc::Global;
 use std::process::Abort;
 

@@ -1,7 +1,7 @@
 //! Edits as values.
+use crate::made::{Id, bytes, full_name, object};
 use gix_ref_base::target::{Target, TargetRef};
 use gix_ref_edits::transaction::{Change, LogChange, PreviousValue, RefEdit, RefLog};
-use gix_ref_test_values::values::{Id, bytes, full_name, object};
 use std::alloc::AllocError;
 
 #[test]

@@ -1,6 +1,6 @@
 //! Edits for tests, what a preparation answers to them, and which changes a loss of power keeps.
 
-use crate::values::{Id, full_name, object};
+use crate::made::{Id, full_name, object};
 use gix_ref_base::target::Target;
 use gix_ref_edits::transaction::{Change, LogChange, PreviousValue, RefEdit};
 use gix_ref_memory::memory::Memory;
