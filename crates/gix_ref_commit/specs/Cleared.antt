@@ -78,6 +78,10 @@ cleared [] plan = plan
 cleared (fs ∷ folders) [] = []
 cleared (fs ∷ folders) (e ∷ plan) = removals e.1 fs ++ e ∷ cleared folders plan
 
+-- no plan has a removal for these folders before any of its steps
+abbrev pub ClearsNothing : List (List Path) → Type 0
+ClearsNothing folders = (plan : List Entry) → cleared folders plan ≡ plan
+
 -- the paths of the folders before each step
 abbrev pub folder_lists : List InWay → List (List Path)
 folder_lists ways = map (λ (way : InWay). paths_of way.folders.items) ways

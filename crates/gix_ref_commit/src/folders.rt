@@ -9,7 +9,7 @@ ghost use Rattle.gix_ref_files.specs.Settled.{IsIn};
 ghost use Rattle.gix_ref_files.specs.Steps.{step_of};
 ghost use Rattle.gix_ref_files.specs.Tree.{Tree, Path, fronts};
 ghost use Rattle.gix_ref_transaction.specs.OwnLocks.{paths_of};
-ghost use Rattle.gix_ref_commit.specs.Cleared.{roots_of, folder_lists, AllInWay, AreInWay, AreInWayOf, HoldsMore, IsAtOrBelow, IsOfStore, cleared, removals, written_at};
+ghost use Rattle.gix_ref_commit.specs.Cleared.{roots_of, folder_lists, ClearsNothing, AllInWay, AreInWay, AreInWayOf, HoldsMore, IsAtOrBelow, IsOfStore, cleared, removals, written_at};
 ghost use Rattle.gix_ref_commit.specs.Entries.{entries};
 ghost use Rattle.gix_ref_commit.specs.internal.Walks.{FailsBefore, FailsToList, IsCountedFault, IsWalked, OnlyMore, StopsFor};
 
@@ -351,8 +351,20 @@ fn add_removals<'p>(
     Ok(())
 }
 
-/// The steps of a plan, each behind the removals of the folders that are in its way.
-pub fn clear<'p>(
+/// Whether no folder is in the way of any step.
+fn none_in_way(ways: &[InWay]) -> bool
+    ensures { result ≡ true → ClearsNothing (folder_lists ways.now) }
+{
+    for way in ways {
+        if !way.folders.as_slice().is_empty() {
+            return false;
+        }
+    }
+    true
+}
+
+/// A new list of the steps of a plan, each behind the removals of the folders that are in its way.
+fn with_removals<'p>(
     alloc: Global,
     plan: &[Planned<'p, About>],
     ways: &'p [InWay],
@@ -368,4 +380,20 @@ pub fn clear<'p>(
         steps.push(*planned)?;
     }
     Ok(steps)
+}
+
+/// The steps of a plan, each behind the removals of the folders that are in its way. Where there is no such folder it is the plan itself,
+/// and takes no memory.
+pub fn clear<'p>(
+    alloc: Global,
+    plan: Vec<Planned<'p, About>>,
+    ways: &'p [InWay],
+) -> Result<Vec<Planned<'p, About>>, AllocError>
+    ensures { IfOk result (λ steps. entries steps.items
+        ≡ cleared (folder_lists ways.now) (entries plan.entry.items)) }
+{
+    if none_in_way(ways) {
+        return Ok(plan);
+    }
+    with_removals(alloc, &plan, ways)
 }

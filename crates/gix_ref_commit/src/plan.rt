@@ -209,7 +209,8 @@ pub fn plan_commit<'p>(
     ensures { IfOk result (λ plan. entries plan.items
         ≡ planned_entries dirs.now edits.now packed.now rewrite.now) }
 {
-    let mut plan = Vec::with_capacity(alloc, edits.len())?;
+    // An update has three steps, a deletion two.
+    let mut plan = Vec::with_capacity(alloc, edits.len().saturating_mul(3))?;
     add_updates(&mut plan, dirs, edits)?;
     add_log_removals(&mut plan, dirs, edits)?;
     if let Some(lock) = packed {

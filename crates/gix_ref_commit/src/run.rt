@@ -79,7 +79,7 @@ pub fn run_plan<F: Files>(
     let Ok(plan) = plan_commit(alloc, dirs, edits, packed, rewrite) else {
         return Err(Unfinished::Memory);
     };
-    let Ok(steps) = clear(alloc, &plan, ways) else {
+    let Ok(steps) = clear(alloc, plan, ways) else {
         return Err(Unfinished::Memory);
     };
     match run_steps(files, &steps) {

@@ -25,7 +25,7 @@ pub enum UpdateError {
 }
 
 /// What became of an update.
-#[derive(Drop)]
+#[derive(Debug, Drop)]
 pub struct UpdateReport {
     /// Why it was not made; none where it was.
     pub error: Option<UpdateError>,

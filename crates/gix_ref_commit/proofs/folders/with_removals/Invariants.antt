@@ -1,7 +1,7 @@
 use Rattle.std.proofs.Common.{◌≡◌, ◌++◌, drop}
 use Rattle.gix_ref_commit.specs.Cleared.{cleared, folder_lists}
 use Rattle.gix_ref_commit.specs.Entries.{entries}
-use Rattle.gix_ref_commit.proofs.folders.clear.Given as goal
+use Rattle.gix_ref_commit.proofs.folders.with_removals.Given as goal
 
 -- with what is still to come, the steps are whole
 abbrev pub invariant-loop-at : goal.invariant-loop-at
