@@ -1,5 +1,4 @@
 //! Lookups among loose files alone and among the records of a buffer, and the buffer of `packed-refs`.
-use crate::made::{Id, files, object, partial, store};
 use gix_ref_files::files::FileError;
 use gix_ref_hash::hash::Kind;
 use gix_ref_memory::memory::Memory;
@@ -7,6 +6,7 @@ use gix_ref_packed::packed::Buffer;
 use gix_ref_packed::packed::buffer::open;
 use gix_ref_store::file::Store;
 use gix_ref_store::file::find::existing;
+use gix_ref_test_values::values::{Id, files, object, partial, store};
 use std::alloc::Global;
 use std::io::ErrorKind;
 use std::process::Abort;
@@ -27,13 +27,13 @@ const NO_HEADER: &[u8] = b"# foo\n";
 /// A store with the loose file `refs/heads/l` and this `packed-refs`, or without one where the text is empty. The given call
 /// of files fails.
 fn store_with(rt: &impl Abort, alloc: Global, packed: &[u8], fails: u64) -> Store<Memory> {
-    let mut memory = files(rt, alloc, "/r/refs/heads/l", ID);
+    let mut memory = files(alloc, "/r/refs/heads/l", ID).expect(rt, "memory");
     if !packed.is_empty() {
         let done = memory.put(b"/r/packed-refs", packed).expect(rt, "memory");
         assert!(rt; done, "packed-refs");
     }
     memory.fail_at(fails);
-    store(rt, alloc, memory, "", "")
+    store(alloc, memory, "", "").expect(rt, "a store")
 }
 
 #[test]
@@ -46,13 +46,16 @@ fn among_loose_files(rt: HostRuntime) {
         ("p", false),
         ("refs/heads/p", false),
     ] {
-        match store.find_loose(alloc, partial(&rt, name)) {
+        match store.find_loose(alloc, partial(name).expect(&rt, "a partial name")) {
             Ok(reference) => {
                 assert!(rt;
                     is_there && reference.name.eq_bytes(b"refs/heads/l"),
                     "{name}"
                 );
-                assert!(rt; reference.target == object(&rt, Id::One), "{name}");
+                assert!(rt;
+                    reference.target == object(Id::One).expect(&rt, "an id"),
+                    "{name}"
+                );
             }
             Err(existing::Error::NotFound { name: asked }) => {
                 assert!(rt; !is_there && asked.eq_bytes(name.as_bytes()), "{name}");
@@ -60,7 +63,7 @@ fn among_loose_files(rt: HostRuntime) {
             Err(_) => panic!(rt; "{name}: no call fails"),
         }
     }
-    match store.try_find_loose(alloc, partial(&rt, "p")) {
+    match store.try_find_loose(alloc, partial("p").expect(&rt, "a partial name")) {
         Ok(found) => assert!(rt; found.is_none(), "a record is no loose file"),
         Err(_) => panic!(rt; "no call fails"),
     }
@@ -81,7 +84,7 @@ fn among_the_records_of_a_buffer(rt: HostRuntime) {
         ("p", false, ""),
     ] {
         let packed = if is_held { Some(&buffer) } else { None };
-        match store.find_packed(alloc, partial(&rt, name), packed) {
+        match store.find_packed(alloc, partial(name).expect(&rt, "a partial name"), packed) {
             Ok(reference) => {
                 assert!(rt;
                     reference.name.eq_bytes(found.as_bytes()),
@@ -97,7 +100,11 @@ fn among_the_records_of_a_buffer(rt: HostRuntime) {
             Err(_) => panic!(rt; "{name}: no call fails"),
         }
     }
-    match store.try_find_packed(alloc, partial(&rt, "p"), Some(&buffer)) {
+    match store.try_find_packed(
+        alloc,
+        partial("p").expect(&rt, "a partial name"),
+        Some(&buffer),
+    ) {
         Ok(found) => assert!(rt; found.is_none(), "a record of the file alone"),
         Err(_) => panic!(rt; "no call fails"),
     }
@@ -142,8 +149,12 @@ fn a_buffer_of_the_store(rt: HostRuntime) {
     let opened = store.open_packed_buffer(alloc).expect(&rt, "it is opened");
     let after = store.set_packed_buffer_mmap_threshold(before);
     assert!(rt; before == 32_768 && after == 1);
-    match store.find_packed(alloc, partial(&rt, "p"), opened.as_ref()) {
-        Ok(reference) => assert!(rt; reference.target == object(&rt, Id::One)),
+    match store.find_packed(
+        alloc,
+        partial("p").expect(&rt, "a partial name"),
+        opened.as_ref(),
+    ) {
+        Ok(reference) => assert!(rt; reference.target == object(Id::One).expect(&rt, "an id")),
         Err(_) => panic!(rt; "the record is there"),
     }
 }

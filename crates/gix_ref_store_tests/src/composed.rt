@@ -1,9 +1,9 @@
 //! Lookups in composed Unicode (`core.precomposeUnicode` of `git config`): which name is asked, and which is given.
-use crate::made::{files, store};
 use gix_ref_memory::memory::Memory;
 use gix_ref_name::name::{FullName, PartialNameRef};
 use gix_ref_store::file::Store;
 use gix_ref_store::file::find::existing;
+use gix_ref_test_values::values::{files, store};
 use std::alloc::Global;
 use std::process::Abort;
 
@@ -157,7 +157,7 @@ const ROWS: [Row; 12] = [
 
 /// The store of a row.
 fn store_of(rt: &impl Abort, alloc: Global, row: Row) -> Store<Memory> {
-    let mut memory = files(rt, alloc, "", b"");
+    let mut memory = files(alloc, "", b"").expect(rt, "memory");
     let mut text = Vec::new(alloc);
     let mut path = b"/r/packed-refs".to_vec(alloc).expect(rt, "memory");
     text.extend_from_slice(ID).expect(rt, "memory");
@@ -173,7 +173,7 @@ fn store_of(rt: &impl Abort, alloc: Global, row: Row) -> Store<Memory> {
     let done = memory.put(&path, &text).expect(rt, "memory");
     let meaning = row.meaning;
     assert!(rt; done, "{meaning}");
-    let mut store = store(rt, alloc, memory, "", "");
+    let mut store = store(alloc, memory, "", "").expect(rt, "a store");
     store.precompose_unicode = row.composes;
     store
 }

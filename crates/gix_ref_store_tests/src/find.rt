@@ -1,9 +1,9 @@
 //! Lookups: a reference is found under its own full name, in its loose file, at the place of its name.
-use crate::made::{Id, digits, files, object, partial, store};
 use gix_ref_base::target::Target;
 use gix_ref_files::files::FileError;
 use gix_ref_store::file::find::{self, ReadError, existing};
 use gix_ref_store::raw::Reference;
+use gix_ref_test_values::values::{Id, digits, files, object, partial, store};
 use std::io::ErrorKind;
 
 /// The text of a loose file with forty digits `1`.
@@ -81,9 +81,9 @@ fn places(rt: HostRuntime) {
         ),
     ];
     for (worktree, space, name, place) in rows {
-        let memory = files(&rt, alloc, place, ID);
-        let mut store = store(&rt, alloc, memory, worktree, space);
-        let found = store.find(alloc, partial(&rt, name));
+        let memory = files(alloc, place, ID).expect(&rt, "memory");
+        let mut store = store(alloc, memory, worktree, space).expect(&rt, "a store");
+        let found = store.find(alloc, partial(name).expect(&rt, "a partial name"));
         assert_eq!(rt; answer_of(&found), Answer::Object, "{name} at {place}");
         assert_eq!(rt; store.into_files().calls(), 1, "one file is read");
     }
@@ -156,9 +156,9 @@ fn answers(rt: HostRuntime) {
         ),
     ];
     for (meaning, path, text, space, name, want) in rows {
-        let memory = files(&rt, alloc, path, text);
-        let mut store = store(&rt, alloc, memory, "", space);
-        let found = store.find(alloc, partial(&rt, name));
+        let memory = files(alloc, path, text).expect(&rt, "memory");
+        let mut store = store(alloc, memory, "", space).expect(&rt, "a store");
+        let found = store.find(alloc, partial(name).expect(&rt, "a partial name"));
         assert_eq!(rt; answer_of(&found), want, "{meaning}");
     }
 }
@@ -166,13 +166,13 @@ fn answers(rt: HostRuntime) {
 #[test]
 fn the_value_that_is_found(rt: HostRuntime) {
     let alloc = rt.alloc();
-    let memory = files(&rt, alloc, "/r/refs/heads/a", ID);
-    let mut store = store(&rt, alloc, memory, "", "");
-    match store.try_find(alloc, partial(&rt, "refs/heads/a")) {
+    let memory = files(alloc, "/r/refs/heads/a", ID).expect(&rt, "memory");
+    let mut store = store(alloc, memory, "", "").expect(&rt, "a store");
+    match store.try_find(alloc, partial("refs/heads/a").expect(&rt, "a partial name")) {
         Ok(Some(reference)) => {
             assert!(rt; reference.name.to_path() == b"refs/heads/a".as_slice());
             assert!(rt;
-                reference.target == object(&rt, Id::One),
+                reference.target == object(Id::One).expect(&rt, "an id"),
                 "{}",
                 digits(Id::One)
             );
@@ -185,10 +185,10 @@ fn the_value_that_is_found(rt: HostRuntime) {
 #[test]
 fn a_fault_is_no_answer(rt: HostRuntime) {
     let alloc = rt.alloc();
-    let mut memory = files(&rt, alloc, "/r/HEAD", ID);
+    let mut memory = files(alloc, "/r/HEAD", ID).expect(&rt, "memory");
     memory.fail_at(1);
-    let mut store = store(&rt, alloc, memory, "", "");
-    match store.try_find(alloc, partial(&rt, "HEAD")) {
+    let mut store = store(alloc, memory, "", "").expect(&rt, "a store");
+    match store.try_find(alloc, partial("HEAD").expect(&rt, "a partial name")) {
         Err(find::Error::ReadFileContents { source, path }) => {
             assert_eq!(rt;
                 source,
@@ -198,6 +198,6 @@ fn a_fault_is_no_answer(rt: HostRuntime) {
         }
         _ => panic!(rt; "the read fails"),
     }
-    let found = store.find(alloc, partial(&rt, "HEAD"));
+    let found = store.find(alloc, partial("HEAD").expect(&rt, "a partial name"));
     assert_eq!(rt; answer_of(&found), Answer::Object, "the next read answers");
 }

@@ -1,10 +1,10 @@
 //! In which folders there is a store.
-use crate::made::bytes;
 use gix_ref_hash::hash::Kind;
 use gix_ref_memory::memory::Memory;
 use gix_ref_store::file::Store;
 use gix_ref_store::file::store::Error;
 use gix_ref_store::store::{Options, WriteReflog};
+use gix_ref_test_values::values::bytes;
 use std::alloc::Global;
 use std::process::Abort;
 
@@ -19,9 +19,14 @@ enum Answer {
 /// What becomes of a store in these folders.
 fn answer_in(rt: &impl Abort, alloc: Global, git_dir: &str, common_dir: Option<&str>) -> Answer {
     let files = Memory::new(alloc);
-    let git_dir = bytes(rt, alloc, git_dir);
+    let git_dir = bytes(alloc, git_dir).expect(rt, "memory");
     let made = match common_dir {
-        Some(dir) => Store::for_linked_worktree(files, git_dir, bytes(rt, alloc, dir), Kind::Sha1),
+        Some(dir) => Store::for_linked_worktree(
+            files,
+            git_dir,
+            bytes(alloc, dir).expect(rt, "memory"),
+            Kind::Sha1,
+        ),
         None => Store::at(files, git_dir, Kind::Sha1),
     };
     match made {
@@ -94,8 +99,8 @@ fn folders_and_options_are_kept(rt: HostRuntime) {
         precompose_unicode: true,
         prohibit_windows_device_names: true,
     };
-    let git_dir = bytes(&rt, alloc, "/r/worktrees/w");
-    let common = bytes(&rt, alloc, "/r");
+    let git_dir = bytes(alloc, "/r/worktrees/w").expect(&rt, "memory");
+    let common = bytes(alloc, "/r").expect(&rt, "memory");
     let files = Memory::new(alloc);
     let made = Store::for_linked_worktree_opts(files, git_dir, common, Kind::Sha256, options);
     let Ok(store) = made else {
@@ -113,7 +118,11 @@ fn folders_and_options_are_kept(rt: HostRuntime) {
 #[test]
 fn defaults(rt: HostRuntime) {
     let alloc = rt.alloc();
-    let Ok(store) = Store::at(Memory::new(alloc), bytes(&rt, alloc, "/r"), Kind::Sha1) else {
+    let Ok(store) = Store::at(
+        Memory::new(alloc),
+        bytes(alloc, "/r").expect(&rt, "memory"),
+        Kind::Sha1,
+    ) else {
         panic!(rt; "a clean folder");
     };
     assert_eq!(rt; store.write_reflog, WriteReflog::Normal);

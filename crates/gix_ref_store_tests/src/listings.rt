@@ -1,10 +1,10 @@
 //! Listings: loose references and those of `packed-refs` by ascending names, and faults in their places.
-use crate::made::{Id, digits, partial, store};
 use gix_ref_base::target::Target;
 use gix_ref_memory::memory::Memory;
 use gix_ref_store::file::Store;
 use gix_ref_store::file::iter::{Error, LooseThenPacked, loose_then_packed};
 use gix_ref_store::raw::Reference;
+use gix_ref_test_values::values::{Id, digits, partial, store};
 use std::alloc::Global;
 use std::process::Abort;
 
@@ -266,7 +266,7 @@ fn rows(rt: HostRuntime) {
     let alloc = rt.alloc();
     for row in &ROWS {
         let files = files_of(&rt, alloc, row.files);
-        let mut store = store(&rt, alloc, files, row.worktree, row.namespace);
+        let mut store = store(alloc, files, row.worktree, row.namespace).expect(&rt, "a store");
         let found = listed(&rt, alloc, &mut store, row.prefix);
         assert!(&rt; found.as_slice() == row.lines.as_bytes(), "{}", row.meaning);
     }
@@ -275,7 +275,7 @@ fn rows(rt: HostRuntime) {
 #[test]
 fn loose_alone(rt: HostRuntime) {
     let alloc = rt.alloc();
-    let mut store = store(&rt, alloc, files_of(&rt, alloc, MIXED), "", "");
+    let mut store = store(alloc, files_of(&rt, alloc, MIXED), "", "").expect(&rt, "a store");
     let Ok(all) = store.loose_iter(alloc) else {
         panic!(&rt; "a listing");
     };
@@ -315,7 +315,7 @@ fn prefixes(rt: HostRuntime) {
         (b"/", "foo", "PrefixNotClean"),
     ];
     for (prefix, namespace, wanted) in rows {
-        let mut store = store(&rt, alloc, Memory::new(alloc), "", namespace);
+        let mut store = store(alloc, Memory::new(alloc), "", namespace).expect(&rt, "a store");
         let said = match store.loose_iter_prefixed(alloc, prefix) {
             Ok(_) => "listed",
             Err(Error::EmptyPrefix) => "EmptyPrefix",
@@ -343,13 +343,13 @@ fn failing_calls(rt: HostRuntime) {
     let whole = listed(
         &rt,
         alloc,
-        &mut store(&rt, alloc, files_of(&rt, alloc, ORDERED), "", ""),
+        &mut store(alloc, files_of(&rt, alloc, ORDERED), "", "").expect(&rt, "a store"),
         None,
     );
     for call in 1..16 {
         let mut files = files_of(&rt, alloc, ORDERED);
         files.fail_at(call);
-        let mut store = store(&rt, alloc, files, "", "");
+        let mut store = store(alloc, files, "", "").expect(&rt, "a store");
         let found = match store.loose_iter(alloc) {
             Ok(listing) => lines(&rt, alloc, listing),
             Err(_) => panic!(&rt; "a listing"),
@@ -365,7 +365,7 @@ fn failing_calls(rt: HostRuntime) {
 #[test]
 fn ended_stays_ended(rt: HostRuntime) {
     let alloc = rt.alloc();
-    let mut store = store(&rt, alloc, files_of(&rt, alloc, WORKTREES), "", "");
+    let mut store = store(alloc, files_of(&rt, alloc, WORKTREES), "", "").expect(&rt, "a store");
     let Ok(mut listing) = store.loose_iter(alloc) else {
         panic!(&rt; "a listing");
     };

@@ -1,5 +1,4 @@
 //! Lookups of partial names among loose files and records of `packed-refs`: rows of stores, and reads that fail.
-use crate::made::{full_name, partial, store};
 use gix_ref_base::target::Target;
 use gix_ref_files::files::FileError;
 use gix_ref_hash::hash::ObjectId;
@@ -8,6 +7,7 @@ use gix_ref_packed::packed;
 use gix_ref_packed::packed::buffer::open;
 use gix_ref_store::file::find::{self, ReadError, existing};
 use gix_ref_store::raw::Reference;
+use gix_ref_test_values::values::{full_name, partial, store};
 use std::alloc::Global;
 use std::process::Abort;
 
@@ -177,9 +177,9 @@ fn is_wanted(found: &Result<Reference, existing::Error>, name: &str, want: Want)
 /// Looks up the name of a row, with device names prohibited or not.
 fn check(rt: &impl Abort, alloc: Global, row: Row, is_prohibited: bool) {
     let memory = files_of(rt, alloc, row);
-    let mut store = store(rt, alloc, memory, "", row.space);
+    let mut store = store(alloc, memory, "", row.space).expect(rt, "a store");
     store.prohibit_windows_device_names = is_prohibited;
-    let found = store.find(alloc, partial(rt, row.name));
+    let found = store.find(alloc, partial(row.name).expect(rt, "a partial name"));
     let (meaning, name) = (row.meaning, row.name);
     assert!(rt; is_wanted(&found, name, row.want), "{meaning}: {name}");
 }
@@ -458,8 +458,8 @@ fn is_found(rt: &impl Abort, alloc: Global, text: &[u8], name: &str, call: u64) 
     let mut memory = Memory::new(alloc);
     put(rt, &mut memory, "/r/packed-refs", text);
     memory.fail_at(call);
-    let mut store = store(rt, alloc, memory, "", "");
-    match store.find(alloc, partial(rt, name)) {
+    let mut store = store(alloc, memory, "", "").expect(rt, "a store");
+    match store.find(alloc, partial(name).expect(rt, "a partial name")) {
         Ok(reference) => {
             assert!(rt; is_reference(&reference, Want::Object("refs/heads/b-123", I1)));
             return true;

@@ -1,10 +1,10 @@
 //! Loose texts and the targets that they hold.
-use crate::made::full_name;
 use gix_ref_base::target::{Kind as TargetKind, Target};
 use gix_ref_hash::hash::Kind;
 use gix_ref_name::name;
 use gix_ref_store::file::loose::{Error, Reference};
 use gix_ref_store::raw;
+use gix_ref_test_values::values::full_name;
 use std::alloc::{AllocError, Global};
 use std::process::Abort;
 
@@ -41,7 +41,7 @@ fn target_answer(target: &Target) -> Answer {
 
 /// What a text is decoded to.
 fn decoded(rt: &impl Abort, alloc: Global, text: &[u8], kind: Kind) -> Answer {
-    let name = full_name(rt, alloc, "refs/heads/x");
+    let name = full_name(alloc, "refs/heads/x").expect(rt, "a full name");
     match Reference::try_from_path(alloc, name, text, kind) {
         Ok(reference) => target_answer(&reference.target),
         Err(Error::Parse { .. }) => Answer::Parse,
@@ -165,7 +165,7 @@ fn any_byte_anywhere(rt: HostRuntime) {
 #[test]
 fn references_as_values(rt: HostRuntime) {
     let alloc = rt.alloc();
-    let name = full_name(&rt, alloc, "refs/heads/x");
+    let name = full_name(alloc, "refs/heads/x").expect(&rt, "a full name");
     let made = Reference::try_from_path(alloc, name, b"ref: HEAD\n", Kind::Sha1);
     let Ok(reference) = made else {
         panic!(rt; "a symbolic reference");

@@ -1,8 +1,8 @@
 //! Listings of a store whose `packed-refs` was opened once.
 use crate::listings::{File, ONE, files_of, lines};
-use crate::made::store;
 use gix_ref_packed::packed::buffer::open;
 use gix_ref_store::file::iter::Error;
+use gix_ref_test_values::values::store;
 
 const MIXED: &[File] = &[
     ("/r/HEAD", b"ref: refs/heads/a/b\n"),
@@ -18,7 +18,7 @@ const MIXED: &[File] = &[
 #[test]
 fn all_prefixed_and_pseudo(rt: HostRuntime) {
     let alloc = rt.alloc();
-    let mut store = store(&rt, alloc, files_of(&rt, alloc, MIXED), "", "");
+    let mut store = store(alloc, files_of(&rt, alloc, MIXED), "", "").expect(&rt, "a store");
     let Ok(mut platform) = store.iter(alloc) else {
         panic!(&rt; "a packed-refs that can be opened");
     };
@@ -63,7 +63,7 @@ fn not_opened(rt: HostRuntime) {
         if call > 0 {
             files.fail_at(call);
         }
-        let mut store = store(&rt, alloc, files, "", "");
+        let mut store = store(alloc, files, "", "").expect(&rt, "a store");
         let said = match store.iter(alloc) {
             Ok(_) => "no packed-refs",
             Err(Error::PackedOpen(open::Error::HeaderParsing)) => "a header that is none",

@@ -1,7 +1,7 @@
 //! Whether a store is as `git init` makes it.
 use crate::listings::{File, ONE, files_of};
-use crate::made::store;
 use gix_ref_name::name::FullNameRef;
+use gix_ref_test_values::values::store;
 
 /// `HEAD` of a new repository.
 const MAIN: &[u8] = b"ref: refs/heads/main\n";
@@ -117,7 +117,7 @@ fn rows(rt: HostRuntime) {
     let main = FullNameRef::try_from("refs/heads/main").expect(&rt, "a name");
     for row in &table() {
         let files = files_of(&rt, alloc, row.files);
-        let mut store = store(&rt, alloc, files, row.worktree, row.namespace);
+        let mut store = store(alloc, files, row.worktree, row.namespace).expect(&rt, "a store");
         let said = store.is_pristine(alloc, main).expect(&rt, "memory");
         assert!(&rt; said == row.said, "{}", row.meaning);
     }
@@ -134,7 +134,7 @@ fn failing_calls(rt: HostRuntime) {
     for call in 1..8 {
         let mut files = files_of(&rt, alloc, ALMOST);
         files.fail_at(call);
-        let mut store = store(&rt, alloc, files, "", "");
+        let mut store = store(alloc, files, "", "").expect(&rt, "a store");
         let said = store.is_pristine(alloc, main).expect(&rt, "memory");
         let wanted = if call <= 5 { None } else { Some(true) };
         assert!(&rt; said == wanted, "{call}");

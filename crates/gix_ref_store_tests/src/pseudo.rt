@@ -1,6 +1,6 @@
 //! The listing of pseudo references.
 use crate::listings::{File, ONE, TWO, files_of, lines};
-use crate::made::store;
+use gix_ref_test_values::values::store;
 
 /// A store, and the lines of its listing.
 struct Row {
@@ -98,7 +98,7 @@ fn rows(rt: HostRuntime) {
     let alloc = rt.alloc();
     for row in &ROWS {
         let files = files_of(&rt, alloc, row.files);
-        let mut store = store(&rt, alloc, files, row.worktree, row.namespace);
+        let mut store = store(alloc, files, row.worktree, row.namespace).expect(&rt, "a store");
         let Ok(listing) = store.iter_pseudo(alloc) else {
             panic!(&rt; "a listing");
         };
@@ -121,7 +121,7 @@ fn failing_calls(rt: HostRuntime) {
         call = u64::saturating_add(call, 1);
         let mut files = files_of(&rt, alloc, HEADS);
         files.fail_at(call);
-        let mut store = store(&rt, alloc, files, "", "");
+        let mut store = store(alloc, files, "", "").expect(&rt, "a store");
         let Ok(listing) = store.iter_pseudo(alloc) else {
             panic!(&rt; "a listing");
         };

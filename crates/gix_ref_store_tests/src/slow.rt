@@ -1,9 +1,9 @@
 //! Lookups in small stores, each compared with a plain search over the same files.
-use crate::made::{partial, store};
 use gix_ref_hash::hash::ObjectId;
 use gix_ref_memory::memory::Memory;
 use gix_ref_store::file::find::existing;
 use gix_ref_store::raw::Reference;
+use gix_ref_test_values::values::{partial, store};
 use std::alloc::Global;
 use std::process::Abort;
 
@@ -252,14 +252,14 @@ fn is_same(found: &Result<Reference, existing::Error>, want: &Option<(String, &s
 fn compare(rt: &impl Abort, alloc: Global, kept: Kept) -> u32 {
     let memory = files(rt, alloc, kept);
     let namespace = if kept.space.is_empty() { "" } else { "foo" };
-    let mut store = store(rt, alloc, files(rt, alloc, kept), "", namespace);
+    let mut store = store(alloc, files(rt, alloc, kept), "", namespace).expect(rt, "a store");
     let mut count = 0u32;
     for name in ASKED {
         let mut want = first(rt, alloc, &memory, kept.space, name);
         if want.is_none() {
             want = head(rt, alloc, &memory, kept.space, name);
         }
-        let found = store.find(alloc, partial(rt, name));
+        let found = store.find(alloc, partial(name).expect(rt, "a partial name"));
         assert!(rt;
             is_same(&found, &want),
             "{name}: {} {} {}",

@@ -1,10 +1,10 @@
 //! Listings of small stores, each compared with a plain list made by loops over the same files and lines.
-use crate::made::store;
 use crate::slow::{digits, has_bit, next, record_of};
 use gix_ref_hash::hash::ObjectId;
 use gix_ref_memory::memory::Memory;
 use gix_ref_store::file::iter::{LooseThenPacked, Platform, loose_then_packed};
 use gix_ref_store::raw::Reference;
+use gix_ref_test_values::values::store;
 use std::alloc::Global;
 use std::process::Abort;
 
@@ -318,7 +318,9 @@ fn compare_pseudo(
 fn compare_all(rt: &impl Abort, alloc: Global, kept: Kept) -> usize {
     let memory = files(rt, alloc, kept);
     let namespace = if kept.space.is_empty() { "" } else { "foo" };
-    let mut store = store(rt, alloc, files(rt, alloc, kept), kept.worktree, namespace);
+    let mut store = store(alloc, files(rt, alloc, kept), kept.worktree, namespace).expect(
+        rt, "a store",
+    );
     let Ok(mut platform) = store.iter(alloc) else {
         panic!(rt; "a packed-refs that can be opened");
     };

@@ -1,15 +1,15 @@
 //! Each call of `gix_ref_whole`, where the edits are committed, where they are refused, and where their commit fails.
 use gix_ref_base::target::Target;
-use gix_ref_edits::transaction::{Change, LogChange, PreviousValue, RefEdit, RefLog};
-use gix_ref_hash::hash::{Kind, ObjectId};
+use gix_ref_edits::transaction::{Change, PreviousValue, RefEdit, RefLog};
 use gix_ref_log::actor::{SignatureRef, Time};
 use gix_ref_memory::memory::Memory;
-use gix_ref_name::name::{FullNameRef, PartialNameRef};
 use gix_ref_store::file::Store;
 use gix_ref_store::file::find::existing;
 use gix_ref_store::file::iter::{self, loose_then_packed};
 use gix_ref_store::file::transaction::prepare;
 use gix_ref_store::raw::Reference;
+use gix_ref_test_values::edits::update;
+use gix_ref_test_values::values::{Id, files, full_name, object, partial, store};
 use gix_ref_whole::error::Error;
 use gix_ref_whole::find::commit_then_find;
 use gix_ref_whole::list::commit_then_list;
@@ -45,52 +45,17 @@ fn committer() -> Option<SignatureRef<'static>> {
     })
 }
 
-/// The target of these digits.
-fn object(rt: &impl Abort, digits: &[u8]) -> Target {
-    Target::Object(ObjectId::from_hex(digits).expect(rt, "an id"))
-}
-
-/// Forty digits `2` as a target.
-fn two(rt: &impl Abort) -> Target {
-    object(rt, &TWO[..40])
-}
-
-fn partial<'a>(rt: &impl Abort, text: &'a str) -> PartialNameRef<'a> {
-    PartialNameRef::try_from(text).expect(rt, "a partial name")
-}
-
 /// A store with `refs/heads/a` as a loose file, and two packed references.
 fn made(rt: &impl Abort, alloc: Global) -> Store<Memory> {
-    let mut memory = Memory::new(alloc);
-    assert!(rt; memory.put(b"/r/refs/heads/a", ONE).expect(rt, "memory"));
+    let mut memory = files(alloc, "/r/refs/heads/a", ONE).expect(rt, "memory");
     assert!(rt; memory.put(b"/r/packed-refs", PACKED).expect(rt, "memory"));
-    match Store::at(memory, b"/r".to_vec(alloc).expect(rt, "memory"), Kind::Sha1) {
-        Ok(store) => store,
-        Err(_) => panic!(rt; "a clean folder"),
-    }
-}
-
-/// The list of one edit.
-fn one_edit(rt: &impl Abort, alloc: Global, name: &str, change: Change) -> Vec<RefEdit> {
-    let name = FullNameRef::try_from(name).expect(rt, "a full name");
-    let mut edits = Vec::with_capacity(alloc, 1).expect(rt, "memory");
-    let edit = RefEdit {
-        change,
-        name: name.to_owned(alloc).expect(rt, "memory"),
-        deref: false,
-    };
-    edits.push(edit).expect(rt, "room");
-    edits
+    store(alloc, memory, "", "").expect(rt, "a store")
 }
 
 /// The update of `refs/heads/a` to forty digits `2`.
 fn update_of_a(rt: &impl Abort, alloc: Global, expected: PreviousValue) -> Vec<RefEdit> {
-    let change = Change::Update {
-        log: LogChange::new_in(alloc),
-        expected,
-        new: two(rt),
-    };
-    one_edit(rt, alloc, "refs/heads/a", change)
+    let two = object(Id::Two).expect(rt, "an id");
+    update(alloc, "refs/heads/a", expected, two).expect(rt, "edits")
 }
 
 /// An update that is refused.
@@ -100,11 +65,22 @@ fn refused_edits(rt: &impl Abort, alloc: Global) -> Vec<RefEdit> {
 
 /// The deletion of `refs/heads/b`.
 fn deletion_of_b(rt: &impl Abort, alloc: Global) -> Vec<RefEdit> {
-    let change = Change::Delete {
-        expected: PreviousValue::MustExist,
-        log: RefLog::AndReference,
+    let mut edits = Vec::with_capacity(alloc, 1).expect(rt, "memory");
+    let edit = RefEdit {
+        change: Change::Delete {
+            expected: PreviousValue::MustExist,
+            log: RefLog::AndReference,
+        },
+        name: full_name(alloc, "refs/heads/b").expect(rt, "a full name"),
+        deref: false,
     };
-    one_edit(rt, alloc, "refs/heads/b", change)
+    edits.push(edit).expect(rt, "room");
+    edits
+}
+
+/// Whether a target is of forty digits `2`.
+fn is_two(rt: &impl Abort, target: &Target) -> bool {
+    *target == object(Id::Two).expect(rt, "an id")
 }
 
 /// Adds the line of an item: the first digit of its id, and its name.
@@ -115,7 +91,7 @@ fn push_item(
 ) {
     match item {
         Ok(reference) => {
-            let digit: &[u8] = if reference.target == two(rt) {
+            let digit: &[u8] = if is_two(rt, &reference.target) {
                 b"2 "
             } else {
                 b"1 "
@@ -150,7 +126,7 @@ fn lines(
 /// Whether a reference to forty digits `2` was found.
 fn is_found(rt: &impl Abort, found: &Result<Reference, existing::Error>) -> bool {
     match found {
-        Ok(reference) => reference.target == two(rt),
+        Ok(reference) => is_two(rt, &reference.target),
         Err(_) => false,
     }
 }
@@ -187,7 +163,7 @@ fn a_lookup_finds_what_was_committed(rt: HostRuntime) {
     let (alloc, rt) = (rt.alloc(), &rt);
     let mut store = made(rt, alloc);
     let edits = update_of_a(rt, alloc, PreviousValue::MustExist);
-    let name = partial(rt, "refs/heads/a");
+    let name = partial("refs/heads/a").expect(rt, "a name");
     match commit_then_find(alloc, &mut store, edits, committer(), name) {
         Ok(r) => assert!(rt; is_found(rt, &r.found)),
         Err(error) => panic!(rt; "{error}"),
@@ -214,7 +190,7 @@ fn a_deleted_reference_is_not_read(rt: HostRuntime) {
     let (alloc, rt) = (rt.alloc(), &rt);
     let mut store = made(rt, alloc);
     let edits = deletion_of_b(rt, alloc);
-    let name = partial(rt, "refs/heads/b");
+    let name = partial("refs/heads/b").expect(rt, "a name");
     match commit_then_read(alloc, &mut store, edits, committer(), name, b"refs/heads/") {
         Ok(r) => {
             assert!(rt; is_not_found(&r.found));
@@ -237,7 +213,7 @@ fn refused_edits_are_said(rt: HostRuntime) {
         Ok(_) => panic!(rt; "a reference that exists must not exist"),
         Err(error) => assert!(rt; is_refused(&error)),
     }
-    let name = partial(rt, "refs/heads/a");
+    let name = partial("refs/heads/a").expect(rt, "a name");
     let edits = refused_edits(rt, alloc);
     match commit_then_find(alloc, &mut store, edits, None, name) {
         Ok(_) => panic!(rt; "a reference that exists must not exist"),
@@ -263,7 +239,7 @@ fn a_failed_commit_is_said(rt: HostRuntime) {
     let (alloc, rt) = (rt.alloc(), &rt);
     let mut store = made(rt, alloc);
     let edits = update_of_a(rt, alloc, PreviousValue::MustExist);
-    let name = partial(rt, "refs/heads/a");
+    let name = partial("refs/heads/a").expect(rt, "a name");
     match commit_then_read(alloc, &mut store, edits, None, name, b"refs/") {
         Ok(_) => panic!(rt; "a log line without a committer"),
         Err(error) => assert!(rt; matches!(error, Error::Commit(_))),

@@ -1,13 +1,13 @@
 //! Transactions of several updates: the causes against them in their order, and what stops, faults and losses of power leave.
 
-use crate::made::{Id, bytes, full_name, object, store};
-use crate::made_edits::{Answer, Expect, answer_of, expected, pick_at};
 use gix_ref_edits::transaction::{Change, LogChange, PreviousValue, RefEdit, RefLog, SplitError};
 use gix_ref_memory::memory::Memory;
 use gix_ref_store::file::Store;
 use gix_ref_store::file::transaction::commit;
 use gix_ref_store::file::transaction::prepare::Error;
 use gix_ref_store::store::WriteReflog;
+use gix_ref_test_values::edits::{Answer, Expect, answer_of, expected, pick_at};
+use gix_ref_test_values::values::{Id, bytes, full_name, object, store};
 use std::alloc::Global;
 use std::process::Abort;
 
@@ -28,12 +28,12 @@ fn updates(rt: &impl Abort, alloc: Global, rows: &[Row]) -> Vec<RefEdit> {
                 log: LogChange {
                     mode: RefLog::AndReference,
                     force_create_reflog: true,
-                    message: bytes(rt, alloc, "m"),
+                    message: bytes(alloc, "m").expect(rt, "memory"),
                 },
-                expected: expected(rt, *expect),
-                new: object(rt, *new),
+                expected: expected(*expect).expect(rt, "an id"),
+                new: object(*new).expect(rt, "an id"),
             },
-            name: full_name(rt, alloc, name),
+            name: full_name(alloc, name).expect(rt, "a full name"),
             deref: false,
         };
         edits.push(edit).expect(rt, "room");
@@ -318,7 +318,7 @@ fn hold_one(memory: &Memory, paths: &[&str]) -> bool {
 fn the_first_cause(rt: HostRuntime) {
     let alloc = rt.alloc();
     for (meaning, paths, worktree, edits, want, name) in CAUSES {
-        let mut store = store(&rt, alloc, ones(&rt, alloc, paths), worktree, "");
+        let mut store = store(alloc, ones(&rt, alloc, paths), worktree, "").expect(&rt, "a store");
         let (answer, reported) = prepared(alloc, &mut store, updates(&rt, alloc, edits), name);
         assert_eq!(rt; answer, want, "{meaning}");
         assert!(rt; reported, "{meaning}");
@@ -357,7 +357,7 @@ fn a_reference_that_is_followed_beside_its_target(rt: HostRuntime) {
         let mut memory = ones(&rt, alloc, &["/r/refs/heads/main"]);
         let head = memory.put(b"/r/HEAD", b"ref: refs/heads/main\n");
         assert!(rt; head.expect(&rt, "memory"));
-        let mut store = store(&rt, alloc, memory, "", "");
+        let mut store = store(alloc, memory, "", "").expect(&rt, "a store");
         let mut edits = updates(&rt, alloc, &rows);
         for edit in edits.iter_mut() {
             edit.deref = true;
@@ -377,7 +377,7 @@ fn a_reference_and_one_below_it(rt: HostRuntime) {
     let upper: Row = ("refs/heads/a", Expect::Any, Id::One);
     let lower: Row = ("refs/heads/a/b", Expect::Any, Id::One);
     for (edits, lower_is_done) in [([upper, lower], false), ([lower, upper], true)] {
-        let mut store = store(&rt, alloc, Memory::new(alloc), "", "");
+        let mut store = store(alloc, Memory::new(alloc), "", "").expect(&rt, "a store");
         let (outcome, told) = committed(
             alloc,
             &mut store,
@@ -430,7 +430,7 @@ fn run_with(rt: &impl Abort, alloc: Global, end: End, told: &str) -> (Outcome, b
         End::Stops(k, n) => memory.stop_at(k, n),
         End::Fails(k) => memory.fail_at(k),
     }
-    let mut store = store(rt, alloc, memory, "", "");
+    let mut store = store(alloc, memory, "", "").expect(rt, "a store");
     let mut rows: [Row; 4] = [("", Expect::Any, Id::Two); 4];
     for (row, (name, _, _)) in rows.iter_mut().zip(EDITS) {
         row.0 = name;
@@ -550,7 +550,7 @@ fn is_kept(edit: &RefEdit, expects: &PreviousValue) -> bool {
 #[test]
 fn a_rollback_hands_the_edits_back(rt: HostRuntime) {
     let alloc = rt.alloc();
-    let mut store = store(&rt, alloc, ones(&rt, alloc, &[A]), "", "");
+    let mut store = store(alloc, ones(&rt, alloc, &[A]), "", "").expect(&rt, "a store");
     let rows: [Row; 2] = [
         ("refs/heads/b", Expect::MustNotExist, Id::Two),
         ("refs/heads/a", Expect::MustExist, Id::Two),
@@ -566,7 +566,7 @@ fn a_rollback_hands_the_edits_back(rt: HostRuntime) {
             assert!(rt;
                 is_kept(
                     &back.edits[1],
-                    &PreviousValue::MustExistAndMatch(object(&rt, Id::One))
+                    &PreviousValue::MustExistAndMatch(object(Id::One).expect(&rt, "an id"))
                 )
             );
         }

@@ -3,10 +3,10 @@
 use crate::logs::{
     Asked, DELETION, FIRST, ONE, Outcome, Texts, UPDATE, Who, committed, edits_of, hold, made,
 };
-use crate::made::store;
 use gix_ref_files::files::{Files, Node};
 use gix_ref_memory::memory::Memory;
 use gix_ref_store::store::WriteReflog;
+use gix_ref_test_values::values::{self, store};
 use std::alloc::Global;
 use std::process::Abort;
 
@@ -214,7 +214,7 @@ fn folders_before_and_after(rt: HostRuntime) {
     let alloc = rt.alloc();
     for row in ROWS {
         let memory = with_folders(&rt, alloc, row.before, row.folders);
-        let mut store = store(&rt, alloc, memory, row.worktree, row.namespace);
+        let mut store = store(alloc, memory, row.worktree, row.namespace).expect(&rt, "a store");
         store.write_reflog = if row.who == Who::Nobody {
             WriteReflog::Disable
         } else {
@@ -242,7 +242,7 @@ fn folders_before_and_after(rt: HostRuntime) {
 fn a_branch_in_place_of_deleted_ones(rt: HostRuntime) {
     let alloc = rt.alloc();
     let memory = made(&rt, alloc, &[("/r/refs/heads/a/b/c", ONE)]);
-    let mut store = store(&rt, alloc, memory, "", "");
+    let mut store = store(alloc, memory, "", "").expect(&rt, "a store");
     for asked in [DEEP, UPDATE] {
         let edits = edits_of(&rt, alloc, &[asked]);
         let (outcome, _) = committed(alloc, &mut store, Who::C, edits, "");
@@ -258,7 +258,7 @@ fn run(rt: &impl Abort, alloc: Global, fails: u64) -> (Outcome, Memory) {
     if fails != 0 {
         memory.fail_at(fails);
     }
-    let mut store = store(rt, alloc, memory, "", "");
+    let mut store = store(alloc, memory, "", "").expect(rt, "a store");
     store.write_reflog = WriteReflog::Normal;
     let edits = edits_of(rt, alloc, &[UPDATE]);
     let (outcome, _) = committed(alloc, &mut store, Who::C, edits, "");
@@ -297,14 +297,14 @@ fn faults_among_folders(rt: HostRuntime) {
 fn faults_above_deletions(rt: HostRuntime) {
     let alloc = rt.alloc();
     let before: Texts = &[("/r/refs/heads/a/b/c", ONE)];
-    let mut store = store(&rt, alloc, made(&rt, alloc, before), "", "");
+    let mut store = store(alloc, made(&rt, alloc, before), "", "").expect(&rt, "a store");
     let edits = edits_of(&rt, alloc, &[DEEP]);
     let (outcome, _) = committed(alloc, &mut store, Who::Nobody, edits, "");
     assert_eq!(rt; outcome, Outcome::Done);
     let calls = store.into_files().calls();
     let mut memory = made(&rt, alloc, before);
     memory.fail_at(calls);
-    let mut store = crate::made::store(&rt, alloc, memory, "", "");
+    let mut store = values::store(alloc, memory, "", "").expect(&rt, "a store");
     let edits = edits_of(&rt, alloc, &[DEEP]);
     let (outcome, _) = committed(alloc, &mut store, Who::Nobody, edits, "");
     assert_eq!(rt; outcome, Outcome::Done);

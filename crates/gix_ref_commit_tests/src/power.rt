@@ -1,13 +1,13 @@
 //! One update that is stopped at each of its file calls, or fails in it, and then loses power: the reference reads as before or as
 //! edited, and once the update is done it stays.
 
-use crate::made::{Id, object, store};
-use crate::made_edits::{pick_at, update};
 use gix_ref_edits::transaction::{PreviousValue, RefEdit};
 use gix_ref_memory::memory::Memory;
 use gix_ref_store::file::Store;
 use gix_ref_store::file::transaction::commit;
 use gix_ref_store::store::WriteReflog;
+use gix_ref_test_values::edits::{pick_at, update};
+use gix_ref_test_values::values::{Id, object, store};
 use std::alloc::Global;
 use std::process::Abort;
 
@@ -92,9 +92,9 @@ fn updated(rt: &impl Abort, alloc: Global, mut memory: Memory, end: End) -> (Ans
         End::Stops(k, n) => memory.stop_at(k, n),
         End::Fails(k) => memory.fail_at(k),
     }
-    let mut store = store(rt, alloc, memory, "", "");
-    let new = object(rt, Id::Two);
-    let edits = update(rt, alloc, "refs/heads/a", PreviousValue::Any, new);
+    let mut store = store(alloc, memory, "", "").expect(rt, "a store");
+    let new = object(Id::Two).expect(rt, "an id");
+    let edits = update(alloc, "refs/heads/a", PreviousValue::Any, new).expect(rt, "edits");
     let answer = outcome(alloc, &mut store, edits);
     (answer, store.into_files())
 }

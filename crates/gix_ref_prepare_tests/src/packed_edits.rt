@@ -1,9 +1,9 @@
 //! Updates in a repository with `packed-refs`: what is found, what is expected, and which files are written.
-use crate::made::{Id, files, object, store};
-use crate::made_edits::{Answer, Expect, answer_of, expected, prepared, update};
 use crate::transactions::committed;
 use gix_ref_memory::memory::Memory;
 use gix_ref_store::store::WriteReflog;
+use gix_ref_test_values::edits::{Answer, Expect, answer_of, expected, prepared, update};
+use gix_ref_test_values::values::{Id, files, object, store};
 use std::alloc::Global;
 use std::process::Abort;
 
@@ -42,7 +42,7 @@ type Row<'a> = (&'a [u8], &'a [u8], Id, Expect, Answer, &'a [u8]);
 
 /// The files of a row; an empty text is no file.
 fn made(rt: &impl Abort, alloc: Global, packed: &[u8], loose: &[u8]) -> Memory {
-    let mut memory = files(rt, alloc, "/r/packed-refs", packed);
+    let mut memory = files(alloc, "/r/packed-refs", packed).expect(rt, "memory");
     if !loose.is_empty() {
         assert!(rt; memory.put(A.as_bytes(), loose).expect(rt, "memory"));
     }
@@ -166,25 +166,25 @@ fn the_record_is_what_is_found(rt: HostRuntime) {
     ];
     for (packed, loose, new, expect, want, after) in rows {
         let meaning = packed.to_vec(alloc).expect(&rt, "memory");
-        let first = store(&rt, alloc, made(&rt, alloc, packed, loose), "", "");
+        let first = store(alloc, made(&rt, alloc, packed, loose), "", "").expect(&rt, "a store");
         let edits = update(
-            &rt,
             alloc,
             "refs/heads/a",
-            expected(&rt, expect),
-            object(&rt, new),
-        );
+            expected(expect).expect(&rt, "an id"),
+            object(new).expect(&rt, "an id"),
+        )
+        .expect(&rt, "edits");
         let (answer, memory) = prepared(alloc, first, edits);
         assert_eq!(rt; answer, want, "{expect:?}");
         assert!(rt; memory.get(LOCK.as_bytes()).is_none(), "no lock is left");
-        let mut second = store(&rt, alloc, memory, "", "");
+        let mut second = store(alloc, memory, "", "").expect(&rt, "a store");
         let edits = update(
-            &rt,
             alloc,
             "refs/heads/a",
-            expected(&rt, expect),
-            object(&rt, new),
-        );
+            expected(expect).expect(&rt, "an id"),
+            object(new).expect(&rt, "an id"),
+        )
+        .expect(&rt, "edits");
         assert!(rt; committed(alloc, &mut second, edits).is_ok(), "{expect:?}");
         let memory = second.into_files();
         assert!(rt;
@@ -205,14 +205,14 @@ const BELOW: &[u8] = b"# pack-refs with: peeled fully-peeled sorted \n\
 #[test]
 fn a_file_on_the_way_of_a_packed_branch(rt: HostRuntime) {
     let alloc = rt.alloc();
-    let first = store(&rt, alloc, made(&rt, alloc, BELOW, ONE), "", "");
+    let first = store(alloc, made(&rt, alloc, BELOW, ONE), "", "").expect(&rt, "a store");
     let edits = update(
-        &rt,
         alloc,
         "refs/heads/a/b",
-        expected(&rt, Expect::Match(Id::One)),
-        object(&rt, Id::Two),
-    );
+        expected(Expect::Match(Id::One)).expect(&rt, "an id"),
+        object(Id::Two).expect(&rt, "an id"),
+    )
+    .expect(&rt, "edits");
     let (answer, memory) = prepared(alloc, first, edits);
     assert_eq!(rt; answer, Answer::PathCollision);
     assert!(rt;
@@ -233,16 +233,16 @@ fn each_call_fails_once(rt: HostRuntime) {
     for k in 1..20u64 {
         let mut memory = made(&rt, alloc, PACKED, b"");
         memory.fail_at(k);
-        let mut store = store(&rt, alloc, memory, "", "");
+        let mut store = store(alloc, memory, "", "").expect(&rt, "a store");
         store.write_reflog = WriteReflog::Disable;
-        let new = object(&rt, Id::Two);
+        let new = object(Id::Two).expect(&rt, "an id");
         let edits = update(
-            &rt,
             alloc,
             "refs/heads/a",
-            expected(&rt, Expect::Match(Id::One)),
+            expected(Expect::Match(Id::One)).expect(&rt, "an id"),
             new,
-        );
+        )
+        .expect(&rt, "edits");
         match store.transaction().prepare(alloc, edits) {
             Err(refused) => {
                 let answer = answer_of(&refused.error);

@@ -1,6 +1,4 @@
 //! Transactions with log lines: what logs hold afterwards, why lines are refused, and what stops, faults and losses of power leave.
-use crate::made::{Id, full_name, object, store};
-use crate::made_edits::pick_at;
 use gix_ref_base::target::Target;
 use gix_ref_edits::transaction::{Change, LogChange, PreviousValue, RefEdit, RefLog};
 use gix_ref_files::files::Files;
@@ -11,6 +9,8 @@ use gix_ref_store::file::Store;
 use gix_ref_store::file::transaction::commit;
 use gix_ref_store::file::transaction::prepare::Error;
 use gix_ref_store::store::WriteReflog;
+use gix_ref_test_values::edits::pick_at;
+use gix_ref_test_values::values::{Id, full_name, object, store};
 use std::alloc::Global;
 use std::process::Abort;
 
@@ -347,12 +347,12 @@ fn edit(rt: &impl Abort, alloc: Global, asked: Asked) -> RefEdit {
                 message: asked.message.as_bytes().to_vec(alloc).expect(rt, "memory"),
             },
             expected: PreviousValue::Any,
-            new: object(rt, id),
+            new: object(id).expect(rt, "an id"),
         },
     };
     RefEdit {
         change,
-        name: full_name(rt, alloc, asked.name),
+        name: full_name(alloc, asked.name).expect(rt, "a full name"),
         deref: asked.deref,
     }
 }
@@ -452,7 +452,7 @@ fn files_before_and_after(rt: HostRuntime) {
     );
     for row in ROWS {
         let memory = made(&rt, alloc, row.before);
-        let mut store = store(&rt, alloc, memory, row.worktree, row.namespace);
+        let mut store = store(alloc, memory, row.worktree, row.namespace).expect(&rt, "a store");
         store.write_reflog = row.mode;
         let edits = edits_of(&rt, alloc, row.edits);
         let (outcome, left) = committed(alloc, &mut store, row.who, edits, path_of(row.want));
@@ -469,7 +469,7 @@ fn files_before_and_after(rt: HostRuntime) {
 
 /// The name that `HEAD` holds.
 fn main_of_head(rt: &impl Abort, alloc: Global) -> Target {
-    Target::Symbolic(full_name(rt, alloc, "refs/heads/main"))
+    Target::Symbolic(full_name(alloc, "refs/heads/main").expect(rt, "a full name"))
 }
 
 /// An update of `HEAD` and of the branch that it leads to, as it is handed back.
@@ -490,9 +490,9 @@ fn update_of_head(rt: &impl Abort, alloc: Global, name: &str) -> RefEdit {
                 message: b"m".to_vec(alloc).expect(rt, "memory"),
             },
             expected,
-            new: object(rt, Id::One),
+            new: object(Id::One).expect(rt, "an id"),
         },
-        name: full_name(rt, alloc, name),
+        name: full_name(alloc, name).expect(rt, "a full name"),
         deref: false,
     }
 }
@@ -512,7 +512,7 @@ const UNLOCKED: Texts = &[("/r/HEAD.lock", b""), ("/r/refs/heads/main.lock", b""
 fn an_update_that_follows_hands_back_both_edits(rt: HostRuntime) {
     let alloc = rt.alloc();
     let memory = made(&rt, alloc, &[("/r/HEAD", b"ref: refs/heads/main\n")]);
-    let mut store = store(&rt, alloc, memory, "", "");
+    let mut store = store(alloc, memory, "", "").expect(&rt, "a store");
     store.write_reflog = WriteReflog::Normal;
     let edits = edits_of(&rt, alloc, &[HEAD]);
     match store.transaction().prepare(alloc, edits) {
@@ -536,14 +536,14 @@ fn an_update_that_follows_hands_back_both_edits(rt: HostRuntime) {
 #[test]
 fn a_deletion_that_follows_expects_it_of_both(rt: HostRuntime) {
     let alloc = rt.alloc();
-    let mut store = store(&rt, alloc, made(&rt, alloc, MADE), "", "");
+    let mut store = store(alloc, made(&rt, alloc, MADE), "", "").expect(&rt, "a store");
     let mut edits = Vec::with_capacity(alloc, 1).expect(&rt, "memory");
     let edit = RefEdit {
         change: Change::Delete {
-            expected: PreviousValue::MustExistAndMatch(object(&rt, Id::One)),
+            expected: PreviousValue::MustExistAndMatch(object(Id::One).expect(&rt, "an id")),
             log: RefLog::AndReference,
         },
-        name: full_name(&rt, alloc, "HEAD"),
+        name: full_name(alloc, "HEAD").expect(&rt, "a full name"),
         deref: true,
     };
     edits.push(edit).expect(&rt, "room");
@@ -557,7 +557,10 @@ fn a_deletion_that_follows_expects_it_of_both(rt: HostRuntime) {
                     actual,
                 } => {
                     assert!(rt; full_name.eq_bytes(b"HEAD"), "the name");
-                    assert!(rt; *expected == object(&rt, Id::One), "what it expects");
+                    assert!(rt;
+                        *expected == object(Id::One).expect(&rt, "an id"),
+                        "what it expects"
+                    );
                     assert!(rt; *actual == main_of_head(&rt, alloc), "what is found");
                 }
                 _ => panic!(rt; "another cause"),
@@ -599,7 +602,7 @@ fn run(rt: &impl Abort, alloc: Global, end: End) -> (Outcome, Memory) {
         End::Stops(k, n) => memory.stop_at(k, n),
         End::Fails(k) => memory.fail_at(k),
     }
-    let mut store = store(rt, alloc, memory, "", "");
+    let mut store = store(alloc, memory, "", "").expect(rt, "a store");
     store.write_reflog = WriteReflog::Normal;
     let first = Asked {
         new: Some(Id::Two),

@@ -1,13 +1,13 @@
 //! Transactions with deletions: what becomes of loose files, of logs and of `packed-refs`, and what stops, faults and losses of power
 //! leave.
-use crate::made::{Id, bytes, full_name, object, store};
-use crate::made_edits::{Answer, pick_at, prepared};
 use gix_ref_edits::transaction::{Change, LogChange, PreviousValue, RefEdit, RefLog};
 use gix_ref_files::files::Files;
 use gix_ref_memory::memory::Memory;
 use gix_ref_store::file::Store;
 use gix_ref_store::file::transaction::{Failed, commit};
 use gix_ref_store::store::WriteReflog;
+use gix_ref_test_values::edits::{Answer, pick_at, prepared};
+use gix_ref_test_values::values::{Id, bytes, full_name, object, store};
 use std::alloc::Global;
 use std::process::Abort;
 
@@ -54,7 +54,7 @@ fn deletion(rt: &impl Abort, alloc: Global, name: &str, log: RefLog) -> RefEdit 
             expected: PreviousValue::MustExist,
             log,
         },
-        name: full_name(rt, alloc, name),
+        name: full_name(alloc, name).expect(rt, "a full name"),
         deref: false,
     }
 }
@@ -65,9 +65,9 @@ fn update(rt: &impl Abort, alloc: Global, name: &str) -> RefEdit {
         change: Change::Update {
             log: LogChange::new_in(alloc),
             expected: PreviousValue::Any,
-            new: object(rt, Id::Two),
+            new: object(Id::Two).expect(rt, "an id"),
         },
-        name: full_name(rt, alloc, name),
+        name: full_name(alloc, name).expect(rt, "a full name"),
         deref: false,
     }
 }
@@ -237,7 +237,7 @@ fn files_before_and_after(rt: HostRuntime) {
                 (&reflog, log_text),
             ],
         );
-        let mut store = store(&rt, alloc, memory, "", "");
+        let mut store = store(alloc, memory, "", "").expect(&rt, "a store");
         let mut edits = Vec::with_capacity(alloc, 1).expect(&rt, "memory");
         edits
             .push(deletion(&rt, alloc, name, log))
@@ -281,7 +281,7 @@ fn a_lock_of_another_on_packed_refs(rt: HostRuntime) {
             ("/r/packed-refs.lock", b"theirs"),
             ("/r/logs/refs/tags/t", LINE),
         ];
-        let first = store(&rt, alloc, made(&rt, alloc, &texts), "", "");
+        let first = store(alloc, made(&rt, alloc, &texts), "", "").expect(&rt, "a store");
         let mut edits = Vec::with_capacity(alloc, 1).expect(&rt, "memory");
         edits
             .push(deletion(&rt, alloc, "refs/tags/t", log))
@@ -300,7 +300,7 @@ fn an_empty_folder_at_the_place(rt: HostRuntime) {
     let alloc = rt.alloc();
     let mut memory = made(&rt, alloc, &[("/r/packed-refs", FIRST)]);
     assert!(rt; memory.make_folders(b"/r/refs/tags/t").expect(&rt, "memory"));
-    let mut store = store(&rt, alloc, memory, "", "");
+    let mut store = store(alloc, memory, "", "").expect(&rt, "a store");
     let mut edits = Vec::with_capacity(alloc, 1).expect(&rt, "memory");
     edits
         .push(deletion(&rt, alloc, "refs/tags/t", RefLog::AndReference))
@@ -347,7 +347,7 @@ fn run(rt: &impl Abort, alloc: Global, end: End) -> (Outcome, Memory, bool) {
         End::Stops(k, n) => memory.stop_at(k, n),
         End::Fails(k) => memory.fail_at(k),
     }
-    let mut store = store(rt, alloc, memory, "", "");
+    let mut store = store(alloc, memory, "", "").expect(rt, "a store");
     let mut edits = Vec::with_capacity(alloc, 3).expect(rt, "memory");
     edits
         .push(update(rt, alloc, "refs/heads/a"))

@@ -1,9 +1,9 @@
 //! Updates that follow symbolic references.
-use crate::made::{Id, object, store};
-use crate::made_edits::{Answer, Expect, expected, prepared, update_by};
 use crate::transactions::committed;
 use gix_ref_edits::transaction::{Change, RefLog};
 use gix_ref_memory::memory::Memory;
+use gix_ref_test_values::edits::{Answer, Expect, expected, prepared, update_by};
+use gix_ref_test_values::values::{Id, object, store};
 use std::alloc::Global;
 use std::process::Abort;
 
@@ -102,15 +102,15 @@ fn what_follows_is_prepared(rt: HostRuntime) {
         ),
     ];
     for (texts, name, expect, want) in rows {
-        let first = store(&rt, alloc, made(&rt, alloc, texts), "", "");
+        let first = store(alloc, made(&rt, alloc, texts), "", "").expect(&rt, "a store");
         let edits = update_by(
-            &rt,
             alloc,
             name,
-            expected(&rt, expect),
-            object(&rt, Id::Two),
+            expected(expect).expect(&rt, "an id"),
+            object(Id::Two).expect(&rt, "an id"),
             true,
-        );
+        )
+        .expect(&rt, "edits");
         let (answer, memory) = prepared(alloc, first, edits);
         assert_eq!(rt; answer, want, "{name} {expect:?}");
         stay(&rt, &memory, texts, "");
@@ -132,15 +132,15 @@ fn the_reference_that_is_led_to_is_written(rt: HostRuntime) {
         ),
     ];
     for (texts, namespace, name, path, count) in rows {
-        let mut store = store(&rt, alloc, made(&rt, alloc, texts), "", namespace);
+        let mut store = store(alloc, made(&rt, alloc, texts), "", namespace).expect(&rt, "a store");
         let edits = update_by(
-            &rt,
             alloc,
             name,
-            expected(&rt, Expect::Any),
-            object(&rt, Id::Two),
+            expected(Expect::Any).expect(&rt, "an id"),
+            object(Id::Two).expect(&rt, "an id"),
             true,
-        );
+        )
+        .expect(&rt, "edits");
         match committed(alloc, &mut store, edits) {
             Ok(edits) => {
                 assert_eq!(rt; edits.len(), count, "{name}");

@@ -1,7 +1,5 @@
 //! One update, prepared and then committed or rolled back: each cause, the files after it, and the values handed back.
 
-use crate::made::{Id, digits, files, full_name, object, partial, store};
-use crate::made_edits::{Answer, Expect, answer_of, expected, prepared, update, update_by};
 use gix_ref_base::target::Target;
 use gix_ref_edits::transaction::{Change, LogChange, PreviousValue, RefEdit, RefLog};
 use gix_ref_files::files::Files;
@@ -13,6 +11,10 @@ use gix_ref_store::file::Store;
 use gix_ref_store::file::transaction::prepare::Error;
 use gix_ref_store::file::transaction::{PackedRefs, commit};
 use gix_ref_store::store::WriteReflog;
+use gix_ref_test_values::edits::{
+    Answer, Expect, answer_of, expected, prepared, update, update_by,
+};
+use gix_ref_test_values::values::{Id, digits, files, full_name, object, partial, store};
 use std::alloc::Global;
 use std::process::Abort;
 
@@ -190,8 +192,20 @@ fn causes(rt: HostRuntime) {
         ),
     ];
     for (meaning, (path, text), name, new, expect, want) in rows {
-        let store = store(&rt, alloc, files(&rt, alloc, path, text), "", "");
-        let edits = update(&rt, alloc, name, expected(&rt, expect), object(&rt, new));
+        let store = store(
+            alloc,
+            files(alloc, path, text).expect(&rt, "memory"),
+            "",
+            "",
+        )
+        .expect(&rt, "a store");
+        let edits = update(
+            alloc,
+            name,
+            expected(expect).expect(&rt, "an id"),
+            object(new).expect(&rt, "an id"),
+        )
+        .expect(&rt, "edits");
         let (answer, memory) = prepared(alloc, store, edits);
         assert_eq!(rt; answer, want, "{meaning}");
         assert_eq!(rt;
@@ -209,7 +223,7 @@ fn edit_of_nothing(
     expect: Expect,
     is_deletion: bool,
 ) -> Vec<RefEdit> {
-    let expected = expected(rt, expect);
+    let expected = expected(expect).expect(rt, "an id");
     let change = if is_deletion {
         Change::Delete {
             expected,
@@ -219,12 +233,12 @@ fn edit_of_nothing(
         Change::Update {
             log: LogChange::new_in(alloc),
             expected,
-            new: object(rt, Id::One),
+            new: object(Id::One).expect(rt, "an id"),
         }
     };
     let edit = RefEdit {
         change,
-        name: full_name(rt, alloc, "refs/heads/a"),
+        name: full_name(alloc, "refs/heads/a").expect(rt, "a full name"),
         deref: false,
     };
     let mut edits = Vec::with_capacity(alloc, 1).expect(rt, "memory");
@@ -242,7 +256,7 @@ fn what_is_reported_of_a_missing_reference(rt: HostRuntime) {
             "an update that expects a target",
             Expect::Match(Id::One),
             false,
-            Some(object(&rt, Id::One)),
+            Some(object(Id::One).expect(&rt, "an id")),
         ),
         ("a deletion", Expect::MustExist, true, None),
         (
@@ -253,7 +267,7 @@ fn what_is_reported_of_a_missing_reference(rt: HostRuntime) {
         ),
     ];
     for (meaning, expect, is_deletion, want) in rows {
-        let mut store = store(&rt, alloc, Memory::new(alloc), "", "");
+        let mut store = store(alloc, Memory::new(alloc), "", "").expect(&rt, "a store");
         let edits = edit_of_nothing(&rt, alloc, expect, is_deletion);
         match store.transaction().prepare(alloc, edits) {
             Err(refused) => match &refused.error {
@@ -300,9 +314,15 @@ fn device_names(rt: HostRuntime) {
     let alloc = rt.alloc();
     for (name, prohibited, allowed) in DEVICES {
         for prohibits in [true, false] {
-            let mut store = store(&rt, alloc, Memory::new(alloc), "", "");
+            let mut store = store(alloc, Memory::new(alloc), "", "").expect(&rt, "a store");
             store.prohibit_windows_device_names = prohibits;
-            let edits = update(&rt, alloc, name, PreviousValue::Any, object(&rt, Id::One));
+            let edits = update(
+                alloc,
+                name,
+                PreviousValue::Any,
+                object(Id::One).expect(&rt, "an id"),
+            )
+            .expect(&rt, "edits");
             let want = if prohibits { prohibited } else { allowed };
             assert_eq!(&rt; prepared(alloc, store, edits).0, want, "{name}");
         }
@@ -312,12 +332,17 @@ fn device_names(rt: HostRuntime) {
 #[test]
 fn a_symbolic_target_is_a_full_name(rt: HostRuntime) {
     let alloc = rt.alloc();
-    let mut merely_partial = full_name(&rt, alloc, "refs/namespaces/foo/main");
-    let namespace = expand(alloc, partial(&rt, "foo")).expect(&rt, "memory");
+    let mut merely_partial = full_name(alloc, "refs/namespaces/foo/main").expect(
+        &rt,
+        "a full name",
+    );
+    let namespace = expand(alloc, partial("foo").expect(&rt, "a partial name")).expect(
+        &rt, "memory",
+    );
     merely_partial.strip_namespace(&namespace);
-    let store = store(&rt, alloc, Memory::new(alloc), "", "");
+    let store = store(alloc, Memory::new(alloc), "", "").expect(&rt, "a store");
     let target = Target::Symbolic(merely_partial);
-    let edits = update(&rt, alloc, "HEAD", PreviousValue::Any, target);
+    let edits = update(alloc, "HEAD", PreviousValue::Any, target).expect(&rt, "edits");
     let (answer, memory) = prepared(alloc, store, edits);
     assert_eq!(rt; answer, Answer::TargetNotFull);
     assert_eq!(rt; memory.calls(), 0, "no file is touched");
@@ -329,9 +354,9 @@ fn each_call_fails_once(rt: HostRuntime) {
     for k in 1..9u64 {
         let mut memory = Memory::new(alloc);
         memory.fail_at(k);
-        let store = store(&rt, alloc, memory, "", "");
-        let new = object(&rt, Id::One);
-        let edits = update(&rt, alloc, "refs/heads/a", PreviousValue::Any, new);
+        let store = store(alloc, memory, "", "").expect(&rt, "a store");
+        let new = object(Id::One).expect(&rt, "an id");
+        let edits = update(alloc, "refs/heads/a", PreviousValue::Any, new).expect(&rt, "edits");
         let (answer, memory) = prepared(alloc, store, edits);
         let wanted = if k == 3 { Answer::Packed } else { Answer::Io };
         assert_eq!(rt; answer, wanted, "call {k}");
@@ -345,12 +370,12 @@ fn each_call_fails_once(rt: HostRuntime) {
 #[test]
 fn a_stop_leaves_the_whole_text_in_the_lock(rt: HostRuntime) {
     let alloc = rt.alloc();
-    let mut memory = files(&rt, alloc, A, ONE);
+    let mut memory = files(alloc, A, ONE).expect(&rt, "memory");
     // The append is the seventh call, and the process ends in it after all of its bytes.
     memory.stop_at(7, 100);
-    let mut store = store(&rt, alloc, memory, "", "");
-    let new = object(&rt, Id::Two);
-    let edits = update(&rt, alloc, "refs/heads/a", PreviousValue::Any, new);
+    let mut store = store(alloc, memory, "", "").expect(&rt, "a store");
+    let new = object(Id::Two).expect(&rt, "an id");
+    let edits = update(alloc, "refs/heads/a", PreviousValue::Any, new).expect(&rt, "edits");
     match store.transaction().prepare(alloc, edits) {
         Ok(prepared) => {
             let _ = prepared.rollback();
@@ -411,9 +436,9 @@ fn commits_in_their_places(rt: HostRuntime) {
         ("shared from there", "/r/worktrees/w", "", "refs/heads/a", A),
     ];
     for (meaning, worktree, space, name, place) in rows {
-        let mut store = store(&rt, alloc, Memory::new(alloc), worktree, space);
-        let new = object(&rt, Id::One);
-        let edits = update(&rt, alloc, name, PreviousValue::Any, new);
+        let mut store = store(alloc, Memory::new(alloc), worktree, space).expect(&rt, "a store");
+        let new = object(Id::One).expect(&rt, "an id");
+        let edits = update(alloc, name, PreviousValue::Any, new).expect(&rt, "edits");
         let Ok(edits) = committed(alloc, &mut store, edits) else {
             panic!(rt; "{meaning}");
         };
@@ -428,9 +453,11 @@ fn commits_in_their_places(rt: HostRuntime) {
 #[test]
 fn a_found_reference_is_expected_afterwards(rt: HostRuntime) {
     let alloc = rt.alloc();
-    let mut store = store(&rt, alloc, files(&rt, alloc, A, ONE), "", "");
-    let new = object(&rt, Id::Two);
-    let edits = update(&rt, alloc, "refs/heads/a", PreviousValue::Any, new);
+    let mut store = store(alloc, files(alloc, A, ONE).expect(&rt, "memory"), "", "").expect(
+        &rt, "a store",
+    );
+    let new = object(Id::Two).expect(&rt, "an id");
+    let edits = update(alloc, "refs/heads/a", PreviousValue::Any, new).expect(&rt, "edits");
     let Ok(edits) = committed(alloc, &mut store, edits) else {
         panic!(rt; "it is committed");
     };
@@ -440,7 +467,9 @@ fn a_found_reference_is_expected_afterwards(rt: HostRuntime) {
                 change: Change::Update { expected, .. },
                 ..
             },
-        ) => assert!(rt; *expected == PreviousValue::MustExistAndMatch(object(&rt, Id::One))),
+        ) => assert!(rt;
+            *expected == PreviousValue::MustExistAndMatch(object(Id::One).expect(&rt, "an id"))
+        ),
         _ => panic!(rt; "one update"),
     }
 }
@@ -449,9 +478,13 @@ fn a_found_reference_is_expected_afterwards(rt: HostRuntime) {
 fn an_equal_object_writes_no_file(rt: HostRuntime) {
     let alloc = rt.alloc();
     let text = b"1111111111111111111111111111111111111111 and junk";
-    let mut store = store(&rt, alloc, files(&rt, alloc, A, text), "", "");
-    let new = object(&rt, Id::One);
-    let edits = update(&rt, alloc, "refs/heads/a", PreviousValue::MustNotExist, new);
+    let mut store = store(alloc, files(alloc, A, text).expect(&rt, "memory"), "", "").expect(
+        &rt, "a store",
+    );
+    let new = object(Id::One).expect(&rt, "an id");
+    let edits = update(alloc, "refs/heads/a", PreviousValue::MustNotExist, new).expect(
+        &rt, "edits",
+    );
     let done = committed(alloc, &mut store, edits);
     assert!(rt; done.is_ok(), "{}", digits(Id::One));
     let memory = store.into_files();
@@ -469,14 +502,14 @@ fn an_equal_object_writes_no_file(rt: HostRuntime) {
 fn a_folder_in_place(rt: HostRuntime) {
     let alloc = rt.alloc();
     let mut store = store(
-        &rt,
         alloc,
-        files(&rt, alloc, "/r/refs/heads/a/b", ONE),
+        files(alloc, "/r/refs/heads/a/b", ONE).expect(&rt, "memory"),
         "",
         "",
-    );
-    let new = object(&rt, Id::One);
-    let edits = update(&rt, alloc, "refs/heads/a", PreviousValue::Any, new);
+    )
+    .expect(&rt, "a store");
+    let new = object(Id::One).expect(&rt, "an id");
+    let edits = update(alloc, "refs/heads/a", PreviousValue::Any, new).expect(&rt, "edits");
     match committed(alloc, &mut store, edits) {
         Err(commit::Error::FolderInPlace { path }) => {
             assert!(rt; path.as_slice() == A.as_bytes());
@@ -492,7 +525,7 @@ fn a_folder_in_place(rt: HostRuntime) {
 #[test]
 fn given_up_before(rt: HostRuntime) {
     let alloc = rt.alloc();
-    let mut store = store(&rt, alloc, Memory::new(alloc), "", "");
+    let mut store = store(alloc, Memory::new(alloc), "", "").expect(&rt, "a store");
     let back = store
         .transaction()
         .packed_refs(PackedRefs::<Never>::DeletionsOnly)

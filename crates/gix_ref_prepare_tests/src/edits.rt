@@ -1,21 +1,24 @@
 //! Edits as values.
-use crate::made::{Id, bytes, full_name, object};
 use gix_ref_base::target::{Target, TargetRef};
 use gix_ref_edits::transaction::{Change, LogChange, PreviousValue, RefEdit, RefLog};
+use gix_ref_test_values::values::{Id, bytes, full_name, object};
 use std::alloc::AllocError;
 
 #[test]
 fn values_of_changes(rt: HostRuntime) {
     let update = Change::Update {
         log: LogChange::new_in(rt.alloc()),
-        expected: PreviousValue::MustExistAndMatch(object(&rt, Id::One)),
-        new: object(&rt, Id::Two),
+        expected: PreviousValue::MustExistAndMatch(object(Id::One).expect(&rt, "an id")),
+        new: object(Id::Two).expect(&rt, "an id"),
     };
-    let (one, two) = (object(&rt, Id::One), object(&rt, Id::Two));
+    let (one, two) = (
+        object(Id::One).expect(&rt, "an id"),
+        object(Id::Two).expect(&rt, "an id"),
+    );
     assert!(rt; update.new_value() == Some(two.to_ref()));
     assert!(rt; update.previous_value() == Some(one.to_ref()));
     let delete = Change::Delete {
-        expected: PreviousValue::ExistingMustMatch(object(&rt, Id::Two)),
+        expected: PreviousValue::ExistingMustMatch(object(Id::Two).expect(&rt, "an id")),
         log: RefLog::Only,
     };
     let none: Option<TargetRef<'_>> = None;
@@ -31,12 +34,12 @@ fn copies_of_edits(rt: HostRuntime) {
             log: LogChange {
                 mode: RefLog::Only,
                 force_create_reflog: true,
-                message: bytes(&rt, alloc, "m"),
+                message: bytes(alloc, "m").expect(&rt, "memory"),
             },
             expected: PreviousValue::MustNotExist,
-            new: Target::Symbolic(full_name(&rt, alloc, "refs/heads/a")),
+            new: Target::Symbolic(full_name(alloc, "refs/heads/a").expect(&rt, "a full name")),
         },
-        name: full_name(&rt, alloc, "HEAD"),
+        name: full_name(alloc, "HEAD").expect(&rt, "a full name"),
         deref: true,
     };
     let copy: Result<RefEdit, AllocError> = edit.clone();
@@ -49,9 +52,9 @@ fn the_order_of_expectations(rt: HostRuntime) {
         PreviousValue::Any,
         PreviousValue::MustExist,
         PreviousValue::MustNotExist,
-        PreviousValue::MustExistAndMatch(object(&rt, Id::One)),
-        PreviousValue::MustExistAndMatch(object(&rt, Id::Two)),
-        PreviousValue::ExistingMustMatch(object(&rt, Id::One)),
+        PreviousValue::MustExistAndMatch(object(Id::One).expect(&rt, "an id")),
+        PreviousValue::MustExistAndMatch(object(Id::Two).expect(&rt, "an id")),
+        PreviousValue::ExistingMustMatch(object(Id::One).expect(&rt, "an id")),
     ];
     for i in 1..6usize {
         assert!(rt; rows[i - 1] < rows[i], "{i}");

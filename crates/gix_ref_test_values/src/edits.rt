@@ -1,13 +1,12 @@
 //! Edits for tests, what a preparation answers to them, and which changes a loss of power keeps.
 
-use crate::made::{Id, full_name, object};
+use crate::values::{Id, full_name, object};
 use gix_ref_base::target::Target;
 use gix_ref_edits::transaction::{Change, LogChange, PreviousValue, RefEdit};
 use gix_ref_memory::memory::Memory;
 use gix_ref_store::file::Store;
 use gix_ref_store::file::transaction::prepare::Error;
 use std::alloc::Global;
-use std::process::Abort;
 
 /// What an update expects.
 #[derive(Clone, Copy, Debug, PartialEq, Eq)]
@@ -68,48 +67,46 @@ pub fn answer_of(error: &Error) -> Answer {
 }
 
 /// An expectation as the store takes it.
-pub fn expected(rt: &impl Abort, expect: Expect) -> PreviousValue {
-    match expect {
+pub fn expected(expect: Expect) -> Option<PreviousValue> {
+    Some(match expect {
         Expect::Any => PreviousValue::Any,
         Expect::MustExist => PreviousValue::MustExist,
         Expect::MustNotExist => PreviousValue::MustNotExist,
-        Expect::Match(id) => PreviousValue::MustExistAndMatch(object(rt, id)),
-        Expect::Existing(id) => PreviousValue::ExistingMustMatch(object(rt, id)),
-    }
+        Expect::Match(id) => PreviousValue::MustExistAndMatch(object(id)?),
+        Expect::Existing(id) => PreviousValue::ExistingMustMatch(object(id)?),
+    })
 }
 
 /// One update of a name.
 pub fn update(
-    rt: &impl Abort,
     alloc: Global,
     name: &str,
     expected: PreviousValue,
     new: Target,
-) -> Vec<RefEdit> {
-    update_by(rt, alloc, name, expected, new, false)
+) -> Option<Vec<RefEdit>> {
+    update_by(alloc, name, expected, new, false)
 }
 
 /// One update of a name, which follows symbolic references or not.
 pub fn update_by(
-    rt: &impl Abort,
     alloc: Global,
     name: &str,
     expected: PreviousValue,
     new: Target,
     deref: bool,
-) -> Vec<RefEdit> {
+) -> Option<Vec<RefEdit>> {
     let edit = RefEdit {
         change: Change::Update {
             log: LogChange::new_in(alloc),
             expected,
             new,
         },
-        name: full_name(rt, alloc, name),
+        name: full_name(alloc, name)?,
         deref,
     };
-    let mut edits = Vec::with_capacity(alloc, 1).expect(rt, "memory");
-    edits.push(edit).expect(rt, "room");
-    edits
+    let mut edits = Vec::with_capacity(alloc, 1).ok()?;
+    edits.push(edit).ok()?;
+    Some(edits)
 }
 
 /// Prepares an update and rolls it back. Answers what `prepare` did, with the files.
