@@ -5,6 +5,7 @@ use crate::logs::{
 };
 use gix_ref_files::files::{Files, Node};
 use gix_ref_memory::memory::Memory;
+use gix_ref_store::file::Store;
 use gix_ref_store::store::WriteReflog;
 use gix_ref_test_values::values::{self, store};
 use std::alloc::Global;
@@ -209,17 +210,23 @@ fn with_folders(rt: &impl Abort, alloc: Global, texts: Texts, folders: Paths) ->
     memory
 }
 
+/// The store of a row, as it is before.
+fn store_of(rt: &impl Abort, alloc: Global, row: &Row) -> Store<Memory> {
+    let memory = with_folders(rt, alloc, row.before, row.folders);
+    let mut store = store(alloc, memory, row.worktree, row.namespace).expect(rt, "a store");
+    store.write_reflog = if row.who == Who::Nobody {
+        WriteReflog::Disable
+    } else {
+        WriteReflog::Normal
+    };
+    store
+}
+
 #[test]
 fn folders_before_and_after(rt: HostRuntime) {
     let alloc = rt.alloc();
     for row in ROWS {
-        let memory = with_folders(&rt, alloc, row.before, row.folders);
-        let mut store = store(alloc, memory, row.worktree, row.namespace).expect(&rt, "a store");
-        store.write_reflog = if row.who == Who::Nobody {
-            WriteReflog::Disable
-        } else {
-            WriteReflog::Normal
-        };
+        let mut store = store_of(&rt, alloc, &row);
         let edits = edits_of(&rt, alloc, &[row.edit]);
         let (outcome, left) = committed(alloc, &mut store, row.who, edits, reported(row.want));
         assert_eq!(rt; outcome, row.want, "{}", row.meaning);
