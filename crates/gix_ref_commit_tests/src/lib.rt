@@ -2,6 +2,8 @@
 #![tactic(auto)]
 
 #[cfg(test)]
+mod composed;
+#[cfg(test)]
 mod deletions;
 #[cfg(test)]
 mod empty_folders;

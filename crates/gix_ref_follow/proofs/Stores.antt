@@ -60,6 +60,7 @@ same_store first mid last a b = record {
   reflogs = b.reflogs ∙ a.reflogs;
   composes = b.composes ∙ a.composes;
   prohibits = b.prohibits ∙ a.prohibits;
+  threshold = b.threshold ∙ a.threshold;
 }
 
 module _ {F : Type 0} (honest : Type 0) (means : F → Meaning) where

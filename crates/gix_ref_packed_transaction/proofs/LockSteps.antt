@@ -1,9 +1,9 @@
 -- The steps of a commit of `packed-refs`: what each leaves at the place and at its lock.
-use Rattle.std.proofs.Common.{◌≡◌, ◌≢◌, ◌⊎◌, inl, inr, ◌+◌, ◌≤◌, ◌<◌, ◌++◌, ℕ, List, [], length, Option, Some, None, true, false, refl, sym, ap, ◌∙◌, subst, arith, codes, length-append, Vec, Global, Result, Ok, Err, OnOk, IfOk, MatchResult}
-use Rattle.gix_ref_files.specs.Calls.{Renaming, RemovingFile, BeforeOrAfter, IsMovable}
+use Rattle.std.proofs.Common.{◌≡◌, ◌≢◌, ◌⊎◌, inl, inr, ◌≤◌, ℕ, List, length, Option, Some, None, false, refl, sym, ap, ◌∙◌, subst, arith, codes, length-append, Vec, Global, Result, Ok, Err, OnOk, IfOk, MatchResult}
+use Rattle.gix_ref_files.specs.Calls.{Renaming, RemovingFile}
 use Rattle.gix_ref_files.specs.Files.{HasRisen}
 use Rattle.gix_ref_files.specs.Lock.{lock_of}
-use Rattle.gix_ref_files.specs.Tree.{Tree, Path, Content, put, moved, removed, is_file, is_folder}
+use Rattle.gix_ref_files.specs.Tree.{Tree, Path, Content, put, moved, is_file, is_folder}
 use Rattle.gix_ref_files.specs.Tree.Content.{File}
 use Rattle.gix_ref_files.proofs.Puts.{put_at, put_other, moved_to, moved_other}
 use Rattle.gix_ref_base.specs.PackedRecords.{Record}
@@ -16,7 +16,7 @@ use Rattle.gix_ref_repack.specs.declared.error.Error.TheVariants.{Commit, Iterat
 use Rattle.gix_ref_rewrite.specs.declared.outcome.Rewrite.{Rewrite}
 use Rattle.gix_ref_rewrite.specs.declared.outcome.Rewrite.TheVariants.{Unchanged, Removed, Text}
 use Rattle.gix_ref_transaction.specs.PrepareSteps.{FillsLock}
-use Rattle.gix_ref_packed_transaction.specs.PackedTransactions.{AreDistinct, IsMadeOf, IsOldOrRewritten, IsRewritten, OnlyAt, OnlyLockChanges, OnlyLockGoes, HoldsRewrite, IsLeft, SaysWhy}
+use Rattle.gix_ref_packed_transaction.specs.PackedTransactions.{AreDistinct, IsMadeOf, IsOldOrRewritten, IsRewritten, IsUnbegun, OnlyAt, OnlyLockChanges, OnlyLockGoes, HoldsRewrite, IsLeft, SaysWhy}
 use Rattle.gix_ref_packed_transaction.specs.internal.LockSteps.{IsUnlocked, IsWhyNotPut}
 
 pub lock_elsewhere : (place : Path) → place ≢ lock_of place
@@ -118,3 +118,10 @@ why_after honest kind records place before mid now S T (Commit error) later goes
 why_after honest kind records place before mid now S T (Io error) later goes why = (risen_later before mid now later why.0, why.1)
 why_after honest kind records place before mid now S T (Iteration line) later goes why = absurd why
 why_after honest kind records place before mid now S T Memory later goes why = absurd why
+
+-- a rewrite that was not put in place was begun
+pub begun : (honest : Type 0) (place : Path) (before now : ℕ) (T : Tree) (error : Error) → IsWhyNotPut honest place before now T error → IsUnbegun error → ⊥
+begun honest place before now T (Commit error) why unbegun = unbegun
+begun honest place before now T (Io error) why unbegun = unbegun
+begun honest place before now T (Iteration line) why unbegun = why
+begun honest place before now T Memory why unbegun = why

@@ -1,19 +1,18 @@
 -- The steps of a commit of `packed-refs` on a disk: what a loss of power may leave on the way, and what is settled at the end.
-use Rattle.std.proofs.Common.{◌≡◌, ◌≢◌, ◌⊎◌, inl, inr, ℕ, List, [], ◌∷◌, length, Bool, true, false, Option, Some, None, refl, sym, ap, ◌∙◌, subst, Vec, Global}
+use Rattle.std.proofs.Common.{◌≡◌, ◌⊎◌, inl, inr, ℕ, List, length, Bool, true, false, Option, Some, None, refl, sym, ap, ◌∙◌, subst, Vec, Global}
 use Rattle.std.specs.Prelude.{bytes_eq, if◌then◌else◌}
-use Rattle.std.proofs.lemmas.Bool.{true≢false, cond-true}
+use Rattle.std.proofs.lemmas.Bool.{true≢false}
 use Rattle.std.proofs.lemmas.Slice.Eq.{bytes_eq-Decides}
 use Rattle.gix_ref_files.specs.Calls.{IsMovable, RemovesFile}
-use Rattle.gix_ref_files.specs.Disk.{Disk, Lost, Remains, MayBe, folder_of, Item, item_at, moved_on, nothing, removed_on, appended_on, file_synced, folder_synced, with_item}
+use Rattle.gix_ref_files.specs.Disk.{Disk, Lost, Remains, folder_of, Item, item_at, moved_on, nothing, removed_on, appended_on, folder_synced, with_item}
 use Rattle.gix_ref_files.specs.DiskCalls.{RemovingFileOn, RenamingOn, SyncingOn, after_removal}
 use Rattle.gix_ref_files.specs.Lock.{lock_of}
-use Rattle.gix_ref_files.specs.Settled.{AllStay, IsSettledAt, IsWhole, MayHold, Sync, synced}
+use Rattle.gix_ref_files.specs.Settled.{IsSettledAt, IsWhole, Sync, synced}
 use Rattle.gix_ref_files.specs.Settled.Sync.{OfFile, OfFolder}
-use Rattle.gix_ref_files.specs.Tree.{Tree, Path, Content, bytes_of, file_of, fronts, is_file, is_folder, put}
+use Rattle.gix_ref_files.specs.Tree.{Tree, Path, Content, file_of, fronts, is_file, is_folder}
 use Rattle.gix_ref_files.specs.Tree.Content.{File, Folder}
 use Rattle.gix_ref_files.proofs.Changes.{Changes, Gone, Grown, Moved, appends, holds_changed, moves, removes, stay_changed}
-use Rattle.gix_ref_files.proofs.Entries.{entry_synced, now_may_be, nothing_remains, synced_may, synced_remains}
-use Rattle.gix_ref_files.proofs.Puts.{put_at}
+use Rattle.gix_ref_files.proofs.Entries.{entry_synced, nothing_remains, synced_may, synced_remains}
 use Rattle.gix_ref_files.proofs.Settling.{folder_now, holds_fewer, holds_weaker, lost_holds, stands_settled, stays_fewer}
 use Rattle.gix_ref_hash.specs.declared.hash.Kind.{Kind}
 use Rattle.gix_ref_packed.specs.declared.packed.buffer.Buffer.{Buffer}

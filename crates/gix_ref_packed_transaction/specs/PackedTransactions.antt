@@ -10,7 +10,6 @@ use Rattle.gix_ref_files.specs.Files.{HasRisen}
 use Rattle.gix_ref_files.specs.Lock.{lock_of}
 use Rattle.gix_ref_files.specs.Tree.{Tree, Path, Content, is_file, is_folder}
 use Rattle.gix_ref_files.specs.Tree.Content.{File}
-use Rattle.gix_ref_files.specs.declared.files.FileError.{FileError}
 use Rattle.gix_ref_files.specs.declared.files.FileError.TheVariants.{Memory as no_memory}
 use Rattle.gix_ref_packed.specs.Buffers.{buffer_text, buffer_line, HoldsRecords}
 use Rattle.gix_ref_packed.specs.declared.packed.buffer.Buffer.{Buffer}
@@ -104,6 +103,13 @@ module _ (kind : Kind) (records : Option Buffer) (keys : List (List ℕ)) (place
 abbrev pub IsStuckBuffer : Kind → Option Buffer → Error → Type 0
 IsStuckBuffer kind None error = ⊥
 IsStuckBuffer kind (Some buffer) error = IsStuckIn kind (buffer_line buffer) (buffer_text buffer) error
+
+-- the failure came before the first write: a line of the records is no record, or there was no memory
+abbrev pub IsUnbegun : Error → Type 0
+IsUnbegun (Iteration line) = Unit {0}
+IsUnbegun Memory = Unit {0}
+IsUnbegun (Commit error) = ⊥
+IsUnbegun (Io error) = ⊥
 
 -- Why a commit failed: the rename failed, or a folder is at the place; another call of files failed; a line of the records is no record; or
 -- there was no memory.

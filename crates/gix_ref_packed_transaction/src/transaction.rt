@@ -83,7 +83,7 @@ pub struct Failed {
 impl Transaction {
     ghost use Rattle.gix_ref_packed_transaction.specs.declared.transaction.prepare.Error.TheVariants.{Memory as no_memory};
     ghost use Rattle.gix_ref_packed_transaction.specs.PackedLosses.{IsLostOf, IsReady, OnlyLockIsLost, SettlesFrom};
-    ghost use Rattle.gix_ref_packed_transaction.specs.PackedTransactions.{records_of, place_of, kind_of, removed_keys, deleted_names, Commits, IsLeft, IsLockEmpty, SaysWhy};
+    ghost use Rattle.gix_ref_packed_transaction.specs.PackedTransactions.{records_of, place_of, kind_of, removed_keys, deleted_names, Commits, IsLeft, IsLockEmpty, IsUnbegun, SaysWhy};
 
     /// A transaction of the file whose lock is held, and whose records these are: `None` where there is no such file. The ids of the file
     /// are of the kind. Not public in gix-ref.
@@ -161,6 +161,8 @@ impl Transaction {
         ensures why { IfErr result (λ f. SaysWhy F.honest (kind_of self) (records_of self)
             (place_of self) (F.faults files.old) (F.faults files.new) (F.means files.new).tree
             f.error) }
+        ensures kept { F.honest → IfErr result (λ f. IsUnbegun f.error →
+            OnlyLockGoes (place_of self) (F.means files.old).tree (F.means files.new).tree) }
         ensures named { IfErr result (λ f. MatchOption f.lock_left
             (F.honest → is_file ((F.means files.new).tree (lock_of (place_of self))) ≡ false)
             (λ path. (path.items ≡ lock_of (place_of self))

@@ -1,6 +1,7 @@
 //! Stops and faults at each call of files: the file is the old one or the new one.
 use crate::rows::{BOTH, FILE, LOCK, ONE, begun, deletion, memory_with};
 use gix_ref_memory::memory::Memory;
+use gix_ref_packed_transaction::transaction::commit::Error;
 use std::alloc::Global;
 use std::process::Abort;
 
@@ -17,8 +18,27 @@ enum End {
     Fails(u64),
 }
 
-/// Deletes the tag `t`: whether it was done, whether the lock is named, and the files.
-fn run(rt: &impl Abort, alloc: Global, end: End) -> (bool, bool, Memory) {
+/// How a commit ended.
+#[derive(Clone, Copy, Debug, PartialEq, Eq)]
+enum Ended {
+    Done,
+    /// By a fault of the rename.
+    Commit,
+    /// By a fault of another call.
+    Io,
+    Other,
+}
+
+fn ended_by(error: &Error) -> Ended {
+    match error {
+        Error::Commit(_) => Ended::Commit,
+        Error::Io(_) => Ended::Io,
+        Error::Iteration { .. } | Error::Memory => Ended::Other,
+    }
+}
+
+/// Deletes the tag `t`: how it ended, whether the lock is named, and the files.
+fn run(rt: &impl Abort, alloc: Global, end: End) -> (Ended, bool, Memory) {
     let mut memory = memory_with(rt, alloc, Some(BOTH));
     let mut transaction = begun(rt, alloc, &mut memory);
     let mut edits = Vec::new(alloc);
@@ -32,15 +52,15 @@ fn run(rt: &impl Abort, alloc: Global, end: End) -> (bool, bool, Memory) {
         End::Fails(k) => memory.fail_at(k),
     }
     match transaction.commit(alloc, &mut memory) {
-        Ok(()) => (true, false, memory),
-        Err(failed) => (false, failed.lock_left.is_some(), memory),
+        Ok(()) => (Ended::Done, false, memory),
+        Err(failed) => (ended_by(&failed.error), failed.lock_left.is_some(), memory),
     }
 }
 
 /// How many calls of files a commit makes.
 fn calls(rt: &impl Abort, alloc: Global) -> u64 {
-    let (done, _, memory) = run(rt, alloc, End::Done);
-    assert!(rt; done && memory.get(FILE) == Some(ONE));
+    let (ended, _, memory) = run(rt, alloc, End::Done);
+    assert!(rt; ended == Ended::Done && memory.get(FILE) == Some(ONE));
     let mut before = memory_with(rt, alloc, Some(BOTH));
     let given_up = begun(rt, alloc, &mut before).rollback(&mut before);
     assert!(rt; given_up.is_none());
@@ -66,8 +86,10 @@ fn each_call_fails(rt: HostRuntime) {
         "a text, its sync, a rename and the sync of the folder"
     );
     for k in 1..=count {
-        let (done, named, memory) = run(&rt, alloc, End::Fails(k));
-        assert!(rt; !done && is_whole(&memory), "call {k}");
+        let (ended, named, memory) = run(&rt, alloc, End::Fails(k));
+        let want = if k == 3 { Ended::Commit } else { Ended::Io };
+        assert_eq!(rt; ended, want, "call {k}");
+        assert!(rt; is_whole(&memory), "the file of call {k}");
         assert!(rt; memory.get(LOCK).is_some() == named, "the lock of call {k}");
     }
 }
@@ -92,8 +114,8 @@ fn each_call_stops(rt: HostRuntime) {
 fn what_is_done_stays(rt: HostRuntime) {
     let alloc = rt.alloc();
     for pick in PICKS {
-        let (done, _, mut memory) = run(&rt, alloc, End::Done);
-        assert!(rt; done && memory.lose_power(pick).is_ok());
+        let (ended, _, mut memory) = run(&rt, alloc, End::Done);
+        assert!(rt; ended == Ended::Done && memory.lose_power(pick).is_ok());
         assert!(rt; memory.get(FILE) == Some(ONE), "loss {pick}");
     }
 }

@@ -216,7 +216,7 @@ fn causes(rt: HostRuntime) {
     }
 }
 
-/// The edit of a branch that is not there: an update to forty digits `1`, or a deletion.
+/// The edit of a branch: an update to forty digits `1`, or a deletion.
 fn edit_of_nothing(
     rt: &impl Abort,
     alloc: Global,
@@ -293,6 +293,23 @@ fn what_is_reported_of_a_missing_reference(rt: HostRuntime) {
             store.into_files().get(LOCK.as_bytes()).is_none(),
             "{meaning}"
         );
+    }
+}
+
+#[test]
+fn a_deletion_that_expects_no_reference(rt: HostRuntime) {
+    let alloc = rt.alloc();
+    let rows: [(&str, &str, &[u8]); 2] = [
+        ("a branch that is not there", "", b""),
+        ("a branch that is there", A, ONE),
+    ];
+    for (meaning, path, text) in rows {
+        let files = files(alloc, path, text).expect(&rt, "memory");
+        let store = store(alloc, files, "", "").expect(&rt, "a store");
+        let edits = edit_of_nothing(&rt, alloc, Expect::MustNotExist, true);
+        let (answer, memory) = prepared(alloc, store, edits);
+        assert_eq!(rt; answer, Answer::DeleteMustNotExist, "{meaning}");
+        assert!(rt; memory.get(LOCK.as_bytes()).is_none(), "{meaning}");
     }
 }
 

@@ -56,7 +56,7 @@ module _ {F : Type 0} (honest : Type 0) (means : F → Meaning) (faults : F → 
       rises = omega arith;
       unchanged = record {
         leaves = λ h. starts (means (files_of (store_of it))) _ refl;
-        same = record { dirs = refl; namespace = refl; of_kind = refl; reflogs = refl; composes = refl; prohibits = refl };
+        same = record { dirs = refl; namespace = refl; of_kind = refl; reflogs = refl; composes = refl; prohibits = refl; threshold = refl };
       };
     };
   }

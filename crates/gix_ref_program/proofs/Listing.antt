@@ -173,5 +173,6 @@ module _ {F : Type 0} (honest : Type 0) (means : F → Meaning) (faults : F → 
       reflogs = second.same.reflogs ∙ first.same.reflogs;
       composes = second.same.composes ∙ first.same.composes;
       prohibits = second.same.prohibits ∙ first.same.prohibits;
+      threshold = second.same.threshold ∙ first.same.threshold;
     };
   }

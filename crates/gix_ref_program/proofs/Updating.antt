@@ -11,14 +11,14 @@ use Rattle.gix_ref_transaction.specs.declared.edit.Edit.{Edit}
 use Rattle.gix_ref_transaction.specs.declared.prepare.error.Error.{Error as Cause}
 use Rattle.gix_ref_transaction.proofs.CommitLosses.{rest_kept}
 use Rattle.gix_ref_store.specs.CommitResult.{CommitsFrom, EveryStopFrom, EveryLossFrom, SettlesFrom, FailsFor, NoBadLineFrom, left_of}
-use Rattle.gix_ref_store.specs.Prepared.{PreparesGiven, HasGoodRecords, RefusesFrom, IsAtRest, disk_in, places_in, tree_of}
+use Rattle.gix_ref_store.specs.Prepared.{PreparesGiven, HasGoodRecords, RefusesGiven, IsAtRest, disk_in, places_in, tree_of}
 use Rattle.gix_ref_store.specs.CommitLines.{lines_due}
 use Rattle.gix_ref_commit.specs.CommittedTrees.{IsOldOrNew}
 use Rattle.gix_ref_store.specs.Store.{files_of, folders, meaning_of}
 use Rattle.gix_ref_store.specs.declared.file.store.Store.{Store}
 use Rattle.gix_ref_store.specs.declared.file.transaction.outcome.Done.{Done}
 use Rattle.gix_ref_store.specs.declared.file.transaction.outcome.Failed.{Failed}
-use Rattle.gix_ref_program.specs.Updates.{HasFailed, IsBegun, IsMade, IsStopOf, IsLossOf, IsUpdateError, error_of}
+use Rattle.gix_ref_program.specs.Updates.{AreTried, HasFailed, IsBegun, IsMade, IsStopOf, IsLossOf, IsUpdateError, error_of}
 use Rattle.gix_ref_program.specs.declared.update.UpdateError.{UpdateError}
 use Rattle.gix_ref_program.specs.declared.update.UpdateError.TheVariants.{Commit}
 
@@ -48,12 +48,15 @@ loses_joins first second = record {
 }
 
 -- a preparation that was refused
-module _ {F : Type 0} (honest : Type 0) (means : F → Meaning) (faults : F → ℕ) (old new : Store F) (committer : Option SignatureRef) (edits : List RefEdit) (error : Cause) (left : List Path) (read : Type 0) (from : RefusesFrom honest read means faults old new edits error left) where
+module _ {F : Type 0} (honest : Type 0) (means : F → Meaning) (faults : F → ℕ) (old new : Store F) (committer : Option SignatureRef) (edits : List RefEdit) (error : Cause) (left : List Path) (read : Type 0) (from : RefusesGiven honest read means faults old new edits error left) where
+  tried : honest → AreTried honest means faults old edits from.refuses.tried
+  tried h = (from.asked, ⊎_elim (λ composed. inl composed) (λ unread. inr unread.1) from.composed, from.refuses.split h)
+
   pub refused_stops : honest → Leaves (means (files_of old)) (means (files_of new)) (IsStopOf honest means faults old committer edits)
-  refused_stops h = weaken (from.leaves h) (λ T adds. inl (from.tried, from.split h, adds))
+  refused_stops h = weaken (from.refuses.leaves h) (λ T adds. inl (from.refuses.tried, tried h, adds))
 
   pub refused_loses : honest → Loses (means (files_of old)) (means (files_of new)) (IsLossOf honest means faults old committer edits)
-  refused_loses h = loses_weaken (from.lost h).loses (λ T kept. inl (from.tried, from.split h, kept))
+  refused_loses h = loses_weaken (from.refuses.lost h).loses (λ T kept. inl (from.refuses.tried, tried h, kept))
 
 -- an error is not none
 differ : (error : UpdateError) → Some error ≡ None → ⊥
@@ -72,6 +75,9 @@ module _ {F : Type 0} (honest : Type 0) (means : F → Meaning) (faults : F → 
   abbrev begun : IsBegun honest means faults old edits
   begun = record { mid = mid; packed = packed; held = held; prepared = from }
 
+  split_tried : honest → AreTried honest means faults old edits from.split
+  split_tried h = (from.splits.asked, inl from.splits.composed, inl (from.splits.from.is h))
+
   rises : (left : List Path) → (left ≡ []) ⊎ HasRisen (faults (files_of mid)) (faults (files_of new)) → (left ≡ []) ⊎ HasRisen (faults (files_of old)) (faults (files_of new))
   rises left (inl none) = inl none
   rises left (inr rose) = inr (rose_before _ _ _ from.prepared.held.no_fewer rose)
@@ -88,7 +94,7 @@ module _ {F : Type 0} (honest : Type 0) (means : F → Meaning) (faults : F → 
   loses h good at_rest losses =
       let split = from.split in
       let started = rest_kept (places_in means old split) (roots (folders old)) (disk_in means old) (disk_in means mid) at_rest.0 ((from.prepared.lost h).keeps (roots (folders old)) at_rest.1).disk in
-      loses_joins (loses_weaken (from.prepared.lost h).loses (λ T kept. inl (split, inl (from.splits.is h), kept)))
+      loses_joins (loses_weaken (from.prepared.lost h).loses (λ T kept. inl (split, split_tried h, kept)))
       (loses_weaken (losses old split from.prepared h good at_rest).loses (λ T well. inr (begun, (disk_in means mid, started.0, well))))
 
   pub settles : {T : Type 0} (answer : Result (Done T) (Failed T)) (error : Option UpdateError) → error ≡ error_of answer → OnOk answer (SettlesFrom honest means faults mid new packed held) → honest → error ≡ None → IsAtRest means old → IsAtRest means new
@@ -107,5 +113,5 @@ module _ {F : Type 0} (honest : Type 0) (means : F → Meaning) (faults : F → 
   pub stops : (left : List Path) → EveryStopFrom honest means faults mid new committer packed held left → honest →
       Leaves (means (files_of old)) (means (files_of new)) (IsStopOf honest means faults old committer edits)
   stops left ends h =
-      joins (weaken (from.prepared.held.leaves h) (λ T adds. inl (from.split, inl (from.splits.is h), adds)))
+      joins (weaken (from.prepared.held.leaves h) (λ T adds. inl (from.split, split_tried h, adds)))
       (commit_stops honest means faults old new committer edits begun ((ends old from.split from.prepared).leaves h))

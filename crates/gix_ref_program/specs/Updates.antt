@@ -14,7 +14,8 @@ use Rattle.gix_ref_transaction.specs.Splits.{AreSplit}
 use Rattle.gix_ref_transaction.specs.declared.edit.Edit.{Edit}
 use Rattle.gix_ref_store.specs.CommitLines.{lines_due}
 use Rattle.gix_ref_store.specs.CommitResult.{CommitsFrom, EveryStopFrom, FailsFor, NoBadLineFrom}
-use Rattle.gix_ref_store.specs.Prepared.{PreparesGiven, RefusesFrom, HasGoodRecords, tree_of, disk_in, locks_in, places_in}
+use Rattle.gix_ref_store.specs.Prepared.{PreparesGiven, RefusesGiven, HasGoodRecords, tree_of, disk_in, locks_in, places_in}
+use Rattle.gix_ref_store.specs.ComposedEdits.{AreAskedAs}
 use Rattle.gix_ref_store.specs.Store.{files_of, meaning_of}
 use Rattle.gix_ref_store.specs.declared.file.store.Store.{Store}
 use Rattle.gix_ref_edits.specs.declared.transaction.RefEdit.{RefEdit}
@@ -39,9 +40,12 @@ module _ {F : Type 0} (honest : Type 0) (means : F → Meaning) (faults : F → 
     pub held : List Edit
     pub prepared : PreparesGiven honest means faults old mid edits packed held
 
-  -- these are the edits whose locks are tried: the split list, or the edits as they are given, where there is none
+  -- these are the edits whose locks are tried: the split list of those that are asked for, or these, where there is none; where there was
+  -- no memory for composed names, they are those that are given
   abbrev pub AreTried : Store F → (edits tried : List RefEdit) → Type 0
-  AreTried old edits tried = AreSplit (meaning_of old) (view_of (tree_of means old)) edits tried ⊎ (tried ≡ edits)
+  AreTried old edits tried =
+      (asked : List RefEdit) × (AreAskedAs old.precompose_unicode edits asked ⊎ (asked ≡ edits))
+      × (AreSplit (meaning_of old) (view_of (tree_of means old)) asked tried ⊎ (tried ≡ asked))
 
   -- A stop in an update: before its commit nothing is added but its locks and folders on the way to them; in it, where `packed-refs` was
   -- good, each reference reads as before or as edited.
@@ -78,5 +82,5 @@ module _ {F : Type 0} (honest : Type 0) (means : F → Meaning) (faults : F → 
   -- Why an update was not made, and the locks that stay: it was refused by the first cause against it, and all is as before but for
   -- these locks; or its commit failed.
   abbrev pub IsUpdateError : (read : Type 0) → (old new : Store F) → Option SignatureRef → List RefEdit → UpdateError → (left : List Path) → Type 0
-  IsUpdateError read old new committer edits (Prepare error) left = RefusesFrom honest read means faults old new edits error left
+  IsUpdateError read old new committer edits (Prepare error) left = RefusesGiven honest read means faults old new edits error left
   IsUpdateError read old new committer edits (Commit error) left = HasFailed old new committer edits error left

@@ -1,5 +1,5 @@
 -- Why a commit failed, by what it could not decide or by the step at which it ended.
-use Rattle.std.proofs.Common.{◌≡◌, ◌≢◌, inl, inr, ⊎_elim, ◌⊎◌, ℕ, zero, suc, ◌<◌, ◌≤◌, List, [], ◌∷◌, ◌++◌, Bool, true, false, Option, Some, None, map, refl, sym, ◌∙◌, ap, subst, length, arith, get_or}
+use Rattle.std.proofs.Common.{◌≡◌, ◌≢◌, inl, inr, ⊎_elim, ◌⊎◌, ℕ, zero, suc, ◌<◌, ◌≤◌, List, [], ◌∷◌, Bool, true, false, Option, Some, None, map, refl, sym, ◌∙◌, ap, subst, length, arith, get_or}
 use Rattle.std.specs.Prelude.{bytes_eq, if◌then◌else◌}
 use Rattle.std.proofs.lemmas.List.{length-map}
 use Rattle.gix_ref_files.specs.DiskCalls.{Untouched}
@@ -8,7 +8,7 @@ use Rattle.gix_ref_files.proofs.Moments.{passes_joins, passes_weaken}
 use Rattle.gix_ref_theory.specs.OnDisks.{IsAsBefore}
 use Rattle.gix_ref_files.specs.Lock.{lock_of}
 use Rattle.gix_ref_files.specs.Steps.{Step}
-use Rattle.gix_ref_files.specs.Tree.{Tree, Path, Content, IsEmptyFolder, is_file, is_folder, put}
+use Rattle.gix_ref_files.specs.Tree.{Tree, Path, Content, IsEmptyFolder, is_file, is_folder}
 use Rattle.gix_ref_files.specs.Tree.Content.{File, Folder}
 use Rattle.gix_ref_files.specs.declared.files.FileError.{FileError}
 use Rattle.gix_ref_files.specs.declared.steps.Cause.{Cause}
@@ -64,7 +64,7 @@ use Rattle.gix_ref_commit.proofs.Endings.{MeetsAt, WritesAt, meets, never_asked,
 use Rattle.gix_ref_commit.proofs.Outcomes.{logs_are}
 use Rattle.gix_ref_commit.proofs.Unlisted.{has_line}
 use Rattle.gix_ref_commit.proofs.Shapes.{AllShaped, HasLine, HasShape, all_shaped, names_edit, shape_at}
-use Rattle.gix_ref_store.specs.CommitResult.{ChangesLocks, EndsAtLog, FailsAt, FailsAtWrite, FailsFor, FailsForLog, RefusesLine, IsFault, IsOfBadLine, IsPackedEmpty, MeetsFolder, OnlyItsLocks, RepacksFrom, StopsAt}
+use Rattle.gix_ref_store.specs.CommitResult.{ChangesLocks, FailsAt, FailsAtWrite, FailsFor, FailsForLog, RefusesLine, IsFault, IsOfBadLine, IsPackedEmpty, MeetsFolder, OnlyItsLocks, RepacksFrom, StopsAt}
 use Rattle.gix_ref_store.specs.CommitLines.{LinesPass, line_rules, log_path_at}
 use Rattle.gix_ref_store.specs.Decisions.{IsUndecided}
 use Rattle.gix_ref_store.specs.Prepared.{tree_of}

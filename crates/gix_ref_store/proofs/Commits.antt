@@ -10,10 +10,10 @@ use Rattle.gix_ref_files.specs.DiskSteps.{IsReachedBy, IsSyncedAfter}
 use Rattle.gix_ref_files.specs.Files.{Meaning, disk_of, Leaves, Passes}
 use Rattle.gix_ref_files.specs.Lock.{lock_of}
 use Rattle.gix_ref_files.specs.Settled.{AllStay, IsAllSettled}
-use Rattle.gix_ref_files.specs.Steps.{EndsBy, IsAfter, IsLeftBy}
+use Rattle.gix_ref_files.specs.Steps.{IsAfter, IsLeftBy}
 use Rattle.gix_ref_files.specs.Tree.{Tree, Path, Content, is_file, file_of, put}
-use Rattle.gix_ref_files.specs.Tree.Content.{File, Folder}
-use Rattle.gix_ref_files.proofs.Moments.{joins, losses, passes_joins, passes_starts, passes_weaken, weaken}
+use Rattle.gix_ref_files.specs.Tree.Content.{File}
+use Rattle.gix_ref_files.proofs.Moments.{joins, losses, passes_joins, passes_weaken, weaken}
 use Rattle.gix_ref_files.proofs.Puts.{put_at, put_other}
 use Rattle.gix_ref_lookup.specs.StoreLayout.{folders_of, git_options}
 use Rattle.gix_ref_lookup.specs.Lookups.{ArePackedRecords}
@@ -43,7 +43,7 @@ use Rattle.gix_ref_transaction.specs.CommitRenames.{is_written_at, lock_at, plac
 use Rattle.gix_ref_transaction.specs.CommittedEdits.{planned}
 use Rattle.gix_ref_transaction.specs.OwnLocks.{is_in, times, AddsLocks, IsOurs, OnlyLocks, OnlyRemoves, RemovesLocks}
 use Rattle.gix_ref_transaction.specs.PackedCauses.{ids_among}
-use Rattle.gix_ref_transaction.specs.PrepareSteps.{AreWholeLocks, HoldTexts, held_locks, ids_in, lock_paths, packed_ids, packed_locks, packed_places, updates, IsPackedPlace}
+use Rattle.gix_ref_transaction.specs.PrepareSteps.{AreWholeLocks, HoldTexts, held_locks, ids_in, lock_paths, packed_locks, packed_places, updates, IsPackedPlace}
 use Rattle.gix_ref_transaction.specs.declared.edit.Edit.{Edit}
 use Rattle.gix_ref_transaction.proofs.Adds.{any_cases, any_left, any_right, clash, either_way, in_here, in_one, is_false, is_same_path, same_path, same_view}
 use Rattle.gix_ref_transaction.proofs.Apart.{references}
@@ -57,7 +57,7 @@ use Rattle.gix_ref_repack.specs.Repacks.{IsRepack}
 use Rattle.gix_ref_commit.specs.Cleared.{AllInWay, FoldersGo, OnlyFolders, commit_entries, folder_lists, roots_of}
 use Rattle.gix_ref_commit.specs.CommittedTrees.{AreCommitted, IsOldOrNew}
 use Rattle.gix_ref_commit.specs.Decided.{FillsPacked, IsFilled}
-use Rattle.gix_ref_commit.specs.Entries.{Entry, bare, bare_steps, done_before, done_of, packed_before, packed_done, planned_entries, renames_packed, steps_in}
+use Rattle.gix_ref_commit.specs.Entries.{Entry, bare_steps, done_before, done_of, packed_before, packed_done, planned_entries, renames_packed, steps_in}
 use Rattle.gix_ref_commit.specs.LogEffects.{AreLogsOf, lines_in, with_lines}
 use Rattle.gix_ref_lines.specs.AskedEdits.{all_but_logs, asked, outcomes_of}
 use Rattle.gix_ref_lines.specs.DueLines.{log_outcomes}

@@ -36,7 +36,7 @@ module _ {F : Type 0} (honest : Type 0) (means : F → Meaning) (faults : F → 
     next = λ r is. record {
       same_reference = ap (λ (x : MutBor (Store F)). x.ghost_name) same;
       same_store = subst (λ (x : MutBor (Store F)). stores.IsSameStore s.store.now x.now) (sym same)
-          record { dirs = refl; namespace = refl; of_kind = refl; reflogs = refl; composes = refl; prohibits = refl };
+          record { dirs = refl; namespace = refl; of_kind = refl; reflogs = refl; composes = refl; prohibits = refl; threshold = refl };
       gives = subst (λ (x : MutBor (Store F)). GivesNext honest means faults (settings_of s.store.now) (stores.files_of s.store.now) (stores.files_of x.now) s.rest.merge (Some (Ok r)) t.rest.merge) (sym same)
           (given (stores.files_of s.store.now) (settings_of s.store.now) s.rest.merge t.rest.merge own r gave is);
     };

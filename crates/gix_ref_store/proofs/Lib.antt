@@ -1,6 +1,8 @@
 pub mod CommitFailures
 pub mod Commits
+pub mod ComposedLists
 pub mod ListingRuns
+pub mod FolderRuns
 pub mod LentRecords
 pub mod LooseAnswers
 pub mod Platforms

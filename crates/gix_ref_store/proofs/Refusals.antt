@@ -7,8 +7,8 @@ use Rattle.gix_ref_files.specs.Tree.{Path}
 use Rattle.gix_ref_files.specs.Files.{Meaning, Leaves, HasRisen}
 use Rattle.gix_ref_edits.specs.DoubledNames.{NoneDoubled}
 use Rattle.gix_ref_edits.specs.declared.transaction.RefEdit.{RefEdit}
-use Rattle.gix_ref_transaction.specs.Causes.{IsCountedWith, IsIoOrMemory, IsLockCause, IsPackedLocked, IsPackedRefusal, names_of, packed_taken}
-use Rattle.gix_ref_transaction.specs.OwnLocks.{AddsLocks, is_in, paths_of}
+use Rattle.gix_ref_transaction.specs.Causes.{IsCountedWith, IsFindCause, IsIoOrMemory, IsLockCause, IsPackedLocked, IsPackedRefusal, names_of, packed_taken}
+use Rattle.gix_ref_transaction.specs.OwnLocks.{AddsLocks, is_in, paths_of, times}
 use Rattle.gix_ref_transaction.specs.Causes.{AllValid, NoCause}
 use Rattle.gix_ref_transaction.specs.Parents.{parents_in}
 use Rattle.gix_ref_transaction.specs.PrepareSteps.{AreEmpty, AreLockable, AreSettled, IsPackedPlace, ids_in, packed_ids, packed_places, possible_locks, all_asked, effects_of, effects_on, HoldTexts, old_targets, place_paths, targets_of, updates}
@@ -25,19 +25,23 @@ pub refused_split : {F : Type 0} (honest read : Type 0) (means : F → Meaning) 
     IsSameStore old new → NoneDoubled (names_of edits) →
     (honest → HasGoodRecords means old → IfErr r (λ u. IsIoOrMemory u.error ⊎ IsLockCause (meaning_of old) (kind_of old) (tree_of means old) edits u.error)) →
     (honest → IfErr r (λ u. IsPackedRefusal (kind_of old) (tree_of means old (meaning_of old).packed_path) u.error)) →
+    (honest → IfErr r (λ u. IsFindCause (meaning_of old) (kind_of old) (view_of (tree_of means old) (meaning_of old).packed_path) edits u.error)) →
     IfErr r (λ u. IsCountedWith honest read (faults (files_of old)) (faults (files_of new)) u.error) →
     (honest → IfErr r (λ u. AddsLocks (paths_of u.locks_left.items) (locks_in means old edits) (tree_of means old) (tree_of means new))) →
     IfErr r (λ u. (q : Path) → is_in (paths_of u.locks_left.items) q ≡ true → is_in (possible_locks (meaning_of old) edits) q ≡ true) →
+    IfErr r (λ u. (q : Path) → times q (paths_of u.locks_left.items) ≤ times q (possible_locks (meaning_of old) edits)) →
     IfErr r (λ u. (u.locks_left.items ≡ []) ⊎ HasRisen (faults (files_of old)) (faults (files_of new))) →
     (honest → Leaves (means (files_of old)) (means (files_of new)) (AddsLocks (locks_in means old edits) (locks_in means old edits) (tree_of means old))) →
     IfErr r (λ u. RefusesSplit honest read means faults old new edits u.error (paths_of u.locks_left.items))
-refused_split honest read means faults old new edits (Ok t) same single cause opened counted as_before ours named leaves = tt
-refused_split honest read means faults old new edits (Err u) same single cause opened counted as_before ours named leaves = record {
+refused_split honest read means faults old new edits (Ok t) same single cause opened unread counted as_before ours once named leaves = tt
+refused_split honest read means faults old new edits (Err u) same single cause opened unread counted as_before ours once named leaves = record {
   cause = λ h good. ⊎_elim (λ outside. inl outside) (λ first. inr (inr (single, first))) (cause h good);
   opened = opened;
+  unread = unread;
   counted = counted;
   as_before = as_before;
   ours = ours;
+  once = once;
   named = ⊎_elim (λ none. inl (ap paths_of none)) (λ risen. inr risen) named;
   leaves = leaves;
   same = same;

@@ -1,5 +1,5 @@
 -- A `prepare` that first read files for its splits, from the store with which it began.
-use Rattle.std.proofs.Common.{◌≡◌, ◌⊎◌, inl, inr, ⊎_elim, ℕ, List, [], true, Option, All, refl, sym, ◌∙◌, ap, subst, arith, Result, Ok, Err, IfOk, IfErr, OnOk}
+use Rattle.std.proofs.Common.{◌≡◌, ◌≤◌, ◌⊎◌, inl, inr, ⊎_elim, ℕ, List, [], true, Option, All, refl, sym, ◌∙◌, ap, subst, arith, Result, Ok, Err, IfOk, IfErr, OnOk}
 use Rattle.gix_ref_base.specs.Targets.{TargetValue}
 use Rattle.gix_ref_files.specs.Disk.{Disk}
 use Rattle.gix_ref_files.specs.Tree.{Tree, Path}
@@ -12,12 +12,15 @@ use Rattle.gix_ref_theory.proofs.LockDisks.{as_before}
 use Rattle.gix_ref_edits.specs.DoubledNames.{NoneDoubled}
 use Rattle.gix_ref_edits.specs.RefEdits.{AreUpdates}
 use Rattle.gix_ref_edits.specs.declared.transaction.RefEdit.{RefEdit}
-use Rattle.gix_ref_transaction.specs.Causes.{AllValid, IsAccepted, IsCounted, IsDoubling, IsIoOrMemory, IsLockCause, IsPackedRefusal, IsPackedWell, names_of, packed_taken}
-use Rattle.gix_ref_transaction.specs.OwnLocks.{AddsLocks, is_in}
+use Rattle.gix_ref_transaction.specs.Causes.{AllValid, IsAccepted, IsCounted, IsDoubling, IsFindCause, IsIoOrMemory, IsLockCause, IsPackedRefusal, IsPackedWell, names_of, packed_taken}
+use Rattle.gix_ref_transaction.specs.OwnLocks.{AddsLocks, is_in, times}
 use Rattle.gix_ref_transaction.specs.PrepareSteps.{packed_ids, AreLockable, effects_on, HoldTexts, old_targets, own_locks, own_places}
 use Rattle.gix_ref_transaction.specs.Splits.{AreDirect, AreSplit, CanFollow, IsFirstMisnamed, IsSplitCause, IsTooLong, OnlyReads, all_rounds}
 use Rattle.gix_ref_transaction.specs.declared.prepare.error.Error.{Error}
+use Rattle.gix_ref_transaction.specs.declared.prepare.error.Error.TheVariants.{Memory}
 use Rattle.gix_ref_transaction.specs.declared.prepare.split.SplitEdits.{SplitEdits}
+use Rattle.gix_ref_transaction.proofs.SplitLemmas.{reads_none}
+use Rattle.gix_ref_transaction.proofs.UnreadRecords.{no_find}
 use Rattle.gix_ref_transaction.proofs.PackedLemmas.{counted_later, counted_on, not_packed, rises_on}
 use Rattle.gix_ref_store.specs.Prepared.{HasGoodRecords, HoldsFrom, HoldsPacked, KeepsAll, LosesNothing, RefusesFrom, RefusesSplit, SplitsFrom, disk_in, locks_in, places_in, tree_of}
 use Rattle.gix_ref_store.specs.Store.{files_of, kind_of, meaning_of, with_files}
@@ -89,7 +92,7 @@ module _ {F : Type 0} (honest : Type 0) (means : F → Meaning) (faults : F → 
     adds = λ h. subst (λ (T : Tree). AddsLocks (own_locks (meaning_of old) T split) (own_locks (meaning_of old) T split) T (tree_of means new)) (same_tree h) (held.adds h);
     leaves = λ h. leaves_on h new (locks_in means old split) (subst (λ (l : List Path). Leaves (means files) (means (files_of new)) (AddsLocks l l (tree_of means mid))) (locks_same h split) (held.leaves h));
     no_fewer = omega (arith, reads.no_fewer, held.no_fewer);
-    same = record { dirs = held.same.dirs; namespace = held.same.namespace; of_kind = held.same.of_kind; reflogs = held.same.reflogs; composes = held.same.composes; prohibits = held.same.prohibits };
+    same = record { dirs = held.same.dirs; namespace = held.same.namespace; of_kind = held.same.of_kind; reflogs = held.same.reflogs; composes = held.same.composes; prohibits = held.same.prohibits; threshold = held.same.threshold };
   }
 
   pub packed_on : (new : Store F) (split : List RefEdit) (packed : Option Path) → HoldsPacked honest means faults mid new split packed → HoldsPacked honest means faults old new split packed
@@ -118,13 +121,15 @@ module _ {F : Type 0} (honest : Type 0) (means : F → Meaning) (faults : F → 
         ))
         (refused.cause h (good_mid h good));
     opened = λ h. subst (λ (T : Tree). IsPackedRefusal (kind_of old) (T (meaning_of old).packed_path) error) (same_tree h) (refused.opened h);
+    unread = λ h. subst (λ (T : Tree). IsFindCause (meaning_of old) (kind_of old) (view_of T (meaning_of old).packed_path) split error) (same_tree h) (refused.unread h);
     counted = counted_on honest read _ _ _ error reads.no_fewer refused.counted;
     as_before = λ h. subst (λ (T : Tree). AddsLocks left (own_locks (meaning_of old) T split) T (tree_of means new)) (same_tree h) (refused.as_before h);
     ours = refused.ours;
+    once = refused.once;
     named = rises_on _ _ _ reads.no_fewer refused.named;
     leaves = λ h. leaves_on h new (locks_in means old split) (subst (λ (l : List Path). Leaves (means files) (means (files_of new)) (AddsLocks l l (tree_of means mid))) (locks_same h split) (refused.leaves h));
     lost = λ h. loses_on h new split (lost h);
-    same = record { dirs = refused.same.dirs; namespace = refused.same.namespace; of_kind = refused.same.of_kind; reflogs = refused.same.reflogs; composes = refused.same.composes; prohibits = refused.same.prohibits };
+    same = record { dirs = refused.same.dirs; namespace = refused.same.namespace; of_kind = refused.same.of_kind; reflogs = refused.same.reflogs; composes = refused.same.composes; prohibits = refused.same.prohibits; threshold = refused.same.threshold };
   }
 
   -- a refusal before there is a split list
@@ -136,14 +141,24 @@ module _ {F : Type 0} (honest : Type 0) (means : F → Meaning) (faults : F → 
     direct = λ direct. refl;
     cause = λ h good. inl (cause h);
     opened = λ h. (not_packed (kind_of old) (tree_of means old (meaning_of old).packed_path) _ _ error counted).0;
+    unread = λ h. no_find _ (faults (files_of old)) (faults files) error counted;
     counted = counted_later honest read _ _ _ error (omega arith) counted;
     as_before = λ h. same_adds left (locks_in means old given) (tree_of means old) (tree_of means mid) (same_tree h);
     ours = λ q within. absurd (none_in q (subst (λ paths. is_in paths q ≡ true) none within));
+    once = λ q. let zero : times q left ≡ 0 = ap (times q) none in omega (arith, zero);
     named = inl none;
     leaves = λ h. weaken (reads.leaves h) (λ T same. same_adds (locks_in means old given) (locks_in means old given) (tree_of means old) T same);
     lost = λ h. kept_loses means old mid given (keeps_none h given);
-    same = record { dirs = refl; namespace = refl; of_kind = refl; reflogs = refl; composes = refl; prohibits = refl };
+    same = record { dirs = refl; namespace = refl; of_kind = refl; reflogs = refl; composes = refl; prohibits = refl; threshold = refl };
   }
+
+-- a refusal before any file is read: there was no memory
+pub refused_unread : {F : Type 0} (honest read : Type 0) (means : F → Meaning) (faults : F → ℕ) (old : Store F) (given : List RefEdit) (error : Error) (left : List Path) → error ≡ Memory → left ≡ [] →
+    RefusesFrom honest read means faults old old given error left
+refused_unread honest read means faults old given error left is none =
+    refused_before honest means faults old (files_of old) (reads_none honest means faults (files_of old)) read given error left none
+    (λ h. subst (IsSplitCause (meaning_of old) (kind_of old) (tree_of means old) given) (sym is) (inl tt))
+    (subst (IsCounted (faults (files_of old)) (faults (files_of old))) (sym is) tt)
 
 -- The split list of edits, from what the splits say of it.
 module _ {F : Type 0} (honest : Type 0) (means : F → Meaning) (faults : F → ℕ) (old : Store F) (given : List RefEdit) (valid : AllValid (meaning_of old) (kind_of old) [] given) where

@@ -1,5 +1,5 @@
 -- What `commit` returns and leaves.
-use Rattle.std.specs.Prelude.{◌≡◌, ◌≢◌, ◌<◌, ◌≤◌, ◌⊎◌, ℕ, List, [], true, false, Option, Some, None, Result, Ok, Err, map, length}
+use Rattle.std.specs.Prelude.{◌≡◌, ◌≢◌, ◌<◌, ◌≤◌, ◌⊎◌, ℕ, List, true, false, Option, Some, None, Result, Ok, Err, map, length}
 use Rattle.gix_ref_base.specs.PackedRecords.{Record}
 use Rattle.gix_ref_files.specs.Tree.{Tree, Path, is_file, is_folder, IsEmptyFolder}
 use Rattle.gix_ref_files.specs.declared.files.FileError.{FileError}
@@ -30,7 +30,6 @@ use Rattle.gix_ref_lines.specs.declared.create_or_update.Error.{Error as LogErro
 use Rattle.gix_ref_lines.specs.declared.create_or_update.Error.TheVariants.{CreateLeadingDirectories, Append}
 use Rattle.gix_ref_repack.specs.Refusals.{IsBadLine}
 use Rattle.gix_ref_repack.specs.Repacks.{IsRepack}
-use Rattle.gix_ref_repack.specs.declared.error.Error.{Error as RepackError}
 use Rattle.gix_ref_repack.specs.declared.error.Error.TheVariants as repack
 use Rattle.gix_ref_commit.specs.Cleared.{AllInWay, HoldsMore, commit_entries, folder_lists}
 use Rattle.gix_ref_commit.specs.CommittedTrees.{AreCommitted, IsOldOrNew}

@@ -1,5 +1,7 @@
 pub mod CommitLines
 pub mod CommitResult
+pub mod CommittedFolders
+pub mod ComposedEdits
 pub mod Decisions
 pub mod Listings
 pub mod Lookup

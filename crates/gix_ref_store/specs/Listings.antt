@@ -1,11 +1,12 @@
 -- What a listing of a store gives (`git for-each-ref`).
-use Rattle.std.specs.Prelude.{◌≡◌, ◌⊎◌, ◌≤◌, ℕ, List, [], ◌∷◌, Option, Some, None, Result, Ok, codes}
+use Rattle.std.specs.Prelude.{◌≡◌, ◌⊎◌, ◌≤◌, ℕ, List, [], ◌∷◌, Option, Some, None, Result, Ok, Err, codes}
 use denote.Ref.{Bor}
 use Rattle.std.specs.Iterator.{Yields}
 use Rattle.std.specs.List.{AllByRecursion}
 use Rattle.gix_ref_name.specs.declared.namespace.Namespace.{Namespace}
 use Rattle.gix_ref_base.specs.PackedRecords.{Record}
 use Rattle.gix_ref_files.specs.Files.{Meaning, HasRisen}
+use Rattle.gix_ref_packed.specs.Buffers.{count_open}
 use Rattle.gix_ref_packed.specs.declared.packed.buffer.Buffer.{Buffer}
 use Rattle.gix_ref_records.specs.declared.raw.Reference.{Reference}
 use Rattle.gix_ref_listing.specs.Items.{IsItem, IsRecordItem}
@@ -20,7 +21,7 @@ use Rattle.gix_ref_listing.specs.declared.own_records.OwnRecord.{OwnRecord}
 use Rattle.gix_ref_lookup.specs.declared.settings.Settings.{Settings}
 use Rattle.gix_ref_theory.specs.Views.{View}
 use Rattle.gix_ref_store.specs.Store as stores
-use Rattle.gix_ref_store.specs.Lookup.{RefusesBuffer, settings_of, view_in}
+use Rattle.gix_ref_store.specs.Lookup.{LooksUp, RefusesBuffer, settings_of, view_in}
 use Rattle.gix_ref_store.specs.declared.file.store.Store.{Store}
 use Rattle.gix_ref_store.specs.declared.file.iter.LooseThenPacked.{LooseThenPacked}
 use Rattle.gix_ref_store.specs.declared.file.iter.Platform.{Platform}
@@ -74,6 +75,12 @@ module _ {F : Type 0} where
   -- why `packed-refs` is not opened: a fault, or a text that is refused, or no memory
   abbrev pub IsNotOpened : (means : F → Meaning) → Store F → ListError → Type 0
   IsNotOpened means store error = (why : OpenError) × RefusesBuffer means store why × (error ≡ of_open why)
+
+  -- and then nothing has changed but the count of faults, which a fault of files has raised by one
+  abbrev pub LeavesUnopened : (honest : Type 0) (means : F → Meaning) (faults : F → ℕ) → (old new : Store F) → ListError → Type 0
+  LeavesUnopened honest means faults old new error =
+      LooksUp honest means old new
+      × ((why : OpenError) × (error ≡ of_open why) × (faults (stores.files_of new) ≡ count_open (Err why) (faults (stores.files_of old))))
 
   module _ (honest : Type 0) (means : F → Meaning) (faults : F → ℕ) where
     -- the count of faults

@@ -13,9 +13,9 @@ use Rattle.gix_ref_theory.specs.OnRealTrees.{view_of}
 use Rattle.gix_ref_theory.specs.Roots.{roots}
 use Rattle.gix_ref_theory.specs.Views.{IsOwnLock}
 use Rattle.gix_ref_transaction.specs.OwnLocks.{is_in, times, AddsLocks, RemovesLocks, OnlyRemoves}
-use Rattle.gix_ref_transaction.specs.Causes.{AllValid, IsAccepted, IsCountedWith, IsDoubling, IsIoOrMemory, IsLockCause, IsPackedRefusal, IsPackedWell, names_of, packed_taken}
+use Rattle.gix_ref_transaction.specs.Causes.{AllValid, IsAccepted, IsCountedWith, IsDoubling, IsFindCause, IsIoOrMemory, IsLockCause, IsPackedRefusal, IsPackedWell, names_of, packed_taken}
 use Rattle.gix_ref_store.specs.Store.{files_of, kind_of, folders, meaning_of, IsSameStore}
-use Rattle.gix_ref_transaction.specs.PrepareSteps.{AreEmpty, AreLockable, AreWholeLocks, effects_of, effects_on, HoldTexts, ids_in, packed_ids, IsPackedPlace, old_targets, own_locks, own_places, packed_places, place_paths, places_of, possible_locks, updates}
+use Rattle.gix_ref_transaction.specs.PrepareSteps.{AreEmpty, AreLockable, AreWholeLocks, effects_of, effects_on, HoldTexts, ids_in, packed_ids, IsPackedPlace, old_targets, own_locks, own_places, packed_places, place_paths, places_of, possible_locks, targets_of, updates}
 use Rattle.gix_ref_transaction.specs.CarriedEdits.{AreCarried}
 use Rattle.gix_ref_transaction.specs.Parents.{parents_in, split_parents}
 use Rattle.gix_ref_transaction.specs.Splits.{all_rounds, AreDirect, AreSplit, CanFollow, leads_to, Refuses, values_of}
@@ -26,6 +26,8 @@ use Rattle.gix_ref_store.specs.declared.file.store.Store.{Store}
 use Rattle.gix_ref_transaction.specs.declared.edit.Edit.{Edit}
 use Rattle.gix_ref_transaction.specs.declared.release.Remains.{Remains}
 use Rattle.gix_ref_transaction.specs.declared.prepare.error.Error.{Error}
+use Rattle.gix_ref_transaction.specs.declared.prepare.error.Error.TheVariants.{Memory}
+use Rattle.gix_ref_store.specs.ComposedEdits.{AreAskedAs}
 
 module _ {F : Type 0} (means : F → Meaning) where
   -- the tree of a store
@@ -82,7 +84,7 @@ pub record HasRoom (held : Vec Edit Global) (remains : Remains) : Type 0 where
 
 module _ {F : Type 0} (honest read : Type 0) (means : F → Meaning) (faults : F → ℕ) where
   -- A refusal. Where `packed-refs` is well formed, its error is the first cause that applies; `Packed` is returned for a `packed-refs` that is
-  -- refused; a fault of files came with a rise of their count, or a read by a reader failed; all is as before but for the locks that are
+  -- refused, and `PackedFind` where the record of an edit cannot be read; a fault of files came with a rise of their count, or a read by a reader failed; all is as before but for the locks that are
   -- named, and folders that lead to locks; those that are named are locks of the edits, and one is named only where a fault came.
   pub record RefusesFrom (old new : Store F) (given : List RefEdit) (error : Error) (left : List Path) : Type 0 where
     -- the edits whose locks are tried: those of the split list, or as they are given, where there is none
@@ -91,22 +93,33 @@ module _ {F : Type 0} (honest read : Type 0) (means : F → Meaning) (faults : F
     pub direct : AreDirect given → tried ≡ given
     pub cause : honest → HasGoodRecords means old → Refuses (meaning_of old) (kind_of old) (tree_of means old) given error
     pub opened : honest → IsPackedRefusal (kind_of old) (tree_of means old (meaning_of old).packed_path) error
+    pub unread : honest → IsFindCause (meaning_of old) (kind_of old) (view_of (tree_of means old) (meaning_of old).packed_path) tried error
     pub counted : IsCountedWith honest read (faults (files_of old)) (faults (files_of new)) error
     pub as_before : honest → AddsLocks left (locks_in means old tried) (tree_of means old) (tree_of means new)
     pub ours : (q : Path) → is_in left q ≡ true → is_in (possible_locks (meaning_of old) tried) q ≡ true
+    -- and each is named once: no more often than it is among the locks that the edits can have
+    pub once : (q : Path) → times q left ≤ times q (possible_locks (meaning_of old) tried)
     pub named : (left ≡ []) ⊎ HasRisen (faults (files_of old)) (faults (files_of new))
     pub leaves : honest → Leaves (means (files_of old)) (means (files_of new)) (AddsLocks (locks_in means old tried) (locks_in means old tried) (tree_of means old))
     pub lost : honest → LosesNothing means old new tried
     pub same : IsSameStore old new
+
+  -- A refusal of edits that are given: of the edits that are asked for, if there was memory for their names.
+  pub record RefusesGiven (old new : Store F) (given : List RefEdit) (error : Error) (left : List Path) : Type 0 where
+    pub asked : List RefEdit
+    pub composed : AreAskedAs old.precompose_unicode given asked ⊎ ((error ≡ Memory) × (asked ≡ given))
+    pub refuses : RefusesFrom old new asked error left
 
   -- A refusal of a split list: its locks could not be taken, or a name is doubled.
   pub record RefusesSplit (old new : Store F) (split : List RefEdit) (error : Error) (left : List Path) : Type 0 where
     pub cause : honest → HasGoodRecords means old → IsIoOrMemory error
         ⊎ (IsDoubling split error ⊎ (NoneDoubled (names_of split) × IsLockCause (meaning_of old) (kind_of old) (tree_of means old) split error))
     pub opened : honest → IsPackedRefusal (kind_of old) (tree_of means old (meaning_of old).packed_path) error
+    pub unread : honest → IsFindCause (meaning_of old) (kind_of old) (view_of (tree_of means old) (meaning_of old).packed_path) split error
     pub counted : IsCountedWith honest read (faults (files_of old)) (faults (files_of new)) error
     pub as_before : honest → AddsLocks left (locks_in means old split) (tree_of means old) (tree_of means new)
     pub ours : (q : Path) → is_in left q ≡ true → is_in (possible_locks (meaning_of old) split) q ≡ true
+    pub once : (q : Path) → times q left ≤ times q (possible_locks (meaning_of old) split)
     pub named : (left ≡ []) ⊎ HasRisen (faults (files_of old)) (faults (files_of new))
     pub leaves : honest → Leaves (means (files_of old)) (means (files_of new)) (AddsLocks (locks_in means old split) (locks_in means old split) (tree_of means old))
     pub same : IsSameStore old new
@@ -156,13 +169,35 @@ module _ {F : Type 0} (honest : Type 0) (means : F → Meaning) (faults : F → 
     pub updates : AreUpdates given → AreUpdates split
     pub direct : AreDirect given → split ≡ given
 
+  -- What becomes of given edits: the split list of those that the store is asked for.
+  pub record SplitsGiven (old : Store F) (given split : List RefEdit) : Type 0 where
+    pub asked : List RefEdit
+    pub composed : AreAskedAs old.precompose_unicode given asked
+    pub from : SplitsFrom old asked split
+
+  -- each edit has the place of the one that it was split from
+  abbrev pub HaveParents : Store F → (asked : List RefEdit) → List Edit → Type 0
+  HaveParents old asked edits = parents_in edits ≡ split_parents (leads_to (meaning_of old) (view_of (tree_of means old))) (values_of asked)
+
+  -- The edits of a split list as they are held: each with what was found of it, its place, its parent, what becomes of its loose file, and
+  -- the id of its record.
+  pub record HoldsGiven (old new : Store F) (given : List RefEdit) (packed_place : Option Path) (edits : List Edit) : Type 0 where
+    pub splits : SplitsGiven old given (updates edits)
+    pub parents : honest → HaveParents old splits.asked edits
+    pub held : HoldsFrom old new (updates edits) (targets_of edits)
+    pub lost : honest → LosesNothing means old new (updates edits)
+    pub whole : honest → AreWholeLocks (disk_in means new) (locks_in means old (updates edits))
+    pub packed : HoldsPacked old new (updates edits) packed_place
+    pub places : place_paths edits ≡ places_of (meaning_of old) (updates edits)
+    pub effects : honest → HasGoodRecords means old → effects_of edits ≡ effects_on (meaning_of old) (view_of (tree_of means old)) (updates edits)
+    pub ids : honest → HasGoodRecords means old → ids_in edits ≡ packed_ids (meaning_of old) (tree_of means old) (updates edits)
+
   -- A transaction that is prepared from given edits: their split list is.
   pub record PreparesGiven (old new : Store F) (given : List RefEdit) (packed : Option Path) (after : List Edit) : Type 0 where
     pub split : List RefEdit
-    pub splits : SplitsFrom old given split
+    pub splits : SplitsGiven old given split
     pub prepared : PreparesFrom old new split packed after
-    -- each edit has the place of the one that it was split from
-    pub parents : honest → parents_in after ≡ split_parents (leads_to (meaning_of old) (view_of (tree_of means old))) (values_of given)
+    pub parents : honest → HaveParents old splits.asked after
 
   -- A transaction that is given up: of its locks only those stay that are named, and one is named only where a fault came.
   pub record RollsBackFrom (old new : Store F) (locks left : List Path) : Type 0 where

@@ -50,6 +50,19 @@ with_files store files = record {
   packed_mmap_threshold = store.packed_mmap_threshold;
 }
 
+-- and one with another threshold
+abbrev pub with_threshold : {F : Type 0} → Store F → ℕ → Store F
+with_threshold store threshold = record {
+  write_reflog = store.write_reflog;
+  namespace = store.namespace;
+  prohibit_windows_device_names = store.prohibit_windows_device_names;
+  precompose_unicode = store.precompose_unicode;
+  files = store.files;
+  dirs = store.dirs;
+  object_hash = store.object_hash;
+  packed_mmap_threshold = threshold;
+}
+
 -- the same store, but for what its files hold
 pub record IsSameStore {F : Type 0} (old new : Store F) : Type 0 where
   pub dirs : new.dirs ≡ old.dirs
@@ -58,6 +71,7 @@ pub record IsSameStore {F : Type 0} (old new : Store F) : Type 0 where
   pub reflogs : new.write_reflog ≡ old.write_reflog
   pub composes : new.precompose_unicode ≡ old.precompose_unicode
   pub prohibits : new.prohibit_windows_device_names ≡ old.prohibit_windows_device_names
+  pub threshold : threshold_of new ≡ threshold_of old
 
 -- a store that was made of this
 pub record IsMade {F : Type 0} (files : F) (git_dir : Vec ℕ Global) (common_dir : Option (Vec ℕ Global)) (kind : Kind) (options : Options) (store : Store F) : Type 0 where

@@ -15,7 +15,7 @@ use Rattle.gix_ref_theory.proofs.LockPlaces.{no_lock_below, no_lock_below_packed
 use Rattle.gix_ref_theory.proofs.PlaceLaws.{laws_hold}
 use Rattle.gix_ref_transaction.specs.OwnLocks.{is_in}
 use Rattle.gix_ref_transaction.specs.Causes.{AllValid, IsApartFromPacked, LocksAreApart, locks_of}
-use Rattle.gix_ref_edits.specs.RefEdits.{name_of, AreUpdates}
+use Rattle.gix_ref_edits.specs.RefEdits.{name_of}
 use Rattle.gix_ref_edits.specs.declared.transaction.RefEdit.{RefEdit}
 use Rattle.gix_ref_transaction.proofs.Adds.{false_is_true, is_false, in_one, any_cases}
 

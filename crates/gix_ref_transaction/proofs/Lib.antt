@@ -19,3 +19,5 @@ pub mod Rounds
 pub mod SplitLemmas
 pub mod SplitValidity
 pub mod Taking
+pub mod TimesLeft
+pub mod UnreadRecords

@@ -1,6 +1,6 @@
 -- Why `prepare` refuses edits: each cause as a statement on the tree before the call, and the order in which they are reported.
 use Rattle.std.specs.Prelude.{◌≡◌, ◌≢◌, ◌⊎◌, ℕ, List, [], ◌∷◌, Bool, true, false, ◌&&◌, Option, Some, None, IsSome, is_some, map, All, if◌then◌else◌}
-use Rattle.std.specs.List.{list_any}
+use Rattle.std.specs.List.{list_any, Any}
 use Rattle.std.specs.Option.{option_map}
 use Rattle.gix_ref_hash.specs.Ids.{id_kind, null_id, IsWhole}
 use Rattle.gix_ref_grammar.specs.NameGrammar.{IsFullName}
@@ -19,7 +19,8 @@ use Rattle.gix_ref_base.specs.PackedRecords.{Record, record_named, id_read}
 use Rattle.gix_ref_hash.specs.declared.hash.ObjectId.{ObjectId}
 use Rattle.gix_ref_packed.specs.Buffers.{IsRefusedFile}
 use Rattle.gix_ref_packed.specs.declared.packed.buffer.open.Error.TheVariants.{Io as unread}
-use Rattle.gix_ref_lookup.specs.Lookups.{ArePackedRecords}
+use Rattle.gix_ref_lookup.specs.Lookups.{ArePackedRecords, IsOpenedText, OfKey}
+use Rattle.gix_ref_records.specs.Positions.{CannotRead}
 use Rattle.gix_ref_theory.specs.Readings.{Store, as_read, records_in}
 use Rattle.gix_ref_base.specs.Locations.{is_safe}
 use Rattle.gix_ref_transaction.specs.OwnLocks.{is_in}
@@ -74,6 +75,27 @@ IsNotIo other = Unit {0}
 abbrev pub IsPackedRefusal : Kind → Option Content → Error → Type 0
 IsPackedRefusal kind packed (Packed error) = IsRefusedFile kind packed error
 IsPackedRefusal kind packed other = Unit {0}
+
+-- In the text of `packed-refs`, once it is open, the record of this key cannot be read: it is damaged, or it was not found and a line that
+-- is no record was met.
+pub record IsUnreadable (kind : Kind) (packed : Option (List ℕ)) (key : List ℕ) : Type 0 where
+  pub of_kind : Kind
+  pub text : List ℕ
+  pub opened : IsOpenedText kind packed of_kind text
+  pub cannot : CannotRead of_kind text key
+
+-- `PackedFind` is returned only where this holds
+abbrev pub OfFind : Type 0 → Error → Type 0
+OfFind P (PackedFind error) = P
+OfFind P other = Unit {0}
+
+-- and so only where this holds of the key of an edit
+abbrev pub OfSomeKey : (Bad : List ℕ → Type 0) → Store → List RefEdit → Type 0
+OfSomeKey Bad s edits = Any (λ (edit : RefEdit). OfKey s (name_of edit) Bad) edits
+
+-- `PackedFind` is returned only where the record of an edit cannot be read
+abbrev pub IsFindCause : Store → Kind → Option (List ℕ) → List RefEdit → Error → Type 0
+IsFindCause s kind packed edits error = OfFind (OfSomeKey (IsUnreadable kind packed) s edits) error
 
 -- `packed-refs` is well formed, or there is none
 abbrev pub IsPackedWell : Kind → Option (List ℕ) → Type 0

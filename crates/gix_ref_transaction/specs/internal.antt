@@ -1,1 +1,2 @@
 pub mod SplitRounds
+pub mod StuckRecords

@@ -76,6 +76,7 @@ same_on first mid last a b = record {
   reflogs = b.reflogs ∙ a.reflogs;
   composes = b.composes ∙ a.composes;
   prohibits = b.prohibits ∙ a.prohibits;
+  threshold = b.threshold ∙ a.threshold;
 }
 
 -- what losses of power leave has a weaker property

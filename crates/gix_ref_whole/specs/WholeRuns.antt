@@ -18,7 +18,7 @@ use Rattle.gix_ref_transaction.specs.declared.edit.Edit.{Edit}
 use Rattle.gix_ref_commit.specs.declared.error.Error.{Error as CommitError}
 use Rattle.gix_ref_store.specs.CommitResult.{EveryStopFrom, FailsFor}
 use Rattle.gix_ref_store.specs.Lookup.{composes_in, view_in}
-use Rattle.gix_ref_store.specs.Prepared.{HasGoodRecords, IsAtRest, PreparesGiven, RefusesFrom, SplitsFrom, disk_in, locks_in, tree_of}
+use Rattle.gix_ref_store.specs.Prepared.{HasGoodRecords, IsAtRest, PreparesGiven, RefusesGiven, SplitsGiven, disk_in, locks_in, tree_of}
 use Rattle.gix_ref_store.specs.Store.{files_of, folders, meaning_of}
 use Rattle.gix_ref_store.specs.declared.file.store.Store.{Store}
 use Rattle.gix_ref_whole.specs.EditedReadings.{IsAskedFirst, IsFoundAs, reading_after}
@@ -45,11 +45,12 @@ module _ {F : Type 0} (honest : Type 0) (means : F → Meaning) (faults : F → 
   LossesOutside old new = Loses (means (files_of old)) (means (files_of new)) (IsSameOutside old IsLock)
 
   -- Edits that were committed: of the store `old` they made `new`, and these locks stay. They are the split list of those that were given,
-  -- which are that list themselves where none follows a symbolic reference. Where `packed-refs` was well formed or missing, it is so again,
+  -- of the composed names where the store composes names; where it does not, and none follows a symbolic reference, they are the given
+  -- ones. Where `packed-refs` was well formed or missing, it is so again,
   -- and each reference reads as edited.
   pub record ReadsEdited (old new : Store F) (given : List RefEdit) (left : List Path) : Type 0 where
     pub split : List RefEdit
-    pub splits : SplitsFrom honest means faults old given split
+    pub splits : SplitsGiven honest means faults old given split
     pub good : honest → HasGoodRecords means old → HasGoodRecords means new
     pub reads : honest → HasGoodRecords means old → (name : List ℕ) → (meaning_of old).is_reference name ≡ true →
         reading (meaning_of old) (view_in means new) name ≡ reads_after old split name
@@ -95,5 +96,5 @@ module _ {F : Type 0} (honest : Type 0) (means : F → Meaning) (faults : F → 
 
   -- Why edits were not committed, and what is left then: they were refused, or their commit failed.
   abbrev pub IsNotMade : (read : Type 0) → (old new : Store F) → Option SignatureRef → List RefEdit → Error → Type 0
-  IsNotMade read old new committer given (Prepare refused) = RefusesFrom honest read means faults old new given refused.error (paths_of refused.locks_left.items)
+  IsNotMade read old new committer given (Prepare refused) = RefusesGiven honest read means faults old new given refused.error (paths_of refused.locks_left.items)
   IsNotMade read old new committer given (Commit failed) = HasFailed old new committer given failed.error (paths_of failed.locks_left.items)

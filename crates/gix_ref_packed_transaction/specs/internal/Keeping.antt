@@ -1,5 +1,5 @@
 -- The disks of a commit of `packed-refs`, from the disk with which it begins.
-use Rattle.std.specs.Prelude.{◌≡◌, ◌⊎◌, ℕ, List, Option}
+use Rattle.std.specs.Prelude.{◌≡◌, ◌⊎◌}
 use Rattle.gix_ref_files.specs.Calls.{IsMovable}
 use Rattle.gix_ref_files.specs.Disk.{Disk, moved_on}
 use Rattle.gix_ref_files.specs.Lock.{lock_of}

@@ -1,5 +1,5 @@
 -- The steps of a commit of `packed-refs`, over the tree.
-use Rattle.std.specs.Prelude.{◌≡◌, ◌≢◌, ◌⊎◌, ℕ, false, true, None}
+use Rattle.std.specs.Prelude.{◌≡◌, ◌≢◌, ◌⊎◌, ℕ, false, true}
 use Rattle.gix_ref_files.specs.Files.{HasRisen}
 use Rattle.gix_ref_files.specs.Lock.{lock_of}
 use Rattle.gix_ref_files.specs.Tree.{Tree, Path, is_file, is_folder}

@@ -212,7 +212,7 @@ impl<F: Files> Store<F> {
     ghost use Rattle.gix_ref_listing.specs.CleanPrefixes.{IsTaken, IsRefused};
     ghost use Rattle.gix_ref_listing.specs.Steps.{AreYet, GivesNext, GivesRecord};
     ghost use Rattle.gix_ref_store.specs.Store.{files_of, IsSameStore};
-    ghost use Rattle.gix_ref_store.specs.Listings.{AreHeldFor, Lists, ListsPseudo, HasRecords, IsNotOpened, prefix_of_all};
+    ghost use Rattle.gix_ref_store.specs.Listings.{AreHeldFor, Lists, ListsPseudo, HasRecords, IsNotOpened, LeavesUnopened, prefix_of_all};
     ghost use Rattle.gix_ref_store.specs.contracts.file.store.Store.{the_row};
 
     /// The next item of a listing.
@@ -418,9 +418,11 @@ impl<F: Files> Store<F> {
     pub fn iter(&mut self, alloc: Global) -> Result<Platform<'_, F>, Error>
         ensures* rests { sem 𝓛 (RestsIfErr (the_row F.row) self.entry
             (λ p. p.store.ghost_name) result
-            (λ n. OnErr result (LooksUp F.honest F.means self.entry.now n))) }
+            (λ n. IfErr result (LeavesUnopened F.honest F.means F.faults self.entry.now n))) }
         ensures same_reference { IfOk result (λ p. p.store.ghost_name ≡ self.entry.ghost_name) }
         ensures looks_up { IfOk result (λ p. LooksUp F.honest F.means self.entry.now p.store.now) }
+        ensures no_fault { IfOk result (λ p. F.faults (files_of p.store.now)
+            ≡ F.faults (files_of self.entry.now)) }
         ensures opened { F.honest → (records : List Record) →
             AreRecordsIn F.means self.entry.now records → IfOk result (λ p. HasRecords p records) }
         ensures refused { F.honest → IfErr result (IsNotOpened F.means self.entry.now) }

@@ -9,16 +9,14 @@ use std::alloc::Global;
 
 impl<F> Store<F> {
     ghost use Rattle.std.specs.Prelude.{◌≡◌};
-    ghost use Rattle.gix_ref_store.specs.Store.{files_of, threshold_of, IsSameStore};
+    ghost use Rattle.gix_ref_store.specs.Store.{threshold_of, with_threshold};
 
     /// Keeps a new threshold, in bytes, and returns the one before; it is 32,768 at first. Other stores map `packed-refs` into
     /// memory from that size on; this one reads it, so the threshold has no other effect. As gix-ref's
     /// `file::Store::set_packed_buffer_mmap_threshold`.
     pub fn set_packed_buffer_mmap_threshold(&mut self, threshold: u64) -> u64
         ensures before { result ≡ threshold_of self.old }
-        ensures kept { threshold_of self.new ≡ threshold }
-        ensures files { files_of self.new ≡ files_of self.old }
-        ensures same { IsSameStore self.old self.new }
+        ensures kept { self.new ≡ with_threshold self.old threshold }
     {
         let before = self.packed_mmap_threshold;
         self.packed_mmap_threshold = threshold;
@@ -27,7 +25,7 @@ impl<F> Store<F> {
 }
 
 impl<F: Files> Store<F> {
-    ghost use Rattle.std.specs.Prelude.{◌≡◌, List, IfOk, IfErr, OnOk, is_some};
+    ghost use Rattle.std.specs.Prelude.{◌≡◌, List, IfOk, IfErr, OnOk, Err, is_some};
     ghost use Rattle.gix_ref_base.specs.PackedRecords.{Record};
     ghost use Rattle.gix_ref_files.specs.Tree.{is_file};
     ghost use Rattle.gix_ref_packed.specs.Buffers.{count_open};
@@ -121,6 +119,8 @@ impl<F: Files> Store<F> {
     /// As gix-ref's `file::Store::force_refresh_packed_buffer`.
     pub fn force_refresh_packed_buffer(&mut self, alloc: Global) -> Result<(), Error>
         ensures refused { F.honest → IfErr result (RefusesBuffer F.means self.old) }
+        ensures count { IfErr result (λ error. F.faults (files_of self.new)
+            ≡ count_open (Err error) (F.faults (files_of self.old))) }
         ensures no_fault { OnOk result (F.faults (files_of self.new) ≡ F.faults
             (files_of self.old)) }
         ensures unchanged { LooksUp F.honest F.means self.old self.new }

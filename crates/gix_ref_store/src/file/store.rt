@@ -24,8 +24,8 @@ pub struct Store<F> {
     pub namespace: Option<Namespace>,
     /// Whether references with a component such as `CON` are faults, and edits of them refused.
     pub prohibit_windows_device_names: bool,
-    /// Whether lookups that ask records look for names in composed Unicode (`core.precomposeUnicode` of `git config`).
-    /// Without effect on transactions yet.
+    /// Whether lookups that ask records, listings and the names of edits use composed Unicode (`core.precomposeUnicode` of
+    /// `git config`).
     pub precompose_unicode: bool,
     pub(crate) files: F,
     pub(crate) dirs: Dirs,

@@ -5,7 +5,7 @@ ghost use Rattle.std.specs.Borrow.{sem, RestsIfErr};
 ghost use Rattle.gix_ref_files.specs.Files.{HasRisen};
 ghost use Rattle.gix_ref_packed.specs.OpenFiles.{HasReadFault};
 ghost use Rattle.gix_ref_transaction.specs.OwnLocks.{paths_of};
-ghost use Rattle.gix_ref_store.specs.Prepared.{RefusesFrom, PreparesGiven, RollsBackFrom, HasRoom};
+ghost use Rattle.gix_ref_store.specs.Prepared.{RefusesGiven, PreparesGiven, RollsBackFrom, HasRoom};
 
 pub mod commit;
 pub mod outcome;
@@ -99,7 +99,9 @@ impl<'s, F: Files, T: Find> Transaction<'s, F, PackedRefs<T>> {
     /// Checks the edits, splits those that follow symbolic references, and takes the locks of all with their whole texts
     /// (`prepare` of `git update-ref --stdin`). The edits of a prepared transaction are those of the split list: an edit of a
     /// symbolic reference is of its log alone, and the reference that it leads to has an edit. The lock of `packed-refs` is
-    /// taken too, where that is a file and an edit of a reference, not of its log alone, may have a record in it.
+    /// taken too, where that is a file and an edit of a reference, not of its log alone, may have a record in it. Where the store
+    /// composes names, an edit is of the composed form of its name, in loose files and in `packed-refs`, and that is the name of
+    /// the prepared edit (`core.precomposeUnicode` of `git config`); a symbolic target is taken as it is.
     ///
     /// `Refused` has the first cause that applies, in the order of `prepare::Error`; then all is as before but for
     /// the locks that it names, and folders on the way to locks. Reads one file for each edit, and makes one, and reads one more for
@@ -112,7 +114,7 @@ impl<'s, F: Files, T: Find> Transaction<'s, F, PackedRefs<T>> {
     ) -> Result<Prepared<'s, F, Plan<T>>, Refused<T>>
         ensures* rests { sem 𝓛 (RestsIfErr (the_row F.row) self.entry.store
             (λ p. p.store.ghost_name) result
-            (λ n. IfErr result (λ r. RefusesFrom F.honest (HasReadFault F.Reader.faults)
+            (λ n. IfErr result (λ r. RefusesGiven F.honest (HasReadFault F.Reader.faults)
             F.means F.faults self.entry.store.now n
             edits.items r.error (paths_of r.locks_left.items)
             × (r.packed_refs ≡ self.entry.packed_refs)))) }
@@ -123,7 +125,7 @@ impl<'s, F: Files, T: Find> Transaction<'s, F, PackedRefs<T>> {
         ensures packed_refs { IfOk result (λ p. prepared_mode p.plan ≡ self.entry.packed_refs) }
     {
         let Transaction { store, packed_refs } = self;
-        match store.begin(alloc, edits) {
+        match store.begin_given(alloc, edits) {
             Err(failure) => {
                 let LockFailure { error, locks_left } = failure;
                 Err(Refused {
@@ -176,6 +178,7 @@ impl<F: Files, T: Find> Transaction<'_, F, PackedRefs<T>> {
 
 impl<F: Files, T: Find> Prepared<'_, F, Plan<T>> {
     ghost use Rattle.gix_ref_store.specs.CommitLines.{LinesPass};
+    ghost use Rattle.gix_ref_store.specs.CommittedFolders.{KeepsFolders};
     ghost use Rattle.gix_ref_store.specs.CommitResult.{left_of, mode_of, EveryStopFrom, EveryLossFrom, SettlesFrom, CommitsFrom, FailsFor, NoBadLineFrom};
     ghost use Rattle.gix_ref_transaction.specs.PrepareSteps.{held_locks};
     ghost use Rattle.gix_ref_store.specs.PreparedFields.{held_edits, held_packed, prepared_edits, prepared_mode};
@@ -228,6 +231,8 @@ impl<F: Files, T: Find> Prepared<'_, F, Plan<T>> {
             (left_of result) }
         ensures lost { EveryLossFrom F.honest F.means F.faults self.entry.store.now self.exit.0.now
             committer.entry (held_packed self.entry.plan) (held_edits self.entry.plan) }
+        ensures folders { OnOk result (KeepsFolders F.honest F.means F.faults self.entry.store.now
+            self.exit.0.now (held_packed self.entry.plan) (held_edits self.entry.plan)) }
         ensures settled { OnOk result (SettlesFrom F.honest F.means F.faults self.entry.store.now
             self.exit.0.now (held_packed self.entry.plan) (held_edits self.entry.plan)) }
         ensures named { (left_of result ≡ []) ⊎ HasRisen (F.faults (files_of self.entry.store.now))

@@ -7,8 +7,8 @@ ghost use Rattle.gix_ref_files.specs.Settled.{IsWhole};
 ghost use Rattle.gix_ref_files.specs.Tree.{Path};
 ghost use Rattle.gix_ref_packed.specs.OpenFiles.{HasReadFault};
 ghost use Rattle.gix_ref_lookup.specs.Lookups.{packed_refs_in};
-ghost use Rattle.gix_ref_transaction.specs.OwnLocks.{paths_of, is_in, AddsLocks, OnlyLocks};
-ghost use Rattle.gix_ref_transaction.specs.Causes.{AllValid, LocksAreApart, IsCounted, IsCountedWith, IsFirstCause, IsIoOrMemory, IsLockCause, IsPackedLocked, IsPackedRefusal, IsPackedWell, locks_of, packed_taken};
+ghost use Rattle.gix_ref_transaction.specs.OwnLocks.{paths_of, is_in, times, AddsLocks, OnlyLocks};
+ghost use Rattle.gix_ref_transaction.specs.Causes.{AllValid, LocksAreApart, IsCounted, IsCountedWith, IsFindCause, IsFirstCause, IsIoOrMemory, IsLockCause, IsPackedLocked, IsPackedRefusal, IsPackedWell, locks_of, packed_taken};
 ghost use Rattle.gix_ref_transaction.specs.Parents.{parents_in};
 ghost use Rattle.gix_ref_transaction.specs.PrepareSteps.{setting_of, updates, all_asked, all_given, ids_in, packed_ids, place_paths, places_of, own_locks, packed_places, possible_locks, AreEmpty, AreSettled, AreLockable, AreWholeLocks, IsPackedPlace};
 
@@ -114,6 +114,9 @@ fn hold<F: Files>(
         is_in (locks_of (setting_of settings.now) (updates edits.items)) q ≡ true) }
     ensures room { IfErr result (λ failure. vec_len failure.locks_left
         < vec_capacity failure.locks_left) }
+    ensures once { IfErr result (λ failure. (q : Path) → times q (paths_of
+        failure.locks_left.items) ≤ times q (locks_of (setting_of settings.now)
+        (updates edits.items))) }
     ensures named { IfErr result (λ failure. (failure.locks_left.items ≡ []) ⊎ HasRisen
         (F.faults files.old) (F.faults files.new)) }
     ensures leaves { F.honest → Leaves (F.means files.old) (F.means files.new)
@@ -181,6 +184,9 @@ fn find_and_hold<F: Files>(
         (updates edits.items) failure.error) }
     ensures opened { F.honest → IfErr result (λ failure. IsPackedRefusal settings.now.kind
         ((F.means files.old).tree (setting_of settings.now).packed_path) failure.error) }
+    ensures unread { F.honest → IfErr result (λ failure. IsFindCause (setting_of settings.now)
+        settings.now.kind (packed_refs_in settings.now (F.means files.old))
+        (updates edits.items) failure.error) }
     ensures as_before { F.honest →
         IfErr result (λ failure. AddsLocks (paths_of failure.locks_left.items)
         (locks_of (setting_of settings.now) (updates edits.items)) (F.means files.old).tree
@@ -190,6 +196,9 @@ fn find_and_hold<F: Files>(
         is_in (locks_of (setting_of settings.now) (updates edits.items)) q ≡ true) }
     ensures room { IfErr result (λ failure. vec_len failure.locks_left
         < vec_capacity failure.locks_left) }
+    ensures once { IfErr result (λ failure. (q : Path) → times q (paths_of
+        failure.locks_left.items) ≤ times q (locks_of (setting_of settings.now)
+        (updates edits.items))) }
     ensures named { IfErr result (λ failure. (failure.locks_left.items ≡ []) ⊎ HasRisen
         (F.faults files.old) (F.faults files.new)) }
     ensures leaves { F.honest → Leaves (F.means files.old) (F.means files.new)
@@ -260,6 +269,9 @@ pub fn hold_all<F: Files>(
         (updates edits.items) failure.error) }
     ensures opened { F.honest → IfErr result (λ failure. IsPackedRefusal settings.now.kind
         ((F.means files.old).tree (setting_of settings.now).packed_path) failure.error) }
+    ensures unread { F.honest → IfErr result (λ failure. IsFindCause (setting_of settings.now)
+        settings.now.kind (packed_refs_in settings.now (F.means files.old))
+        (updates edits.items) failure.error) }
     ensures as_before { F.honest →
         IfErr result (λ failure. AddsLocks (paths_of failure.locks_left.items)
         (own_locks (setting_of settings.now) (F.means files.old).tree (updates edits.items))
@@ -267,6 +279,9 @@ pub fn hold_all<F: Files>(
     ensures ours { IfErr result (λ failure. (q : Path) →
         is_in (paths_of failure.locks_left.items) q ≡ true →
         is_in (possible_locks (setting_of settings.now) (updates edits.items)) q ≡ true) }
+    ensures once { IfErr result (λ failure. (q : Path) → times q (paths_of
+        failure.locks_left.items) ≤ times q (possible_locks (setting_of settings.now)
+        (updates edits.items))) }
     ensures named { IfErr result (λ failure. (failure.locks_left.items ≡ []) ⊎ HasRisen
         (F.faults files.old) (F.faults files.new)) }
     ensures leaves { F.honest → Leaves (F.means files.old) (F.means files.new)

@@ -9,8 +9,9 @@ ghost use Rattle.gix_ref_files.specs.DiskCalls.{Untouched};
 ghost use Rattle.gix_ref_files.specs.Files.{disk_of, Leaves, Passes};
 ghost use Rattle.gix_ref_packed.specs.OpenFiles.{HasReadFault};
 ghost use Rattle.gix_ref_edits.specs.RefEdits.{name_of};
-ghost use Rattle.gix_ref_lookup.specs.Lookups.{packed_refs_in, ArePackedRecords, AreAsked, AreHonest, IsReady, HasKey};
-ghost use Rattle.gix_ref_transaction.specs.Causes.{id_of_record, packed_id, IsCounted, IsCountedWith, IsIoOrMemory, IsPackedRefusal};
+ghost use Rattle.gix_ref_lookup.specs.Lookups.{packed_refs_in, ArePackedRecords, AreAsked, AreHonest, IsReady, IsSearched, OfKey};
+ghost use Rattle.gix_ref_transaction.specs.Causes.{id_of_record, packed_id, IsCounted, IsCountedWith, IsFindCause, IsIoOrMemory, IsPackedRefusal, OfFind, OfSomeKey};
+ghost use Rattle.gix_ref_transaction.specs.internal.StuckRecords.{IsStuckAt};
 ghost use Rattle.gix_ref_transaction.specs.PackedCauses.{as_cause, ids_among};
 ghost use Rattle.gix_ref_transaction.specs.PrepareSteps.{setting_of, updates, all_asked, ids_in};
 
@@ -52,6 +53,11 @@ fn id_at<R: ReadAt + Drop>(
         IfErr result (IsCountedWith (AreHonest records.old) (HasReadFault R.faults) before now) }
     ensures asked { (kind : Kind) (rs : List Record) → AreAsked kind None records.old rs →
         AreAsked kind None records.new rs }
+    ensures unread { AreHonest records.old → (kind : Kind) →
+        IfErr result (OfFind (IsStuckAt kind records.old (full_ref_bytes key.entry))) }
+    ensures searched { (kind of_kind : Kind) (text : List ℕ) →
+        IsSearched kind None records.new of_kind text →
+        IsSearched kind None records.old of_kind text }
     ensures honest { AreHonest records.old → AreHonest records.new }
     ensures ready { IsReady records.new }
 {
@@ -81,6 +87,12 @@ fn id_of<R: ReadAt + Drop>(
         IfErr result (IsCountedWith (AreHonest records.old) (HasReadFault R.faults) before now) }
     ensures asked { (kind : Kind) (rs : List Record) → AreAsked kind None records.old rs →
         AreAsked kind None records.new rs }
+    ensures unread { AreHonest records.old → (kind : Kind) →
+        IfErr result (OfFind (OfKey (setting_of settings.now) (full_ref_bytes name.entry)
+        (IsStuckAt kind records.old))) }
+    ensures searched { (kind of_kind : Kind) (text : List ℕ) →
+        IsSearched kind None records.new of_kind text →
+        IsSearched kind None records.old of_kind text }
     ensures honest { AreHonest records.old → AreHonest records.new }
     ensures ready { IsReady records.new }
 {
@@ -143,6 +155,12 @@ fn id_unless_hidden<F: Files>(
         (HasReadFault F.Reader.faults) (F.faults files.old) (F.faults files.new)) }
     ensures asked { (kind : Kind) (rs : List Record) → AreAsked kind None records.old rs →
         AreAsked kind None records.new rs }
+    ensures unread { AreHonest records.old → (kind : Kind) →
+        IfErr result (OfFind (OfKey (setting_of settings.now) (name_of edit.now.update)
+        (IsStuckAt kind records.old))) }
+    ensures searched { (kind of_kind : Kind) (text : List ℕ) →
+        IsSearched kind None records.new of_kind text →
+        IsSearched kind None records.old of_kind text }
     ensures honest { AreHonest records.old → AreHonest records.new }
     ensures ready { IsReady records.new }
     ensures leaves { F.honest → Leaves (F.means files.old) (F.means files.new)
@@ -179,6 +197,9 @@ fn find_ids<F: Files>(
         IfErr result (IsPackedRefusal settings.now.kind packed) }
     ensures counted { IfErr result (IsCountedWith (AreHonest records.old)
         (HasReadFault F.Reader.faults) (F.faults files.old) (F.faults files.new)) }
+    ensures unread { AreHonest records.old → (kind : Kind) →
+        IfErr result (OfFind (OfSomeKey (IsStuckAt kind records.old) (setting_of settings.now)
+        (updates edits.old))) }
     ensures leaves { F.honest → Leaves (F.means files.old) (F.means files.new)
         (Unchanged (F.means files.old).tree) }
     ensures passes { F.honest → Passes (F.means files.old) (F.means files.new)
@@ -211,6 +232,9 @@ pub fn find_records<F: Files>(
         ((F.means files.old).tree (setting_of settings.now).packed_path)) }
     ensures counted { IfErr result (IsCountedWith F.honest (HasReadFault F.Reader.faults)
         (F.faults files.old) (F.faults files.new)) }
+    ensures unread { F.honest → IfErr result (IsFindCause (setting_of settings.now)
+        settings.now.kind (packed_refs_in settings.now (F.means files.old))
+        (updates edits.old)) }
     ensures leaves { F.honest → Leaves (F.means files.old) (F.means files.new)
         (Unchanged (F.means files.old).tree) }
     ensures passes { F.honest → Passes (F.means files.old) (F.means files.new)

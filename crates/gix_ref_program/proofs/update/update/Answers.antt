@@ -3,7 +3,7 @@ use Rattle.gix_ref_files.specs.Files.{Leaves, Loses}
 use Rattle.gix_ref_transaction.specs.OwnLocks.{paths_of}
 use Rattle.gix_ref_store.specs.CommitResult.{left_of}
 use Rattle.gix_ref_packed.specs.OpenFiles.{HasReadFault}
-use Rattle.gix_ref_store.specs.Prepared.{PreparesGiven, HasGoodRecords, RefusesFrom, IsAtRest}
+use Rattle.gix_ref_store.specs.Prepared.{PreparesGiven, HasGoodRecords, RefusesGiven, IsAtRest}
 use Rattle.gix_ref_store.specs.Store.{files_of}
 use Rattle.gix_ref_program.specs.Updates.{IsMade, IsStopOf, IsLossOf, IsUpdateError}
 use Rattle.gix_ref_program.proofs.Updating.{at_same, refused_stops, refused_loses, done, told, stops, loses, settles}
@@ -86,7 +86,7 @@ returns-in-Err-clause-leaves g c =
     let new = c.prepare.follows.lender-at-none in
     let edits = c.args.edits.items in
     let left = paths_of c.in-Err.refused.locks_left.items in
-    let from : RefusesFrom F.honest (HasReadFault g.F.Reader.ReadAt.faults) F.means F.faults old new edits c.in-Err.refused.error left = search rules in
+    let from : RefusesGiven F.honest (HasReadFault g.F.Reader.ReadAt.faults) F.means F.faults old new edits c.in-Err.refused.error left = search rules in
     at_same (λ now. F.honest → Leaves (F.means (files_of old)) (F.means (files_of now)) (IsStopOf F.honest F.means F.faults old c.args.committer edits)) {x = c.store-in-Err-2.given.0} {y = new} (search rules)
     (refused_stops F.honest F.means F.faults old new c.args.committer edits c.in-Err.refused.error left (HasReadFault g.F.Reader.ReadAt.faults) from)
 
@@ -97,6 +97,6 @@ returns-in-Err-clause-lost g c =
     let new = c.prepare.follows.lender-at-none in
     let edits = c.args.edits.items in
     let left = paths_of c.in-Err.refused.locks_left.items in
-    let from : RefusesFrom F.honest (HasReadFault g.F.Reader.ReadAt.faults) F.means F.faults old new edits c.in-Err.refused.error left = search rules in
+    let from : RefusesGiven F.honest (HasReadFault g.F.Reader.ReadAt.faults) F.means F.faults old new edits c.in-Err.refused.error left = search rules in
     at_same (λ now. F.honest → HasGoodRecords F.means old → IsAtRest F.means old → Loses (F.means (files_of old)) (F.means (files_of now)) (IsLossOf F.honest F.means F.faults old c.args.committer edits)) {x = c.store-in-Err-2.given.0} {y = new} (search rules)
     (λ h good at_rest. refused_loses F.honest F.means F.faults old new c.args.committer edits c.in-Err.refused.error left (HasReadFault g.F.Reader.ReadAt.faults) from h)

@@ -1,4 +1,5 @@
 //! Preparing a transaction: its checks and locks, from a store.
 pub(crate) mod begin;
+mod compose;
 
 pub use gix_ref_transaction::prepare::Error;

@@ -1,8 +1,8 @@
 use Rattle.std.proofs.Common.{sym, subst, map, vec_items, ℕ, List, Vec, Global}
 use Rattle.gix_ref_files.proofs.Moments.{joins, losses, passes_joins, passes_weaken, weaken}
 use Rattle.gix_ref_files.specs.Files.{disk_of}
-use Rattle.gix_ref_packed_transaction.specs.PackedTransactions.{kind_of, records_of, removed_keys, place_of, IsMadeOf, SaysWhy}
-use Rattle.gix_ref_packed_transaction.proofs.LockSteps.{left_as_before, left_rewritten, off_lock, why_after}
+use Rattle.gix_ref_packed_transaction.specs.PackedTransactions.{kind_of, records_of, removed_keys, place_of, IsMadeOf, IsUnbegun, SaysWhy}
+use Rattle.gix_ref_packed_transaction.proofs.LockSteps.{begun, left_as_before, left_rewritten, off_lock, why_after}
 use Rattle.gix_ref_packed_transaction.proofs.Losses.{keeps_unlock, lost_before, lost_of, lost_unlocking}
 use Rattle.gix_ref_packed_transaction.proofs.transaction.Transaction.commit.Goals as goal
 
@@ -27,6 +27,15 @@ returns-clause-why g c =
     let t = c.args.self in
     subst (SaysWhy g.F.Files.honest (kind_of t) (records_of t) (place_of t) (g.F.Files.faults c.args.files.now) (g.F.Files.faults c.release-in-Err-put_rewrite.new.files) (g.F.Files.means c.release-in-Err-put_rewrite.new.files).tree) (sym c.release-in-Err-put_rewrite.ensures.error)
     (why_after g.F.Files.honest (kind_of t) (records_of t) (place_of t) _ _ _ _ _ _ c.release-in-Err-put_rewrite.ensures.no_fewer (λ honest. (c.release-in-Err-put_rewrite.ensures.leaves honest).tree) c.in-Err-put_rewrite.ensures.why)
+
+pub returns-in-Err-clause-kept : goal.returns-in-Err-clause-kept
+returns-in-Err-clause-kept g c honest unbegun = (c.release.ensures.leaves honest).tree
+
+pub returns-clause-kept : goal.returns-clause-kept
+returns-clause-kept g c honest unbegun =
+    absurd (begun g.F.Files.honest (place_of c.args.self) (g.F.Files.faults c.args.files.now) (g.F.Files.faults c.put_rewrite.new.files) (g.F.Files.means c.put_rewrite.new.files).tree
+    c.in-Err-put_rewrite.error c.in-Err-put_rewrite.ensures.why
+    (subst IsUnbegun c.release-in-Err-put_rewrite.ensures.error unbegun))
 
 pub returns-in-Err-clause-lost : goal.returns-in-Err-clause-lost
 returns-in-Err-clause-lost g c honest ready =

@@ -1,8 +1,7 @@
 use Rattle.std.proofs.Common.{subst, sym}
 use Rattle.gix_ref_files.proofs.Moments.{weaken, passes_weaken}
-use Rattle.gix_ref_files.specs.Disk.{Disk}
 use Rattle.gix_ref_files.specs.Files.{disk_of}
-use Rattle.gix_ref_packed_transaction.specs.PackedTransactions.{IsRewritten, IsOldOrRewritten}
+use Rattle.gix_ref_packed_transaction.specs.PackedTransactions.{IsRewritten}
 use Rattle.gix_ref_packed_transaction.proofs.LockSteps.{as_before, unlocked, on_ok, when_ok}
 use Rattle.gix_ref_packed_transaction.proofs.Losses.{keeps_first, keeps_unlock, settles_unchanged}
 use Rattle.gix_ref_packed_transaction.specs.internal.Keeping.{Keeps}

@@ -3,9 +3,8 @@ use Rattle.gix_ref_files.specs.Lock.{lock_of}
 use Rattle.gix_ref_files.specs.Tree.{put}
 use Rattle.gix_ref_files.specs.Tree.Content.{File}
 use Rattle.gix_ref_files.proofs.Moments.{joins, weaken, passes_joins, passes_weaken}
-use Rattle.gix_ref_files.specs.Files.{Passes, disk_of}
+use Rattle.gix_ref_files.specs.Files.{disk_of}
 use Rattle.gix_ref_files.specs.Settled.{IsWhole}
-use Rattle.gix_ref_files.specs.Tree.{Tree}
 use Rattle.gix_ref_packed_transaction.specs.PackedTransactions.{IsOldOrRewritten}
 use Rattle.gix_ref_packed_transaction.proofs.LockSteps.{when_ok, on_ok, filling, renaming, is_renamed}
 use Rattle.gix_ref_packed_transaction.proofs.Losses.{folder_there, keeps_fill, keeps_first, keeps_renaming, keeps_settling, lock_file, settles_renamed}

@@ -1,14 +1,12 @@
-use Rattle.std.proofs.Common.{subst, sym, true, false, Bool, ◌≡◌}
+use Rattle.std.proofs.Common.{subst, sym, ◌≡◌}
 use Rattle.gix_ref_files.proofs.Moments.{joins, weaken, passes_joins, passes_weaken}
 use Rattle.gix_ref_files.specs.Calls.{RemovesFile, RemovingFile}
-use Rattle.gix_ref_files.specs.Disk.{Disk}
 use Rattle.gix_ref_files.specs.DiskCalls.{RemovingFileOn, after_removal}
-use Rattle.gix_ref_files.specs.Files.{Passes, disk_of}
-use Rattle.gix_ref_files.specs.Tree.{Tree, Path}
+use Rattle.gix_ref_files.specs.Files.{disk_of}
+use Rattle.gix_ref_files.specs.Tree.{Path}
 use Rattle.gix_ref_packed_transaction.specs.PackedTransactions.{IsOldOrRewritten}
 use Rattle.gix_ref_packed_transaction.proofs.LockSteps.{removing, off_lock, when_ok}
 use Rattle.gix_ref_packed_transaction.proofs.Losses.{folder_there, keeps_removal, keeps_settling, keeps_unlock, none_removed_at, settles_removed}
-use Rattle.gix_ref_packed_transaction.specs.internal.Keeping.{Keeps}
 use Rattle.gix_ref_packed_transaction.proofs.transaction.commit.remove_both.Goals as goal
 use Rattle.gix_ref_rewrite.specs.declared.outcome.Rewrite.TheVariants.{Removed}
 

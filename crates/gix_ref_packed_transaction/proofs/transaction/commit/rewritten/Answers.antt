@@ -1,4 +1,4 @@
-use Rattle.std.proofs.Common.{map, vec_items, subst, sym}
+use Rattle.std.proofs.Common.{map, vec_items}
 use Rattle.gix_ref_packed_transaction.proofs.LockSteps.{made_of}
 use Rattle.gix_ref_packed_transaction.proofs.transaction.commit.rewritten.Goals as goal
 

@@ -5,6 +5,7 @@ ghost use Rattle.gix_ref_transaction.specs.OwnLocks.{paths_of};
 ghost use Rattle.gix_ref_transaction.specs.PrepareSteps.{updates};
 ghost use Rattle.gix_ref_store.specs.CommitResult.{EveryStopFrom, EveryLossFrom, SettlesFrom, CommitsFrom, FailsFor, NoBadLineFrom};
 ghost use Rattle.gix_ref_store.specs.CommitLines.{LinesPass};
+ghost use Rattle.gix_ref_store.specs.CommittedFolders.{KeepsFolders};
 ghost use Rattle.gix_ref_store.specs.Decisions.{left_in};
 ghost use Rattle.gix_ref_store.specs.Prepared.{HasRoom};
 ghost use Rattle.gix_ref_store.specs.Store.{files_of, with_files};
@@ -55,6 +56,8 @@ impl<F: Files> Store<F> {
             packed edits.items (left_in result) }
         ensures lost { EveryLossFrom F.honest F.means F.faults self.old self.new committer.entry
             packed edits.items }
+        ensures folders { OnOk result (KeepsFolders F.honest F.means F.faults self.old self.new
+            packed edits.items) }
         ensures settled { OnOk result (SettlesFrom F.honest F.means F.faults self.old self.new
             packed edits.items) }
         ensures named { (left_in result ≡ []) ⊎ HasRisen (F.faults (files_of self.old))

@@ -5,9 +5,9 @@ ghost use Rattle.gix_ref_files.specs.Files.{disk_of, Leaves, Passes};
 ghost use Rattle.gix_ref_files.specs.Steps.{IsAfter, IsLeftBy};
 ghost use Rattle.gix_ref_files.specs.Lock.{lock_of};
 ghost use Rattle.gix_ref_files.specs.Tree.{Path};
-ghost use Rattle.gix_ref_transaction.specs.OwnLocks.{OnlyLocks};
+ghost use Rattle.gix_ref_transaction.specs.OwnLocks.{OnlyLocks, paths_of};
 ghost use Rattle.gix_ref_transaction.specs.PrepareSteps.{packed_places, AreWholeLocks};
-ghost use Rattle.gix_ref_commit.specs.Cleared.{AllInWay, commit_entries, folder_lists};
+ghost use Rattle.gix_ref_commit.specs.Cleared.{AllInWay, all_removed, commit_entries, folder_lists};
 ghost use Rattle.gix_ref_commit.specs.Decided.{FillsPacked, IsFilled};
 ghost use Rattle.gix_ref_commit.specs.Entries.{bare_steps, planned_entries, steps_in};
 ghost use Rattle.gix_ref_theory.specs.OnRealTrees.{view_of};
@@ -124,6 +124,8 @@ impl<F: Files> Store<F> {
         ensures filled { F.honest → IsPackedEmpty F.honest F.means F.faults self.old packed.now →
             IfOk result (λ new. IsFilled packed.now new.rewrite
             (F.means (files_of self.old)).tree (F.means (files_of self.new)).tree) }
+        ensures removed { IfOk result (λ new. paths_of new.removed.items
+            ≡ all_removed edits.new.items) }
         ensures in_way { F.honest → IfOk result (λ new. AllInWay self.old.dirs
             (F.means (files_of self.new)).tree (folder_lists new.ways.items)
             (planned_entries self.old.dirs edits.new.items packed.now new.rewrite)) }

@@ -4,7 +4,7 @@ ghost use Rattle.std.specs.Vec.{vec_capacity};
 ghost use Rattle.gix_ref_packed.specs.OpenFiles.{HasReadFault};
 ghost use Rattle.gix_ref_theory.specs.OnRealTrees.{view_of};
 ghost use Rattle.gix_ref_transaction.specs.OwnLocks.{paths_of};
-ghost use Rattle.gix_ref_store.specs.Prepared.{RefusesFrom, RefusesSplit, HoldsFrom, SplitsFrom, HasGoodRecords, HoldsPacked, LosesNothing, HasRoom, locks_in, tree_of, disk_in};
+ghost use Rattle.gix_ref_store.specs.Prepared.{RefusesFrom, RefusesGiven, RefusesSplit, HoldsFrom, HoldsGiven, SplitsFrom, HasGoodRecords, HoldsPacked, LosesNothing, HasRoom, locks_in, tree_of, disk_in};
 ghost use Rattle.gix_ref_store.specs.Store.{files_of, kind_of, meaning_of, with_files};
 ghost use Rattle.gix_ref_transaction.specs.Parents.{parents_in, split_parents};
 ghost use Rattle.gix_ref_transaction.specs.Splits.{leads_to, values_of, IsSplitCause, OnlyReads};
@@ -12,6 +12,7 @@ ghost use Rattle.gix_ref_transaction.specs.PrepareSteps.{setting_of, effects_of,
 ghost use Rattle.gix_ref_transaction.specs.Causes.{AllValid, IsCounted};
 
 use crate::file::store::Store;
+use crate::file::transaction::prepare::compose::asked_edits;
 use gix_ref_edits::transaction::RefEdit;
 use gix_ref_files::files::Files;
 use gix_ref_lookup::settings::Settings;
@@ -128,11 +129,7 @@ impl<F: Files> Store<F> {
 
     /// Checks the edits, splits those that follow symbolic references, finds the records of all, and takes their locks with their
     /// texts.
-    pub(crate) fn begin(
-        &mut self,
-        alloc: Global,
-        edits: Vec<RefEdit>,
-    ) -> Result<HeldLocks, LockFailure>
+    fn begin(&mut self, alloc: Global, edits: Vec<RefEdit>) -> Result<HeldLocks, LockFailure>
         ensures refused { IfErr result (λ failure. RefusesFrom F.honest (HasReadFault
             F.Reader.faults) F.means F.faults self.old self.new edits.items failure.error
             (paths_of failure.locks_left.items)) }
@@ -162,6 +159,25 @@ impl<F: Files> Store<F> {
         match self.split(alloc, edits) {
             Ok(split) => self.hold_split(alloc, split),
             Err(error) => Err(untouched(alloc, error)),
+        }
+    }
+
+    /// Composes the names of the edits, where the store composes names; then all as above.
+    pub(crate) fn begin_given(
+        &mut self,
+        alloc: Global,
+        edits: Vec<RefEdit>,
+    ) -> Result<HeldLocks, LockFailure>
+        ensures refused { IfErr result (λ failure. RefusesGiven F.honest (HasReadFault
+            F.Reader.faults) F.means F.faults self.old self.new edits.items failure.error
+            (paths_of failure.locks_left.items)) }
+        ensures held { IfOk result (λ held. HoldsGiven F.honest F.means F.faults self.old self.new
+            edits.items held.packed held.edits.items) }
+        ensures room { IfOk result (λ held. HasRoom held.edits held.remains) }
+    {
+        match asked_edits(alloc, self.precompose_unicode, edits) {
+            Ok(asked) => self.begin(alloc, asked),
+            Err(_) => Err(untouched(alloc, Error::Memory)),
         }
     }
 }

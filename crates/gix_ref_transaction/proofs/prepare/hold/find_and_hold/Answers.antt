@@ -1,12 +1,12 @@
-use Rattle.std.proofs.Common.{◌≡◌, inl, inr, List, [], ◌++◌, OnOk, ap, sym, ◌∙◌, subst, true, take, drop, length}
+use Rattle.std.proofs.Common.{◌≡◌, ◌≤◌, inl, inr, ℕ, List, [], ◌++◌, OnOk, IfErr, ap, sym, ◌∙◌, subst, true, take, drop, length, arith, Vec, Global}
 use Rattle.gix_ref_files.specs.Disk.{Disk}
 use Rattle.gix_ref_files.specs.Files.{disk_of, Leaves}
-use Rattle.gix_ref_files.specs.Tree.{Tree}
+use Rattle.gix_ref_files.specs.Tree.{Tree, Path}
 use Rattle.gix_ref_files.proofs.Moments.{weaken, joins, passes_weaken, passes_joins}
 use Rattle.gix_ref_lookup.specs.StoreLayout.{folders_of}
 use Rattle.gix_ref_edits.specs.declared.transaction.RefEdit.{RefEdit}
 use Rattle.gix_ref_theory.specs.OnDisks.{IsAsBefore}
-use Rattle.gix_ref_transaction.specs.OwnLocks.{paths_of, is_in, AddsLocks, OnlyLocks}
+use Rattle.gix_ref_transaction.specs.OwnLocks.{paths_of, is_in, times, AddsLocks, OnlyLocks}
 use Rattle.gix_ref_transaction.specs.Causes.{AllValid, IsFirstCause, LocksAreApart, locks_of}
 use Rattle.gix_ref_transaction.specs.PackedCauses.{ids_among}
 use Rattle.gix_ref_transaction.specs.PrepareSteps.{setting_of, all_asked, ids_in, packed_ids, places_of, updates, AreLockable, AreSettled, AreWholeLocks}
@@ -14,6 +14,7 @@ use Rattle.gix_ref_transaction.specs.declared.edit.Edit.{Edit}
 use Rattle.gix_ref_transaction.specs.declared.prepare.hold.HeldEdits.{HeldEdits}
 use Rattle.gix_ref_transaction.specs.declared.prepare.hold.LockFailure.{LockFailure}
 use Rattle.gix_ref_transaction.proofs.PackedLemmas.{asked_alike, asked_ids, asked_over, if_err, if_ok, places_alike, settled_alike, updates_alike}
+use Rattle.gix_ref_transaction.proofs.UnreadRecords.{no_find}
 use Rattle.gix_ref_transaction.proofs.prepare.hold.find_and_hold.Goals as goal
 
 pub hold-requires-clause-places : goal.hold-requires-clause-places
@@ -207,3 +208,29 @@ returns-in-Ok-clause-passes g c h locked staying D own here =
     let still : disk_of mid ≡ disk_of old = (c.find_records.ensures.passes h).disk in
     let first = passes_weaken (c.find_records.ensures.passes h) (λ (E : Disk) is. subst (IsAsBefore locked staying D) (sym is) here) in
     passes_joins first ((subst (λ (u : List RefEdit). OnlyLocks (locks_of s u) mid last) U (c.hold.ensures.passes h)) locked staying D own (subst (IsAsBefore locked staying D) (sym still) here))
+
+pub returns-in-Ok-clause-once : goal.returns-in-Ok-clause-once
+returns-in-Ok-clause-once g c =
+    let s = setting_of c.args.settings.now in
+    let given = c.args.edits.items in
+    let found = c.find_records.new.edits in
+    let now = take c.args.edits.len (found ++ drop (length found) given) in
+    let over : now ≡ found = asked_over c.args.edits.len c.deref_mut.result.now found (drop (length found) given) c.find_records.ensures.asked c.deref_mut.ensures.len in
+    let asked : all_asked now ≡ all_asked given = ap all_asked over ∙ (c.find_records.ensures.asked ∙ ap all_asked c.deref_mut.ensures.value) in
+    let U : updates now ≡ updates given = updates_alike given now asked in
+    subst (λ (u : List RefEdit). IfErr c.hold.result (λ failure. (q : Path) → times q (paths_of failure.locks_left.items) ≤ times q (locks_of s u))) U c.hold.ensures.once
+
+pub returns-in-Err-clause-once : goal.returns-in-Err-clause-once
+returns-in-Err-clause-once g c q =
+    let none : times q (paths_of c.args.remains.left.items) ≡ 0 = ap (λ (l : List (Vec ℕ Global)). times q (paths_of l)) c.requires.none in
+    omega (arith, none)
+
+pub returns-in-Ok-clause-unread : goal.returns-in-Ok-clause-unread
+returns-in-Ok-clause-unread g c h =
+    if_err c.hold.result (λ (failure : LockFailure) counted. no_find _ (g.F.Files.faults c.find_records.new.files) (g.F.Files.faults c.hold.new.files) failure.error counted) c.hold.ensures.counted
+
+pub returns-in-Err-clause-unread : goal.returns-in-Err-clause-unread
+returns-in-Err-clause-unread g c h = rw c.deref_mut.ensures.value at (c.in-Err.ensures.unread h)
+
+pub returns-in-Err-clause-refused : goal.returns-in-Err-clause-refused
+returns-in-Err-clause-refused g c h good = inl (c.in-Err.ensures.sound h good.0 good.1)

@@ -3,7 +3,7 @@ use Rattle.std.specs.declared.alloc.Global.{Global}
 use Rattle.gix_ref_files.specs.Files.{Leaves}
 use Rattle.gix_ref_files.specs.Tree.{Path, is_file}
 use Rattle.gix_ref_files.proofs.Moments.{passes_joins}
-use Rattle.gix_ref_transaction.specs.OwnLocks.{paths_of, AddsLocks, is_in}
+use Rattle.gix_ref_transaction.specs.OwnLocks.{paths_of, times, AddsLocks, is_in}
 use Rattle.gix_ref_transaction.specs.Causes.{locks_of}
 use Rattle.gix_ref_transaction.specs.PrepareSteps.{setting_of, lock_paths, updates, all_given}
 use Rattle.gix_ref_transaction.specs.declared.edit.Edit.{Edit}
@@ -12,6 +12,7 @@ use Rattle.gix_ref_transaction.proofs.PackedLemmas.{asked_alike, asked_over}
 use Rattle.gix_ref_transaction.proofs.Removing.{locks_given, cleaned, cleaning}
 use Rattle.gix_ref_transaction.proofs.Renames.{lock_found, none_renamed}
 use Rattle.gix_ref_transaction.proofs.Taking.{front_in}
+use Rattle.gix_ref_transaction.proofs.TimesLeft.{times_first}
 use Rattle.gix_ref_transaction.proofs.prepare.hold.hold.Goals as goal
 
 pub take_locks-requires-clause-apart : goal.take_locks-requires-clause-apart
@@ -96,3 +97,16 @@ returns-in-Err-clause-passes g c h locked staying D own here =
     let run = (rw c.deref_mut.ensures.value at (c.take_locks.ensures.passes h)) locked staying D own here in
     passes_joins run (c.release_locks-remains.ensures.passes h locked staying [] D
     (λ q within. own q (front_in s c.args.settings.now.kind edits n q (subst (λ (l : List Path). is_in l q ≡ true) same within))) run.disk)
+
+pub returns-in-Err-clause-once : goal.returns-in-Err-clause-once
+returns-in-Err-clause-once g c q =
+    let s = setting_of c.args.settings.now in
+    let edits = updates c.args.edits.items in
+    let n = c.take_locks.new.taken in
+    let same : lock_paths c.truncate.new.self.items ≡ locks_of s (take n edits) =
+    ap lock_paths c.truncate.ensures.items
+    ∙ ap (λ (l : List Edit). lock_paths (take n l)) (asked_over c.args.edits.len c.deref_mut.result.now c.take_locks.new.edits _ (asked_alike c.deref_mut.result.now c.take_locks.new.edits c.take_locks.ensures.given) c.deref_mut.ensures.len)
+    ∙ locks_given s c.args.edits.items c.take_locks.new.edits n c.requires.places (c.take_locks.ensures.given ∙ ap all_given c.deref_mut.ensures.value) in
+    let none : times q (paths_of c.args.remains.left.items) ≡ 0 = ap (λ (l : List (Vec ℕ Global)). times q (paths_of l)) c.requires.none in
+    let first : times q (lock_paths c.truncate.new.self.items) ≡ times q (locks_of s (take n edits)) = ap (times q) same in
+    omega (arith, none, first, c.release_locks-remains.ensures.once q, times_first s q n edits)

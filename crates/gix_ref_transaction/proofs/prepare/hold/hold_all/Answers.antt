@@ -1,13 +1,16 @@
-use Rattle.std.proofs.Common.{◌≡◌, inl, inr, ⊎_elim, List, [], true, map, sym, ap, subst}
+use Rattle.std.proofs.Common.{◌≡◌, ◌+◌, inl, inr, ⊎_elim, ℕ, List, [], ◌∷◌, Option, true, map, sym, ap, subst, arith, Vec, Global}
 use Rattle.gix_ref_files.specs.Files.{disk_of, Leaves}
 use Rattle.gix_ref_files.specs.Lock.{lock_of}
 use Rattle.gix_ref_files.specs.Tree.{Path}
-use Rattle.gix_ref_transaction.specs.Causes.{locks_of, IsPackedWell}
-use Rattle.gix_ref_transaction.specs.OwnLocks.{is_in, paths_of, OnlyRemoves, RemovesLocks}
+use Rattle.gix_ref_transaction.specs.Causes.{locks_of, IsFindCause, IsPackedWell}
+use Rattle.gix_ref_transaction.specs.OwnLocks.{is_in, paths_of, times, OnlyRemoves, RemovesLocks}
 use Rattle.gix_ref_transaction.specs.PrepareSteps.{packed_locks, packed_places, setting_of, updates, AreWholeLocks}
 use Rattle.gix_ref_transaction.proofs.PackedLemmas.{counted_on}
 use Rattle.gix_ref_transaction.proofs.PackedHeld.{first_cause_on, lockable_all_on, off_lock, same_packed, settled_on}
 use Rattle.gix_ref_transaction.proofs.PackedRuns.{adds_again, counted_after, leaves_again, leaves_both, takes_both, takes_first, possible, still_named, taken_free, takes_less, whole_both}
+use Rattle.gix_ref_transaction.proofs.Removing.{times_append}
+use Rattle.gix_ref_transaction.proofs.TimesLeft.{times_packed}
+use Rattle.gix_ref_transaction.proofs.UnreadRecords.{no_find}
 use Rattle.gix_ref_transaction.proofs.prepare.hold.hold_all.Goals as goal
 
 pub returns-in-Ok-find_and_hold-clause-settled : goal.returns-in-Ok-find_and_hold-clause-settled
@@ -149,3 +152,28 @@ returns-in-Err-find_and_hold-clause-passes g c h =
 pub returns-in-Err-find_and_hold-clause-counted : goal.returns-in-Err-find_and_hold-clause-counted
 returns-in-Err-find_and_hold-clause-counted g c =
     counted_on _ _ _ _ _ c.in-Err-find_and_hold.failure.error c.take_packed.ensures.no_fewer (counted_after _ _ _ _ _ c.in-Err-find_and_hold.failure.error c.release_packed.ensures.no_fewer c.in-Err-find_and_hold.ensures.counted)
+
+pub returns-in-Err-clause-once : goal.returns-in-Err-clause-once
+returns-in-Err-clause-once g c q =
+    let none : times q (paths_of c.args.remains.left.items) ≡ 0 = ap (λ (l : List (Vec ℕ Global)). times q (paths_of l)) c.requires.none in
+    omega (arith, none)
+
+pub returns-in-Err-find_and_hold-clause-once : goal.returns-in-Err-find_and_hold-clause-once
+returns-in-Err-find_and_hold-clause-once g c q =
+    let s = setting_of c.args.settings.now in
+    let locks = locks_of s (updates c.args.edits.items) in
+    let both : times q (lock_of s.packed_path ∷ locks) ≡ times q (lock_of s.packed_path ∷ []) + times q locks = times_append q (lock_of s.packed_path ∷ []) locks in
+    omega (arith, both, c.release_packed.ensures.once q, c.in-Err-find_and_hold.ensures.once q, times_packed s q c.in-Ok.packed c.in-Ok.ensures.place)
+
+pub returns-in-Err-clause-unread : goal.returns-in-Err-clause-unread
+returns-in-Err-clause-unread g c h = no_find _ (g.F.Files.faults c.args.files.now) (g.F.Files.faults c.take_packed.new.files) c.in-Err.error c.in-Err.ensures.counted
+
+pub returns-in-Err-find_and_hold-clause-unread : goal.returns-in-Err-find_and_hold-clause-unread
+returns-in-Err-find_and_hold-clause-unread g c h =
+    let s = setting_of c.args.settings.now in
+    let kind = c.args.settings.now.kind in
+    let old = g.F.Files.means c.args.files.now in
+    let mid = g.F.Files.means c.take_packed.new.files in
+    let off = off_lock s old.tree mid.tree c.in-Ok.packed c.in-Ok.ensures.place (c.in-Ok.ensures.takes h) in
+    subst (λ (packed : Option (List ℕ)). IsFindCause s kind packed (updates c.args.edits.items) c.in-Err-find_and_hold.failure.error) (same_packed s kind old.tree mid.tree off c.requires.apart.packed_lock)
+    (c.in-Err-find_and_hold.ensures.unread h)

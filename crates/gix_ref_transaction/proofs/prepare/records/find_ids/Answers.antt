@@ -1,7 +1,12 @@
 use Rattle.std.proofs.Common.{◌≡◌, ◌<◌, length, get_or, arith, ap, ◌∙◌}
 use Rattle.std.proofs.Math.Seq.{map-set_same}
 use Rattle.std.proofs.lemmas.Result.{err_from_is_err_and}
-use Rattle.gix_ref_transaction.specs.PrepareSteps.{setting_of}
+use Rattle.gix_ref_lookup.specs.Lookups.{OfKey}
+use Rattle.gix_ref_edits.specs.RefEdits.{name_of}
+use Rattle.gix_ref_transaction.specs.Causes.{OfSomeKey}
+use Rattle.gix_ref_transaction.specs.PrepareSteps.{setting_of, updates}
+use Rattle.gix_ref_transaction.specs.internal.StuckRecords.{IsStuckAt}
+use Rattle.gix_ref_transaction.proofs.UnreadRecords.{find_wider, some_key, stuck_back}
 use Rattle.gix_ref_transaction.specs.declared.edit.Edit.{Edit}
 use Rattle.gix_ref_transaction.proofs.PackedLemmas.{counted_by, counted_on, ids_more, then_unchanged, then_untouched}
 use Rattle.gix_ref_transaction.proofs.prepare.records.find_ids.Goals as goal
@@ -16,6 +21,21 @@ returns-in_err-edit-clause-counted g c =
     let told = err_from_is_err_and c.from_residual.result c.from_residual.ensures.1 in
     rw (told.1, told.2) (counted_by _ _ _ _ _ _ c.loop-edit.invariant.honest (counted_on _ _ _ _ _ _ c.loop-edit.invariant.no_fewer c.in_err-edit.ensures.counted))
 
+pub returns-in_err-edit-clause-unread : goal.returns-in_err-edit-clause-unread
+returns-in_err-edit-clause-unread g c h kind =
+    let told = err_from_is_err_and c.from_residual.result c.from_residual.ensures.1 in
+    let x = c.loop-edit.invariant in
+    let s = setting_of c.args.settings.now in
+    let old = c.args.edits.now in
+    let edits = c.loop-edit.edits in
+    let i = c.loop-edit.edit-index in
+    let e = get_or edits i c.edit-item.result in
+    let is : e ≡ get_or edits i e = ap (λ d. get_or edits i d) c.edit-item.is in
+    let lt : i < length edits = omega arith in
+    rw (told.1, told.2) (find_wider (OfKey s (name_of e.update) (IsStuckAt kind c.loop-edit.records)) (OfSomeKey (IsStuckAt kind c.args.records.now) s (updates old)) _
+    (λ key. some_key (IsStuckAt kind c.args.records.now) s old edits x.same i e lt is (key.0, key.1, stuck_back kind c.args.records.now c.loop-edit.records (λ of_kind text. x.searched kind of_kind text) key.0 key.2))
+    (c.in_err-edit.ensures.unread (x.honest h) kind))
+
 pub loop-edit-preserved : goal.loop-edit-preserved
 loop-edit-preserved g c =
     let x = c.loop-edit.invariant in
@@ -29,6 +49,7 @@ loop-edit-preserved g c =
       ready = c.in_ok-edit.ensures.ready;
       same = map-set_same (λ (a : Edit). (a.update, a.lock, a.parent)) edits i _ e (ap (λ (a : Edit). (a.update, a.lock, a.parent)) is) ∙ x.same;
       asked = λ kind rs asked. c.in_ok-edit.ensures.asked kind rs (x.asked kind rs asked);
+      searched = λ kind of_kind text h. x.searched kind of_kind text (c.in_ok-edit.ensures.searched kind of_kind text h);
       honest = λ h. c.in_ok-edit.ensures.honest (x.honest h);
       no_fewer = omega (arith, x.no_fewer, c.in_ok-edit.ensures.no_fewer);
       leaves = λ h. then_unchanged (x.leaves h) (c.in_ok-edit.ensures.leaves h);

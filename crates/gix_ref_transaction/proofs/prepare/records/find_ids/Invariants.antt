@@ -1,10 +1,10 @@
-use Rattle.std.proofs.Common.{◌≡◌, ◌≤◌, List, None, take}
+use Rattle.std.proofs.Common.{◌≡◌, ◌≤◌, ℕ, List, None, take}
 use Rattle.gix_ref_files.specs.Calls.{Unchanged}
 use Rattle.gix_ref_files.specs.DiskCalls.{Untouched}
 use Rattle.gix_ref_files.specs.Files.{disk_of, Leaves, Passes}
 use Rattle.gix_ref_hash.specs.declared.hash.Kind.{Kind}
 use Rattle.gix_ref_base.specs.PackedRecords.{Record}
-use Rattle.gix_ref_lookup.specs.Lookups.{AreAsked, AreHonest, IsReady}
+use Rattle.gix_ref_lookup.specs.Lookups.{AreAsked, AreHonest, IsReady, IsSearched}
 use Rattle.gix_ref_transaction.specs.PackedCauses.{ids_among}
 use Rattle.gix_ref_transaction.specs.PrepareSteps.{setting_of, all_asked, ids_in, updates}
 use Rattle.gix_ref_transaction.proofs.prepare.records.find_ids.Given as goal
@@ -15,6 +15,7 @@ invariant-loop-edit g l = record {
   ready : IsReady l.records;
   same : all_asked l.edits ≡ all_asked l.fn.edits;
   asked : (kind : Kind) (rs : List Record) → AreAsked kind None l.fn.records rs → AreAsked kind None l.records rs;
+  searched : (kind of_kind : Kind) (text : List ℕ) → IsSearched kind None l.records of_kind text → IsSearched kind None l.fn.records of_kind text;
   honest : AreHonest l.fn.records → AreHonest l.records;
   no_fewer : g.F.Files.faults l.fn.files ≤ g.F.Files.faults l.files;
   leaves : g.F.Files.honest → Leaves (g.F.Files.means l.fn.files) (g.F.Files.means l.files) (Unchanged (g.F.Files.means l.fn.files).tree);

@@ -1,7 +1,12 @@
 use Rattle.std.proofs.Common.{inr}
 use Rattle.gix_ref_hash.specs.declared.hash.Kind.TheVariants.{Sha1}
 use Rattle.gix_ref_transaction.proofs.PackedLemmas.{counted_cause, searched_refusal}
+use Rattle.gix_ref_transaction.proofs.UnreadRecords.{found_cause}
 use Rattle.gix_ref_transaction.proofs.prepare.records.id_at.Goals as goal
+
+pub returns-in-Err-clause-unread : goal.returns-in-Err-clause-unread
+returns-in-Err-clause-unread g c h kind =
+    rw c.refused.ensures (found_cause _ _ _ (λ e. ⊥) c.in-Err.error h (c.in-Err.ensures.failed kind))
 
 pub returns-in-Err-clause-counted : goal.returns-in-Err-clause-counted
 returns-in-Err-clause-counted g c before now =

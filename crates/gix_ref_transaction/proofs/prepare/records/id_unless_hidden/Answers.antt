@@ -1,9 +1,13 @@
-use Rattle.std.proofs.Common.{◌≡◌, ⊎_elim, arith, sym, subst}
+use Rattle.std.proofs.Common.{⊎_elim, ℕ, List, arith, sym, subst}
 use Rattle.std.proofs.lemmas.Result.{err_from_is_err_and}
 use Rattle.gix_ref_packed.specs.OpenFiles.{HasReadFault}
-use Rattle.gix_ref_lookup.specs.Lookups.{AreHonest}
-use Rattle.gix_ref_transaction.specs.Causes.{IsCountedWith}
+use Rattle.gix_ref_lookup.specs.Lookups.{AreHonest, OfKey}
+use Rattle.gix_ref_transaction.specs.Causes.{IsCountedWith, OfFind}
 use Rattle.gix_ref_transaction.specs.declared.prepare.error.Error.{Error}
+use Rattle.gix_ref_edits.specs.RefEdits.{name_of}
+use Rattle.gix_ref_transaction.specs.PrepareSteps.{setting_of}
+use Rattle.gix_ref_transaction.specs.internal.StuckRecords.{IsStuckAt}
+use Rattle.gix_ref_transaction.proofs.UnreadRecords.{no_find}
 use Rattle.gix_ref_transaction.proofs.PackedLemmas.{counted_later}
 use Rattle.gix_ref_transaction.proofs.prepare.records.id_unless_hidden.Goals as goal
 
@@ -20,6 +24,18 @@ returns-in_err-pass_hidden-in-Err-clause-counted g c =
     rw (told.1, told.2) (⊎_elim
     (λ same. subst (λ (e : Error). IsCountedWith (AreHonest c.args.records.now) (HasReadFault g.F.Reader.ReadAt.faults) before now e) (sym same) (c.in-Err.ensures.counted before now))
     (λ own. counted_later _ _ before before now _ (omega arith) own)
+    c.in_err-pass_hidden-in-Err.ensures.counted)
+
+pub returns-in_err-pass_hidden-in-Err-clause-unread : goal.returns-in_err-pass_hidden-in-Err-clause-unread
+returns-in_err-pass_hidden-in-Err-clause-unread g c h kind =
+    let told = err_from_is_err_and c.from_residual.result c.from_residual.ensures.1 in
+    let s = setting_of c.args.settings.now in
+    let stuck = IsStuckAt kind c.args.records.now in
+    let P = OfKey s (name_of c.args.edit.now.update) stuck in
+    let first : OfFind P c.in-Err.error = subst (λ (n : List ℕ). OfFind (OfKey s n stuck) c.in-Err.error) c.as_ref.ensures (c.in-Err.ensures.unread h kind) in
+    rw (told.1, told.2) (⊎_elim
+    (λ same. subst (OfFind P) (sym same) first)
+    (λ own. no_find P (g.F.Files.faults c.args.files.now) (g.F.Files.faults c.pass_hidden.new.files) _ own)
     c.in_err-pass_hidden-in-Err.ensures.counted)
 
 pub returns-in_ok-pass_hidden-in-Err-clause-found : goal.returns-in_ok-pass_hidden-in-Err-clause-found

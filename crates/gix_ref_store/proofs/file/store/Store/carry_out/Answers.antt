@@ -1,5 +1,5 @@
-use Rattle.std.proofs.Common.{◌≡◌, ◌∙◌, ◌<◌, ◌≤◌, ℕ, List, [], Option, None, false, length, refl, sym, ap, subst, arith}
-use Rattle.std.specs.Prelude.{if◌then◌else◌, vec_len}
+use Rattle.std.proofs.Common.{◌≡◌, ◌∙◌, ◌<◌, List, [], None, false, length, sym, ap, subst, arith}
+use Rattle.std.specs.Prelude.{if◌then◌else◌}
 use Rattle.std.proofs.lemmas.List.{length-map}
 use Rattle.gix_ref_files.specs.Files.{disk_of, Leaves, Passes}
 use Rattle.gix_ref_files.specs.DiskSteps.{IsReachedBy, IsSyncedAfter}
@@ -11,16 +11,20 @@ use Rattle.gix_ref_transaction.specs.CommitRenames.{log_at, path_in, place_at}
 use Rattle.gix_ref_transaction.specs.OwnLocks.{paths_of, OnlyRemoves, RemovesLocks}
 use Rattle.gix_ref_transaction.specs.PrepareSteps.{held_locks, updates}
 use Rattle.gix_ref_transaction.specs.declared.edit.Edit.{Edit}
-use Rattle.gix_ref_commit.specs.Cleared.{AllInWay, FoldersGo, OnlyFolders, commit_entries, folder_lists}
+use Rattle.gix_ref_commit.specs.Cleared.{AllInWay, FoldersGo, OnlyFolders, all_removed, commit_entries, folder_lists}
 use Rattle.gix_ref_commit.specs.Entries.{bare_steps, done_of, planned_entries, steps_in}
 use Rattle.gix_ref_commit.proofs.Tidying.{leaves_starts}
 use Rattle.gix_ref_commit.specs.Failures.{AllOfEdits, SaysWhy}
 use Rattle.gix_ref_commit.specs.Unfinished.{EndsIn}
 use Rattle.gix_ref_commit.proofs.Alike.{updates_alike}
-use Rattle.gix_ref_store.specs.Store.{with_files}
+use Rattle.gix_ref_commit.proofs.Outcomes.{logs_are}
+use Rattle.gix_ref_theory.specs.OnRealTrees.{view_of}
+use Rattle.gix_ref_store.specs.CommitLines.{line_rules}
+use Rattle.gix_ref_store.specs.Store.{meaning_of, with_files}
 use Rattle.gix_ref_store.specs.declared.file.store.Store.{Store}
 use Rattle.gix_ref_store.proofs.CommitFailures.{all_of_edits, held_less, never_bad, of_no_line, only_locks, raised_wider, run_fails, undecided_fails, undecided_wider}
 use Rattle.gix_ref_store.proofs.Commits.{at_end, committed, cut_gone, cut_packed_gone, lost, ran_inside, ran_well, settled, tidied_inside, start_edits, start_records, undecided_lost, undecided_well, whole_gone, whole_packed_gone}
+use Rattle.gix_ref_store.proofs.FolderRuns.{folders_stay}
 use Rattle.gix_ref_store.proofs.file.store.Store.carry_out.Goals as goal
 
 pub returns-in-Err-clause-failed : goal.returns-in-Err-clause-failed
@@ -364,3 +368,30 @@ returns-clause-settled g c old given from h at_rest =
 
 pub returns-clause-edits : goal.returns-clause-edits
 returns-clause-edits g c = c.release_all-released.ensures.edits ∙ updates_alike c.decide.new.edits.items c.args.edits.items c.decide.ensures.alike
+
+pub returns-clause-folders : goal.returns-clause-folders
+returns-clause-folders g c h empty =
+    let F = g.F.Files in
+    let start = c.args.self.now in
+    let held = c.args.edits.items in
+    let ran = c.decide.new.edits in
+    let packed = c.args.packed in
+    let rewrite = c.in-Ok.decided.rewrite in
+    let ways = c.in-Ok.decided.ways.items in
+    let first = F.means start.files in
+    let decided = F.means c.decide.new.self.files in
+    let mid = F.means c.publish.new.self.files in
+    let released = F.means c.release_all-released.new.files in
+    let tidied = F.means c.remove_empty_folders.new.files in
+    let renamed = c.is_renamed.result in
+    let same : c.decide.new.self.dirs ≡ start.dirs = ap (λ (st : Store g.row.F.Denot). st.dirs) c.decide.ensures.same in
+    let still : c.publish.new.self.dirs ≡ start.dirs = ap (λ (st : Store g.row.F.Denot). st.dirs) c.publish.ensures.same ∙ same in
+    let after : IsAfter (bare_steps (commit_entries start.dirs ran.items packed rewrite ways)) decided.tree mid.tree =
+    subst (λ (d : Dirs). IsAfter (bare_steps (commit_entries d ran.items packed rewrite ways)) decided.tree mid.tree) same (rw c.deref-2.ensures.value at (rw c.deref.ensures.value at (c.in_default.ensures.done h))) in
+    let releases : Leaves mid released (RemovesLocks (held_locks (if renamed then None else packed) ran.items) mid.tree) = rw c.unless_renamed-packed-2.ensures at (c.release_all-released.ensures.leaves h) in
+    let removed : paths_of c.deref-3.result.now ≡ all_removed ran.items = ap paths_of c.deref-3.ensures.value ∙ c.in-Ok.ensures.removed in
+    let tidies : FoldersGo start.dirs (all_removed ran.items) released.tree tidied.tree =
+    subst (λ (paths : List Path). FoldersGo start.dirs paths released.tree tidied.tree) removed
+    (subst (λ (d : Dirs). FoldersGo d (paths_of c.deref-3.result.now) released.tree tidied.tree) still (c.remove_empty_folders.ensures.leaves h).tree) in
+    folders_stay (meaning_of start) start.dirs held ran.items packed rewrite (folder_lists ways) first.tree decided.tree mid.tree released.tree tidied.tree (held_locks (if renamed then None else packed) ran.items)
+    c.decide.ensures.alike (logs_are (line_rules start c.args.committer) (view_of first.tree) 0 held ran.items (c.in-Ok.ensures.logs h)) empty (c.decide.ensures.leaves h empty).tree (c.in-Ok.ensures.in_way h) after releases.tree tidies

@@ -1,4 +1,4 @@
-use Rattle.std.proofs.Common.{◌≡◌, ◌∙◌, List, map, sym, ap, subst}
+use Rattle.std.proofs.Common.{List, map, subst}
 use Rattle.gix_ref_files.specs.Lock.{lock_of}
 use Rattle.gix_ref_transaction.specs.PrepareSteps.{packed_places}
 use Rattle.gix_ref_transaction.specs.declared.edit.Edit.{Edit}

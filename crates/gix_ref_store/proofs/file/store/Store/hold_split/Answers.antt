@@ -53,15 +53,15 @@ returns-in-Ok-clause-refused g c =
     let F = g.F.Files in
     let is = c.in-Ok.ensures.asked in
     let e = c.hold_all.ensures in
-    refused_split F.honest _ F.means F.faults c.args.self.now _ c.args.split.edits.items c.hold_all.result (record { dirs = refl; namespace = refl; of_kind = refl; reflogs = refl; composes = refl; prohibits = refl })
-    c.in_default.ensures.single (rw is at e.refused) e.opened e.counted (rw is at e.as_before) (rw is at e.ours) e.named (rw is at e.leaves)
+    refused_split F.honest _ F.means F.faults c.args.self.now _ c.args.split.edits.items c.hold_all.result (record { dirs = refl; namespace = refl; of_kind = refl; reflogs = refl; composes = refl; prohibits = refl; threshold = refl })
+    c.in_default.ensures.single (rw is at e.refused) e.opened (rw is at e.unread) e.counted (rw is at e.as_before) (rw is at e.ours) (rw is at e.once) e.named (rw is at e.leaves)
 
 pub returns-in-Ok-clause-held : goal.returns-in-Ok-clause-held
 returns-in-Ok-clause-held g c =
     let F = g.F.Files in
     let e = c.hold_all.ensures in
     held_split c.in-Ok.edits.items c.args.split.edits.items c.in-Ok.ensures.asked c.hold_all.result e.asked F.honest F.means F.faults c.args.self.now _ e.settled
-    (record { dirs = refl; namespace = refl; of_kind = refl; reflogs = refl; composes = refl; prohibits = refl })
+    (record { dirs = refl; namespace = refl; of_kind = refl; reflogs = refl; composes = refl; prohibits = refl; threshold = refl })
     c.requires.valid c.in_default.ensures.single e.free e.lockable e.adds e.leaves e.no_fewer
 
 pub returns-in-Ok-clause-effects : goal.returns-in-Ok-clause-effects

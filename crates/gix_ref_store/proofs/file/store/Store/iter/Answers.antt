@@ -9,6 +9,7 @@ returns-in-Ok g c = (
     rests = _;
     same_reference = refl;
     looks_up = c.in-Ok.ensures.unchanged;
+    no_fault = c.in-Ok.ensures.count;
     opened = λ h records are prefix. opened_for g.F.Files.means c.args.self.now c.open_packed_buffer.new.self c.in-Ok.packed records (c.in-Ok.ensures.opened h) are prefix;
     refused = _;
   },

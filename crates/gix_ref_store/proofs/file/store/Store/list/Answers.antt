@@ -11,7 +11,7 @@ returns-in-Ok g c = (
     same_reference = refl;
     looks_up = record {
       leaves = c.in-Ok.ensures.leaves;
-      same = record { dirs = refl; namespace = refl; of_kind = refl; reflogs = refl; composes = refl; prohibits = refl };
+      same = record { dirs = refl; namespace = refl; of_kind = refl; reflogs = refl; composes = refl; prohibits = refl; threshold = refl };
     };
     lists = λ h records held.
         let found = c.in-Ok.ensures.lists h records held in

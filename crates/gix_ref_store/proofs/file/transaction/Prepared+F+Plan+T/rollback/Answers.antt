@@ -26,5 +26,5 @@ returns-clause-rolled g c =
       leaves = e.leaves;
       removes = e.passes;
       lost = λ h places own. removing_loses F.means _ _ (held_locks plan.packed held) places (e.passes h) own;
-      same = record { dirs = refl; namespace = refl; of_kind = refl; reflogs = refl; composes = refl; prohibits = refl };
+      same = record { dirs = refl; namespace = refl; of_kind = refl; reflogs = refl; composes = refl; prohibits = refl; threshold = refl };
     }

@@ -1,0 +1,33 @@
+use Rattle.std.proofs.Common.{◌≡◌, inr, ap, refl}
+use Rattle.gix_ref_packed.specs.OpenFiles.{HasReadFault}
+use Rattle.gix_ref_transaction.specs.OwnLocks.{paths_of}
+use Rattle.gix_ref_transaction.specs.declared.prepare.error.Error.TheVariants.{Memory}
+use Rattle.gix_ref_store.proofs.Preparing.{holds_given, refuses_given}
+use Rattle.gix_ref_store.proofs.SplitRuns.{refused_unread}
+use Rattle.gix_ref_store.proofs.file.store.Store.begin_given.Goals as goal
+
+pub returns-in-Ok-clause-held : goal.returns-in-Ok-clause-held
+returns-in-Ok-clause-held g c =
+    let F = g.F.Files in
+    let e = c.begin.ensures in
+    holds_given F.honest F.means F.faults c.args.self.now c.begin.new.self c.args.edits.items c.in-Ok.asked.items c.in-Ok.ensures c.begin.result
+    e.splits e.parents e.held e.lost e.whole e.packed e.places e.effects e.ids
+
+pub returns-in-Ok-clause-refused : goal.returns-in-Ok-clause-refused
+returns-in-Ok-clause-refused g c =
+    let F = g.F.Files in
+    refuses_given F.honest F.means F.faults c.args.self.now c.begin.new.self c.args.edits.items c.in-Ok.asked.items c.in-Ok.ensures (HasReadFault g.F.Reader.ReadAt.faults) c.begin.result c.begin.ensures.refused
+
+pub returns-in-Err-clause-refused : goal.returns-in-Err-clause-refused
+returns-in-Err-clause-refused g c =
+    let F = g.F.Files in
+    let old = c.args.self.now in
+    let given = c.args.edits.items in
+    let error = c.untouched.result.error in
+    let is : error ≡ Memory = c.untouched.ensures.error in
+    let left = paths_of c.untouched.result.locks_left.items in
+    record {
+      asked = given;
+      composed = inr (is, refl);
+      refuses = refused_unread F.honest (HasReadFault g.F.Reader.ReadAt.faults) F.means F.faults old given error left is (ap paths_of c.untouched.ensures.none);
+    }

@@ -1,0 +1,97 @@
+-- Why the record of an edit cannot be read, from the searches among open records.
+use Rattle.std.proofs.Common.{◌≡◌, ◌<◌, ℕ, List, None, length, get_or, sym, ◌∙◌, ap, arith}
+use Rattle.std.proofs.lemmas.List.{get_or-map, length-map}
+use Rattle.gix_ref_hash.specs.declared.hash.Kind.{Kind}
+use Rattle.gix_ref_files.specs.declared.files.ReadAt.{Ghosts}
+use Rattle.gix_ref_packed.specs.declared.packed.buffer.open.Error.{Error as OpenError}
+use Rattle.gix_ref_packed.specs.declared.packed.find.Error.TheVariants as finding
+use Rattle.gix_ref_lookup.specs.Lookups.{IsNotPacked, IsSearched, OfKey}
+use Rattle.gix_ref_lookup.specs.declared.find.records.Records.{Records}
+use Rattle.gix_ref_lookup.specs.declared.find.error.Error.{Error as LookupError}
+use Rattle.gix_ref_lookup.specs.declared.find.error.Error.TheVariants.{RefnameValidation, ReadFileContents, ReferenceCreation, PackedRef, PackedOpen, Memory}
+use Rattle.gix_ref_theory.specs.Readings.{Store}
+use Rattle.gix_ref_edits.specs.RefEdits.{name_of}
+use Rattle.gix_ref_edits.specs.declared.transaction.RefEdit.{RefEdit}
+use Rattle.gix_ref_transaction.specs.Causes.{IsCounted, OfFind, OfSomeKey}
+use Rattle.gix_ref_transaction.specs.PackedCauses.{as_cause}
+use Rattle.gix_ref_transaction.specs.PrepareSteps.{all_asked, updates}
+use Rattle.gix_ref_transaction.specs.declared.edit.Edit.{Edit}
+use Rattle.gix_ref_transaction.specs.declared.prepare.error.Error.{Error}
+use Rattle.gix_ref_transaction.specs.declared.prepare.error.Error.TheVariants.{UnsafeName, DeviceName, DeleteMustNotExist, PackedTransactionAcquire, DeleteReferenceMustExist, TargetNotFull, OtherHashKind, PreprocessingFailed, Packed, PackedFind, PathCollision, LockAcquire, MustExist, MustNotExist, ReferenceOutOfDate, ReferenceDecode, Io, Memory as NoMemory}
+use Rattle.gix_ref_transaction.specs.internal.StuckRecords.{IsStuckAt}
+use Rattle.gix_ref_transaction.proofs.PackedLemmas.{updates_alike}
+
+-- why no record was found, as it is reported
+pub found_cause : (honest fault unreadable : Type 0) (refused : OpenError → Type 0) (error : LookupError) → honest → IsNotPacked honest fault unreadable refused error → OfFind unreadable (as_cause error)
+found_cause honest fault unreadable refused (PackedOpen error) h told = tt
+found_cause honest fault unreadable refused (PackedRef finding.Parse) h told = told h
+found_cause honest fault unreadable refused (PackedRef (finding.RefnameValidation error)) h told = absurd told
+found_cause honest fault unreadable refused (PackedRef finding.Memory) h told = absurd told
+found_cause honest fault unreadable refused Memory h told = tt
+found_cause honest fault unreadable refused (RefnameValidation error) h told = tt
+found_cause honest fault unreadable refused (ReadFileContents source path) h told = tt
+found_cause honest fault unreadable refused (ReferenceCreation source path) h told = tt
+
+-- an error that is counted by files alone is another
+pub no_find : (P : Type 0) (before now : ℕ) (error : Error) → IsCounted before now error → OfFind P error
+no_find P before now (PackedFind error) counted = absurd counted
+no_find P before now (Packed error) counted = tt
+no_find P before now (Io error) counted = tt
+no_find P before now NoMemory counted = tt
+no_find P before now UnsafeName counted = tt
+no_find P before now DeviceName counted = tt
+no_find P before now DeleteMustNotExist counted = tt
+no_find P before now TargetNotFull counted = tt
+no_find P before now OtherHashKind counted = tt
+no_find P before now (PreprocessingFailed source) counted = tt
+no_find P before now PackedTransactionAcquire counted = tt
+no_find P before now (PathCollision name) counted = tt
+no_find P before now (LockAcquire name) counted = tt
+no_find P before now (DeleteReferenceMustExist name) counted = tt
+no_find P before now (MustExist name expected) counted = tt
+no_find P before now (MustNotExist name actual new) counted = tt
+no_find P before now (ReferenceOutOfDate name expected actual) counted = tt
+no_find P before now (ReferenceDecode error) counted = tt
+
+pub find_wider : (P Q : Type 0) (error : Error) → (P → Q) → OfFind P error → OfFind Q error
+find_wider P Q (PackedFind error) wider holds = wider holds
+find_wider P Q (Packed error) wider holds = tt
+find_wider P Q (Io error) wider holds = tt
+find_wider P Q NoMemory wider holds = tt
+find_wider P Q UnsafeName wider holds = tt
+find_wider P Q DeviceName wider holds = tt
+find_wider P Q DeleteMustNotExist wider holds = tt
+find_wider P Q TargetNotFull wider holds = tt
+find_wider P Q OtherHashKind wider holds = tt
+find_wider P Q (PreprocessingFailed source) wider holds = tt
+find_wider P Q PackedTransactionAcquire wider holds = tt
+find_wider P Q (PathCollision name) wider holds = tt
+find_wider P Q (LockAcquire name) wider holds = tt
+find_wider P Q (DeleteReferenceMustExist name) wider holds = tt
+find_wider P Q (MustExist name expected) wider holds = tt
+find_wider P Q (MustNotExist name actual new) wider holds = tt
+find_wider P Q (ReferenceOutOfDate name expected actual) wider holds = tt
+find_wider P Q (ReferenceDecode error) wider holds = tt
+
+-- among records that search the same texts
+pub stuck_back : {R : Type 0} {G : Ghosts R} (kind : Kind) (old new : Records R G) → ((of_kind : Kind) (text : List ℕ) → IsSearched kind None new of_kind text → IsSearched kind None old of_kind text) →
+    (key : List ℕ) → IsStuckAt kind new key → IsStuckAt kind old key
+stuck_back kind old new back key stuck = record {
+  of_kind = stuck.of_kind;
+  text = stuck.text;
+  searched = back stuck.of_kind stuck.text stuck.searched;
+  has = stuck.has;
+}
+
+-- a key of one edit of a list
+pub some_key : (Bad : List ℕ → Type 0) (s : Store) (old now : List Edit) → all_asked now ≡ all_asked old → (i : ℕ) (e : Edit) → i < length now → e ≡ get_or now i e → OfKey s (name_of e.update) Bad → OfSomeKey Bad s (updates old)
+some_key Bad s old now same i e lt is key = (i, e.update, omega (arith, lt, length-map now (λ (a : Edit). a.update), ap length all_same), at, key)
+  where
+    all_same : updates now ≡ updates old
+    all_same = updates_alike old now same
+
+    at : get_or (updates old) i e.update ≡ e.update
+    at = ap (λ l. get_or l i e.update) (sym all_same) ∙ (get_or-map (λ (a : Edit). a.update) now i e e.update lt ∙ ap (λ (a : Edit). a.update) (sym is))
+
+pub keys_wider : (Bad Worse : List ℕ → Type 0) (s : Store) (edits : List RefEdit) → ((key : List ℕ) → Bad key → Worse key) → OfSomeKey Bad s edits → OfSomeKey Worse s edits
+keys_wider Bad Worse s edits wider some = (some.0, some.1, some.2, some.3, (some.4.0, some.4.1, wider some.4.0 some.4.2))
