@@ -1,5 +1,5 @@
 -- Edits that carry what was found of them are planned as they were given, and so are those whose logs are decided.
-use Rattle.std.proofs.Common.{◌≡◌, ◌<◌, ℕ, zero, suc, List, [], ◌∷◌, Option, None, length, map, refl, sym, ◌∙◌, ap, subst, arith}
+use Rattle.std.proofs.Common.{Bool, ◌≡◌, ◌<◌, ℕ, suc, List, [], ◌∷◌, Option, None, length, map, refl, sym, ◌∙◌, ap, subst, arith}
 use Rattle.std.specs.Prelude.{slice_index_or}
 use Rattle.gix_ref_hash.specs.declared.hash.ObjectId.{ObjectId}
 use Rattle.gix_ref_name.specs.Names.{full_bytes}
@@ -17,14 +17,14 @@ use Rattle.gix_ref_transaction.specs.CarriedEdits.{IsCarried, AreCarried, change
 use Rattle.gix_ref_transaction.specs.Causes.{packed_id}
 use Rattle.gix_ref_transaction.specs.CommittedEdits.{planned}
 use Rattle.gix_ref_transaction.specs.PackedCauses.{ids_among}
-use Rattle.gix_ref_transaction.specs.PrepareSteps.{decisions, effect_value, effects_of, ids_in, lock_paths, place_paths, updates}
+use Rattle.gix_ref_transaction.specs.PrepareSteps.{effect_value, effects_of, ids_in, lock_paths, place_paths, updates}
 use Rattle.gix_ref_files.specs.Lock.{lock_of}
 use Rattle.gix_ref_transaction.specs.declared.edit.Edit.{Edit}
 use Rattle.gix_ref_transaction.specs.declared.edit.Effect.{Effect}
 use Rattle.gix_ref_transaction.specs.CommitRenames.{written_flags}
 use Rattle.gix_ref_transaction.specs.Effects.{is_write}
-use Rattle.gix_ref_lines.specs.AskedEdits.{all_but_logs, but_log}
-use Rattle.gix_ref_commit.specs.LogEffects.{AreLogsOf, IsLogOf, edit_with, lines_in, with_lines}
+use Rattle.gix_ref_lines.specs.AskedEdits.{all_but_logs}
+use Rattle.gix_ref_commit.specs.LogEffects.{AreLogsOf, IsLogOf, edit_with, with_lines}
 
 -- one edit
 planned_one : (e f : RefEdit) (found : Option TargetValue) → IsCarried e found f → edit_of f ≡ edit_of e
@@ -95,7 +95,7 @@ logs_same s (e ∷ before) (f ∷ after) (p ∷ ran) ((found, is), rest) logs = 
 
 -- Of edits that are alike but for their logs.
 abbrev Rest : Type 0
-Rest = RefEdit × Option ℕ × Path × Option ObjectId × Option Target × Effect
+Rest = RefEdit × Option ℕ × Path × Option ObjectId × Option Target × Effect × Bool
 
 updates_of : (edits : List Edit) → updates edits ≡ map (λ (r : Rest). r.0) (all_but_logs edits)
 updates_of [] = refl

@@ -1,6 +1,6 @@
 -- The planned steps of a commit carry out its writes.
-use Rattle.std.proofs.Common.{◌≡◌, ◌≢◌, inl, inr, ℕ, ◌+◌, List, [], ◌∷◌, ◌++◌, map, Option, Some, None, codes, refl, sym, ◌∙◌, ap, subst, append_assoc}
-use Rattle.std.proofs.lemmas.List.{map-append, append-nil, append_cancel_right}
+use Rattle.std.proofs.Common.{◌≡◌, ◌≢◌, ℕ, ◌+◌, List, [], ◌∷◌, ◌++◌, Option, Some, None, codes, refl, sym, ◌∙◌, ap, subst, append_assoc}
+use Rattle.std.proofs.lemmas.List.{map-append, append_cancel_right}
 use Rattle.gix_ref_files.specs.Tree.{Path}
 use Rattle.gix_ref_files.specs.Lock.{lock_of}
 use Rattle.gix_ref_files.specs.Settled.{SettlesPath}
@@ -16,6 +16,7 @@ use Rattle.gix_ref_transaction.specs.declared.edit.Effect.{Effect}
 use Rattle.gix_ref_transaction.specs.declared.edit.Effect.TheVariants as effects
 use Rattle.gix_ref_transaction.specs.declared.edit.LogEffect.{LogEffect}
 use Rattle.gix_ref_transaction.specs.declared.edit.LogEffect.TheVariants as logs
+use Rattle.gix_ref_commit.proofs.LogFolders.{folders_either}
 use Rattle.gix_ref_commit.specs.Entries.{Entry, each, folders_for, folders_entry, line_for, rename_for, log_removal_for, removal_for, line_entry, rename_entry, log_removal_entry, removal_entry, packed_entries, update_entries, planned_entries, steps_in, syncs_at}
 use Rattle.gix_ref_commit.proofs.OwnPlan.{line_written, log_removed, logs_removed, file_put, file_removed, files_removed, packed_written, own_updates, own_plan}
 use Rattle.gix_ref_commit.proofs.Carries.{Carries}
@@ -136,6 +137,9 @@ module _ (locked staying : List Path) (dirs : Dirs) where
     folders_carried at (logs.Remove log) texts rest ws next = next
     folders_carried at (logs.Append log line) texts rest ws next = next
 
+    folders_entry_carried : (at : ℕ) (e : Edit) (texts : View) (rest : List Synced) (ws : List Write) → Carried texts rest ws → Carried texts (steps_in (folders_entry at e) ++ rest) ws
+    folders_entry_carried at e texts rest ws next = folders_either (λ (es : List Entry). Carried texts (steps_in es ++ rest) ws) at e next (folders_carried at e.log texts rest ws next)
+
     -- A rename, or none.
     rename_carried : (at : ℕ) (e : Edit) (f : Effect) (texts : View) (rest : List Synced) (ws : List Write) → IsPlaced e → HasText texts e.lock f → Carried texts rest ws →
         Carried (changed_at e.lock None (changed_at (lock_of e.lock) None texts)) rest ws → Carried texts (steps_in (rename_for dirs at e.lock f) ++ rest) (file_put first e.lock f ++ ws)
@@ -152,7 +156,7 @@ module _ (locked staying : List Path) (dirs : Dirs) where
     updates_carried at (e ∷ edits) packed rewrite texts rest ws (one, placed) (alone, apart) elsewhere come then =
         subst (λ (l : List Write). Carried texts (steps_in (each (update_entries dirs) at (e ∷ edits)) ++ rest) l) (sym writes_are)
         (subst (λ (l : List Synced). Carried texts l (line_written e.log ++ (file_put first e.lock e.effect ++ (own_updates first edits ++ ws)))) (sym steps_are)
-        (folders_carried at e.log texts (steps_in (line_entry dirs at e) ++ (steps_in (rename_entry dirs at e) ++ others)) (line_written e.log ++ (file_put first e.lock e.effect ++ (own_updates first edits ++ ws)))
+        (folders_entry_carried at e texts (steps_in (line_entry dirs at e) ++ (steps_in (rename_entry dirs at e) ++ others)) (line_written e.log ++ (file_put first e.lock e.effect ++ (own_updates first edits ++ ws)))
         (line_carried at e.log texts (steps_in (rename_entry dirs at e) ++ others) (file_put first e.lock e.effect ++ (own_updates first edits ++ ws)) one.log
         (renamed (λ left later. updates_carried (at + 1) edits packed rewrite left rest ws placed apart (λ path is. (elsewhere path is).1) later then) texts come)
         (λ p plain. renamed (λ left later. updates_carried (at + 1) edits packed rewrite left rest ws placed apart (λ path is. (elsewhere path is).1) later then) (changed_at p None texts) (plain_stays texts p (e ∷ edits) packed rewrite plain come)))))

@@ -1,5 +1,5 @@
 -- A plan whose steps are each behind the removals of the folders in their way.
-use Rattle.std.proofs.Common.{◌≡◌, ◌≢◌, ◌⊎◌, inl, inr, ⊎_elim, ℕ, suc, ◌<◌, List, [], ◌∷◌, ◌++◌, length, map, refl, sym, ◌∙◌, ap, subst, arith, Some, None, append_assoc}
+use Rattle.std.proofs.Common.{◌≡◌, ◌⊎◌, inl, inr, ⊎_elim, suc, List, [], ◌∷◌, ◌++◌, Bool, refl, sym, ◌∙◌, ap, subst, arith, Some, None, append_assoc}
 use Rattle.std.specs.List.{All}
 use Rattle.std.proofs.lemmas.List.{map-append, append-nil}
 use Rattle.gix_ref_files.specs.Settled.{IsIn}
@@ -9,12 +9,13 @@ use Rattle.gix_ref_files.specs.DiskSteps.Synced.{With}
 use Rattle.gix_ref_files.specs.Tree.{Tree, Path}
 use Rattle.gix_ref_lookup.specs.declared.folders.Dirs.{Dirs}
 use Rattle.gix_ref_theory.specs.Views.{View, Write, changed_at}
-use Rattle.gix_ref_commit.specs.Cleared.{AllInWay, AreInWayOf, cleared, removals, roots_of, written_at}
+use Rattle.gix_ref_transaction.specs.declared.edit.Edit.{Edit}
+use Rattle.gix_ref_commit.specs.Cleared.{AllInWay, AreInWayOf, cleared, is_seen, removals, roots_of, written_at}
 use Rattle.gix_ref_commit.specs.Entries.{Entry, bare, steps_in}
 use Rattle.gix_ref_commit.specs.declared.plan.About.{About}
 use Rattle.gix_ref_commit.proofs.Carries.{Carries}
-use Rattle.gix_ref_commit.proofs.Gone.{AllMiss, Misses}
-use Rattle.gix_ref_commit.proofs.Renamed.{HasRename, IsRenameOf, IsInFirst, IsInSecond, either_list, has_left, has_right}
+use Rattle.gix_ref_commit.proofs.Gone.{AllMiss}
+use Rattle.gix_ref_commit.proofs.Renamed.{HasRename, IsRenameOf, IsInFirst, IsInSecond, either_list, has_right}
 
 -- none of these folders stays
 abbrev pub AllOutside : (staying : List Path) → List Path → Type 0
@@ -24,17 +25,17 @@ abbrev pub EachOutside : (staying : List Path) → List (List Path) → Type 0
 EachOutside staying [] = Unit {0}
 EachOutside staying (fs ∷ folders) = AllOutside staying fs × EachOutside staying folders
 
-outside_of : (dirs : Dirs) (T : Tree) (e : Entry) (fs : List Path) → AreInWayOf dirs T (written_at (bare e.0)) fs → AllOutside (roots_of dirs) fs
-outside_of dirs T e fs way = by (written_at (bare e.0)) way
+outside_of : (dirs : Dirs) (T : Tree) (seen : Bool) (e : Entry) (fs : List Path) → AreInWayOf dirs T seen (written_at (bare e.0)) fs → AllOutside (roots_of dirs) fs
+outside_of dirs T seen e fs way = by (written_at (bare e.0)) way
   where
-    by : (at : _) → AreInWayOf dirs T at fs → AllOutside (roots_of dirs) fs
+    by : (at : _) → AreInWayOf dirs T seen at fs → AllOutside (roots_of dirs) fs
     by None none = subst (AllOutside (roots_of dirs)) (sym none) (λ k d lt. absurd (omega (arith, lt)))
     by (Some path) are = are.outside
 
-pub all_outside : (dirs : Dirs) (T : Tree) (folders : List (List Path)) (plan : List Entry) → AllInWay dirs T folders plan → EachOutside (roots_of dirs) folders
-all_outside dirs T [] plan are = tt
-all_outside dirs T (fs ∷ folders) [] are = absurd are
-all_outside dirs T (fs ∷ folders) (e ∷ plan) are = (outside_of dirs T e fs are.0, all_outside dirs T folders plan are.1)
+pub all_outside : (edits : List Edit) (dirs : Dirs) (T : Tree) (folders : List (List Path)) (plan : List Entry) → AllInWay edits dirs T folders plan → EachOutside (roots_of dirs) folders
+all_outside edits dirs T [] plan are = tt
+all_outside edits dirs T (fs ∷ folders) [] are = absurd are
+all_outside edits dirs T (fs ∷ folders) (e ∷ plan) are = (outside_of dirs T (is_seen edits e.1) e fs are.0, all_outside edits dirs T folders plan are.1)
 
 module _ (locked staying : List Path) where
   abbrev Carried : View → List Synced → List Write → Type 0
@@ -201,11 +202,11 @@ any_ways (fs ∷ folders) [] = tt
 any_ways (fs ∷ folders) (e ∷ plan) = (tt, any_ways folders plan)
 
 -- or that they are what is in the way
-abbrev pub Way : Dirs → Tree → Entry → List Path → Type 0
-Way dirs T e fs = AreInWayOf dirs T (written_at (bare e.0)) fs
+abbrev pub Way : List Edit → Dirs → Tree → Entry → List Path → Type 0
+Way edits dirs T e fs = AreInWayOf dirs T (is_seen edits e.1) (written_at (bare e.0)) fs
 
-pub all_ways : (dirs : Dirs) (T : Tree) (folders : List (List Path)) (plan : List Entry) → AllInWay dirs T folders plan → Ways (Way dirs T) folders plan
-all_ways dirs T [] [] are = tt
-all_ways dirs T [] (e ∷ plan) are = absurd are
-all_ways dirs T (fs ∷ folders) [] are = tt
-all_ways dirs T (fs ∷ folders) (e ∷ plan) are = (are.0, all_ways dirs T folders plan are.1)
+pub all_ways : (edits : List Edit) (dirs : Dirs) (T : Tree) (folders : List (List Path)) (plan : List Entry) → AllInWay edits dirs T folders plan → Ways (Way edits dirs T) folders plan
+all_ways edits dirs T [] [] are = tt
+all_ways edits dirs T [] (e ∷ plan) are = absurd are
+all_ways edits dirs T (fs ∷ folders) [] are = tt
+all_ways edits dirs T (fs ∷ folders) (e ∷ plan) are = (are.0, all_ways edits dirs T folders plan are.1)

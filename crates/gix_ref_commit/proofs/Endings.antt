@@ -1,5 +1,5 @@
 -- What ended a run: something in the way of a log or of its folders, or a folder at the end of a rename.
-use Rattle.std.proofs.Common.{◌≡◌, ◌⊎◌, inl, inr, ℕ, zero, suc, ◌+◌, ◌<◌, List, [], ◌∷◌, ◌++◌, Option, Some, None, true, false, length, get_or, refl, sym, ◌∙◌, ap, subst, arith, ⊎_elim, append_assoc}
+use Rattle.std.proofs.Common.{Bool, ◌≡◌, ◌⊎◌, inl, inr, ℕ, zero, suc, ◌<◌, List, [], ◌∷◌, ◌++◌, Option, Some, None, true, false, length, refl, sym, ◌∙◌, ap, subst, arith, ⊎_elim, append_assoc}
 use Rattle.gix_ref_files.specs.Lock.{lock_of}
 use Rattle.gix_ref_files.specs.Steps.{Step, Does, EndsBy, IsAfter}
 use Rattle.gix_ref_files.specs.DiskSteps.Synced.{With}
@@ -112,9 +112,9 @@ module _ (dirs : Dirs) (first T : Tree) where
   last_done [] about folder S (mid, does, same) = none_or_full folder S (subst (λ (R : Tree). Does (RemoveFolder folder) S R) (sym same) does)
   last_done (e ∷ front) about folder S (mid, does, after) = last_done front about folder mid after
 
-  pub not_emptied : (mid : Tree) (before front : List Entry) (about : About) (fs : List Path) (path : Path) → before ≡ front ++ removals about fs → AreInWay dirs first path fs → IsAfter (bare_steps before) first T → mid ≡ T →
-      is_folder (first path) ≡ true → HoldsMore dirs first path ⊎ (IsEmptyFolder mid path → ⊥)
-  not_emptied mid before front about fs path is way after same folder = ⊎_elim
+  pub not_emptied : (mid : Tree) (before front : List Entry) (about : About) (fs : List Path) (path : Path) (seen : Bool) → before ≡ front ++ removals about fs → AreInWay dirs first seen path fs → IsAfter (bare_steps before) first T → mid ≡ T →
+      seen ≡ false → is_folder (first path) ≡ true → HoldsMore dirs first path ⊎ (IsEmptyFolder mid path → ⊥)
+  not_emptied mid before front about fs path seen is way after same unseen folder = ⊎_elim
       (λ more. inl more)
       (λ last. inr (λ empty. last_done (front ++ removals about last.0) about path first
       (subst (λ (es : List Entry). IsAfter (bare_steps es) first T)
@@ -122,4 +122,4 @@ module _ (dirs : Dirs) (first T : Tree) where
       ∙ (ap (λ (l : List Entry). front ++ l) (map-append (λ (f : Path). (With (RemoveFolder f) [], about)) last.0 (path ∷ []))
       ∙ sym (append_assoc front (removals about last.0) (removals about (path ∷ [])))))) after)
       (subst (λ (R : Tree). IsEmptyFolder R path) same empty)))
-      (way.last folder)
+      (way.last unseen folder)

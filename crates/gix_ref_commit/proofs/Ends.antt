@@ -1,7 +1,6 @@
 -- What a commit leaves whose planned steps are run, and whose other locks are then removed.
-use Rattle.std.proofs.Common.{◌≡◌, ◌≢◌, ◌⊎◌, inl, inr, ⊎_elim, ℕ, ◌<◌, List, [], ◌∷◌, ◌++◌, Bool, true, false, not, ◌&&◌, Option, Some, None, refl, sym, ◌∙◌, ap, subst, length, arith, map}
-use Rattle.std.specs.Prelude.{bytes_eq, nat_lt}
-use Rattle.std.proofs.lemmas.Bool.{ltb-true}
+use Rattle.std.proofs.Common.{◌≡◌, ◌≢◌, inr, ⊎_elim, ℕ, List, [], ◌∷◌, ◌++◌, Bool, true, false, Option, Some, None, refl, sym, ◌∙◌, ap, subst}
+use Rattle.std.specs.Prelude.{bytes_eq}
 use Rattle.gix_ref_hash.specs.declared.hash.Kind.{Kind}
 use Rattle.gix_ref_name.specs.declared.namespace.Namespace.{Namespace}
 use Rattle.gix_ref_base.specs.PackedRecords.{Record}
@@ -24,7 +23,7 @@ use Rattle.gix_ref_theory.specs.OnDisks.{AreWhole, IsAsBefore, IsSettled, IsWith
 use Rattle.gix_ref_theory.specs.OnRealTrees.{view_of, file_of, IsCommitRun, IsOldOrNewTree}
 use Rattle.gix_ref_theory.specs.Plan.{plan}
 use Rattle.gix_ref_theory.specs.Readings.{Store}
-use Rattle.gix_ref_theory.specs.Views.{View, Write, IsOwnLock, IsSameButLocks, after, after_write}
+use Rattle.gix_ref_theory.specs.Views.{View, Write, IsSameButLocks, after, after_write}
 use Rattle.gix_ref_theory.proofs.Carrying.{after_alike, no_file}
 use Rattle.gix_ref_theory.proofs.Headline as headline
 use Rattle.gix_ref_theory.proofs.LockDisks.{as_before}
@@ -33,23 +32,21 @@ use Rattle.gix_ref_theory.proofs.LossMain.{every_loss_among}
 use Rattle.gix_ref_theory.proofs.OnDisks as runs
 use Rattle.gix_ref_theory.proofs.Plans.{edit_behind, edit_in_front}
 use Rattle.gix_ref_theory.proofs.Reached.{at_end}
-use Rattle.gix_ref_theory.proofs.RunLosses.{run_passes}
 use Rattle.gix_ref_theory.proofs.Trees as trees
 use Rattle.gix_ref_lookup.specs.Lookups.{ArePackedRecords}
 use Rattle.gix_ref_lookup.specs.declared.folders.Dirs.{Dirs}
 use Rattle.gix_ref_rewrite.specs.declared.outcome.Rewrite.{Rewrite}
 use Rattle.gix_ref_edits.specs.declared.transaction.RefEdit.{RefEdit}
 use Rattle.gix_ref_transaction.specs.Causes.{locks_of}
-use Rattle.gix_ref_transaction.specs.CommitRenames.{is_written_at, lock_at, stays_at}
 use Rattle.gix_ref_transaction.specs.CommittedEdits.{planned}
 use Rattle.gix_ref_transaction.specs.OwnLocks.{is_in, OnlyRemoves, RemovesLocks}
 use Rattle.gix_ref_transaction.specs.PrepareSteps.{own_locks, own_places, packed_locks}
 use Rattle.gix_ref_transaction.specs.declared.edit.Edit.{Edit as Own}
-use Rattle.gix_ref_transaction.proofs.Adds.{clash, either_way, any_cases, false_is_true, in_one, is_false}
-use Rattle.gix_ref_transaction.proofs.CommitLosses.{are_whole, rest_kept, texts_on}
+use Rattle.gix_ref_transaction.proofs.Adds.{any_cases, false_is_true, in_one, is_false}
+use Rattle.gix_ref_transaction.proofs.CommitLosses.{are_whole, rest_kept}
 use Rattle.gix_ref_transaction.proofs.LockRounds.{own_all, owned_all}
 use Rattle.gix_ref_transaction.proofs.PackedLocks.{taken_was_free}
-use Rattle.gix_ref_commit.specs.Entries.{Entry, planned_entries, bare, bare_steps, steps_in, done_before, packed_before, renames_packed}
+use Rattle.gix_ref_commit.specs.Entries.{Entry, planned_entries, bare, bare_steps, steps_in}
 use Rattle.gix_ref_commit.specs.CommittedTrees.{AreCommitted}
 use Rattle.gix_ref_commit.specs.LogEffects.{lines_in, with_lines}
 use Rattle.gix_ref_repack.specs.Repacks.{IsRepack}
@@ -58,12 +55,12 @@ use Rattle.gix_ref_commit.specs.declared.folders.InWay.{InWay}
 use Rattle.gix_ref_commit.proofs.Carries as carries
 use Rattle.gix_ref_commit.proofs.Cleared as cleared
 use Rattle.gix_ref_commit.proofs.Cleared.{EachOutside}
-use Rattle.gix_ref_commit.proofs.Gone.{NoFile, AllMiss, gone_after, none_begun, none_is_no_file, still_none, miss_front, plan_misses}
+use Rattle.gix_ref_commit.proofs.Gone.{AllMiss, gone_after, none_begun, none_is_no_file, miss_front, plan_misses}
 use Rattle.gix_ref_commit.proofs.Held.{IsReady, AreHeld, held}
 use Rattle.gix_ref_commit.proofs.OwnPlan.{own_plan}
 use Rattle.gix_ref_commit.proofs.Placing as placing
 use Rattle.gix_ref_commit.proofs.Placing.{IsLaid}
-use Rattle.gix_ref_commit.proofs.Renamed.{HasRename, renamed_before, packed_renamed_before, renamed_in_all, packed_renamed_in_all}
+use Rattle.gix_ref_commit.proofs.Renamed.{HasRename}
 use Rattle.gix_ref_commit.proofs.Runs as run
 use Rattle.gix_ref_commit.proofs.Runs.{IsText}
 

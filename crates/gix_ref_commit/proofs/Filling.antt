@@ -1,17 +1,17 @@
 -- The lock of `packed-refs` gets its text, and nothing else changes.
-use Rattle.std.proofs.Common.{◌≡◌, ◌≢◌, inl, inr, ℕ, List, [], ◌∷◌, ◌∙◌, true, Option, Some, refl, sym, ap, subst}
+use Rattle.std.proofs.Common.{◌≡◌, ◌≢◌, inl, inr, ℕ, List, [], ◌∷◌, ◌∙◌, Some, refl, sym, ap, subst}
 use Rattle.std.specs.Prelude.{bytes_eq}
 use Rattle.gix_ref_files.specs.Disk.{Disk}
 use Rattle.gix_ref_files.specs.DiskCalls.{Untouched}
 use Rattle.gix_ref_files.specs.Files.{Meaning, disk_of, Passes}
 use Rattle.gix_ref_files.specs.Settled.{IsWhole}
-use Rattle.gix_ref_files.specs.Tree.{Tree, Path, Content, is_file}
+use Rattle.gix_ref_files.specs.Tree.{Tree, Path, is_file}
 use Rattle.gix_ref_files.specs.Tree.Content.{File}
 use Rattle.gix_ref_files.proofs.Moments.{passes_weaken}
 use Rattle.gix_ref_theory.specs.OnDisks.{IsAsBefore}
 use Rattle.gix_ref_theory.proofs.LockDisks.{whole_writing}
 use Rattle.gix_ref_transaction.specs.OwnLocks.{OnlyLocks}
-use Rattle.gix_ref_transaction.specs.PrepareSteps.{AreWholeLocks, FillingOn, IsSomeWhole}
+use Rattle.gix_ref_transaction.specs.PrepareSteps.{AreWholeLocks, FillingOn}
 use Rattle.gix_ref_transaction.proofs.Adds.{clash, either_way, in_here, is_same_path, same_path}
 use Rattle.gix_ref_transaction.proofs.LockRounds.{filling_passes}
 

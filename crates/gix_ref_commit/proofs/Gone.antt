@@ -1,10 +1,10 @@
 -- A lock that was renamed is gone, and stays so.
-use Rattle.std.proofs.Common.{◌≡◌, ◌≢◌, ◌⊎◌, inl, inr, ⊎_elim, ℕ, ◌+◌, List, [], ◌∷◌, ◌++◌, Bool, true, false, Option, Some, None, refl, sym, ◌∙◌, ap, subst, map}
+use Rattle.std.proofs.Common.{◌≡◌, ◌≢◌, inl, inr, ℕ, ◌+◌, List, [], ◌∷◌, ◌++◌, false, Option, Some, None, refl, ◌∙◌, ap, subst}
 use Rattle.std.specs.Prelude.{bytes_eq}
-use Rattle.gix_ref_files.specs.Tree.{Tree, Path, Content, put, moved, file_of, is_file}
+use Rattle.gix_ref_files.specs.Tree.{Tree, Path, Content, put, file_of, is_file}
 use Rattle.gix_ref_files.specs.Tree.Content.{File, Folder}
 use Rattle.gix_ref_files.specs.Lock.{lock_of}
-use Rattle.gix_ref_files.specs.Steps.{Step, Does, Begins, IsAfter, IsLeftBy}
+use Rattle.gix_ref_files.specs.Steps.{Step, Does, Begins, IsAfter}
 use Rattle.gix_ref_files.specs.Steps.Step.{Create, Append, Line, Rename, RemoveFile, MakeFolders, RemoveFolder, End}
 use Rattle.gix_ref_files.proofs.Between.{done_is_begun}
 use Rattle.gix_ref_files.proofs.Puts.{put_at, put_other}
@@ -18,8 +18,9 @@ use Rattle.gix_ref_transaction.specs.declared.edit.Effect.{Effect}
 use Rattle.gix_ref_transaction.specs.declared.edit.Effect.TheVariants as effects
 use Rattle.gix_ref_transaction.specs.declared.edit.LogEffect.{LogEffect}
 use Rattle.gix_ref_transaction.specs.declared.edit.LogEffect.TheVariants as logs
+use Rattle.gix_ref_commit.proofs.LogFolders.{folders_either}
 use Rattle.gix_ref_commit.specs.Entries.{Entry, each, folders_for, folders_entry, line_for, rename_for, log_removal_for, removal_for, line_entry, rename_entry, log_removal_entry, removal_entry, packed_entries, update_entries, planned_entries, bare, bare_steps}
-use Rattle.gix_ref_commit.proofs.Carrying.{IsPlaced, ArePlaced, IsLogPlain, IsPackedPlaced}
+use Rattle.gix_ref_commit.proofs.Carrying.{ArePlaced, IsLogPlain, IsPackedPlaced}
 use Rattle.gix_ref_commit.proofs.Renamed.{IsRenameOf, HasRename}
 
 -- the step makes no file at this path
@@ -109,6 +110,9 @@ module _ (locked staying : List Path) (dirs : Dirs) (q : Path) where
   folders_miss at (logs.Append log line) = (tt, tt)
   folders_miss at (logs.Remove log) = tt
 
+  folders_entry_misses : (at : ℕ) (e : Edit) → AllMiss lock (folders_entry at e)
+  folders_entry_misses at e = folders_either (AllMiss lock) at e tt (folders_miss at e.log)
+
   line_misses : (at : ℕ) (l : LogEffect) → IsLogPlain staying dirs l → AllMiss lock (line_for dirs at l)
   line_misses at logs.Keep plain = tt
   line_misses at (logs.Append log line) plain = (plain.0 q, tt)
@@ -133,7 +137,7 @@ module _ (locked staying : List Path) (dirs : Dirs) (q : Path) where
   updates_miss at [] placed = tt
   updates_miss at (e ∷ edits) (one, placed) =
       miss_both lock (update_entries dirs at e) (each (update_entries dirs) (at + 1) edits)
-      (miss_both lock (folders_entry at e) (line_entry dirs at e ++ rename_entry dirs at e) (folders_miss at e.log)
+      (miss_both lock (folders_entry at e) (line_entry dirs at e ++ rename_entry dirs at e) (folders_entry_misses at e)
       (miss_both lock (line_entry dirs at e) (rename_entry dirs at e) (line_misses at e.log one.log) (rename_misses at e.lock e.effect one.place.0)))
       (updates_miss (at + 1) edits placed)
 

@@ -1,5 +1,5 @@
 -- A transaction whose commit begins to write, edit by edit: what becomes of its logs and of `packed-refs` is decided.
-use Rattle.std.proofs.Common.{◌≡◌, ◌≢◌, inl, inr, ⊎_elim, ℕ, suc, List, [], ◌∷◌, ◌++◌, Bool, true, false, Option, Some, None, All, refl, sym, ◌∙◌, ap, subst, length, arith}
+use Rattle.std.proofs.Common.{◌≡◌, ◌≢◌, inl, inr, suc, List, [], ◌∷◌, ◌++◌, true, Some, None, All, refl, sym, ◌∙◌, ap, subst, length, arith}
 use Rattle.std.specs.Prelude.{bytes_eq}
 use Rattle.std.proofs.lemmas.List.{map-append}
 use Rattle.gix_ref_hash.specs.declared.hash.Kind.{Kind}
@@ -12,7 +12,7 @@ use Rattle.gix_ref_theory.specs.OnRealTrees.{view_of}
 use Rattle.gix_ref_theory.specs.Readings.{Store}
 use Rattle.gix_ref_transaction.specs.OwnLocks.{is_in, AddsLocks}
 use Rattle.gix_ref_transaction.specs.Causes.{AllValid, IsAccepted, IsValidEdit, NoCause, locks_of}
-use Rattle.gix_ref_transaction.specs.CarriedEdits.{change_of, edit_of}
+use Rattle.gix_ref_transaction.specs.CarriedEdits.{change_of}
 use Rattle.gix_ref_transaction.specs.CommittedEdits.{planned}
 use Rattle.gix_ref_transaction.specs.PrepareSteps.{HoldTexts, effect_on, effect_value, effects_of, effects_on, lock_text, own_locks, place_paths, places_of}
 use Rattle.gix_ref_edits.specs.RefEdits.{name_of}

@@ -9,6 +9,7 @@ mod Filling
 pub mod Gone
 pub mod Held
 pub mod Lined
+pub mod LogFolders
 pub mod Nothing
 pub mod Outcomes
 pub mod OwnPlan

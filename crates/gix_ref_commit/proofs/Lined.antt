@@ -1,5 +1,5 @@
 -- Edits with the lines that logs gain: what does not depend on these is as without them.
-use Rattle.std.proofs.Common.{◌≡◌, ◌≢◌, inl, inr, ℕ, List, [], ◌∷◌, Bool, true, false, Option, Some, None, refl, sym, ◌∙◌, ap, subst, if◌then◌else◌}
+use Rattle.std.proofs.Common.{◌≡◌, ◌≢◌, inl, inr, ℕ, List, [], ◌∷◌, Bool, Option, None, refl, sym, ◌∙◌, ap, if◌then◌else◌}
 use Rattle.std.specs.Prelude.{◌&&◌, ◌||◌}
 use Rattle.gix_ref_hash.specs.declared.hash.Kind.{Kind}
 use Rattle.gix_ref_base.specs.PackedRecords.{Record, record_named}
@@ -13,7 +13,7 @@ use Rattle.gix_ref_edits.specs.RefEdits.{name_of, mode_of, is_of_reference}
 use Rattle.gix_ref_edits.specs.declared.transaction.RefEdit.{RefEdit}
 use Rattle.gix_ref_transaction.specs.CarriedEdits.{change_of, edit_of}
 use Rattle.gix_ref_transaction.specs.CommittedEdits.{planned}
-use Rattle.gix_ref_repack.specs.Repacks.{IsRepack, IsNewPacked}
+use Rattle.gix_ref_repack.specs.Repacks.{IsRepack}
 use Rattle.gix_ref_commit.specs.LogEffects.{edit_with, with_lines}
 
 -- each is one of the edits without its line

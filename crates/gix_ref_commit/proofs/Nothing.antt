@@ -1,15 +1,15 @@
 -- Where nothing but own locks has changed, each reference reads as before: before the first write of a commit, and after a loss of power
 -- there.
-use Rattle.std.proofs.Common.{◌≡◌, ◌≢◌, inl, ℕ, List, [], ◌++◌, ◌∷◌, true, false, Option, refl, sym, ◌∙◌, ap, subst}
+use Rattle.std.proofs.Common.{◌≡◌, ◌≢◌, inl, ℕ, List, [], ◌∷◌, true, Option, refl, sym, ◌∙◌, subst}
 use Rattle.gix_ref_files.specs.Tree.{Tree, Path}
 use Rattle.gix_ref_files.specs.Disk.{Disk, Lost}
 use Rattle.gix_ref_files.specs.Lock.{lock_of}
-use Rattle.gix_ref_files.specs.Settled.{AllStay, IsAllSettled, IsSettledAt}
+use Rattle.gix_ref_files.specs.Settled.{IsAllSettled, IsSettledAt}
 use Rattle.gix_ref_files.proofs.Settling.{stands_settled}
-use Rattle.gix_ref_theory.specs.Between.{AreEdits, IsEdit, IsBetween, IsOther, ReadsAsBefore}
+use Rattle.gix_ref_theory.specs.Between.{AreEdits, IsEdit, IsBetween, ReadsAsBefore}
 use Rattle.gix_ref_theory.specs.Edits.{Edit}
 use Rattle.gix_ref_theory.specs.Edits.Mode.{DeletionsOnly}
-use Rattle.gix_ref_theory.specs.Losses.{IsLostBetween, IsLostWell}
+use Rattle.gix_ref_theory.specs.Losses.{IsLostWell}
 use Rattle.gix_ref_theory.specs.OnDisks.{IsAsBefore, IsSpokenOf}
 use Rattle.gix_ref_theory.specs.OnRealTrees.{view_of, IsOldOrNewTree}
 use Rattle.gix_ref_theory.specs.Readings.{Store, HasLaws}

@@ -3,7 +3,6 @@ use Rattle.std.proofs.Common.{◌≡◌, ℕ, ◌+◌, List, [], ◌∷◌, Bool
 use Rattle.std.specs.Prelude.{if◌then◌else◌}
 use Rattle.gix_ref_files.specs.Tree.{Path}
 use Rattle.gix_ref_theory.specs.Views.{View}
-use Rattle.gix_ref_edits.specs.RefEdits.{name_of}
 use Rattle.gix_ref_edits.specs.declared.transaction.Change.{Change}
 use Rattle.gix_ref_edits.specs.declared.transaction.Change.TheVariants.{Update, Delete}
 use Rattle.gix_ref_edits.specs.declared.transaction.PreviousValue.{PreviousValue}
@@ -14,7 +13,7 @@ use Rattle.gix_ref_transaction.specs.declared.edit.Edit.{Edit}
 use Rattle.gix_ref_transaction.specs.declared.edit.LogEffect.{LogEffect}
 use Rattle.gix_ref_transaction.specs.declared.edit.LogEffect.TheVariants.{Keep, Append, Remove}
 use Rattle.gix_ref_lines.specs.AskedEdits.{asked_edit, asked_from, leaf_after, outcome_of, outcomes_of}
-use Rattle.gix_ref_lines.specs.DueLines.{LogOutcome, LogRules, Asked, due_ids, due_line, due_lines, ids_of, is_off, log_outcome, log_outcomes, log_path, outcome_by, with_log, written_ids}
+use Rattle.gix_ref_lines.specs.DueLines.{LogOutcome, LogRules, Asked, due_line, due_lines, ids_of, is_off, log_outcome, log_outcomes, log_path, outcome_by, with_log, written_ids}
 use Rattle.gix_ref_lines.specs.DueLines.LogOutcome.{Stays, Gains, Goes}
 use Rattle.gix_ref_lines.specs.declared.ids.LineIds.{LineIds}
 use Rattle.gix_ref_lines.proofs.LineSteps.{no_ids, no_line}

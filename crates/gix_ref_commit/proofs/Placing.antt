@@ -1,5 +1,5 @@
 -- The paths of a transaction are such that its planned steps carry out its writes, whatever `packed-refs` holds.
-use Rattle.std.proofs.Common.{◌≡◌, ◌≢◌, inl, inr, ℕ, suc, List, [], ◌∷◌, ◌++◌, Bool, true, false, Option, Some, None, All, refl, sym, ◌∙◌, ap, subst, length, arith, if◌then◌else◌}
+use Rattle.std.proofs.Common.{◌≡◌, inl, inr, ℕ, suc, List, [], ◌∷◌, ◌++◌, Bool, true, false, Option, Some, None, All, refl, sym, ◌∙◌, ap, subst, length, arith, if◌then◌else◌}
 use Rattle.std.specs.Prelude.{bytes_eq}
 use Rattle.std.proofs.lemmas.List.{map-append}
 use Rattle.gix_ref_hash.specs.declared.hash.Kind.{Kind}
@@ -33,7 +33,7 @@ use Rattle.gix_ref_transaction.specs.declared.edit.LogEffect.{LogEffect}
 use Rattle.gix_ref_transaction.specs.declared.edit.LogEffect.TheVariants as log_effects
 use Rattle.gix_ref_transaction.proofs.Adds.{clash, any_left, any_right, in_here}
 use Rattle.gix_ref_transaction.proofs.CommitLosses.{same_text, texts_on, whole_at}
-use Rattle.gix_ref_transaction.proofs.LockRounds.{edit_lock, edit_own, own_all, owned_all}
+use Rattle.gix_ref_transaction.proofs.LockRounds.{edit_lock, edit_own, owned_all}
 use Rattle.gix_ref_commit.specs.Entries.{planned_entries, steps_in}
 use Rattle.gix_ref_commit.specs.LogEffects.{IsLogOf, AreLogsOf}
 use Rattle.gix_ref_commit.proofs.Carries.{AreIn, Carries}

@@ -1,5 +1,5 @@
 -- A run of a plan, by its entries.
-use Rattle.std.proofs.Common.{◌≡◌, ℕ, zero, suc, ◌<◌, List, [], ◌∷◌, ◌++◌, refl, sym, ◌∙◌, ap, subst, length, get_or, map, arith}
+use Rattle.std.proofs.Common.{◌≡◌, ℕ, zero, suc, ◌<◌, List, [], ◌∷◌, ◌++◌, refl, sym, ◌∙◌, ap, subst, length, get_or, arith}
 use Rattle.std.proofs.lemmas.List.{map-append}
 use Rattle.gix_ref_files.specs.Tree.{Tree}
 use Rattle.gix_ref_files.specs.Steps.{Step, IsAfter, EndsBy, EndsAt, steps_of, step_of}
@@ -8,7 +8,7 @@ use Rattle.gix_ref_files.specs.declared.steps.Cause.{Cause}
 use Rattle.gix_ref_files.specs.declared.steps.Ended.{Ended}
 use Rattle.gix_ref_files.specs.declared.steps.Planned.{Planned}
 use Rattle.gix_ref_commit.specs.Entries.{Entry, entry, entries, bare_steps, steps_in}
-use Rattle.gix_ref_commit.specs.Unfinished.{EndsAtStep, EndsIn, IsStepAt}
+use Rattle.gix_ref_commit.specs.Unfinished.{EndsIn, IsStepAt}
 use Rattle.gix_ref_commit.specs.declared.plan.About.{About}
 use Rattle.gix_ref_commit.specs.declared.run.Unfinished.{Unfinished}
 use Rattle.gix_ref_commit.specs.declared.run.Unfinished.TheVariants.{Memory, Step as AtStep}

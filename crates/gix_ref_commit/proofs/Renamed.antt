@@ -1,9 +1,9 @@
 -- Which locks were renamed before a step of a plan.
-use Rattle.std.proofs.Common.{◌≡◌, ◌⊎◌, inl, inr, ⊎_elim, ℕ, zero, suc, ◌+◌, ◌<◌, List, [], ◌∷◌, ◌++◌, Bool, true, false, Option, Some, None, refl, sym, ◌∙◌, ap, subst, length, arith, append_assoc}
+use Rattle.std.proofs.Common.{◌≡◌, ◌⊎◌, inl, inr, ⊎_elim, ℕ, zero, suc, ◌+◌, ◌<◌, List, [], ◌∷◌, ◌++◌, true, false, Option, Some, None, refl, sym, ◌∙◌, ap, subst, arith}
 use Rattle.gix_ref_files.specs.Tree.{Path}
 use Rattle.gix_ref_files.specs.Lock.{lock_of}
 use Rattle.gix_ref_files.specs.Steps.{Step}
-use Rattle.gix_ref_files.specs.Steps.Step.{Create, Append, Line, Rename, RemoveFile, MakeFolders, RemoveFolder, End}
+use Rattle.gix_ref_files.specs.Steps.Step.{Rename}
 use Rattle.gix_ref_lookup.specs.declared.folders.Dirs.{Dirs}
 use Rattle.gix_ref_rewrite.specs.declared.outcome.Rewrite.{Rewrite}
 use Rattle.gix_ref_rewrite.specs.declared.outcome.Rewrite.TheVariants.{Unchanged, Removed, Text}
@@ -16,7 +16,8 @@ use Rattle.gix_ref_transaction.specs.declared.edit.LogEffect.{LogEffect}
 use Rattle.gix_ref_transaction.specs.declared.edit.LogEffect.TheVariants as logs
 use Rattle.gix_ref_transaction.proofs.Adds.{clash}
 use Rattle.gix_ref_commit.specs.declared.plan.About.{About}
-use Rattle.gix_ref_commit.specs.Entries.{Entry, each, folders_for, folders_entry, line_for, rename_for, log_removal_for, removal_for, line_entry, rename_entry, log_removal_entry, removal_entry, packed_entry, packed_entries, update_entries, planned_entries, bare, done_before, packed_before, renames_packed}
+use Rattle.gix_ref_commit.proofs.LogFolders.{folders_either}
+use Rattle.gix_ref_commit.specs.Entries.{Entry, each, folders_for, folders_entry, line_for, rename_for, log_removal_for, line_entry, rename_entry, log_removal_entry, removal_entry, packed_entry, packed_entries, update_entries, planned_entries, bare, done_before, packed_before, renames_packed}
 
 -- the step renames this lock
 abbrev pub IsRenameOf : Path → Step → Type 0
@@ -80,6 +81,9 @@ module _ (dirs : Dirs) (n : ℕ) where
   folders_at at (logs.Append log line) = ((refl, refl), tt)
   folders_at at (logs.Remove log) = tt
 
+  folders_entry_at : (at : ℕ) (e : Edit) → AllAbout (IsAt at) (folders_entry at e)
+  folders_entry_at at e = folders_either (AllAbout (IsAt at)) at e tt (folders_at at e.log)
+
   line_at : (at : ℕ) (l : LogEffect) → AllAbout (IsAt at) (line_for dirs at l)
   line_at at logs.Keep = tt
   line_at at (logs.Append log line) = ((refl, refl), tt)
@@ -92,7 +96,7 @@ module _ (dirs : Dirs) (n : ℕ) where
 
   update_at : (at : ℕ) (e : Edit) → AllAbout (IsAt at) (update_entries dirs at e)
   update_at at e =
-      about_both (IsAt at) (folders_entry at e) (line_entry dirs at e ++ rename_entry dirs at e) (folders_at at e.log)
+      about_both (IsAt at) (folders_entry at e) (line_entry dirs at e ++ rename_entry dirs at e) (folders_entry_at at e)
       (about_both (IsAt at) (line_entry dirs at e) (rename_entry dirs at e) (line_at at e.log) (rename_at at e.lock e.effect))
 
   -- the rename of an edit that is written is among its entries
@@ -140,7 +144,7 @@ module _ (dirs : Dirs) (n : ℕ) where
   no_packed_updates at [] = tt
   no_packed_updates at (e ∷ edits) =
       about_both (λ a. packed_before a ≡ false) (update_entries dirs at e) (each (update_entries dirs) (at + 1) edits)
-      (about_both (λ a. packed_before a ≡ false) (folders_entry at e) (line_entry dirs at e ++ rename_entry dirs at e) (folders e.log)
+      (about_both (λ a. packed_before a ≡ false) (folders_entry at e) (line_entry dirs at e ++ rename_entry dirs at e) (folders_either (AllAbout (λ a. packed_before a ≡ false)) at e tt (folders e.log))
       (about_both (λ a. packed_before a ≡ false) (line_entry dirs at e) (rename_entry dirs at e) (line e.log) (rename e.effect)))
       (no_packed_updates (at + 1) edits)
     where

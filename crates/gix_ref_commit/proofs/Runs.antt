@@ -1,6 +1,6 @@
 -- The planned steps of a commit carry out the plan of the theory, where `packed-refs` was well formed.
-use Rattle.std.proofs.Common.{◌≡◌, ◌≢◌, ◌⊎◌, inl, inr, ⊎_elim, ℕ, zero, suc, List, [], ◌∷◌, ◌++◌, Bool, true, false, ◌||◌, ◌&&◌, Option, Some, None, IsSome, All, refl, sym, ◌∙◌, ap, subst, length, arith, if◌then◌else◌, map}
-use Rattle.std.specs.Prelude.{bytes_eq, is_some}
+use Rattle.std.proofs.Common.{◌≡◌, ◌≢◌, ◌⊎◌, inl, inr, ⊎_elim, ℕ, suc, List, [], ◌∷◌, Bool, true, false, ◌||◌, ◌&&◌, Option, Some, None, IsSome, All, refl, sym, ◌∙◌, ap, subst, arith, if◌then◌else◌, map}
+use Rattle.std.specs.Prelude.{is_some}
 use Rattle.std.specs.List.{list_any}
 use Rattle.gix_ref_hash.specs.declared.hash.Kind.{Kind}
 use Rattle.gix_ref_hash.specs.declared.hash.ObjectId.{ObjectId}
@@ -16,7 +16,7 @@ use Rattle.gix_ref_theory.specs.Between.{AreEdits, IsEdit, IsPrepared, IsMerged}
 use Rattle.gix_ref_theory.specs.ConcreteStore.{written_id}
 use Rattle.gix_ref_theory.specs.Edits.{Change, Edit, Effect, effect, alters_change, alters_packed, file_of_records}
 use Rattle.gix_ref_theory.specs.Edits.Change.{Update, Delete}
-use Rattle.gix_ref_theory.specs.Edits.Effect.{Writes, Removes, Keeps}
+use Rattle.gix_ref_theory.specs.Edits.Effect.{Writes}
 use Rattle.gix_ref_theory.specs.Edits.Mode.{DeletionsOnly}
 use Rattle.gix_ref_theory.specs.OnRealTrees as tree
 use Rattle.gix_ref_theory.specs.OnRealTrees.{view_of, IsCommitRun}
@@ -24,19 +24,18 @@ use Rattle.gix_ref_theory.specs.OnDisks as disk
 use Rattle.gix_ref_theory.specs.OnDisks.{IsSpokenOf}
 use Rattle.gix_ref_theory.specs.Plan.{plan, line_writes, place_writes, log_removal, place_removal, packed_writes, file_writes}
 use Rattle.gix_ref_theory.specs.Readings.{Store, records_in}
-use Rattle.gix_ref_theory.specs.Views.{View, Write, file_bytes, IsOwnLock, IsSameButLocks}
+use Rattle.gix_ref_theory.specs.Views.{View, Write, file_bytes, IsSameButLocks}
 use Rattle.gix_ref_theory.proofs.OnDisks.{own_is_lock}
-use Rattle.gix_ref_lookup.specs.StoreLayout.{folders_of, git_options}
+use Rattle.gix_ref_lookup.specs.StoreLayout.{folders_of}
 use Rattle.gix_ref_lookup.specs.Lookups.{ArePackedRecords}
 use Rattle.gix_ref_lookup.specs.declared.folders.Dirs.{Dirs}
-use Rattle.gix_ref_lookup.proofs.Laying.{folders_laid}
 use Rattle.gix_ref_rewrite.specs.declared.outcome.Rewrite.{Rewrite}
 use Rattle.gix_ref_rewrite.specs.declared.outcome.Rewrite.TheVariants.{Unchanged, Removed, Text}
 use Rattle.gix_ref_edits.specs.RefEdits.{name_of, new_of, mode_of, is_of_reference}
 use Rattle.gix_ref_edits.specs.declared.transaction.RefEdit.{RefEdit}
 use Rattle.gix_ref_edits.specs.declared.transaction.Change.{Change as GivenChange}
 use Rattle.gix_ref_edits.specs.declared.transaction.Change.TheVariants as given_changes
-use Rattle.gix_ref_transaction.specs.Causes.{ask_packed, has_key, locks_of, packed_taken, IsFullTarget, IsOfKind, IsWholeTarget}
+use Rattle.gix_ref_transaction.specs.Causes.{ask_packed, has_key, packed_taken, IsFullTarget, IsOfKind, IsWholeTarget}
 use Rattle.gix_ref_transaction.specs.CarriedEdits.{change_of, edit_of}
 use Rattle.gix_ref_transaction.specs.CommittedEdits.{planned}
 use Rattle.gix_ref_transaction.specs.OwnLocks.{is_in}
@@ -54,7 +53,7 @@ use Rattle.gix_ref_transaction.proofs.PackedLemmas.{records_are}
 use Rattle.gix_ref_files.specs.Steps.{Step}
 use Rattle.gix_ref_commit.specs.Entries.{Entry, planned_entries, bare_steps, steps_in, bare}
 use Rattle.gix_ref_commit.specs.LogEffects.{IsLogOf, edit_with, line_in, lines_in, with_lines}
-use Rattle.gix_ref_repack.specs.Repacks.{IsRepack, IsNewPacked}
+use Rattle.gix_ref_repack.specs.Repacks.{IsRepack}
 use Rattle.gix_ref_commit.specs.Cleared.{commit_entries, folder_lists}
 use Rattle.gix_ref_commit.specs.declared.folders.InWay.{InWay}
 use Rattle.gix_ref_commit.proofs.Carries as carries

@@ -1,6 +1,6 @@
 -- What the steps of a plan are, by what they are about.
-use Rattle.std.proofs.Common.{◌≡◌, ◌⊎◌, inl, inr, ℕ, zero, suc, ◌+◌, ◌<◌, List, [], ◌∷◌, ◌++◌, Option, Some, None, length, refl, sym, ◌∙◌, ap, subst, arith, append_assoc}
-use Rattle.std.proofs.lemmas.List.{append-nil, length-append}
+use Rattle.std.proofs.Common.{◌≡◌, ◌⊎◌, inl, inr, ℕ, ◌+◌, ◌<◌, List, [], ◌∷◌, ◌++◌, Option, Some, None, length, refl, sym, ◌∙◌, ap, subst, arith, append_assoc}
+use Rattle.std.proofs.lemmas.List.{length-append}
 use Rattle.gix_ref_files.specs.Tree.{Path}
 use Rattle.gix_ref_files.specs.Disk.{folder_of}
 use Rattle.gix_ref_files.specs.Lock.{lock_of}
@@ -18,6 +18,7 @@ use Rattle.gix_ref_transaction.specs.declared.edit.LogEffect.TheVariants as logs
 use Rattle.gix_ref_transaction.proofs.Renames.{lock_there, log_there, place_there}
 use Rattle.gix_ref_commit.specs.declared.plan.About.{About}
 use Rattle.gix_ref_commit.specs.declared.plan.About.TheVariants as about
+use Rattle.gix_ref_commit.proofs.LogFolders.{folders_either}
 use Rattle.gix_ref_commit.specs.Entries.{Entry, each, folders_for, folders_entry, line_for, rename_for, log_removal_for, removal_for, line_entry, rename_entry, log_removal_entry, removal_entry, packed_entries, update_entries, planned_entries, bare, IsOfEdit}
 
 -- a line is added to the log
@@ -81,6 +82,9 @@ module _ (edits : List Edit) (packed : Option Path) where
     folders_shaped at (logs.Append log text) lt is = ((lt, subst HasLine (sym is) tt, ap (λ (e : LogEffect). MakeFolders (folder_of (path_in e))) (sym is)), tt)
     folders_shaped at (logs.Remove log) lt is = tt
 
+    folders_entry_shaped : (at : ℕ) (e : Edit) → (at < length edits) → log_at edits at ≡ e.log → AllShaped (folders_entry at e)
+    folders_entry_shaped at e lt is = folders_either AllShaped at e tt (folders_shaped at e.log lt is)
+
     line_shaped : (at : ℕ) (l : LogEffect) → (at < length edits) → log_at edits at ≡ l → AllShaped (line_for dirs at l)
     line_shaped at logs.Keep lt is = tt
     line_shaped at (logs.Append log text) lt is = ((lt, subst HasLine (sym is) tt, (text.items, ap (λ (e : LogEffect). Line (path_in e) text.items) (sym is))), tt)
@@ -113,7 +117,7 @@ module _ (edits : List Edit) (packed : Option Path) where
     pub all_shaped : (rewrite : Rewrite) → AllShaped (planned_entries dirs edits packed rewrite)
     all_shaped rewrite =
         both (each (update_entries dirs) 0 edits) (each (log_removal_entry dirs) 0 edits ++ (packed_entries dirs packed rewrite ++ each (removal_entry dirs) 0 edits))
-        (each_shaped (update_entries dirs) (λ at e is. both (folders_entry at e) (line_entry dirs at e ++ rename_entry dirs at e) (folders_shaped at e.log is.0 is.3)
+        (each_shaped (update_entries dirs) (λ at e is. both (folders_entry at e) (line_entry dirs at e ++ rename_entry dirs at e) (folders_entry_shaped at e is.0 is.3)
         (both (line_entry dirs at e) (rename_entry dirs at e) (line_shaped at e.log is.0 is.3) (rename_shaped at e e.effect is))) [] edits 0 refl refl)
         (both (each (log_removal_entry dirs) 0 edits) (packed_entries dirs packed rewrite ++ each (removal_entry dirs) 0 edits)
         (each_shaped (log_removal_entry dirs) (λ at e is. log_removal_shaped at e e.log is) [] edits 0 refl refl)

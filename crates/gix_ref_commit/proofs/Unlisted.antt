@@ -1,25 +1,23 @@
 -- A folder that could not be listed: before which step, and what the error says.
-use Rattle.std.proofs.Common.{◌≡◌, ◌≢◌, ◌⊎◌, inl, inr, ℕ, zero, suc, ◌<◌, List, [], ◌∷◌, ◌++◌, Option, Some, None, length, get_or, refl, sym, ◌∙◌, ap, subst, arith}
+use Rattle.std.proofs.Common.{◌≡◌, ◌≢◌, ℕ, zero, suc, ◌<◌, List, [], ◌∷◌, Option, Some, None, length, get_or, refl, sym, ◌∙◌, ap, subst, arith}
 use Rattle.gix_ref_name.specs.Names.{full_bytes}
 use Rattle.gix_ref_name.specs.declared.name.FullName.{FullName}
 use Rattle.gix_ref_files.specs.Tree.{Path}
 use Rattle.gix_ref_files.specs.Steps.{Step}
-use Rattle.gix_ref_files.specs.Steps.Step.{Line, MakeFolders, Rename, RemoveFile}
 use Rattle.gix_ref_files.specs.declared.files.FileError.{FileError}
 use Rattle.gix_ref_files.specs.declared.steps.Cause.TheVariants.{File as Fault, Unexpected, Asked}
 use Rattle.gix_ref_lookup.specs.declared.folders.Dirs.{Dirs}
 use Rattle.gix_ref_rewrite.specs.declared.outcome.Rewrite.{Rewrite}
 use Rattle.gix_ref_lines.specs.declared.create_or_update.Error.{Error as LogError}
 use Rattle.gix_ref_lines.specs.declared.create_or_update.Error.TheVariants.{CreateLeadingDirectories, Append, MessageWithNewlines, MissingCommitter, SignatureUnwritable}
-use Rattle.gix_ref_repack.specs.declared.error.Error.TheVariants as repack
 use Rattle.gix_ref_transaction.specs.Causes.{names_of}
-use Rattle.gix_ref_transaction.specs.CommitRenames.{log_at, path_in}
+use Rattle.gix_ref_transaction.specs.CommitRenames.{log_at}
 use Rattle.gix_ref_transaction.specs.PrepareSteps.{updates}
 use Rattle.gix_ref_transaction.specs.declared.edit.Edit.{Edit}
 use Rattle.gix_ref_transaction.specs.declared.edit.LogEffect.{LogEffect}
 use Rattle.gix_ref_transaction.specs.declared.edit.LogEffect.TheVariants as logs
 use Rattle.gix_ref_commit.specs.Cleared.{written_at}
-use Rattle.gix_ref_commit.specs.Entries.{Entry, bare, planned_entries}
+use Rattle.gix_ref_commit.specs.Entries.{bare, planned_entries}
 use Rattle.gix_ref_commit.specs.Failures.{AllWrite, IsNameAt, IsOfListing, IsWriteOf, SaysUnlisted, SaysWhyUnlisted}
 use Rattle.gix_ref_commit.specs.LogEffects.{line_in}
 use Rattle.gix_ref_commit.specs.declared.error.Error.{Error}

@@ -1,15 +1,13 @@
 -- The search for empty folders.
-use Rattle.std.proofs.Common.{◌≡◌, ◌≢◌, ◌⊎◌, inl, inr, ⊎_elim, ℕ, zero, suc, ◌<◌, ◌≤◌, List, [], ◌∷◌, ◌++◌, length, map, Bool, true, false, Option, Some, None, IsSome, refl, sym, ◌∙◌, ap, subst, arith, append_assoc, reverse, if◌then◌else◌, Vec, not, get_or, take, drop, ◌+◌}
-use Rattle.std.specs.Prelude.{◌==◌, slice_index}
+use Rattle.std.proofs.Common.{◌≡◌, ◌≢◌, ◌⊎◌, inl, inr, ⊎_elim, ℕ, zero, suc, ◌<◌, ◌≤◌, List, [], ◌∷◌, ◌++◌, length, Bool, true, false, Option, Some, None, IsSome, refl, sym, ◌∙◌, ap, subst, arith, append_assoc, reverse, if◌then◌else◌, Vec, get_or, take, drop, ◌+◌}
+use Rattle.std.specs.Prelude.{◌==◌}
 use Rattle.std.specs.List.{All}
 use Rattle.std.specs.declared.alloc.Global.{Global}
 use Rattle.std.proofs.lemmas.Bool.{eqb-true}
 use Rattle.std.proofs.lemmas.List.{append-nil, length-map, map-append, reverse-append, take_more}
 use Rattle.std.proofs.lemmas.List.Elements.{All-append, All-cons, All-nil, All-push, All-head, All-tail}
 use Rattle.gix_ref_hash.specs.Bytes.{Cuts, NoByte}
-use Rattle.gix_ref_files.specs.Calls.{IsEntryOf, Unchanged, entry_name}
-use Rattle.gix_ref_files.specs.DiskCalls.{Untouched}
-use Rattle.gix_ref_files.proofs.Moments.{joins, passes_joins, passes_weaken, weaken}
+use Rattle.gix_ref_files.specs.Calls.{IsEntryOf, entry_name}
 use Rattle.gix_ref_files.specs.Settled.{IsIn}
 use Rattle.gix_ref_files.specs.Tree.{Tree, Path, Content, fronts, is_blocked, is_file, is_folder, node_at, node_of}
 use Rattle.gix_ref_files.specs.Tree.Content.{File, Folder}
@@ -22,7 +20,7 @@ use Rattle.gix_ref_lookup.specs.CleanPaths.{common_of}
 use Rattle.gix_ref_lookup.specs.declared.folders.Dirs.{Dirs}
 use Rattle.gix_ref_transaction.proofs.Adds.{clash}
 use Rattle.gix_ref_transaction.specs.OwnLocks.{paths_of}
-use Rattle.gix_ref_files.specs.Files.{HasRisen, Leaves, Meaning, Passes, disk_of}
+use Rattle.gix_ref_files.specs.Files.{HasRisen}
 use Rattle.gix_ref_files.specs.Steps.{step_of}
 use Rattle.gix_ref_files.specs.declared.files.FileError.{FileError}
 use Rattle.gix_ref_files.specs.declared.files.FileError.TheVariants.{Device, NotUtf8, Memory as no_memory}
@@ -33,8 +31,9 @@ use Rattle.gix_ref_commit.specs.declared.plan.About.{About}
 use Rattle.gix_ref_commit.specs.declared.run.Unfinished.{Unfinished}
 use Rattle.gix_ref_commit.specs.declared.run.Unfinished.TheVariants.{Memory as Unwanted, Step}
 use Rattle.gix_ref_commit.specs.Entries.{Entry, bare, entries, entry}
-use Rattle.gix_ref_commit.specs.Cleared.{AllInWay, AreInWay, AreInWayOf, folder_lists, written_at, HoldsMore, IsAtOrBelow, IsOfStore, first_component, roots_of}
-use Rattle.gix_ref_commit.specs.internal.Walks.{AreFolders, FailsBefore, FailsToList, IsCountedFault, IsWalked, OnlyMore, StopsFor}
+use Rattle.gix_ref_transaction.specs.declared.edit.Edit.{Edit}
+use Rattle.gix_ref_commit.specs.Cleared.{AllInWay, AreInWay, AreInWayOf, folder_lists, is_seen, written_at, HoldsMore, IsAtOrBelow, IsOfStore, first_component, roots_of}
+use Rattle.gix_ref_commit.specs.internal.Walks.{AreFolders, FailsBefore, FailsToList, IsCountedFault, IsWalked, OnlyMore}
 
 in_either : (p : Path) (a b : List Path) → IsIn p (a ++ b) → IsIn p a ⊎ IsIn p b
 in_either p [] b h = inr h
@@ -130,20 +129,32 @@ all_reverse P [] all = all
 all_reverse P (x ∷ xs) all = subst (All P) (sym (reverse-append (x ∷ []) xs)) (All-push P (reverse xs) x (all_reverse P xs (All-tail P x xs all)) (All-head P x xs all))
 
 -- what was walked, backwards
-pub in_way_of : (dirs : Dirs) (T : Tree) (top : Path) (found folders : List Path) → IsWalked dirs top found → folders ≡ reverse found → AreInWay dirs T top folders
+pub in_way_of : (dirs : Dirs) (T : Tree) (top : Path) (found folders : List Path) → IsWalked dirs top found → folders ≡ reverse found → AreInWay dirs T false top folders
 in_way_of dirs T top found folders (rest, is, are) backwards = record {
   inside = subst (All (IsAtOrBelow top)) (sym backwards) (all_reverse (IsAtOrBelow top) found are.inside);
   outside = subst (All (λ f. IsIn f (roots_of dirs) → ⊥)) (sym backwards) (all_reverse (λ f. IsIn f (roots_of dirs) → ⊥) found are.outside);
-  last = λ folder. inr (reverse rest, backwards ∙ (ap reverse is ∙ reverse-append (top ∷ []) rest));
+  last = λ seen folder. inr (reverse rest, backwards ∙ (ap reverse is ∙ reverse-append (top ∷ []) rest));
 }
 
 -- none, where more is there
-pub none_in_way : (dirs : Dirs) (T : Tree) (top : Path) (folders : List Path) → folders ≡ [] → (is_folder (T top) ≡ true → HoldsMore dirs T top) → AreInWay dirs T top folders
+pub none_in_way : (dirs : Dirs) (T : Tree) (top : Path) (folders : List Path) → folders ≡ [] → (is_folder (T top) ≡ true → HoldsMore dirs T top) → AreInWay dirs T false top folders
 none_in_way dirs T top folders none more = record {
   inside = subst (All (IsAtOrBelow top)) (sym none) (All-nil (IsAtOrBelow top));
   outside = subst (All (λ f. IsIn f (roots_of dirs) → ⊥)) (sym none) (All-nil (λ f. IsIn f (roots_of dirs) → ⊥));
-  last = λ folder. inl (more folder);
+  last = λ seen folder. inl (more folder);
 }
+
+-- none is sought where a file was seen
+pub none_sought : (dirs : Dirs) (T : Tree) (seen : Bool) (at : Option Path) (folders : List Path) → seen ≡ true → folders ≡ [] → AreInWayOf dirs T seen at folders
+none_sought dirs T seen None folders is none = none
+none_sought dirs T seen (Some top) folders is none = record {
+  inside = subst (All (IsAtOrBelow top)) (sym none) (All-nil (IsAtOrBelow top));
+  outside = subst (All (λ f. IsIn f (roots_of dirs) → ⊥)) (sym none) (All-nil (λ f. IsIn f (roots_of dirs) → ⊥));
+  last = λ other folder. absurd (differ (sym is ∙ other));
+}
+  where
+    differ : true ≡ false → ⊥
+    differ e = cc
 
 pub top_holds : (dirs : Dirs) (T : Tree) (top : Path) → (root : Path) × IsOfStore dirs root × IsAtOrBelow top root → HoldsMore dirs T top
 top_holds dirs T top (root, store, at) = (root, at, inr store)
@@ -187,11 +198,11 @@ backwards (p ∷ paths) =
     ∙ (ap (λ (l : List Path). l ++ p.items ∷ []) (backwards paths) ∙ sym (reverse-append (p.items ∷ []) (paths_of paths))))
 
 -- Folders in the way of a plan, one step more.
-pub way_added : (dirs : Dirs) (T : Tree) (folders : List (List Path)) (plan : List Entry) (fs : List Path) (e : Entry) → AllInWay dirs T folders plan → AreInWayOf dirs T (written_at (bare e.0)) fs → AllInWay dirs T (folders ++ fs ∷ []) (plan ++ e ∷ [])
-way_added dirs T [] [] fs e all way = (way, tt)
-way_added dirs T [] (x ∷ plan) fs e all way = absurd all
-way_added dirs T (xs ∷ folders) [] fs e all way = absurd all
-way_added dirs T (xs ∷ folders) (x ∷ plan) fs e all way = (all.0, way_added dirs T folders plan fs e all.1 way)
+pub way_added : (edits : List Edit) (dirs : Dirs) (T : Tree) (folders : List (List Path)) (plan : List Entry) (fs : List Path) (e : Entry) → AllInWay edits dirs T folders plan → AreInWayOf dirs T (is_seen edits e.1) (written_at (bare e.0)) fs → AllInWay edits dirs T (folders ++ fs ∷ []) (plan ++ e ∷ [])
+way_added edits dirs T [] [] fs e all way = (way, tt)
+way_added edits dirs T [] (x ∷ plan) fs e all way = absurd all
+way_added edits dirs T (xs ∷ folders) [] fs e all way = absurd all
+way_added edits dirs T (xs ∷ folders) (x ∷ plan) fs e all way = (all.0, way_added edits dirs T folders plan fs e all.1 way)
 
 -- A fault that was counted, or memory.
 pub unlisted_for : (planned : Planned About) (before now : ℕ) (fault : FileError) (u : Unfinished) → written_at (step_of planned.action) ≢ None → IsCountedFault before now fault →
@@ -233,14 +244,14 @@ fails_at plan i before mid now d (Step about (Fault fault)) lt le (same, writes,
     by (x ∷ p) (suc k) lt = ap (λ (l : List Entry). entry x ∷ l) (by p k (omega (arith, lt)))
 
 -- one step more is looked at
-pub way_next : (dirs : Dirs) (T mid : Tree) (ways all : List InWay) (plan : List (Planned About)) (i : ℕ) (d : Planned About) (way : InWay) → i < length plan → all ≡ ways ++ way ∷ [] → mid ≡ T →
-    AllInWay dirs T (folder_lists ways) (entries (take i plan)) → AreInWayOf dirs mid (written_at (step_of (get_or plan i d).action)) (paths_of way.folders.items) → AllInWay dirs T (folder_lists all) (entries (take (i + 1) plan))
-way_next dirs T mid ways all plan i d way lt is same before this =
-    subst (λ (l : List (List Path)). AllInWay dirs T l (entries (take (i + 1) plan))) (sym (ap folder_lists is ∙ map-append (λ (w : InWay). paths_of w.folders.items) ways (way ∷ [])))
-    (subst (λ (l : List Entry). AllInWay dirs T (folder_lists ways ++ paths_of way.folders.items ∷ []) l)
+pub way_next : (edits : List Edit) (dirs : Dirs) (T mid : Tree) (ways all : List InWay) (plan : List (Planned About)) (i : ℕ) (d : Planned About) (way : InWay) → i < length plan → all ≡ ways ++ way ∷ [] → mid ≡ T →
+    AllInWay edits dirs T (folder_lists ways) (entries (take i plan)) → AreInWayOf dirs mid (is_seen edits (get_or plan i d).about) (written_at (step_of (get_or plan i d).action)) (paths_of way.folders.items) → AllInWay edits dirs T (folder_lists all) (entries (take (i + 1) plan))
+way_next edits dirs T mid ways all plan i d way lt is same before this =
+    subst (λ (l : List (List Path)). AllInWay edits dirs T l (entries (take (i + 1) plan))) (sym (ap folder_lists is ∙ map-append (λ (w : InWay). paths_of w.folders.items) ways (way ∷ [])))
+    (subst (λ (l : List Entry). AllInWay edits dirs T (folder_lists ways ++ paths_of way.folders.items ∷ []) l)
     (sym (ap entries (take_more plan i d lt) ∙ map-append entry (take i plan) (get_or plan i d ∷ [])))
-    (way_added dirs T (folder_lists ways) (entries (take i plan)) (paths_of way.folders.items) (entry (get_or plan i d)) before
-    (subst (λ (U : Tree). AreInWayOf dirs U (written_at (step_of (get_or plan i d).action)) (paths_of way.folders.items)) same this)))
+    (way_added edits dirs T (folder_lists ways) (entries (take i plan)) (paths_of way.folders.items) (entry (get_or plan i d)) before
+    (subst (λ (U : Tree). AreInWayOf dirs U (is_seen edits (get_or plan i d).about) (written_at (step_of (get_or plan i d).action)) (paths_of way.folders.items)) same this)))
 
 -- a folder that was found is at the path or in it
 pub walked_at : (dirs : Dirs) (top : Path) (found : List (Vec ℕ Global)) (i : ℕ) (d : Vec ℕ Global) → i < length found → IsWalked dirs top (paths_of found) → IsAtOrBelow top (get_or found i d).items

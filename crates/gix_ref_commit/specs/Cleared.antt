@@ -1,5 +1,5 @@
 -- Empty folders: those in the way of what a commit writes, which are removed before each write, and those above what it removed.
-use Rattle.std.specs.Prelude.{◌≡◌, ◌⊎◌, ◌<◌, ℕ, suc, ◌+◌, List, [], ◌∷◌, ◌++◌, length, drop, map, true, Option, Some, None, codes, nat_eq, ◌==◌, if◌then◌else◌}
+use Rattle.std.specs.Prelude.{◌≡◌, ◌⊎◌, ◌<◌, ℕ, suc, ◌+◌, List, [], ◌∷◌, ◌++◌, length, drop, map, Bool, true, false, Option, Some, None, codes, nat_eq, ◌==◌, if◌then◌else◌}
 use Rattle.std.specs.List.{All, flat_map, starts_with}
 use Rattle.gix_ref_files.specs.Tree.{Tree, Path, is_file, is_folder}
 use Rattle.gix_ref_files.specs.Tree.Content.{Folder}
@@ -15,6 +15,7 @@ use Rattle.gix_ref_lookup.specs.declared.folders.Dirs.{Dirs}
 use Rattle.gix_ref_rewrite.specs.declared.outcome.Rewrite.{Rewrite}
 use Rattle.gix_ref_theory.specs.OnDisks.{IsAsBefore}
 use Rattle.gix_ref_theory.specs.Roots.{roots}
+use Rattle.gix_ref_transaction.specs.CommitRenames.{had_file_at, had_log_at}
 use Rattle.gix_ref_transaction.specs.OwnLocks.{paths_of}
 use Rattle.gix_ref_transaction.specs.declared.edit.Edit.{Edit}
 use Rattle.gix_ref_transaction.specs.declared.edit.Effect.{Effect}
@@ -24,6 +25,7 @@ use Rattle.gix_ref_transaction.specs.declared.edit.LogEffect.TheVariants as logs
 use Rattle.gix_ref_commit.specs.Entries.{Entry, bare, planned_entries}
 use Rattle.gix_ref_commit.specs.declared.folders.InWay.{InWay}
 use Rattle.gix_ref_commit.specs.declared.plan.About.{About}
+use Rattle.gix_ref_commit.specs.declared.plan.About.TheVariants as about
 
 -- the git folder, the common folder, and the folders above them: none of these is ever removed
 abbrev pub roots_of : Dirs → List Path
@@ -47,30 +49,36 @@ written_at (Line path bytes) = Some path
 written_at (Rename from to) = Some to
 written_at other = None
 
--- What is removed before a file is written at a path.
-pub record AreInWay (dirs : Dirs) (T : Tree) (path : Path) (folders : List Path) : Type 0 where
+-- a file was seen at the path that a step about this writes: the loose file with which an edit was compared, or a log
+abbrev pub is_seen : List Edit → About → Bool
+is_seen edits (about.Rename at) = had_file_at edits at
+is_seen edits (about.Line at) = had_log_at edits at
+is_seen edits other = false
+
+-- What is removed before a file is written at a path, where one was seen there, or not.
+pub record AreInWay (dirs : Dirs) (T : Tree) (seen : Bool) (path : Path) (folders : List Path) : Type 0 where
   -- nothing but the folder there, and folders in it
   pub inside : All (IsAtOrBelow path) folders
   -- and no folder of the store, or above it
   pub outside : All (λ f. IsIn f (roots_of dirs) → ⊥) folders
-  -- a folder there is the last of them, unless it holds more than empty folders
-  pub last : is_folder (T path) ≡ true → HoldsMore dirs T path ⊎ ((others : List Path) × (folders ≡ others ++ path ∷ []))
+  -- a folder there is the last of them, unless it holds more than empty folders; where a file was seen, none is sought
+  pub last : seen ≡ false → is_folder (T path) ≡ true → HoldsMore dirs T path ⊎ ((others : List Path) × (folders ≡ others ++ path ∷ []))
 
 -- and so for a step, which may write no file
-abbrev pub AreInWayOf : Dirs → Tree → Option Path → List Path → Type 0
-AreInWayOf dirs T None folders = folders ≡ []
-AreInWayOf dirs T (Some path) folders = AreInWay dirs T path folders
+abbrev pub AreInWayOf : Dirs → Tree → (seen : Bool) → Option Path → List Path → Type 0
+AreInWayOf dirs T seen None folders = folders ≡ []
+AreInWayOf dirs T seen (Some path) folders = AreInWay dirs T seen path folders
 
--- and for each step of a plan
-abbrev pub AllInWay : Dirs → Tree → List (List Path) → List Entry → Type 0
-AllInWay dirs T [] [] = Unit {0}
-AllInWay dirs T [] (e ∷ plan) = ⊥
-AllInWay dirs T (fs ∷ folders) [] = ⊥
-AllInWay dirs T (fs ∷ folders) (e ∷ plan) = AreInWayOf dirs T (written_at (bare e.0)) fs × AllInWay dirs T folders plan
+-- and for each step of a plan of these edits
+abbrev pub AllInWay : List Edit → Dirs → Tree → List (List Path) → List Entry → Type 0
+AllInWay edits dirs T [] [] = Unit {0}
+AllInWay edits dirs T [] (e ∷ plan) = ⊥
+AllInWay edits dirs T (fs ∷ folders) [] = ⊥
+AllInWay edits dirs T (fs ∷ folders) (e ∷ plan) = AreInWayOf dirs T (is_seen edits e.1) (written_at (bare e.0)) fs × AllInWay edits dirs T folders plan
 
 -- folders that are removed before a step, about which they are
 abbrev pub removals : About → List Path → List Entry
-removals about folders = map (λ (f : Path). (With (RemoveFolder f) [], about)) folders
+removals for_step folders = map (λ (f : Path). (With (RemoveFolder f) [], for_step)) folders
 
 -- a plan with the removals before each of its steps
 abbrev pub cleared : List (List Path) → List Entry → List Entry

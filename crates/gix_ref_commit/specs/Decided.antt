@@ -4,7 +4,7 @@ use Rattle.gix_ref_files.specs.Lock.{lock_of}
 use Rattle.gix_ref_files.specs.Tree.{Tree, Path, put}
 use Rattle.gix_ref_files.specs.Tree.Content.{File}
 use Rattle.gix_ref_rewrite.specs.declared.outcome.Rewrite.{Rewrite}
-use Rattle.gix_ref_rewrite.specs.declared.outcome.Rewrite.TheVariants.{Unchanged, Removed, Text}
+use Rattle.gix_ref_rewrite.specs.declared.outcome.Rewrite.TheVariants.{Text}
 use Rattle.gix_ref_transaction.specs.PrepareSteps.{FillsLock}
 
 -- a new text is in the lock of `packed-refs`, and nothing else has changed

@@ -1,5 +1,5 @@
 -- The plan of a commit: its steps with their syncs, each with what it is about.
-use Rattle.std.specs.Prelude.{ℕ, ◌+◌, List, [], ◌∷◌, ◌++◌, map, Option, Some, None, Bool, true, false, ◌<◌}
+use Rattle.std.specs.Prelude.{ℕ, ◌+◌, List, [], ◌∷◌, ◌++◌, map, Option, Some, None, Bool, true, false, ◌<◌, if◌then◌else◌}
 use Rattle.gix_ref_files.specs.Tree.{Path}
 use Rattle.gix_ref_files.specs.Disk.{folder_of}
 use Rattle.gix_ref_files.specs.Lock.{lock_of}
@@ -48,8 +48,9 @@ folders_for at (logs.Append log line) = (With (MakeFolders (folder_of log.items)
 folders_for at logs.Keep = []
 folders_for at (logs.Remove log) = []
 
+-- where there was no log
 abbrev pub folders_entry : ℕ → Edit → List Entry
-folders_entry at e = folders_for at e.log
+folders_entry at e = if e.has_log then [] else folders_for at e.log
 
 -- the line of a log
 abbrev pub line_for : Dirs → ℕ → LogEffect → List Entry

@@ -151,8 +151,8 @@ pub fn decide_folders<F: Files>(
     packed: &Option<LockFile>,
     rewrite: &Rewrite,
 ) -> Result<Vec<InWay>, commit::Error>
-    ensures in_way { F.honest → IfOk result (λ ways. AllInWay dirs.now (F.means files.old).tree
-        (folder_lists ways.items)
+    ensures in_way { F.honest → IfOk result (λ ways. AllInWay edits.now dirs.now
+        (F.means files.old).tree (folder_lists ways.items)
         (planned_entries dirs.now edits.now packed.now rewrite.now)) }
     ensures failed { IfErr result (IsOfListing edits.now (F.faults files.old)
         (F.faults files.new)) }
@@ -165,7 +165,7 @@ pub fn decide_folders<F: Files>(
     let Ok(plan) = plan_commit(alloc, dirs, edits, packed, rewrite) else {
         return Err(commit::Error::Memory);
     };
-    match all_in_way(alloc, files, dirs, &plan) {
+    match all_in_way(alloc, files, dirs, edits, &plan) {
         Ok(ways) => Ok(ways),
         Err(unfinished) => Err(unlisted(alloc, edits, unfinished)),
     }

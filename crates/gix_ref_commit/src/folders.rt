@@ -9,7 +9,7 @@ ghost use Rattle.gix_ref_files.specs.Settled.{IsIn};
 ghost use Rattle.gix_ref_files.specs.Steps.{step_of};
 ghost use Rattle.gix_ref_files.specs.Tree.{Tree, Path, fronts};
 ghost use Rattle.gix_ref_transaction.specs.OwnLocks.{paths_of};
-ghost use Rattle.gix_ref_commit.specs.Cleared.{roots_of, folder_lists, ClearsNothing, AllInWay, AreInWay, AreInWayOf, HoldsMore, IsAtOrBelow, IsOfStore, cleared, removals, written_at};
+ghost use Rattle.gix_ref_commit.specs.Cleared.{roots_of, folder_lists, ClearsNothing, AllInWay, AreInWay, AreInWayOf, HoldsMore, IsAtOrBelow, IsOfStore, cleared, is_seen, removals, written_at};
 ghost use Rattle.gix_ref_commit.specs.Entries.{entries};
 ghost use Rattle.gix_ref_commit.specs.internal.Walks.{FailsBefore, FailsToList, IsCountedFault, IsWalked, OnlyMore, StopsFor};
 
@@ -18,6 +18,7 @@ use crate::run::Unfinished;
 use gix_ref_files::files::{Entry, FileError, Files, Node};
 use gix_ref_files::steps::{Action, Cause, Planned, Settle};
 use gix_ref_lookup::folders::{Dirs, rest_below};
+use gix_ref_transaction::edit::Edit;
 use std::alloc::{AllocError, Global};
 
 /// The folders that are removed before a step, each behind those in it.
@@ -184,7 +185,7 @@ fn folders_at<F: Files>(
     path: &[u8],
 ) -> Result<Vec<Vec<u8>>, FileError>
     ensures in_way { F.honest → IfOk result (λ folders. AreInWay dirs.now
-        (F.means files.old).tree path.now (paths_of folders.items)) }
+        (F.means files.old).tree false path.now (paths_of folders.items)) }
     ensures leaves { F.honest → Leaves (F.means files.old) (F.means files.new)
         (Unchanged (F.means files.old).tree) }
     ensures passes { F.honest → Passes (F.means files.old) (F.means files.new)
@@ -213,7 +214,7 @@ fn in_way<F: Files>(
     path: &[u8],
 ) -> Result<InWay, FileError>
     ensures in_way { F.honest → IfOk result (λ way. AreInWay dirs.now
-        (F.means files.old).tree path.now (paths_of way.folders.items)) }
+        (F.means files.old).tree false path.now (paths_of way.folders.items)) }
     ensures leaves { F.honest → Leaves (F.means files.old) (F.means files.new)
         (Unchanged (F.means files.old).tree) }
     ensures passes { F.honest → Passes (F.means files.old) (F.means files.new)
@@ -238,7 +239,7 @@ fn in_way_of<F: Files>(
     action: &Action<'_>,
 ) -> Result<InWay, FileError>
     ensures in_way { F.honest → IfOk result (λ way. AreInWayOf dirs.now (F.means files.old).tree
-        (written_at (step_of action.now)) (paths_of way.folders.items)) }
+        false (written_at (step_of action.now)) (paths_of way.folders.items)) }
     ensures writes { IfErr result (λ error. written_at (step_of action.now) ≢ None) }
     ensures leaves { F.honest → Leaves (F.means files.old) (F.means files.new)
         (Unchanged (F.means files.old).tree) }
@@ -276,15 +277,29 @@ fn unlisted(about: About, source: FileError) -> Unfinished
     }
 }
 
-/// The folders that are in the way of a step of a plan.
+/// Whether a file was seen at the path that a step about this writes.
+fn is_seen(edits: &[Edit], about: About) -> bool
+    ensures { result ≡ is_seen edits.now about }
+{
+    match about {
+        About::Rename { edit } => edits.get(edit).is_some_and(|edit| edit.has_file),
+        About::Line { edit } => edits.get(edit).is_some_and(|edit| edit.has_log),
+        About::Folders { .. } | About::LogRemoval { .. } | About::Packed | About::Removal { .. } =>
+            false,
+    }
+}
+
+/// The folders that are in the way of a step of a plan. None is sought where a file was seen.
 fn way_before<F: Files>(
     alloc: Global,
     files: &mut F,
     dirs: &Dirs,
+    edits: &[Edit],
     planned: &Planned<'_, About>,
 ) -> Result<InWay, Unfinished>
     ensures in_way { F.honest → IfOk result (λ way. AreInWayOf dirs.now (F.means files.old).tree
-        (written_at (step_of planned.now.action)) (paths_of way.folders.items)) }
+        (is_seen edits.now planned.now.about) (written_at (step_of planned.now.action))
+        (paths_of way.folders.items)) }
     ensures failed { IfErr result (FailsBefore planned.now (F.faults files.old)
         (F.faults files.new)) }
     ensures leaves { F.honest → Leaves (F.means files.old) (F.means files.new)
@@ -293,6 +308,11 @@ fn way_before<F: Files>(
         (Untouched (disk_of (F.means files.old))) }
     ensures no_fewer { F.faults files.old ≤ F.faults files.new }
 {
+    if is_seen(edits, planned.about) {
+        return Ok(InWay {
+            folders: Vec::new(alloc),
+        });
+    }
     match in_way_of(alloc, files, dirs, &planned.action) {
         Ok(way) => Ok(way),
         Err(source) => Err(unlisted(planned.about, source)),
@@ -300,15 +320,16 @@ fn way_before<F: Files>(
 }
 
 /// The folders that are in the way of each step of a plan. The error names the step before which a folder could not be listed. One call of
-/// files for each step that writes a file, and one for each folder in its way.
+/// files for each step that writes a file where none was seen, and one for each folder in its way.
 pub fn all_in_way<F: Files>(
     alloc: Global,
     files: &mut F,
     dirs: &Dirs,
+    edits: &[Edit],
     plan: &[Planned<'_, About>],
 ) -> Result<Vec<InWay>, Unfinished>
-    ensures in_way { F.honest → IfOk result (λ ways. AllInWay dirs.now (F.means files.old).tree
-        (folder_lists ways.items) (entries plan.now)) }
+    ensures in_way { F.honest → IfOk result (λ ways. AllInWay edits.now dirs.now
+        (F.means files.old).tree (folder_lists ways.items) (entries plan.now)) }
     ensures failed { IfErr result (FailsToList (entries plan.now) (F.faults files.old)
         (F.faults files.new)) }
     ensures leaves { F.honest → Leaves (F.means files.old) (F.means files.new)
@@ -321,7 +342,7 @@ pub fn all_in_way<F: Files>(
         return Err(Unfinished::Memory);
     };
     for planned in plan {
-        let way = match way_before(alloc, files, dirs, planned) {
+        let way = match way_before(alloc, files, dirs, edits, planned) {
             Ok(way) => way,
             Err(unfinished) => return Err(unfinished),
         };

@@ -29,10 +29,13 @@ pub enum About {
     Removal { edit: usize },
 }
 
-/// The folders that lead to the log of an edit, if a line is added to it.
+/// The folders that lead to the log of an edit, if a line is added to it and there was no log.
 fn folders_step<'p>(at: usize, edit: &'p Edit) -> Option<Planned<'p, About>>
     ensures { entry_of result ≡ folders_entry at edit.now }
 {
+    if edit.has_log {
+        return None;
+    }
     match &edit.log {
         LogEffect::Append { log, .. } => Some(Planned {
             action: Action::MakeFolders { path: folder(log) },

@@ -576,6 +576,31 @@ fn a_deletion_that_follows_expects_it_of_both(rt: HostRuntime) {
     hold(&rt, &memory, UNLOCKED, "all as before");
 }
 
+/// The update of a branch that is there, with its log: nine calls of files, and nine syncs, of the lock, of the log and the four folders
+/// above it, and of the three folders above the branch.
+#[test]
+fn nine_calls_and_their_syncs(rt: HostRuntime) {
+    let alloc = rt.alloc();
+    let before: Texts = &[("/r/refs/heads/a", ONE), ("/r/logs/refs/heads/a", FIRST)];
+    let mut store = store(alloc, made(&rt, alloc, before), "", "").expect(&rt, "a store");
+    store.write_reflog = WriteReflog::Normal;
+    let asked = Asked {
+        new: Some(Id::Two),
+        ..UPDATE
+    };
+    let edits = edits_of(&rt, alloc, &[asked]);
+    let (outcome, _) = committed(alloc, &mut store, Who::C, edits, "");
+    assert_eq!(rt; outcome, Outcome::Done);
+    let memory = store.into_files();
+    assert_eq!(rt; memory.calls(), 9 + 9);
+    hold(
+        &rt,
+        &memory,
+        &[("/r/refs/heads/a", TWO), ("/r/logs/refs/heads/a", BOTH)],
+        "both are written",
+    );
+}
+
 /// How a run ends.
 #[derive(Clone, Copy, Debug, PartialEq, Eq)]
 enum End {

@@ -19,13 +19,18 @@ const ONE: &[u8] = b"1111111111111111111111111111111111111111\n";
 
 const TWO: &[u8] = b"2222222222222222222222222222222222222222\n";
 
-/// The calls of files before the commit: `packed-refs`, the path of its lock, the opening of `packed-refs`, folders, the lock, a read,
-/// the text and its sync.
-const PREPARING: u64 = 8;
+/// The calls of files before the commit: `packed-refs`, the path of its lock, folders, the lock, a read, the text and its sync.
+const PREPARING: u64 = 7;
 
-/// All calls of files of an update: in the commit, the look at the place, the rename and the syncs of `refs/heads`, `refs` and the git
-/// folder.
-const CALLS: u64 = PREPARING + 5;
+/// All calls of files of an update: in the commit, a look at the place where there was no branch, the rename and the syncs of
+/// `refs/heads`, `refs` and the git folder.
+fn calls(has_branch: bool) -> u64 {
+    if has_branch {
+        PREPARING + 4
+    } else {
+        PREPARING + 5
+    }
+}
 
 /// How a call ends.
 #[derive(Clone, Copy, Debug, PartialEq, Eq)]
@@ -124,10 +129,10 @@ fn is_old_or_new(text: Option<&[u8]>, has_branch: bool) -> bool {
 #[test]
 fn a_stop_and_a_loss_leave_the_old_or_the_new(rt: HostRuntime) {
     let alloc = rt.alloc();
-    for k in 1..(CALLS + 1) {
-        for n in [0usize, 1, 20, 100] {
-            for row in 0..9u64 {
-                for has_branch in [false, true] {
+    for has_branch in [false, true] {
+        for k in 1..=calls(has_branch) {
+            for n in [0usize, 1, 20, 100] {
+                for row in 0..9u64 {
                     let end = End::Stops(k, n);
                     let (answer, memory) = after_loss(&rt, alloc, has_branch, end, pick_at(row));
                     assert!(rt; answer != Answer::Done, "call {k}");
@@ -144,7 +149,7 @@ fn a_stop_and_a_loss_leave_the_old_or_the_new(rt: HostRuntime) {
 #[test]
 fn a_fault_and_a_loss_leave_the_old_or_the_new(rt: HostRuntime) {
     let alloc = rt.alloc();
-    for k in 1..(CALLS + 1) {
+    for k in 1..=calls(true) {
         for row in 0..9u64 {
             let (answer, memory) = after_loss(&rt, alloc, true, End::Fails(k), pick_at(row));
             let want = if k <= PREPARING {
@@ -166,7 +171,7 @@ fn what_is_done_stays(rt: HostRuntime) {
             let (answer, memory) = after_loss(&rt, alloc, has_branch, End::Done, pick_at(row));
             assert_eq!(rt; answer, Answer::Done);
             assert!(rt; memory.get(A) == Some(TWO), "loss {row}");
-            assert_eq!(rt; memory.calls(), CALLS);
+            assert_eq!(rt; memory.calls(), calls(has_branch));
         }
     }
 }

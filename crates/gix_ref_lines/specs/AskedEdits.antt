@@ -48,8 +48,8 @@ abbrev pub outcomes_of : List Edit → List LogOutcome
 outcomes_of edits = map (λ (e : Edit). outcome_of e.log) edits
 
 -- an edit but for what becomes of its log
-abbrev pub but_log : Edit → RefEdit × Option ℕ × Path × Option ObjectId × Option Target × Effect
-but_log e = (e.update, e.parent, e.lock, e.packed, e.found, e.effect)
+abbrev pub but_log : Edit → RefEdit × Option ℕ × Path × Option ObjectId × Option Target × Effect × Bool
+but_log e = (e.update, e.parent, e.lock, e.packed, e.found, e.effect, e.has_file)
 
-abbrev pub all_but_logs : List Edit → List (RefEdit × Option ℕ × Path × Option ObjectId × Option Target × Effect)
+abbrev pub all_but_logs : List Edit → List (RefEdit × Option ℕ × Path × Option ObjectId × Option Target × Effect × Bool)
 all_but_logs edits = map but_log edits

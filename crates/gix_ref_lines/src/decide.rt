@@ -1,11 +1,13 @@
 //! What a commit decides of the logs of its edits before its first write (`git reflog`, `core.logAllRefUpdates` of `git config`).
-ghost use Rattle.std.specs.Prelude.{◌≡◌, ◌≤◌, OnOk, IfOk, IfErr, vec_items};
+ghost use Rattle.std.specs.Prelude.{◌≡◌, ◌≤◌, true, OnOk, IfOk, IfErr, IsSome, vec_items};
 ghost use Rattle.std.specs.Option.{option_map};
 ghost use Rattle.gix_ref_files.specs.Calls.{Unchanged};
 ghost use Rattle.gix_ref_files.specs.DiskCalls.{Untouched};
 ghost use Rattle.gix_ref_files.specs.Files.{disk_of, Leaves, Passes};
+ghost use Rattle.gix_ref_files.specs.Tree.{is_file};
 ghost use Rattle.gix_ref_theory.specs.OnRealTrees.{view_of};
 ghost use Rattle.gix_ref_theory.specs.Views.{View};
+ghost use Rattle.gix_ref_transaction.specs.CommitRenames.{HasItsLog, HaveLogs, path_in};
 ghost use Rattle.gix_ref_lines.specs.AskedEdits.{asked, asked_edit, all_but_logs, but_log, outcome_of, outcomes_of};
 ghost use Rattle.gix_ref_lines.specs.DueLines.{due_line, log_outcome, log_outcomes, outcome_by, log_path, rules_of, with_log};
 ghost use Rattle.gix_ref_lines.specs.LineCauses.{AllPass, IsCounted, IsRefusal, IsRefusalAt, Passes as IsPassed};
@@ -27,7 +29,31 @@ use gix_ref_lookup::settings::Settings;
 use gix_ref_transaction::edit::{Edit, LogEffect};
 use std::alloc::Global;
 
-/// The line that is due for an edit, whose log is at this path; `None` where no line is due.
+/// What is due for an edit.
+#[derive(Drop)]
+struct Due {
+    /// The line, if one is.
+    line: Option<Vec<u8>>,
+    /// Whether it is due to a log that is a file.
+    has_log: bool,
+}
+
+impl Due {
+    ghost use Rattle.std.specs.Prelude.{◌≡◌, None, false};
+
+    /// No line.
+    fn nothing() -> Due
+        ensures line { result.line ≡ None }
+        ensures has_log { result.has_log ≡ false }
+    {
+        Due {
+            line: None,
+            has_log: false,
+        }
+    }
+}
+
+/// What is due for an edit, whose log is at this path.
 fn due_line<F: Files>(
     alloc: Global,
     files: &mut F,
@@ -36,12 +62,14 @@ fn due_line<F: Files>(
     edit: &Edit,
     leaf: Option<ObjectId>,
     path: &[u8],
-) -> Result<Option<Vec<u8>>, Error>
+) -> Result<Due, Error>
     requires { path.now ≡ log_path (log_rules rules) (asked_edit edit.now leaf) }
     ensures line { F.honest → (view : View) →
         Sees view (F.means files.old).tree (paths_in due.old) →
-        IfOk result (λ line. option_map vec_items line
+        IfOk result (λ due. option_map vec_items due.line
         ≡ due_line (log_rules rules.entry) view (asked_edit edit.now leaf)) }
+    ensures there { F.honest → IfOk result (λ due. due.has_log ≡ true → IsSome due.line
+        × (is_file ((F.means files.old).tree path.now) ≡ true)) }
     ensures passed { F.honest → (view : View) →
         Sees view (F.means files.old).tree (paths_in due.old) →
         OnOk result (IsPassed (log_rules rules.entry) view (asked_edit edit.now leaf)) }
@@ -60,21 +88,26 @@ fn due_line<F: Files>(
     ensures counted { IfErr result (IsCounted (F.faults files.old) (F.faults files.new)) }
 {
     let Some(ids) = rules.written_ids(edit, leaf) else {
-        return Ok(None);
+        return Ok(Due::nothing());
     };
     let place = place_at(alloc, files, due, path)?;
     if !rules.has_log(alloc, place.is_log, edit)? {
-        return Ok(None);
+        return Ok(Due::nothing());
     }
     let message = message_of(&edit.update.change);
     let line = line_at(alloc, rules.committer, &ids, message, place, path)?;
     due.insert(path.to_vec(alloc)?)?;
-    Ok(Some(line))
+    Ok(Due {
+        line: Some(line),
+        has_log: place.is_file,
+    })
 }
 
 /// What becomes of the log at this path by a change for which this line is due.
 fn outcome(change: &Change, log: Vec<u8>, line: Option<Vec<u8>>) -> LogEffect
-    ensures { outcome_of result ≡ outcome_by change.now log.items (option_map vec_items line) }
+    ensures outcome { outcome_of result ≡ outcome_by change.now log.items (option_map vec_items
+        line) }
+    ensures path { IsSome line → path_in result ≡ log.items }
 {
     match (change, line) {
         (Change::Delete { .. }, _) => LogEffect::Remove { log },
@@ -97,6 +130,7 @@ fn decide_log<F: Files>(
         Sees view (F.means files.old).tree (paths_in due.old) →
         OnOk result (outcome_of edit.new.log
         ≡ log_outcome (log_rules rules.entry) view (asked_edit edit.old leaf)) }
+    ensures there { F.honest → OnOk result (HasItsLog (F.means files.old).tree edit.new) }
     ensures passed { F.honest → (view : View) →
         Sees view (F.means files.old).tree (paths_in due.old) →
         OnOk result (IsPassed (log_rules rules.entry) view (asked_edit edit.old leaf)) }
@@ -115,8 +149,9 @@ fn decide_log<F: Files>(
     ensures counted { IfErr result (IsCounted (F.faults files.old) (F.faults files.new)) }
 {
     let path = rules.settings.log(alloc, edit.update.name.as_ref())?;
-    let line = due_line(alloc, files, rules, due, edit, leaf, &path)?;
-    edit.log = outcome(&edit.update.change, path, line);
+    let found = due_line(alloc, files, rules, due, edit, leaf, &path)?;
+    edit.has_log = found.has_log;
+    edit.log = outcome(&edit.update.change, path, found.line);
     Ok(())
 }
 
@@ -144,6 +179,7 @@ pub fn decide_logs<F: Files>(
     ensures logs { F.honest → OnOk result (outcomes_of edits.new ≡ log_outcomes
         (rules_of settings.now write_reflog committer.entry)
         (view_of (F.means files.old).tree) (asked edits.old)) }
+    ensures there { F.honest → OnOk result (HaveLogs (F.means files.old).tree edits.new) }
     ensures passed { F.honest → OnOk result (AllPass
         (rules_of settings.now write_reflog committer.entry)
         (view_of (F.means files.old).tree) (asked edits.old)) }

@@ -20,7 +20,9 @@ use std::alloc::Global;
 /// What there is at the path of a log.
 #[derive(Clone, Copy, Debug, PartialEq, Eq)]
 pub struct Place {
-    /// Whether the log is there.
+    /// Whether a file is there.
+    pub is_file: bool,
+    /// Whether the log is there, or has a line due.
     pub is_log: bool,
     /// Whether a file is where a folder of its path would be.
     pub is_blocked: bool,
@@ -51,6 +53,8 @@ pub fn place_at<F: Files>(
     due: &DueLogs,
     path: &[u8],
 ) -> Result<Place, Error>
+    ensures file { F.honest → IfOk result (λ place. place.is_file
+        ≡ is_some (view_of (F.means files.old).tree path.now)) }
     ensures log { F.honest → IfOk result (λ place. place.is_log
         ≡ (is_some (view_of (F.means files.old).tree path.now)
         || is_among (paths_in due.now) path.now)) }
@@ -66,10 +70,14 @@ pub fn place_at<F: Files>(
     ensures counted { IfErr result (IsCounted (F.faults files.old) (F.faults files.new)) }
 {
     match files.kind(path) {
-        Ok(node) => Ok(Place {
-            is_log: node == Node::File || due.contains(path),
-            is_blocked: node == Node::Blocked || due.is_above(path),
-        }),
+        Ok(node) => {
+            let is_file = node == Node::File;
+            Ok(Place {
+                is_file,
+                is_log: is_file || due.contains(path),
+                is_blocked: node == Node::Blocked || due.is_above(path),
+            })
+        }
         Err(fault) => Err(fault_at(alloc, path, fault)),
     }
 }

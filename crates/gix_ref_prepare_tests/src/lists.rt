@@ -401,12 +401,12 @@ const EDITS: [(&str, &[u8], bool); 4] = [
     ("refs/heads/a", b"/r/refs/heads/a", true),
 ];
 
-/// The calls of files before the commit: `packed-refs`, the path of its lock, the opening of `packed-refs`, and five for each edit.
-const PREPARING: u64 = 23;
+/// The calls of files before the commit: `packed-refs`, the path of its lock, and five for each edit.
+const PREPARING: u64 = 22;
 
-/// All calls of files that they make: in the commit, the look at the place of each, the rename of each and the syncs up to the git
-/// folder.
-const CALLS: u64 = PREPARING + 4 + 4 + 4 + 2 + 4;
+/// All calls of files that they make: in the commit, the look at the place that held no file, the rename of each and the syncs up to
+/// the git folder.
+const CALLS: u64 = PREPARING + 1 + 4 + 4 + 2 + 4;
 
 /// How a run ends.
 #[derive(Clone, Copy, Debug, PartialEq, Eq)]
@@ -490,10 +490,10 @@ fn a_stop_and_a_loss_show_the_first_updates(rt: HostRuntime) {
 /// The name of the edit at whose place the call of this number looks, or whose rename it is, or a sync after it.
 fn edit_of_call(call: u64) -> &'static str {
     match call {
-        0..=23 => "",
-        24 | 28..=31 => "refs/heads/b",
-        25 | 32..=35 => "refs/tags/t",
-        26 | 36 | 37 => "HEAD",
+        0..=22 => "",
+        24..=27 => "refs/heads/b",
+        23 | 28..=31 => "refs/tags/t",
+        32 | 33 => "HEAD",
         _ => "refs/heads/a",
     }
 }

@@ -16,18 +16,15 @@ const PACKED: &str = "1111111111111111111111111111111111111111 refs/heads/b\n";
 
 const PACKED_LOCK: &str = "/r/packed-refs.lock";
 
-/// The call that opens `packed-refs`: before it the update looks for that file and for its lock.
-const OPEN: u64 = 3;
-
-/// The call that looks whether a folder is at the place: before it the update opens `packed-refs`, makes the folders of the lock and the
-/// lock, reads the reference, writes the text and syncs it.
-const LOOK: u64 = 9;
+/// The call that looks whether a folder is at the place, where no file was: before it the update looks for `packed-refs` and for its
+/// lock, makes the folders of the lock and the lock, reads the reference, writes the text and syncs it.
+const LOOK: u64 = 8;
 
 /// The call that renames the lock.
-const RENAME: u64 = 10;
+const RENAME: u64 = 9;
 
 /// The number of calls of files that the update makes: after the rename it syncs `refs/heads`, `refs` and the git folder.
-const CALLS: u64 = 13;
+const CALLS: u64 = 12;
 
 /// After a restart: the reference is absent or new. The next update meets the lock where there is one; without it, it works.
 fn recovers(rt: &impl Abort, alloc: Global, mut memory: Memory) {
@@ -56,7 +53,7 @@ fn recovers(rt: &impl Abort, alloc: Global, mut memory: Memory) {
 }
 
 #[test]
-fn thirteen_calls_of_files(rt: HostRuntime) {
+fn twelve_calls_of_files(rt: HostRuntime) {
     let alloc = rt.alloc();
     let ran = run_words(&rt, alloc, with_file(&rt, alloc, "", ""), &UPDATE);
     assert_eq!(rt; ran.files.calls(), CALLS);
@@ -86,7 +83,6 @@ fn failed_at_each_call(rt: HostRuntime) {
         memory.fail_at(k);
         let ran = run_words(&rt, alloc, memory, &UPDATE);
         let want: &[u8] = match k {
-            OPEN => b"refused: Packed\n",
             1..LOOK => b"refused: Io\n",
             _ => b"refused: LockCommit\n",
         };

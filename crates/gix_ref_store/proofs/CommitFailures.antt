@@ -17,7 +17,7 @@ use Rattle.gix_ref_files.proofs.Puts.{put_other}
 use Rattle.gix_ref_lookup.specs.declared.folders.Dirs.{Dirs}
 use Rattle.gix_ref_rewrite.specs.declared.outcome.Rewrite.{Rewrite}
 use Rattle.gix_ref_edits.specs.declared.transaction.RefEdit.{RefEdit}
-use Rattle.gix_ref_transaction.specs.CommitRenames.{log_at, path_in, place_at}
+use Rattle.gix_ref_transaction.specs.CommitRenames.{HaveLogs, log_at, path_in, place_at}
 use Rattle.gix_ref_transaction.specs.CarriedEdits.{change_of}
 use Rattle.gix_ref_transaction.specs.declared.edit.LogEffect.{LogEffect}
 use Rattle.gix_ref_transaction.specs.declared.edit.LogEffect.TheVariants as log_effects
@@ -37,7 +37,7 @@ use Rattle.gix_ref_transaction.specs.declared.edit.Edit.{Edit}
 use Rattle.gix_ref_transaction.proofs.Adds.{any_cases, any_left, any_right, clash, in_here}
 use Rattle.gix_ref_repack.specs.declared.error.Error.{Error as RepackError}
 use Rattle.gix_ref_repack.specs.declared.error.Error.TheVariants as repack
-use Rattle.gix_ref_commit.specs.Cleared.{AllInWay, AreInWayOf, HoldsMore, commit_entries, folder_lists, written_at}
+use Rattle.gix_ref_commit.specs.Cleared.{AllInWay, AreInWayOf, HoldsMore, commit_entries, folder_lists, is_seen, written_at}
 use Rattle.gix_ref_commit.specs.Decided.{FillsPacked, IsFilled}
 use Rattle.gix_ref_commit.specs.Entries.{Entry, bare, done_before, done_of, planned_entries, IsOfEdit}
 use Rattle.gix_ref_base.specs.PackedRecords.{Record}
@@ -407,8 +407,8 @@ module _ {F : Type 0} (honest : Type 0) (means : F → Meaning) (faults : F → 
     faults_at (Removal at) fault Memory is isf logged within stop = absurd is
 
   -- The run of the steps ended early.
-  module _ (outcomes : honest → outcomes_of ran ≡ log_outcomes (line_rules start committer) (view_of (tree_of means start)) (asked held)) (passes : LinesPass honest means start committer held) (rewrite : Rewrite) (repacked : RepacksFrom honest means faults start packed held rewrite) (filled mid : Tree)
-      (ways : List InWay) (way_is : honest → AllInWay start.dirs filled (folder_lists ways) (planned_entries start.dirs ran packed rewrite))
+  module _ (outcomes : honest → outcomes_of ran ≡ log_outcomes (line_rules start committer) (view_of (tree_of means start)) (asked held)) (seen_logs : honest → HaveLogs (tree_of means start) ran) (passes : LinesPass honest means start committer held) (rewrite : Rewrite) (repacked : RepacksFrom honest means faults start packed held rewrite) (filled mid : Tree)
+      (ways : List InWay) (way_is : honest → AllInWay ran start.dirs filled (folder_lists ways) (planned_entries start.dirs ran packed rewrite))
       (fills : honest → IsPackedEmpty honest means faults start packed → IsFilled packed rewrite (tree_of means start) filled)
       (removes : honest → RemovesLocks (held_locks packed held) mid (tree_of means new)) where
     abbrev Ends : About → Cause → Type 0
@@ -419,6 +419,7 @@ module _ {F : Type 0} (honest : Type 0) (means : F → Meaning) (faults : F → 
       ran = ran;
       alike = alike;
       logs = outcomes;
+      logged = seen_logs;
       passed = passes;
       rewrite = rewrite;
       repacked = repacked;
@@ -467,15 +468,15 @@ module _ {F : Type 0} (honest : Type 0) (means : F → Meaning) (faults : F → 
 
     -- What was in its way is a step of the plan, and what was there was not emptied.
     module _ (a : About) (e : Ends a Unexpected) (h : honest) where
-      abbrev pub met_cut : IsCutOf (Way start.dirs filled) (planned_entries start.dirs ran packed rewrite) e.before (e.step, a)
-      met_cut = at_cut a Unexpected e (Way start.dirs filled) (all_ways start.dirs filled (folder_lists ways) (planned_entries start.dirs ran packed rewrite) (way_is h))
+      abbrev pub met_cut : IsCutOf (Way ran start.dirs filled) (planned_entries start.dirs ran packed rewrite) e.before (e.step, a)
+      met_cut = at_cut a Unexpected e (Way ran start.dirs filled) (all_ways ran start.dirs filled (folder_lists ways) (planned_entries start.dirs ran packed rewrite) (way_is h))
 
       pub met : MeetsAt ran packed a mid
       met =
           let at = e.ended h in
           ⊎_elim
           (λ it. meets ran packed a (bare e.step) at.0 mid
-          (subst (λ (x : Step). HasShape ran packed a x) (sym (ap (λ (x : Entry). bare x.0) it.0)) (shape_in a Unexpected e (Way start.dirs filled) (all_ways start.dirs filled (folder_lists ways) (planned_entries start.dirs ran packed rewrite) (way_is h)))) at.2)
+          (subst (λ (x : Step). HasShape ran packed a x) (sym (ap (λ (x : Entry). bare x.0) it.0)) (shape_in a Unexpected e (Way ran start.dirs filled) (all_ways ran start.dirs filled (folder_lists ways) (planned_entries start.dirs ran packed rewrite) (way_is h)))) at.2)
           (λ gone. absurd (removal_not_refused (bare e.step) gone.0 (ap bare gone.1) at.0 mid at.2))
           met_cut.what
 
@@ -484,16 +485,17 @@ module _ {F : Type 0} (honest : Type 0) (means : F → Meaning) (faults : F → 
           let at = e.ended h in
           ⊎_elim
           (λ it. writes ran packed a (bare e.step) at.0 mid
-          (subst (λ (x : Step). HasShape ran packed a x) (sym (ap (λ (x : Entry). bare x.0) it.0)) (shape_in a Unexpected e (Way start.dirs filled) (all_ways start.dirs filled (folder_lists ways) (planned_entries start.dirs ran packed rewrite) (way_is h)))) at.2)
+          (subst (λ (x : Step). HasShape ran packed a x) (sym (ap (λ (x : Entry). bare x.0) it.0)) (shape_in a Unexpected e (Way ran start.dirs filled) (all_ways ran start.dirs filled (folder_lists ways) (planned_entries start.dirs ran packed rewrite) (way_is h)))) at.2)
           (λ gone. absurd (removal_not_refused (bare e.step) gone.0 (ap bare gone.1) at.0 mid at.2))
           met_cut.what
 
-      pub kept : (path : Path) → written_at (bare e.step) ≡ Some path → is_folder (filled path) ≡ true → HoldsMore start.dirs filled path ⊎ (IsEmptyFolder mid path → ⊥)
-      kept path writes folder =
+      pub kept : (path : Path) → written_at (bare e.step) ≡ Some path → is_seen ran a ≡ false → is_folder (filled path) ≡ true → HoldsMore start.dirs filled path ⊎ (IsEmptyFolder mid path → ⊥)
+      kept path writes unseen folder =
           let at = e.ended h in
           ⊎_elim
-          (λ it. not_emptied start.dirs filled at.0 mid e.before it.1.0 met_cut.step.1 it.1.1 path it.1.2
-          (subst (λ (w : Option Path). AreInWayOf start.dirs filled w it.1.1) (ap (λ (x : Entry). written_at (bare x.0)) (sym it.0) ∙ writes) it.1.3) at.1 at.2.1 folder)
+          (λ it. not_emptied start.dirs filled at.0 mid e.before it.1.0 met_cut.step.1 it.1.1 path (is_seen ran met_cut.step.1) it.1.2
+          (subst (λ (w : Option Path). AreInWayOf start.dirs filled (is_seen ran met_cut.step.1) w it.1.1) (ap (λ (x : Entry). written_at (bare x.0)) (sym it.0) ∙ writes) it.1.3) at.1 at.2.1
+          (ap (is_seen ran) met_cut.about ∙ unseen) folder)
           (λ gone. absurd (removal_not_refused (bare e.step) gone.0 (ap bare gone.1) at.0 mid at.2))
           met_cut.what
 

@@ -344,13 +344,13 @@ module _ {F : Type 0} (honest : Type 0) (means : F → Meaning) (faults : F → 
       -- All is decided.
       module _ (outcomes : honest → outcomes_of ran ≡ log_outcomes (line_rules start committer) (view_of first.tree) (asked held)) (rewrite : Rewrite) (repacks : RepacksFrom honest means faults start packed held rewrite)
           (filled : honest → IsFilled packed rewrite first.tree decided.tree) (wholes : honest → (locks : List Path) → AreWholeLocks (disk_of first) locks → AreWholeLocks (disk_of decided) locks)
-          (ways : List InWay) (in_way : honest → AllInWay old.dirs decided.tree (folder_lists ways) (planned_entries old.dirs ran packed rewrite)) where
+          (ways : List InWay) (in_way : honest → AllInWay ran old.dirs decided.tree (folder_lists ways) (planned_entries old.dirs ran packed rewrite)) where
         abbrev all_entries : List Entry
         all_entries = commit_entries old.dirs ran packed rewrite ways
 
         -- no folder of the store is removed
         pub out : honest → EachOutside (roots_of old.dirs) (folder_lists ways)
-        out h = all_outside old.dirs decided.tree (folder_lists ways) (planned_entries old.dirs ran packed rewrite) (in_way h)
+        out h = all_outside ran old.dirs decided.tree (folder_lists ways) (planned_entries old.dirs ran packed rewrite) (in_way h)
 
         -- where its steps are cut, they are those of the plan
         cut_at : (before : List Entry) (x : Entry) (rest : List Entry) → all_entries ≡ before ++ x ∷ rest → IsCutOf Any (planned_entries old.dirs ran packed rewrite) before x

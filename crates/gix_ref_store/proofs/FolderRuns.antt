@@ -25,9 +25,10 @@ use Rattle.gix_ref_transaction.specs.declared.edit.LogEffect.{LogEffect}
 use Rattle.gix_ref_transaction.specs.declared.edit.LogEffect.TheVariants as logs
 use Rattle.gix_ref_transaction.proofs.Adds.{clash, either_way, in_here, is_same_path, same_path}
 use Rattle.gix_ref_lines.specs.AskedEdits.{all_but_logs}
-use Rattle.gix_ref_commit.specs.Cleared.{AllInWay, AreInWayOf, FoldersGo, IsAbove, IsAtOrBelow, all_removed, cleared, removals, removed_file, removed_log, roots_of, written_at}
+use Rattle.gix_ref_commit.specs.Cleared.{AllInWay, AreInWayOf, FoldersGo, IsAbove, IsAtOrBelow, all_removed, cleared, is_seen, removals, removed_file, removed_log, roots_of, written_at}
 use Rattle.gix_ref_commit.specs.Decided.{FillsPacked}
-use Rattle.gix_ref_commit.specs.Entries.{Entry, bare, bare_steps, each, folders_for, line_for, log_removal_entry, log_removal_for, packed_entries, planned_entries, removal_entry, removal_for, rename_for, update_entries}
+use Rattle.gix_ref_commit.proofs.LogFolders.{folders_either}
+use Rattle.gix_ref_commit.specs.Entries.{Entry, bare, bare_steps, each, folders_entry, folders_for, line_for, log_removal_entry, log_removal_for, packed_entries, planned_entries, removal_entry, removal_for, rename_for, update_entries}
 use Rattle.gix_ref_commit.specs.LogEffects.{AreLogsOf, IsLogOf}
 use Rattle.gix_ref_commit.specs.declared.plan.About.{About}
 use Rattle.gix_ref_commit.proofs.Held.{heads}
@@ -119,6 +120,9 @@ module _ (W : Path → Type 0) where
   folders_plain at (logs.Remove log) = tt
   folders_plain at (logs.Append log line) = (record { writes = λ path e. none_writes e; keeps = λ q e. cc }, tt)
 
+  folders_entry_plain : (at : ℕ) (e : Edit) → ArePlainSteps (folders_entry at e)
+  folders_entry_plain at e = folders_either ArePlainSteps at e tt (folders_plain at e.log)
+
   line_plain : (dirs : Dirs) (at : ℕ) (l : LogEffect) → IsLined l → ArePlainSteps (line_for dirs at l)
   line_plain dirs at logs.Keep w = tt
   line_plain dirs at (logs.Remove log) w = tt
@@ -158,7 +162,7 @@ module _ (W : Path → Type 0) where
   pub plan_plain : (dirs : Dirs) (edits : List Edit) (packed : Option Path) (rewrite : Rewrite) → AreWritten edits → ((path : Path) → packed ≡ Some path → W path) →
       ArePlainSteps (planned_entries dirs edits packed rewrite)
   plan_plain dirs edits packed rewrite w at_packed = both _ _
-      (each_plain (update_entries dirs) (λ at e w. both _ _ (folders_plain at e.log) (both _ _ (line_plain dirs at e.log w.1) (rename_plain dirs at e.lock e.effect w.0))) 0 edits w)
+      (each_plain (update_entries dirs) (λ at e w. both _ _ (folders_entry_plain at e) (both _ _ (line_plain dirs at e.log w.1) (rename_plain dirs at e.lock e.effect w.0))) 0 edits w)
       (both _ _ (each_plain (log_removal_entry dirs) (λ at e w. log_removal_plain dirs at e.log) 0 edits w)
       (both _ _ (packed_plain dirs packed rewrite at_packed) (each_plain (removal_entry dirs) (λ at e w. removal_plain dirs at e.lock e.effect) 0 edits w)))
 
@@ -184,12 +188,12 @@ module _ (dirs : Dirs) (R : Tree) (written : List Path) where
       inner : RemoveFolder f ≡ RemoveFolder q → f ≡ q
       inner h = cc
 
-  pub run_stays : (folders : List (List Path)) (plan : List Entry) → AllInWay dirs R folders plan → ArePlainSteps (IsOneOf written) plan → (S T : Tree) → IsAfter (bare_steps (cleared folders plan)) S T →
+  pub run_stays : (ran : List Edit) (folders : List (List Path)) (plan : List Entry) → AllInWay ran dirs R folders plan → ArePlainSteps (IsOneOf written) plan → (S T : Tree) → IsAfter (bare_steps (cleared folders plan)) S T →
       (q : Path) → S q ≡ Some Folder → (T q ≡ Some Folder) ⊎ IsCleared q
-  run_stays [] [] are plain S T after q folder = inl (ap (λ (U : Tree). U q) after ∙ folder)
-  run_stays [] (e ∷ plan) are plain S T after q folder = absurd are
-  run_stays (fs ∷ folders) [] are plain S T after q folder = absurd are
-  run_stays (fs ∷ folders) (e ∷ plan) are plain S T after q folder = by (λ mid later r there. run_stays folders plan are.1 plain.1 mid T later r there) (written_at (bare e.0)) refl are.0
+  run_stays ran [] [] are plain S T after q folder = inl (ap (λ (U : Tree). U q) after ∙ folder)
+  run_stays ran [] (e ∷ plan) are plain S T after q folder = absurd are
+  run_stays ran (fs ∷ folders) [] are plain S T after q folder = absurd are
+  run_stays ran (fs ∷ folders) (e ∷ plan) are plain S T after q folder = by (λ mid later r there. run_stays ran folders plan are.1 plain.1 mid T later r there) (written_at (bare e.0)) refl are.0
     where
       Rest : Type 0
       Rest = (mid : Tree) → IsAfter (bare_steps (cleared folders plan)) mid T → (r : Path) → mid r ≡ Some Folder → (T r ≡ Some Folder) ⊎ IsCleared r
@@ -200,7 +204,7 @@ module _ (dirs : Dirs) (R : Tree) (written : List Path) where
           (λ gone. absurd (plain.0.keeps r gone))
           (stays (bare e.0) M mid r there does)
 
-      by : Rest → (at : Option Path) → written_at (bare e.0) ≡ at → AreInWayOf dirs R at fs → (T q ≡ Some Folder) ⊎ IsCleared q
+      by : Rest → (at : Option Path) → written_at (bare e.0) ≡ at → AreInWayOf dirs R (is_seen ran e.1) at fs → (T q ≡ Some Folder) ⊎ IsCleared q
       by rest None is none = next rest S (subst (λ (l : List Path). IsAfter (bare_steps (removals e.1 l ++ e ∷ cleared folders plan)) S T) none after) q folder
       by rest (Some path) is way = removals_stay e.1 fs (e ∷ cleared folders plan) S T path (plain.0.writes path is) way.inside way.outside (next rest) after q folder
 
@@ -256,7 +260,7 @@ module _ (s : readings.Store) where
   -- a commit from the tree `start` to T
   pub folders_stay : (dirs : Dirs) (held ran : List Edit) (packed : Option Path) (rewrite : Rewrite) (folders : List (List Path)) (start filled mid released T : Tree) (locks : List Path) →
       all_but_logs ran ≡ all_but_logs held → AreLogsOf s (updates held) ran → AreEmpty start (map lock_of (packed_places packed)) → FillsPacked packed start filled →
-      AllInWay dirs filled folders (planned_entries dirs ran packed rewrite) → IsAfter (bare_steps (cleared folders (planned_entries dirs ran packed rewrite))) filled mid →
+      AllInWay ran dirs filled folders (planned_entries dirs ran packed rewrite) → IsAfter (bare_steps (cleared folders (planned_entries dirs ran packed rewrite))) filled mid →
       RemovesLocks locks mid released → FoldersGo dirs (all_removed ran) released T →
       FoldersStay dirs (packed_places packed ++ flat_map (written_by s) held) (flat_map (deleted_by s) held) start T
   folders_stay dirs held ran packed rewrite folders start filled mid released T locks alike logged empty fills in_way after removes tidied q folder =
@@ -266,7 +270,7 @@ module _ (s : readings.Store) where
       (λ gone. inr (gone.3, inr (subst (λ (l : List Path). IsAbove dirs l q) (removed_same held ran alike logged) gone.2)))
       (tidied q))
       (λ out. inr (out.0, inl out.1))
-      (run_stays dirs filled written folders (planned_entries dirs ran packed rewrite) in_way plain filled mid after q (filled_has packed refl fills))
+      (run_stays dirs filled written ran folders (planned_entries dirs ran packed rewrite) in_way plain filled mid after q (filled_has packed refl fills))
     where
       written : List Path
       written = packed_places packed ++ flat_map (written_by s) held

@@ -11,7 +11,7 @@ use Rattle.gix_ref_transaction.specs.Parents.{parents_in}
 use Rattle.gix_ref_transaction.specs.OwnLocks.{paths_of}
 use Rattle.gix_ref_transaction.specs.declared.prepare.hold.HeldLocks.{HeldLocks}
 use Rattle.gix_ref_transaction.specs.declared.prepare.hold.LockFailure.{LockFailure}
-use Rattle.gix_ref_transaction.specs.PrepareSteps.{AreWholeLocks, effects_of, effects_on, ids_in, packed_ids, place_paths, places_of, targets_of, updates}
+use Rattle.gix_ref_transaction.specs.PrepareSteps.{AreWholeLocks, effects_of, effects_on, files_at, ids_in, packed_ids, place_paths, places_of, seen_files, targets_of, updates}
 use Rattle.gix_ref_transaction.specs.declared.edit.Edit.{Edit}
 use Rattle.gix_ref_store.specs.ComposedEdits.{AreAskedAs}
 use Rattle.gix_ref_store.specs.Prepared.{HasGoodRecords, HaveParents, HoldsFrom, HoldsGiven, HoldsPacked, LosesNothing, PreparesFrom, PreparesGiven, RefusesFrom, RefusesGiven, SplitsFrom, disk_in, locks_in, tree_of}
@@ -21,9 +21,9 @@ use Rattle.gix_ref_store.specs.declared.file.store.Store.{Store}
 -- `seen` are the edits that are held, and `after` those that carry what was found of them: as many
 pub prepares : {F : Type 0} (honest : Type 0) (means : F → Meaning) (faults : F → ℕ) (old new : Store F) (given : List RefEdit) (len : ℕ) (packed : Option Path) (held seen after rest : List Edit) →
     seen ≡ held → length seen ≡ len → HoldsGiven honest means faults old new given packed held →
-    AreCarried (updates seen) (targets_of seen) (updates after) → place_paths after ≡ place_paths seen → parents_in after ≡ parents_in seen → effects_of after ≡ effects_of seen → ids_in after ≡ ids_in seen →
+    AreCarried (updates seen) (targets_of seen) (updates after) → place_paths after ≡ place_paths seen → parents_in after ≡ parents_in seen → effects_of after ≡ effects_of seen → seen_files after ≡ seen_files seen → ids_in after ≡ ids_in seen →
     PreparesGiven honest means faults old new given packed (take len (after ++ rest))
-prepares honest means faults old new given len packed held seen after rest are all holds carried same_places same_parents same_effects same_ids = record {
+prepares honest means faults old new given len packed held seen after rest are all holds carried same_places same_parents same_effects same_files same_ids = record {
   split = updates held;
   splits = holds.splits;
   parents = λ h. ap parents_in over ∙ (same_parents ∙ (ap parents_in are ∙ holds.parents h));
@@ -36,6 +36,7 @@ prepares honest means faults old new given len packed held seen after rest are a
     carried = subst (λ (l : List Edit). AreCarried (updates l) (targets_of l) (updates after)) are carried;
     places = same_places ∙ (ap place_paths are ∙ holds.places);
     effects = λ h good. same_effects ∙ (ap effects_of are ∙ holds.effects h good);
+    files = λ h good. same_files ∙ (ap seen_files are ∙ holds.files h good);
     ids = λ h good. same_ids ∙ (ap ids_in are ∙ holds.ids h good);
   });
 }
@@ -56,9 +57,10 @@ module _ {F : Type 0} (honest : Type 0) (means : F → Meaning) (faults : F → 
       IfOk r (λ held. HoldsPacked honest means faults old new (updates held.edits.items) held.packed) →
       IfOk r (λ held. place_paths held.edits.items ≡ places_of (meaning_of old) (updates held.edits.items)) →
       (honest → HasGoodRecords means old → IfOk r (λ held. effects_of held.edits.items ≡ effects_on (meaning_of old) (view_of (tree_of means old)) (updates held.edits.items))) →
+      (honest → HasGoodRecords means old → IfOk r (λ held. seen_files held.edits.items ≡ files_at (meaning_of old) (tree_of means old) (updates held.edits.items))) →
       (honest → HasGoodRecords means old → IfOk r (λ held. ids_in held.edits.items ≡ packed_ids (meaning_of old) (tree_of means old) (updates held.edits.items))) →
       IfOk r (λ held. HoldsGiven honest means faults old new given held.packed held.edits.items)
-  holds_given (Ok held) splits parents holds lost whole packed places effects ids = record {
+  holds_given (Ok held) splits parents holds lost whole packed places effects files ids = record {
     splits = record { asked = asked; composed = composed; from = splits };
     parents = parents;
     held = holds;
@@ -67,9 +69,10 @@ module _ {F : Type 0} (honest : Type 0) (means : F → Meaning) (faults : F → 
     packed = packed;
     places = places;
     effects = effects;
+    files = files;
     ids = ids;
   }
-  holds_given (Err failure) splits parents holds lost whole packed places effects ids = tt
+  holds_given (Err failure) splits parents holds lost whole packed places effects files ids = tt
 
   -- and a refusal of the one is one of the other
   pub refuses_given : (read : Type 0) (r : Result HeldLocks LockFailure) →

@@ -11,7 +11,7 @@ use Rattle.gix_ref_transaction.specs.Causes.{IsCountedWith, IsFindCause, IsIoOrM
 use Rattle.gix_ref_transaction.specs.OwnLocks.{AddsLocks, is_in, paths_of, times}
 use Rattle.gix_ref_transaction.specs.Causes.{AllValid, NoCause}
 use Rattle.gix_ref_transaction.specs.Parents.{parents_in}
-use Rattle.gix_ref_transaction.specs.PrepareSteps.{AreEmpty, AreLockable, AreSettled, IsPackedPlace, ids_in, packed_ids, packed_places, possible_locks, all_asked, effects_of, effects_on, HoldTexts, old_targets, place_paths, targets_of, updates}
+use Rattle.gix_ref_transaction.specs.PrepareSteps.{AreEmpty, AreLockable, AreSettled, IsPackedPlace, ids_in, packed_ids, packed_places, possible_locks, all_asked, effects_of, effects_on, files_at, seen_files, HoldTexts, old_targets, place_paths, targets_of, updates}
 use Rattle.gix_ref_transaction.specs.declared.edit.Edit.{Edit}
 use Rattle.gix_ref_transaction.proofs.PackedLemmas.{parents_alike, places_alike, updates_alike}
 use Rattle.gix_ref_theory.specs.OnRealTrees.{view_of}
@@ -78,6 +78,14 @@ module _ (begun : List Edit) (split : List RefEdit) (asked : updates begun ≡ s
         by : (q : Result HeldLocks LockFailure) → IfOk q (λ held. AreSettled (meaning_of old) (kind_of old) (tree_of means old) (tree_of means new) begun held.edits.items) →
             IfOk q (λ held. effects_of held.edits.items ≡ effects_on (meaning_of old) (view_of (tree_of means old)) split)
         by (Ok held) is = is.what ∙ ap (effects_on (meaning_of old) (view_of (tree_of means old))) asked
+        by (Err failure) is = tt
+
+    pub held_files : honest → HasGoodRecords means old → IfOk r (λ held. seen_files held.edits.items ≡ files_at (meaning_of old) (tree_of means old) split)
+    held_files h good = by r (settled h good)
+      where
+        by : (q : Result HeldLocks LockFailure) → IfOk q (λ held. AreSettled (meaning_of old) (kind_of old) (tree_of means old) (tree_of means new) begun held.edits.items) →
+            IfOk q (λ held. seen_files held.edits.items ≡ files_at (meaning_of old) (tree_of means old) split)
+        by (Ok held) is = is.files ∙ ap (files_at (meaning_of old) (tree_of means old)) asked
         by (Err failure) is = tt
 
     pub held_ids : honest → HasGoodRecords means old → IfOk r (λ held. ids_in held.edits.items ≡ packed_ids (meaning_of old) (tree_of means old) split)

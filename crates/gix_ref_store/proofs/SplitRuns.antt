@@ -1,5 +1,5 @@
 -- A `prepare` that first read files for its splits, from the store with which it began.
-use Rattle.std.proofs.Common.{◌≡◌, ◌≤◌, ◌⊎◌, inl, inr, ⊎_elim, ℕ, List, [], true, Option, All, refl, sym, ◌∙◌, ap, subst, arith, Result, Ok, Err, IfOk, IfErr, OnOk}
+use Rattle.std.proofs.Common.{◌≡◌, ◌⊎◌, inl, inr, ⊎_elim, ℕ, List, [], true, Option, All, refl, sym, ◌∙◌, ap, subst, arith, Result, Ok, Err, IfOk, IfErr, OnOk}
 use Rattle.gix_ref_base.specs.Targets.{TargetValue}
 use Rattle.gix_ref_files.specs.Disk.{Disk}
 use Rattle.gix_ref_files.specs.Tree.{Tree, Path}
@@ -14,7 +14,7 @@ use Rattle.gix_ref_edits.specs.RefEdits.{AreUpdates}
 use Rattle.gix_ref_edits.specs.declared.transaction.RefEdit.{RefEdit}
 use Rattle.gix_ref_transaction.specs.Causes.{AllValid, IsAccepted, IsCounted, IsDoubling, IsFindCause, IsIoOrMemory, IsLockCause, IsPackedRefusal, IsPackedWell, names_of, packed_taken}
 use Rattle.gix_ref_transaction.specs.OwnLocks.{AddsLocks, is_in, times}
-use Rattle.gix_ref_transaction.specs.PrepareSteps.{packed_ids, AreLockable, effects_on, HoldTexts, old_targets, own_locks, own_places}
+use Rattle.gix_ref_transaction.specs.PrepareSteps.{packed_ids, AreLockable, effects_on, files_at, HoldTexts, old_targets, own_locks, own_places}
 use Rattle.gix_ref_transaction.specs.Splits.{AreDirect, AreSplit, CanFollow, IsFirstMisnamed, IsSplitCause, IsTooLong, OnlyReads, all_rounds}
 use Rattle.gix_ref_transaction.specs.declared.prepare.error.Error.{Error}
 use Rattle.gix_ref_transaction.specs.declared.prepare.error.Error.TheVariants.{Memory}
@@ -75,6 +75,9 @@ module _ {F : Type 0} (honest : Type 0) (means : F → Meaning) (faults : F → 
 
   pub effects_same : (h : honest) (edits : List RefEdit) → effects_on (meaning_of old) (view_of (tree_of means mid)) edits ≡ effects_on (meaning_of old) (view_of (tree_of means old)) edits
   effects_same h edits = ap (λ (T : Tree). effects_on (meaning_of old) (view_of T) edits) (same_tree h)
+
+  pub files_same : (h : honest) (edits : List RefEdit) → files_at (meaning_of old) (tree_of means mid) edits ≡ files_at (meaning_of old) (tree_of means old) edits
+  files_same h edits = ap (λ (T : Tree). files_at (meaning_of old) T edits) (same_tree h)
 
   pub ids_same : (h : honest) (edits : List RefEdit) → packed_ids (meaning_of old) (tree_of means mid) edits ≡ packed_ids (meaning_of old) (tree_of means old) edits
   ids_same h edits = ap (λ (T : Tree). packed_ids (meaning_of old) T edits) (same_tree h)

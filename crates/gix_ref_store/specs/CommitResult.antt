@@ -16,7 +16,7 @@ use Rattle.gix_ref_theory.specs.Edits.Mode.{DeletionsOnly}
 use Rattle.gix_ref_theory.specs.Losses.{IsLostWell}
 use Rattle.gix_ref_theory.specs.OnRealTrees.{view_of}
 use Rattle.gix_ref_edits.specs.declared.transaction.RefEdit.{RefEdit}
-use Rattle.gix_ref_transaction.specs.CommitRenames.{place_at}
+use Rattle.gix_ref_transaction.specs.CommitRenames.{HaveLogs, place_at}
 use Rattle.gix_ref_transaction.specs.CommittedEdits.{planned}
 use Rattle.gix_ref_transaction.specs.OwnLocks.{is_in, paths_of, times, RemovesLocks}
 use Rattle.gix_ref_transaction.specs.PackedCauses.{ids_among}
@@ -31,7 +31,7 @@ use Rattle.gix_ref_lines.specs.declared.create_or_update.Error.TheVariants.{Crea
 use Rattle.gix_ref_repack.specs.Refusals.{IsBadLine}
 use Rattle.gix_ref_repack.specs.Repacks.{IsRepack}
 use Rattle.gix_ref_repack.specs.declared.error.Error.TheVariants as repack
-use Rattle.gix_ref_commit.specs.Cleared.{AllInWay, HoldsMore, commit_entries, folder_lists}
+use Rattle.gix_ref_commit.specs.Cleared.{AllInWay, HoldsMore, commit_entries, folder_lists, is_seen}
 use Rattle.gix_ref_commit.specs.CommittedTrees.{AreCommitted, IsOldOrNew}
 use Rattle.gix_ref_commit.specs.Decided.{IsFilled}
 use Rattle.gix_ref_commit.specs.Entries.{planned_entries}
@@ -113,6 +113,8 @@ module _ {F : Type 0} (honest : Type 0) (means : F → Meaning) (faults : F → 
     pub ran : List Edit
     pub alike : all_but_logs ran ≡ all_but_logs held
     pub logs : honest → outcomes_of ran ≡ log_outcomes (line_rules start committer) (view_of (tree_of means start)) (asked held)
+    -- where an edit says that there was a log, it was a file
+    pub logged : honest → HaveLogs (tree_of means start) ran
     pub passed : LinesPass honest means start committer held
     pub rewrite : Rewrite
     pub repacked : RepacksFrom start packed held rewrite
@@ -120,7 +122,7 @@ module _ {F : Type 0} (honest : Type 0) (means : F → Meaning) (faults : F → 
     pub fills : honest → IsPackedEmpty start packed → IsFilled packed rewrite (tree_of means start) filled
     -- the folders that are removed before each step
     pub ways : List InWay
-    pub in_way : honest → AllInWay start.dirs filled (folder_lists ways) (planned_entries start.dirs ran packed rewrite)
+    pub in_way : honest → AllInWay ran start.dirs filled (folder_lists ways) (planned_entries start.dirs ran packed rewrite)
     pub mid : Tree
     pub stops : EndsAtStep honest (commit_entries start.dirs ran packed rewrite ways) filled mid about cause
     pub removes : honest → RemovesLocks (held_locks packed held) mid (tree_of means new)
@@ -168,9 +170,9 @@ module _ {F : Type 0} (honest : Type 0) (means : F → Meaning) (faults : F → 
   FailsForLog start new committer packed held error = RefusesLine start new committer packed held error
 
   -- What is at this path as a run ends was not emptied: a folder that was there before the first write held more than empty folders, or it is not
-  -- empty now.
+  -- empty now. None was sought where a file was seen there.
   abbrev pub NotEmptied : (start new : Store F) (committer : Option SignatureRef) (packed : Option Path) (held : List Edit) (about : About) (cause : Cause) → StopsAt start new committer packed held about cause → Path → Type 0
-  NotEmptied start new committer packed held about cause at path = is_folder (at.filled path) ≡ true → HoldsMore start.dirs at.filled path ⊎ (IsEmptyFolder at.mid path → ⊥)
+  NotEmptied start new committer packed held about cause at path = is_seen at.ran about ≡ false → is_folder (at.filled path) ≡ true → HoldsMore start.dirs at.filled path ⊎ (IsEmptyFolder at.mid path → ⊥)
 
   -- the run ended at this step because of a folder that was not emptied
   abbrev pub StopsBefore : (start new : Store F) → Option SignatureRef → Option Path → List Edit → About → Path → Type 0

@@ -15,7 +15,7 @@ use Rattle.gix_ref_theory.specs.Views.{IsOwnLock}
 use Rattle.gix_ref_transaction.specs.OwnLocks.{is_in, times, AddsLocks, RemovesLocks, OnlyRemoves}
 use Rattle.gix_ref_transaction.specs.Causes.{AllValid, IsAccepted, IsCountedWith, IsDoubling, IsFindCause, IsIoOrMemory, IsLockCause, IsPackedRefusal, IsPackedWell, names_of, packed_taken}
 use Rattle.gix_ref_store.specs.Store.{files_of, kind_of, folders, meaning_of, IsSameStore}
-use Rattle.gix_ref_transaction.specs.PrepareSteps.{AreEmpty, AreLockable, AreWholeLocks, effects_of, effects_on, HoldTexts, ids_in, packed_ids, IsPackedPlace, old_targets, own_locks, own_places, packed_places, place_paths, places_of, possible_locks, targets_of, updates}
+use Rattle.gix_ref_transaction.specs.PrepareSteps.{AreEmpty, AreLockable, AreWholeLocks, effects_of, effects_on, HoldTexts, ids_in, packed_ids, IsPackedPlace, old_targets, own_locks, own_places, packed_places, place_paths, places_of, possible_locks, targets_of, updates, files_at, seen_files}
 use Rattle.gix_ref_transaction.specs.CarriedEdits.{AreCarried}
 use Rattle.gix_ref_transaction.specs.Parents.{parents_in, split_parents}
 use Rattle.gix_ref_transaction.specs.Splits.{all_rounds, AreDirect, AreSplit, CanFollow, leads_to, Refuses, values_of}
@@ -157,6 +157,8 @@ module _ {F : Type 0} (honest : Type 0) (means : F → Meaning) (faults : F → 
     pub packed : HoldsPacked old new edits packed_place
     -- what becomes of each loose file is decided by the files before
     pub effects : honest → HasGoodRecords means old → effects_of after ≡ effects_on (meaning_of old) (view_of (tree_of means old)) edits
+    -- whether there was one is by these too
+    pub files : honest → HasGoodRecords means old → seen_files after ≡ files_at (meaning_of old) (tree_of means old) edits
     -- and the ids of their records are those of the files before
     pub ids : honest → HasGoodRecords means old → ids_in after ≡ packed_ids (meaning_of old) (tree_of means old) edits
 
@@ -190,6 +192,7 @@ module _ {F : Type 0} (honest : Type 0) (means : F → Meaning) (faults : F → 
     pub packed : HoldsPacked old new (updates edits) packed_place
     pub places : place_paths edits ≡ places_of (meaning_of old) (updates edits)
     pub effects : honest → HasGoodRecords means old → effects_of edits ≡ effects_on (meaning_of old) (view_of (tree_of means old)) (updates edits)
+    pub files : honest → HasGoodRecords means old → seen_files edits ≡ files_at (meaning_of old) (tree_of means old) (updates edits)
     pub ids : honest → HasGoodRecords means old → ids_in edits ≡ packed_ids (meaning_of old) (tree_of means old) (updates edits)
 
   -- A transaction that is prepared from given edits: their split list is.

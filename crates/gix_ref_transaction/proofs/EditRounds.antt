@@ -16,7 +16,7 @@ use Rattle.gix_ref_edits.specs.RefEdits.{name_of}
 use Rattle.gix_ref_edits.specs.declared.transaction.RefEdit.{RefEdit}
 use Rattle.gix_ref_transaction.specs.OwnLocks.{AddsLocks, OnlyLocks, is_in}
 use Rattle.gix_ref_transaction.specs.Causes.{found, packed_of, IsFirstCause, IsIoOrMemory, IsMismatch, LocksAreApart, NoCause, locks_of}
-use Rattle.gix_ref_transaction.specs.PrepareSteps.{AreLockable, AreSettled, AreWholeLocks, FillingOn, FillsLock, HoldTexts, IsDecided, IsNewLock, IsRefusedLock, IsSomeWhole, all_given, effect_value, effects_of, effects_on, given, ids_in, old_targets, packed_ids, place_paths, places_of, targets_of, updates}
+use Rattle.gix_ref_transaction.specs.PrepareSteps.{AreLockable, AreSettled, AreWholeLocks, FillingOn, FillsLock, HoldTexts, IsDecided, IsNewLock, IsRefusedLock, IsSomeWhole, all_given, effect_value, effects_of, effects_on, files_at, given, ids_in, old_targets, packed_ids, place_paths, places_of, seen_files, targets_of, updates}
 use Rattle.gix_ref_transaction.specs.declared.edit.Edit.{Edit}
 use Rattle.gix_ref_transaction.specs.declared.prepare.error.Error.{Error}
 use Rattle.gix_ref_transaction.proofs.Adds.{clash}
@@ -48,6 +48,7 @@ module _ (s : Store) (kind : Kind) (all : List RefEdit) (first : Meaning) where
   -- result of all.
   pub record Finds (i : ℕ) (now : Meaning) (edits : List Edit) : Type 0 where
     pub was : targets_of (take i edits) ≡ old_targets s first.tree (take i all)
+    pub files : seen_files (take i edits) ≡ files_at s first.tree (take i all)
     pub what : effects_of (take i edits) ≡ effects_on s (view_of first.tree) (take i all)
     pub fault : (error : Error) → IsFirstCause s kind first.tree (take i all) (drop i all) error → IsFirstCause s kind first.tree [] all error
     pub pass : NoCause s kind first.tree (take i all) (drop i all) → NoCause s kind first.tree [] all
@@ -67,7 +68,7 @@ module _ (s : Store) (kind : Kind) (all : List RefEdit) (first : Meaning) where
   }
 
   pub finds_first : (edits : List Edit) → Finds 0 first edits
-  finds_first edits = record { was = refl; what = refl; fault = λ error h. h; pass = λ h. h; texts = tt }
+  finds_first edits = record { was = refl; files = refl; what = refl; fault = λ error h. h; pass = λ h. h; texts = tt }
 
   -- after the last
   pub lockable_all : (i : ℕ) (now : Meaning) → length all ≤ i → Goes i now → AreLockable s kind first.tree [] all
@@ -82,6 +83,7 @@ module _ (s : Store) (kind : Kind) (all : List RefEdit) (first : Meaning) where
       let every = take_all i edits ends in
       record {
         was = subst (λ (l : List Edit). targets_of l ≡ old_targets s first.tree (updates given)) every (finds.was ∙ ap (old_targets s first.tree) (whole ∙ sym is));
+        files = subst (λ (l : List Edit). seen_files l ≡ files_at s first.tree (updates given)) every (finds.files ∙ ap (files_at s first.tree) (whole ∙ sym is));
         what = subst (λ (l : List Edit). effects_of l ≡ effects_on s (view_of first.tree) (updates given)) every (finds.what ∙ ap (effects_on s (view_of first.tree)) (whole ∙ sym is));
         ids = ids;
         no_cause = subst (λ (l : List RefEdit). NoCause s kind first.tree [] l) (sym is) (finds.pass (subst (λ (l : List RefEdit). NoCause s kind first.tree (take i all) l) (sym (drop_all i all end)) tt));
@@ -235,6 +237,8 @@ module _ (s : Store) (old : List Edit) (t : Turn old) where
         finds_then done like decided finds = record {
           was = subst (λ (l : List Edit). targets_of l ≡ old_targets s first.tree (take (i + 1) all)) (sym more)
               (rounds.found_then s kind all apart first mid i e.update lt_all update_is lock at held goes.run one took new (take i now) done finds.was decided.was);
+          files = subst (λ (l : List Edit). seen_files l ≡ files_at s first.tree (take (i + 1) all)) (sym more)
+              (rounds.files_then s kind all apart first mid i e.update lt_all update_is lock at held goes.run one took new (take i now) done finds.files decided.file);
           what = subst (λ (l : List Edit). effects_of l ≡ effects_on s (view_of first.tree) (take (i + 1) all)) (sym more)
               (rounds.effects_then s kind all apart first mid i e.update lt_all update_is lock at held goes.run one took new (take i now) done finds.what
               (ap (λ p. effect_value p.change done.effect) (ap (λ p. p.0) like) ∙ decided.what));

@@ -1,5 +1,5 @@
 -- What there is of a reference, by its loose file and its record, and what becomes of its loose file.
-use Rattle.std.proofs.Common.{◌≡◌, ℕ, List, [], ◌∷◌, Option, Some, None, Bool, true, false, not, ◌&&◌, ◌||◌, refl, sym, ap, ◌∙◌, if◌then◌else◌}
+use Rattle.std.proofs.Common.{◌≡◌, ℕ, List, [], ◌∷◌, Option, Some, None, Bool, true, false, not, ◌&&◌, ◌||◌, is_some, refl, sym, ap, ◌∙◌, if◌then◌else◌}
 use Rattle.std.specs.Prelude.{is_none}
 use Rattle.std.specs.List.{list_any}
 use Rattle.std.specs.Option.{option_map}
@@ -32,7 +32,7 @@ use Rattle.gix_ref_transaction.specs.Causes.{found, found_by, decoded, id_of_rec
 use Rattle.gix_ref_files.specs.Tree.{Tree, Path, put}
 use Rattle.gix_ref_files.specs.Tree.Content.{File}
 use Rattle.gix_ref_files.proofs.Puts.{put_same}
-use Rattle.gix_ref_transaction.specs.PrepareSteps.{decision, decision_of, effect_on, effect_value, is_damaged, is_found, is_undecodable, lock_text, target_by, text_of_new}
+use Rattle.gix_ref_transaction.specs.PrepareSteps.{decision, decision_of, effect_on, effect_value, is_damaged, is_found, is_loose_file, is_undecodable, lock_text, target_by, text_of_new}
 use Rattle.gix_ref_transaction.specs.declared.edit.Effect.{Effect as Decision}
 use Rattle.gix_ref_transaction.specs.declared.edit.Effect.TheVariants.{Write, Remove, Keep}
 
@@ -56,6 +56,11 @@ module _ (f : Layout) (kind : Kind) (prohibits : Bool) where
       ap Some (same_target (target_value target)) ∙ ap (λ t. found_by git t packed) (sym (ap (decoded git) told.1 ∙ held_is kind told.0 (target_value target) told.2))
   target_is (loose_files.Undecodable error) file packed told =
       sym (ap (λ t. found_by git t packed) (ap (decoded git) told.1 ∙ refused_none kind told.0 error told.2 told.3))
+
+  pub file_is : (loose : Loose) (file : Option (List ℕ)) → IsDecoded kind file loose → is_loose_file loose ≡ is_some file
+  file_is loose_files.Absent file told = sym (ap is_some told)
+  file_is (loose_files.Holds target) file told = sym (ap is_some told.1)
+  file_is (loose_files.Undecodable error) file told = sym (ap is_some told.1)
 
   pub damaged_is : (loose : Loose) (file : Option (List ℕ)) → IsDecoded kind file loose → is_undecodable loose ≡ is_damaged git file
   damaged_is loose_files.Absent file told = sym (ap (is_damaged git) told)

@@ -1,5 +1,5 @@
 -- Edits that are judged while the lock of `packed-refs` is held are judged as before.
-use Rattle.std.proofs.Common.{◌≡◌, ◌≢◌, inl, inr, ⊎_elim, ℕ, suc, List, [], ◌∷◌, ◌++◌, true, Option, Some, None, All, refl, sym, ◌∙◌, ap, subst, arith}
+use Rattle.std.proofs.Common.{◌≡◌, ◌≢◌, inl, inr, ⊎_elim, ℕ, suc, List, [], ◌∷◌, ◌++◌, true, Bool, Option, is_some, Some, None, All, refl, sym, ◌∙◌, ap, subst, arith}
 use Rattle.std.specs.Prelude.{IsSome}
 use Rattle.gix_ref_base.specs.Targets.{TargetValue}
 use Rattle.gix_ref_hash.specs.declared.hash.Kind.{Kind}
@@ -14,7 +14,7 @@ use Rattle.gix_ref_edits.specs.RefEdits.{name_of, expected_of, new_of, Expects}
 use Rattle.gix_ref_edits.specs.declared.transaction.RefEdit.{RefEdit}
 use Rattle.gix_ref_transaction.specs.Causes.{decoded, found, found_by, packed_id, packed_of, IsApartFromPacked, IsFault, IsFirstCause, IsLockable, IsMismatch, IsUnlockable, NoCause, Passes}
 use Rattle.gix_ref_transaction.specs.OwnLocks.{is_in}
-use Rattle.gix_ref_transaction.specs.PrepareSteps.{packed_ids, effect_on, effects_on, lock_text, old_targets, updates, AreLockable, AreSettled, HoldTexts, IsPackedPlace, TakesPacked}
+use Rattle.gix_ref_transaction.specs.PrepareSteps.{packed_ids, effect_on, effects_on, files_at, has_file_at, lock_text, old_targets, updates, AreLockable, AreSettled, HoldTexts, IsPackedPlace, TakesPacked}
 use Rattle.gix_ref_transaction.specs.declared.edit.Edit.{Edit}
 use Rattle.gix_ref_transaction.specs.declared.prepare.error.Error.{Error}
 use Rattle.gix_ref_transaction.specs.declared.prepare.error.Error.TheVariants.{UnsafeName, DeviceName, DeleteMustNotExist, TargetNotFull, OtherHashKind, PreprocessingFailed, PackedTransactionAcquire, Packed, PackedFind, PathCollision, LockAcquire, DeleteReferenceMustExist, MustExist, MustNotExist, ReferenceOutOfDate, ReferenceDecode, Io, Memory}
@@ -39,6 +39,9 @@ module _ (s : Store) (kind : Kind) (plain held : Tree) (off : (q : Path) → q �
 
     same_place : view_of held (s.place (name_of edit)) ≡ view_of plain (s.place (name_of edit))
     same_place = ap file_of (off (s.place (name_of edit)) apart.place)
+
+    same_file : has_file_at s held edit ≡ has_file_at s plain edit
+    same_file = ap is_some same_place
 
     same_found : found s (view_of held) (name_of edit) ≡ found s (view_of plain) (name_of edit)
     same_found =
@@ -110,6 +113,10 @@ module _ (s : Store) (kind : Kind) (plain held : Tree) (off : (q : Path) → q �
   targets_on [] apart = refl
   targets_on (e ∷ some) apart = ap (λ (f : Option TargetValue). f ∷ old_targets s held some) (same_found e (first e some apart)) ∙ ap (λ (l : List (Option TargetValue)). found s (view_of plain) (name_of e) ∷ l) (targets_on some (others e some apart))
 
+  files_on : (some : List RefEdit) → AreApart some → files_at s held some ≡ files_at s plain some
+  files_on [] apart = refl
+  files_on (e ∷ some) apart = ap (λ (b : Bool). b ∷ files_at s held some) (same_file e (first e some apart)) ∙ ap (λ (l : List Bool). has_file_at s plain e ∷ l) (files_on some (others e some apart))
+
   effects_as : (some : List RefEdit) → AreApart some → effects_on s (view_of held) some ≡ effects_on s (view_of plain) some
   effects_as [] apart = refl
   effects_as (e ∷ some) apart = ap (λ (w : Effect). w ∷ effects_on s (view_of held) some) (same_effect e (first e some apart)) ∙ ap (λ (l : List Effect). effect_on s (view_of plain) e ∷ l) (effects_as some (others e some apart))
@@ -123,6 +130,7 @@ module _ (s : Store) (kind : Kind) (plain held : Tree) (off : (q : Path) → q �
   pub settled_on : (T : Tree) (old new : List Edit) → AreApart (updates old) → AreSettled s kind held T old new → AreSettled s kind plain T old new
   settled_on T old new apart settled = record {
     was = settled.was ∙ targets_on (updates old) apart;
+    files = settled.files ∙ files_on (updates old) apart;
     what = settled.what ∙ effects_as (updates old) apart;
     ids = settled.ids ∙ ids_on (updates old);
     no_cause = no_cause_on [] (updates old) apart settled.no_cause;

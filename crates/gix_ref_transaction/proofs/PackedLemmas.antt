@@ -5,7 +5,7 @@ use Rattle.std.proofs.lemmas.Simd.{map-map}
 use Rattle.std.proofs.lemmas.List.{map-append, take_more_set, take_more, get_or-map, length-map}
 use Rattle.std.proofs.Math.Seq.{take-append_seam}
 use Rattle.gix_ref_transaction.specs.Parents.{parents_in}
-use Rattle.gix_ref_transaction.specs.PrepareSteps.{AreSettled, HoldTexts, all_asked, all_given, given, effects_of, effects_on, ids_in, old_targets, packed_ids, place_paths, targets_of, updates}
+use Rattle.gix_ref_transaction.specs.PrepareSteps.{AreSettled, HoldTexts, all_asked, all_given, given, effects_of, effects_on, files_at, ids_in, old_targets, packed_ids, place_paths, seen_files, targets_of, updates}
 use Rattle.gix_ref_transaction.specs.Causes.{NoCause}
 use Rattle.gix_ref_transaction.specs.declared.edit.Edit.{Edit}
 use Rattle.gix_ref_hash.specs.declared.hash.Kind.{Kind}
@@ -232,6 +232,7 @@ if_ok (Err e) wider holds = tt
 pub settled_alike : (s : Store) (kind : Kind) (before T : Tree) (a b new : List Edit) → updates a ≡ updates b → AreSettled s kind before T a new → AreSettled s kind before T b new
 settled_alike s kind before T a b new same settled = record {
   was = subst (λ (u : List RefEdit). targets_of new ≡ old_targets s before u) same settled.was;
+  files = subst (λ (u : List RefEdit). seen_files new ≡ files_at s before u) same settled.files;
   what = subst (λ (u : List RefEdit). effects_of new ≡ effects_on s (view_of before) u) same settled.what;
   ids = subst (λ (u : List RefEdit). ids_in new ≡ packed_ids s before u) same settled.ids;
   no_cause = subst (NoCause s kind before []) same settled.no_cause;

@@ -6,7 +6,7 @@ use Rattle.std.specs.Option.{option_map, unwrap_or}
 use Rattle.gix_ref_base.specs.Layout.{Layout}
 use Rattle.gix_ref_base.specs.Locations.{Location, location, key_outside, no_namespace, paths_at, paths_of}
 use Rattle.gix_ref_base.specs.Locations.Location.{Common, ThisWorktree, MainWorktree, LinkedWorktree}
-use Rattle.gix_ref_files.specs.Tree.{Tree, Path, Content, fronts, is_blocked, is_file, is_folder, node_at, node_of, put}
+use Rattle.gix_ref_files.specs.Tree.{Tree, Path, Content, file_of, fronts, is_blocked, is_file, is_folder, node_at, node_of, put}
 use Rattle.gix_ref_files.specs.Tree.Content.{File, Folder}
 use Rattle.gix_ref_files.specs.Calls.{Creating, IsFree}
 use Rattle.gix_ref_files.specs.Disk.{Disk}
@@ -71,6 +71,21 @@ no_file_there T p = by (T p) (is_blocked T p)
     by (Some (File bytes)) blocked is = absurd (is refl)
     by (Some Folder) blocked is = refl
     by None blocked is = refl
+
+-- where an edit may have a record, and the lock was not taken, `packed-refs` is no file
+pub absent_by : (s : Store) (T : Tree) (edits : List Edit) (packed : Option Path) (asks : Bool) → asks ≡ list_any (λ (e : Edit). has_key s e.update) edits → is_some packed ≡ false →
+    packed_places packed ≡ packed_taken s T (updates edits) → asks ≡ true → view_of T s.packed_path ≡ None
+absent_by s T edits packed asks is none taken may =
+    absent_from (T s.packed_path) (no_places packed none ∙ (taken ∙ ap (λ b. if b && is_file (T s.packed_path) then s.packed_path ∷ [] else []) (asked s edits asks is ∙ may)))
+  where
+    no_places : (p : Option Path) → is_some p ≡ false → [] ≡ packed_places p
+    no_places None is = refl
+    no_places (Some path) is = cc
+
+    absent_from : (content : Option Content) → [] ≡ (if true && is_file content then s.packed_path ∷ [] else []) → file_of content ≡ None
+    absent_from (Some (File bytes)) e = cc
+    absent_from (Some Folder) e = refl
+    absent_from None e = refl
 
 -- any other answer than a file
 pub other_there : (T : Tree) (p : Path) (n : Node) → n ≡ node_at T p → (n ≡ node.Folder) ⊎ ((n ≡ node.Nothing) ⊎ (n ≡ node.Blocked)) → is_file (T p) ≡ false

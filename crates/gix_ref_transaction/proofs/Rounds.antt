@@ -12,14 +12,14 @@ use Rattle.gix_ref_transaction.specs.OwnLocks.{is_in, AddsLocks}
 use Rattle.gix_ref_theory.specs.OnRealTrees.{view_of}
 use Rattle.gix_ref_transaction.specs.Causes.{AllValid, IsPossible, IsValidEdit, found, packed_of, Passes, IsFault, IsIoOrMemory, IsMismatch, NoCause, IsFirstCause, LocksAreApart, IsLockable, locks_of}
 use Rattle.gix_ref_theory.specs.Readings.{Store}
-use Rattle.gix_ref_transaction.specs.PrepareSteps.{lock_text, effect_on, effect_value, effects_of, effects_on, targets_of, HoldTexts, AreLockable, value_of, IsRefusedLock, IsNewLock, FillsLock, old_targets}
+use Rattle.gix_ref_transaction.specs.PrepareSteps.{lock_text, effect_on, effect_value, effects_of, effects_on, files_at, has_file_at, seen_files, targets_of, HoldTexts, AreLockable, value_of, IsRefusedLock, IsNewLock, FillsLock, old_targets}
 use Rattle.gix_ref_edits.specs.RefEdits.{name_of, expected_of, new_of, Expects}
 use Rattle.gix_ref_files.specs.Lock.{lock_of}
 use Rattle.gix_ref_edits.specs.declared.transaction.RefEdit.{RefEdit}
 use Rattle.gix_ref_transaction.specs.declared.edit.Edit.{Edit}
 use Rattle.gix_ref_transaction.specs.declared.prepare.error.Error.{Error}
 use Rattle.gix_ref_transaction.proofs.Firsts.{fault_here, fault_later, pass_more, seen_of}
-use Rattle.gix_ref_transaction.proofs.Taking.{Held, front_in, more_here, refused, still, stop_taking, lockable, free_more, same_found, filling, stop_filling, held_more, same_id, same_effect, texts_more}
+use Rattle.gix_ref_transaction.proofs.Taking.{Held, front_in, more_here, refused, still, stop_taking, lockable, free_more, same_found, filling, stop_filling, held_more, same_id, same_has_file, same_effect, texts_more}
 
 -- no edit is of a reference that the store prohibits
 all_valid : (s : Store) (kind : Kind) (seen edits : List RefEdit) → AllValid s kind seen edits → All (IsValidEdit s kind) edits
@@ -115,6 +115,9 @@ module _ (s : Store) (kind : Kind) (edits : List RefEdit) (apart : LocksAreApart
     pub id_as_first : (id : Option ObjectId) → id ≡ packed_of s (view_of T0) (name_of edit) → id ≡ packed_of s (view_of one.tree) (name_of edit)
     id_as_first id asked = asked ∙ sym (same_id s kind edits apart T0 seen known edit within mid.tree held one.tree adds' new' place_apart)
 
+    file_as_first : has_file_at s one.tree edit ≡ has_file_at s T0 edit
+    file_as_first = same_has_file s kind edits apart T0 seen known edit within mid.tree held one.tree adds' new' place_apart
+
     effect_as_first : effect_on s (view_of one.tree) edit ≡ effect_on s (view_of T0) edit
     effect_as_first = same_effect s kind edits apart T0 seen known edit within mid.tree held one.tree adds' new' place_apart
 
@@ -130,6 +133,14 @@ module _ (s : Store) (kind : Kind) (edits : List RefEdit) (apart : LocksAreApart
         ∙ ap (λ t. old_targets s T0 seen ++ t ∷ []) (here ∙ same_as_first)
         ∙ sym (map-append (λ (x : RefEdit). found s (view_of T0) (name_of x)) seen (edit ∷ []))
         ∙ ap (old_targets s T0) (sym more)
+
+    pub files_then : (es : List Edit) (e : Edit) → seen_files es ≡ files_at s T0 seen → e.has_file ≡ has_file_at s one.tree edit → seen_files (es ++ e ∷ []) ≡ files_at s T0 (take (i + 1) edits)
+    files_then es e before here =
+        map-append (λ (x : Edit). x.has_file) es (e ∷ [])
+        ∙ ap (λ l. l ++ e.has_file ∷ []) before
+        ∙ ap (λ b. files_at s T0 seen ++ b ∷ []) (here ∙ file_as_first)
+        ∙ sym (map-append (has_file_at s T0) seen (edit ∷ []))
+        ∙ ap (files_at s T0) (sym more)
 
     pub effects_then : (es : List Edit) (e : Edit) → effects_of es ≡ effects_on s (view_of T0) seen → effect_value e.update.change e.effect ≡ effect_on s (view_of one.tree) edit → effects_of (es ++ e ∷ []) ≡ effects_on s (view_of T0) (take (i + 1) edits)
     effects_then es e before here =

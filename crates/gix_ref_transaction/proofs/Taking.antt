@@ -1,5 +1,5 @@
 -- One lock more, and what was found.
-use Rattle.std.proofs.Common.{◌≡◌, ◌≢◌, ◌⊎◌, inl, inr, ⊎_elim, ℕ, List, [], ◌∷◌, ◌++◌, true, false, Option, Some, None, refl, sym, ◌∙◌, ap, subst, IsSome, take, drop}
+use Rattle.std.proofs.Common.{◌≡◌, ◌≢◌, ◌⊎◌, inl, inr, ⊎_elim, ℕ, List, [], ◌∷◌, ◌++◌, true, false, Option, Some, None, is_some, refl, sym, ◌∙◌, ap, subst, IsSome, take, drop}
 use Rattle.std.specs.Prelude.{bytes_eq}
 use Rattle.std.proofs.lemmas.List.{take-append-drop, map-append}
 use Rattle.gix_ref_hash.specs.declared.hash.Kind.{Kind}
@@ -10,7 +10,7 @@ use Rattle.gix_ref_transaction.specs.OwnLocks.{is_in, leads_to, IsOurs, AddsLock
 use Rattle.gix_ref_theory.specs.OnRealTrees.{view_of, file_of}
 use Rattle.gix_ref_transaction.specs.Causes.{found, found_by, decoded, packed_id, packed_of, IsFault, IsLockable, LocksAreApart, locks_of}
 use Rattle.gix_ref_theory.specs.Readings.{Store, records_in}
-use Rattle.gix_ref_transaction.specs.PrepareSteps.{effect_on, lock_text, IsRefusedLock, IsNewLock, FillsLock, HoldTexts}
+use Rattle.gix_ref_transaction.specs.PrepareSteps.{effect_on, has_file_at, lock_text, IsRefusedLock, IsNewLock, FillsLock, HoldTexts}
 use Rattle.gix_ref_edits.specs.RefEdits.{name_of}
 use Rattle.gix_ref_files.specs.Lock.{lock_of}
 use Rattle.gix_ref_edits.specs.declared.transaction.RefEdit.{RefEdit}
@@ -135,6 +135,9 @@ module _ (s : Store) (kind : Kind) (edits : List RefEdit) (apart : LocksAreApart
         same_found =
             ap (λ (file : Option (List ℕ)). found_by s (decoded s file) (packed_of s (view_of U) (name_of edit))) (same_file (s.place (name_of edit)) apart_place)
             ∙ ap (λ id. found_by s (decoded s (view_of T0 (s.place (name_of edit)))) id) same_id
+
+        pub same_has_file : has_file_at s U edit ≡ has_file_at s T0 edit
+        same_has_file = ap is_some (same_file (s.place (name_of edit)) apart_place)
 
         pub same_effect : effect_on s (view_of U) edit ≡ effect_on s (view_of T0) edit
         same_effect = effect_alike s (view_of U) (view_of T0) edit (same_file (s.place (name_of edit)) apart_place) (same_file s.packed_path apart.packed)

@@ -1,5 +1,5 @@
 -- What the rounds of `prepare` leave.
-use Rattle.std.specs.Prelude.{◌≡◌, ◌⊎◌, ℕ, List, [], ◌∷◌, ◌++◌, Bool, true, false, not, ◌||◌, Option, Some, None, IsSome, is_none, map, if◌then◌else◌}
+use Rattle.std.specs.Prelude.{◌≡◌, ◌⊎◌, ℕ, List, [], ◌∷◌, ◌++◌, Bool, true, false, not, ◌||◌, Option, Some, None, IsSome, is_none, is_some, map, if◌then◌else◌}
 use Rattle.std.specs.Option.{option_map}
 use Rattle.gix_ref_name.specs.Names.{full_bytes}
 use Rattle.gix_ref_base.specs.Targets.{TargetValue, target_value, stripped_target}
@@ -194,7 +194,13 @@ abbrev pub target_by : List ℕ → Loose → Option ObjectId → Option TargetV
 target_by namespace (loose_files.Holds target) packed = Some (stripped_target namespace (target_value target))
 target_by namespace other packed = option_map object_id packed
 
--- there is a loose file, and it holds no target
+-- there is a loose file
+abbrev pub is_loose_file : Loose → Bool
+is_loose_file loose_files.Absent = false
+is_loose_file (loose_files.Holds target) = true
+is_loose_file (loose_files.Undecodable error) = true
+
+-- there is one, and it holds no target
 abbrev pub is_undecodable : Loose → Bool
 is_undecodable (loose_files.Undecodable error) = true
 is_undecodable other = false
@@ -222,9 +228,14 @@ effect_value change Write = Writes (text_of_new (new_of change))
 effect_value change Remove = Removes
 effect_value change Keep = Keeps
 
+-- a loose file is at the place of an edit
+abbrev pub has_file_at : Store → Tree → RefEdit → Bool
+has_file_at s T edit = is_some (view_of T (s.place (name_of edit)))
+
 -- What was found and decided of an edit is by the files before, the edit expects what was found, and its lock has its text.
 pub record IsDecided (s : Store) (before T : Tree) (old new : Edit) : Type 0 where
   pub was : value_of new.found ≡ found s (view_of before) (name_of old.update)
+  pub file : new.has_file ≡ has_file_at s before old.update
   pub what : effect_value old.update.change new.effect ≡ effect_on s (view_of before) old.update
   pub expects : Expects (expected_of old.update.change) (new_of old.update.change) (found s (view_of before) (name_of old.update))
   pub filled : T ≡ put before (lock_of old.lock) (Some (File (lock_text (effect_on s (view_of before) old.update))))
@@ -240,6 +251,14 @@ targets_of edits = map (λ (e : Edit). value_of e.found) edits
 abbrev pub effects_of : List Edit → List Effect
 effects_of edits = map (λ (e : Edit). effect_value e.update.change e.effect) edits
 
+-- whether there was a loose file, as was seen of each edit
+abbrev pub seen_files : List Edit → List Bool
+seen_files edits = map (λ (e : Edit). e.has_file) edits
+
+-- and as it is in this tree
+abbrev pub files_at : Store → Tree → List RefEdit → List Bool
+files_at s T edits = map (has_file_at s T) edits
+
 -- the effects of edits among these files
 abbrev pub effects_on : Store → View → List RefEdit → List Effect
 effects_on s view edits = map (effect_on s view) edits
@@ -248,6 +267,7 @@ effects_on s view edits = map (effect_on s view) edits
 -- lock has its text.
 pub record AreSettled (s : Store) (kind : Kind) (before T : Tree) (old new : List Edit) : Type 0 where
   pub was : targets_of new ≡ old_targets s before (updates old)
+  pub files : seen_files new ≡ files_at s before (updates old)
   pub what : effects_of new ≡ effects_on s (view_of before) (updates old)
   pub ids : ids_in new ≡ packed_ids s before (updates old)
   pub no_cause : NoCause s kind before [] (updates old)

@@ -1,5 +1,5 @@
 //! An edit of a transaction, with its lock, what was found of its reference, and what becomes of the loose file.
-ghost use Rattle.std.specs.Prelude.{◌≡◌, ◌≤◌, ◌⊎◌, [], ◌∷◌, OnOk, OnErr, IfOk, IfErr, IsSome, Some, true, false, if◌then◌else◌};
+ghost use Rattle.std.specs.Prelude.{◌≡◌, ◌≤◌, ◌⊎◌, [], ◌∷◌, OnOk, OnErr, IfOk, IfErr, IsSome, is_some, Some, true, false, if◌then◌else◌};
 ghost use Rattle.std.specs.Option.{option_map};
 ghost use Rattle.gix_ref_base.specs.Targets.{target_value};
 ghost use Rattle.gix_ref_base.specs.Targets.TargetValue.{object_id};
@@ -16,7 +16,7 @@ ghost use Rattle.gix_ref_edits.specs.RefEdits.{name_of, new_of, is_of_reference}
 ghost use Rattle.gix_ref_transaction.specs.PackedCauses.{deletes_reference};
 ghost use Rattle.gix_ref_transaction.specs.OwnLocks.{AddsLocks};
 ghost use Rattle.gix_ref_transaction.specs.Causes.{found, found_by, decoded, packed_of, IsCounted, IsNotIo, IsMismatch, IsIoOrMemory, IsPossible};
-ghost use Rattle.gix_ref_transaction.specs.PrepareSteps.{setting_of, value_of, lock_text, effect_value, text_of_new, decision, decision_of, given, is_new, is_damaged, is_undecodable, target_by, IsDecided, IsSomeWhole, IsRefusedLock, IsNewLock, FillsLock, FillingOn};
+ghost use Rattle.gix_ref_transaction.specs.PrepareSteps.{setting_of, value_of, lock_text, effect_value, text_of_new, decision, decision_of, given, is_new, is_damaged, is_loose_file, is_undecodable, target_by, IsDecided, IsSomeWhole, IsRefusedLock, IsNewLock, FillsLock, FillingOn};
 
 use crate::prepare::Error;
 use crate::prepare::expect::check_expected;
@@ -81,8 +81,12 @@ pub struct Edit {
     pub packed: Option<ObjectId>,
     /// The target that was found: that of the loose file, or else the object of the record.
     pub found: Option<Target>,
+    /// Whether there was a loose file, as the edit was compared with what was found.
+    pub has_file: bool,
     /// What becomes of the loose file. It is decided once, as the edit is compared with what was found.
     pub effect: Effect,
+    /// Whether there was a log, as what becomes of it was decided.
+    pub has_log: bool,
     /// What becomes of the log. A commit decides it before its first write.
     pub log: LogEffect,
 }
@@ -102,7 +106,9 @@ pub fn deletes_reference(change: &Change) -> bool
 struct Was {
     /// Its target: that of its loose file, or else the object of its record.
     target: Option<Target>,
-    /// Whether there is a loose file that holds no target.
+    /// Whether there is a loose file.
+    has_file: bool,
+    /// Whether there is one that holds no target.
     damaged: bool,
 }
 
@@ -120,6 +126,7 @@ fn object_of(packed: Option<ObjectId>) -> Option<Target>
 fn was_of(loose: Loose, packed: Option<ObjectId>, namespace: &Option<Namespace>) -> Was
     ensures target { value_of result.target ≡ target_by (namespace_text namespace.now) loose
         packed }
+    ensures file { result.has_file ≡ is_loose_file loose }
     ensures damaged { result.damaged ≡ is_undecodable loose }
 {
     match loose {
@@ -127,15 +134,18 @@ fn was_of(loose: Loose, packed: Option<ObjectId>, namespace: &Option<Namespace>)
             strip(&mut target, namespace);
             Was {
                 target: Some(target),
+                has_file: true,
                 damaged: false,
             }
         }
         Loose::Absent => Was {
             target: object_of(packed),
+            has_file: false,
             damaged: false,
         },
         Loose::Undecodable(_) => Was {
             target: object_of(packed),
+            has_file: true,
             damaged: true,
         },
     }
@@ -152,6 +162,8 @@ fn was_at<F: Files>(
     ensures target { F.honest →
         IfOk result (λ was. value_of was.target ≡ found_by (setting_of settings.now)
         (decoded (setting_of settings.now) (view_of (F.means files.old).tree place.now)) packed) }
+    ensures file { F.honest →
+        IfOk result (λ was. was.has_file ≡ is_some (view_of (F.means files.old).tree place.now)) }
     ensures damaged { F.honest →
         IfOk result (λ was. was.damaged ≡ is_damaged (setting_of settings.now)
         (view_of (F.means files.old).tree place.now)) }
@@ -291,7 +303,9 @@ impl Edit {
             lock: LockFile::at(place)?,
             packed: None,
             found: None,
+            has_file: false,
             effect: Effect::Keep,
+            has_log: false,
             log: LogEffect::Keep,
         })
     }
@@ -326,10 +340,12 @@ impl Edit {
     fn decide(&mut self, was: Was)
         ensures given { given self.new ≡ given self.old }
         ensures found { self.new.found ≡ was.target }
+        ensures file { self.new.has_file ≡ was.has_file }
         ensures effect { self.new.effect ≡ decision self.old.update.change (value_of was.target)
             was.damaged }
     {
         self.effect = effect_of(&self.update.change, &was);
+        self.has_file = was.has_file;
         self.found = was.target;
     }
 

@@ -86,7 +86,9 @@ impl Remains {
             lock,
             packed: _,
             found: _,
+            has_file: _,
             effect: _,
+            has_log: _,
             log,
         } = edit;
         let (place, path) = lock.into_parts();

@@ -1,5 +1,5 @@
 //! All locks of a transaction, or none.
-ghost use Rattle.std.specs.Prelude.{◌≡◌, ◌≤◌, ◌<◌, ◌+◌, ◌⊎◌, ℕ, List, [], true, OnOk, IfOk, IfErr, map, vec_len};
+ghost use Rattle.std.specs.Prelude.{◌≡◌, ◌≤◌, ◌<◌, ◌+◌, ◌⊎◌, ℕ, List, [], None, true, OnOk, IfOk, IfErr, map, vec_len};
 ghost use Rattle.std.specs.Vec.{vec_capacity};
 ghost use Rattle.gix_ref_files.specs.Files.{disk_of, Leaves, HasRisen};
 ghost use Rattle.gix_ref_files.specs.Lock.{lock_of};
@@ -14,7 +14,7 @@ ghost use Rattle.gix_ref_transaction.specs.PrepareSteps.{setting_of, updates, al
 
 use crate::edit::Edit;
 use crate::prepare::Error;
-use crate::prepare::packed_lock::take_packed;
+use crate::prepare::packed_lock::{is_absent, take_packed};
 use crate::prepare::records::find_records;
 use crate::prepare::split::SplitEdits;
 use crate::prepare::take::take_locks;
@@ -148,14 +148,18 @@ fn hold<F: Files>(
     }
 }
 
-/// Finds the records of all edits, and then takes all locks, or removes those that it took.
+/// Finds the records of all edits, and then takes all locks, or removes those that it took. `packed-refs` is not opened where it is
+/// known to be no file.
 fn find_and_hold<F: Files>(
     alloc: Global,
     files: &mut F,
     settings: &Settings<'_>,
+    is_absent: bool,
     mut edits: Vec<Edit>,
     remains: Remains,
 ) -> Result<HeldEdits, LockFailure>
+    requires absent { F.honest → is_absent ≡ true → packed_refs_in settings.now (F.means files.old)
+        ≡ None }
     requires places { place_paths edits.items ≡ places_of (setting_of settings.now)
         (updates edits.items) }
     requires apart { LocksAreApart (setting_of settings.now) (updates edits.items) }
@@ -216,7 +220,7 @@ fn find_and_hold<F: Files>(
     ensures counted { IfErr result (λ failure. IsCountedWith F.honest (HasReadFault
         F.Reader.faults) (F.faults files.old) (F.faults files.new) failure.error) }
 {
-    match find_records(alloc, files, settings, &mut edits) {
+    match find_records(alloc, files, settings, is_absent, &mut edits) {
         Ok(()) => hold(alloc, files, settings, edits, remains),
         Err(error) => Err(LockFailure {
             error,
@@ -306,7 +310,8 @@ pub fn hold_all<F: Files>(
             });
         }
     };
-    match find_and_hold(alloc, files, settings, edits, remains) {
+    let is_absent = is_absent(settings, &edits, &packed);
+    match find_and_hold(alloc, files, settings, is_absent, edits, remains) {
         Ok(held) => {
             let HeldEdits { edits, remains } = held;
             Ok(HeldLocks {

@@ -1,11 +1,13 @@
 //! The lock of `packed-refs`, which a transaction takes before it reads the records.
-ghost use Rattle.std.specs.Prelude.{◌≡◌, ◌≤◌, ◌⊎◌, [], Some, None, IsSome, OnOk, OnErr, IfOk, IfErr, map};
+ghost use Rattle.std.specs.Prelude.{◌≡◌, ◌≤◌, ◌⊎◌, [], true, Some, None, IsSome, OnOk, OnErr, IfOk, IfErr, map};
 ghost use Rattle.std.specs.List.{list_any};
 ghost use Rattle.gix_ref_files.specs.Calls.{Creating, Unchanged};
 ghost use Rattle.gix_ref_files.specs.DiskCalls.{CreatingOn, Untouched};
 ghost use Rattle.gix_ref_files.specs.Files.{disk_of, Leaves, Passes};
 ghost use Rattle.gix_ref_files.specs.Lock.{lock_of};
 ghost use Rattle.gix_ref_files.specs.Settled.{IsWhole};
+ghost use Rattle.gix_ref_files.specs.Tree.{Tree};
+ghost use Rattle.gix_ref_theory.specs.OnRealTrees.{view_of};
 ghost use Rattle.gix_ref_edits.specs.RefEdits.{is_of_reference, mode_of};
 ghost use Rattle.gix_ref_transaction.specs.OwnLocks.{AddsLocks, OnlyLocks};
 ghost use Rattle.gix_ref_transaction.specs.Causes.{has_key as may_have_record, packed_taken, IsCounted, IsIoOrMemory, IsInTheWay, IsPackedCause, IsPackedLocked};
@@ -89,6 +91,15 @@ fn pass_lock<F: Files>(files: &mut F, lock: LockFile) -> Result<Option<LockFile>
         Node::Nothing | Node::Blocked => Ok(None),
         Node::File | Node::Folder => Err(Error::PackedTransactionAcquire),
     }
+}
+
+/// Whether it is known that `packed-refs` is no file, where one of the edits may have a record in it and its lock was not taken.
+pub fn is_absent(settings: &Settings<'_>, edits: &[Edit], packed: &Option<LockFile>) -> bool
+    ensures { (T : Tree) → packed_places packed.now ≡ packed_taken (setting_of settings.now) T
+        (updates edits.now) → result ≡ true → view_of T (setting_of settings.now).packed_path
+        ≡ None }
+{
+    packed.is_none() && ask(settings, edits)
 }
 
 /// Takes the lock of `packed-refs`, where that is a file and one of the edits may have a record in it; `None` where it is not taken.

@@ -1,5 +1,5 @@
 //! The records of the edits of a transaction in `packed-refs`.
-ghost use Rattle.std.specs.Prelude.{◌≡◌, ◌≤◌, ◌⊎◌, ℕ, List, Option, None, OnOk, IfOk, IfErr};
+ghost use Rattle.std.specs.Prelude.{◌≡◌, ◌≤◌, ◌⊎◌, ℕ, List, Option, None, true, OnOk, IfOk, IfErr};
 ghost use Rattle.gix_ref_hash.specs.declared.hash.Kind.{Kind};
 ghost use Rattle.gix_ref_name.specs.Names.{full_ref_bytes};
 ghost use Rattle.gix_ref_base.specs.PackedRecords.{Record, record_named};
@@ -9,7 +9,7 @@ ghost use Rattle.gix_ref_files.specs.DiskCalls.{Untouched};
 ghost use Rattle.gix_ref_files.specs.Files.{disk_of, Leaves, Passes};
 ghost use Rattle.gix_ref_packed.specs.OpenFiles.{HasReadFault};
 ghost use Rattle.gix_ref_edits.specs.RefEdits.{name_of};
-ghost use Rattle.gix_ref_lookup.specs.Lookups.{packed_refs_in, ArePackedRecords, AreAsked, AreHonest, IsReady, IsSearched, OfKey};
+ghost use Rattle.gix_ref_lookup.specs.Lookups.{packed_refs_in, ArePackedRecords, AreAsked, AreHonest, IsOpenedText, IsReady, IsSearched, OfKey};
 ghost use Rattle.gix_ref_transaction.specs.Causes.{id_of_record, packed_id, IsCounted, IsCountedWith, IsFindCause, IsIoOrMemory, IsPackedRefusal, OfFind, OfSomeKey};
 ghost use Rattle.gix_ref_transaction.specs.internal.StuckRecords.{IsStuckAt};
 ghost use Rattle.gix_ref_transaction.specs.PackedCauses.{as_cause, ids_among};
@@ -212,14 +212,34 @@ fn find_ids<F: Files>(
     Ok(())
 }
 
+/// The records of `packed-refs`, which is not open yet; none where it is known that there is no such file.
+fn unopened<'b, R: ReadAt + Drop>(is_absent: bool) -> Records<'b, R>
+    ensures asked { (kind : Kind) (file : Option (List ℕ)) (rs : List Record) →
+        (is_absent ≡ true → file ≡ None) → ArePackedRecords kind file rs →
+        AreAsked kind file result rs }
+    ensures searched { (kind of_kind : Kind) (file : Option (List ℕ)) (text : List ℕ) →
+        IsSearched kind file result of_kind text → IsOpenedText kind file of_kind text }
+    ensures honest { AreHonest result }
+{
+    if is_absent {
+        Records::None
+    } else {
+        Records::Unopened
+    }
+}
+
 /// Opens `packed-refs`, if there is one, and gives each edit the id of its record: one search for each edit whose reference has a
-/// key. A search that fails is passed over where the edit is no deletion of the reference and its loose file holds a target.
+/// key. A search that fails is passed over where the edit is no deletion of the reference and its loose file holds a target. Nothing
+/// is opened where it is known that `packed-refs` is no file.
 pub fn find_records<F: Files>(
     alloc: Global,
     files: &mut F,
     settings: &Settings<'_>,
+    is_absent: bool,
     edits: &mut [Edit],
 ) -> Result<(), Error>
+    requires { F.honest → is_absent ≡ true → packed_refs_in settings.now (F.means files.old)
+        ≡ None }
     ensures asked { all_asked edits.new ≡ all_asked edits.old }
     ensures found { F.honest → (rs : List Record) →
         ArePackedRecords settings.now.kind (packed_refs_in settings.now (F.means files.old)) rs →
@@ -241,7 +261,7 @@ pub fn find_records<F: Files>(
         (Untouched (disk_of (F.means files.old))) }
     ensures no_fewer { F.faults files.old ≤ F.faults files.new }
 {
-    let mut records = Records::Unopened;
+    let mut records = unopened(is_absent);
     match records.open(alloc, files, *settings) {
         Ok(()) => find_ids(alloc, files, settings, edits, &mut records),
         Err(error) => Err(refused(error)),

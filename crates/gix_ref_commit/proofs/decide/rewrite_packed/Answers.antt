@@ -1,10 +1,9 @@
-use Rattle.std.proofs.Common.{◌≡◌, List, [], ◌∷◌, ◌∙◌, Some, sym, ap, subst}
+use Rattle.std.proofs.Common.{◌≡◌, [], ◌∷◌, ◌∙◌, Some, sym, ap, subst}
 use Rattle.gix_ref_files.specs.Files.{disk_of}
 use Rattle.gix_ref_files.specs.Disk.{Disk}
 use Rattle.gix_ref_files.specs.Lock.{lock_of}
-use Rattle.gix_ref_files.specs.Tree.{Tree, Path}
+use Rattle.gix_ref_files.specs.Tree.{Tree}
 use Rattle.gix_ref_files.specs.Tree.Content.{File}
-use Rattle.gix_ref_transaction.specs.OwnLocks.{OnlyLocks}
 use Rattle.gix_ref_transaction.specs.PrepareSteps.{AreWholeLocks}
 use Rattle.gix_ref_commit.proofs.Filling.{fills_only, untouched_only, wholes_filled}
 use Rattle.gix_ref_commit.proofs.decide.rewrite_packed.Goals as goal

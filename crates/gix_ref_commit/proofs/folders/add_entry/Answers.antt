@@ -1,4 +1,4 @@
-use Rattle.std.proofs.Common.{◌∙◌, ◌∷◌, ◌++◌, [], inr, refl, sym, ap}
+use Rattle.std.proofs.Common.{◌∙◌, ◌∷◌, [], inr, ap}
 use Rattle.std.proofs.lemmas.List.{map-append}
 use Rattle.gix_ref_transaction.specs.OwnLocks.{paths_of}
 use Rattle.gix_ref_commit.proofs.Walking.{file_holds, one_more_folder, store_holds}

@@ -13,7 +13,7 @@ loop-planned-preserved g c =
     let x = c.loop-planned.invariant in
     let e = c.way_before.ensures in
     record {
-      in_way = λ h. way_next c.args.dirs.now (g.F.Files.means c.args.files.now).tree (g.F.Files.means c.loop-planned.files).tree c.loop-planned.ways.items c.push.new.self.items c.args.plan.now c.loop-planned.planned-index _ c.in-Ok-way_before.way c.loop-planned-test.true
+      in_way = λ h. way_next c.args.edits.now c.args.dirs.now (g.F.Files.means c.args.files.now).tree (g.F.Files.means c.loop-planned.files).tree c.loop-planned.ways.items c.push.new.self.items c.args.plan.now c.loop-planned.planned-index _ c.in-Ok-way_before.way c.loop-planned-test.true
           c.in-Ok-push.ensures.items (x.leaves h).tree (x.in_way h) (c.in-Ok-way_before.ensures.in_way h);
       leaves = λ h. then_unchanged (x.leaves h) (e.leaves h);
       passes = λ h. then_untouched (x.passes h) (e.passes h);

@@ -9,7 +9,7 @@ use Rattle.gix_ref_commit.proofs.folders.all_in_way.Given as goal
 -- the folders in the way of the steps so far, and nothing has changed
 abbrev pub invariant-loop-planned : goal.invariant-loop-planned
 invariant-loop-planned g l = record {
-  in_way : g.F.Files.honest → AllInWay l.dirs (g.F.Files.means l.fn.files).tree (folder_lists l.ways.items) (entries (take l.planned-index l.plan));
+  in_way : g.F.Files.honest → AllInWay l.edits l.dirs (g.F.Files.means l.fn.files).tree (folder_lists l.ways.items) (entries (take l.planned-index l.plan));
   leaves : g.F.Files.honest → Leaves (g.F.Files.means l.fn.files) (g.F.Files.means l.files) (Unchanged (g.F.Files.means l.fn.files).tree);
   passes : g.F.Files.honest → Passes (g.F.Files.means l.fn.files) (g.F.Files.means l.files) (Untouched (disk_of (g.F.Files.means l.fn.files)));
   no_fewer : g.F.Files.faults l.fn.files ≤ g.F.Files.faults l.files;

@@ -1,4 +1,4 @@
-use Rattle.std.proofs.Common.{◌∙◌, ap, refl}
+use Rattle.std.proofs.Common.{◌∙◌, ap}
 use Rattle.gix_ref_transaction.specs.OwnLocks.{paths_of}
 use Rattle.gix_ref_commit.proofs.Walking.{backwards, in_way_of}
 use Rattle.gix_ref_commit.proofs.folders.folders_at.Goals as goal

@@ -1,4 +1,4 @@
-use Rattle.std.proofs.Common.{◌∙◌, sym}
+use Rattle.std.proofs.Common.{◌∙◌}
 use Rattle.std.specs.Cmp.Lexicographic.{bytes_decides}
 use Rattle.gix_ref_transaction.proofs.Adds.{clash}
 use Rattle.gix_ref_commit.proofs.Walking.{not_on_way}

@@ -1,6 +1,3 @@
-use Rattle.std.proofs.Common.{List, ℕ, ◌++◌, ◌∷◌, [], subst}
-use Rattle.gix_ref_files.specs.Settled.{IsIn}
-use Rattle.gix_ref_files.specs.Tree.{fronts}
 use Rattle.gix_ref_commit.proofs.Walking.{not_of_store}
 use Rattle.gix_ref_commit.proofs.folders.leads_to_store.Goals as goal
 

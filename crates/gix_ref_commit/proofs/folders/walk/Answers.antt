@@ -1,10 +1,5 @@
-use Rattle.std.proofs.Common.{◌≡◌, ◌∙◌, ℕ, List, Vec, arith, sym, ap, subst}
+use Rattle.std.proofs.Common.{◌∙◌, ℕ, List, Vec, arith, sym, subst}
 use Rattle.std.specs.declared.alloc.Global.{Global}
-use Rattle.gix_ref_files.proofs.Moments.{joins, passes_joins}
-use Rattle.gix_ref_files.specs.Calls.{Unchanged}
-use Rattle.gix_ref_files.specs.Disk.{Disk}
-use Rattle.gix_ref_files.specs.DiskCalls.{Untouched}
-use Rattle.gix_ref_files.specs.Files.{disk_of, Leaves, Passes}
 use Rattle.gix_ref_files.specs.Tree.{Tree}
 use Rattle.gix_ref_transaction.specs.OwnLocks.{paths_of}
 use Rattle.gix_ref_commit.specs.Cleared.{HoldsMore, IsAtOrBelow}

@@ -1,4 +1,4 @@
-use Rattle.std.proofs.Common.{◌≡◌, ◌∙◌, sym, ap, subst, arith}
+use Rattle.std.proofs.Common.{arith}
 use Rattle.gix_ref_commit.proofs.Clearing.{all_cleared}
 use Rattle.gix_ref_commit.proofs.folders.with_removals.Goals as goal
 

@@ -7,13 +7,14 @@ use Rattle.std.proofs.lemmas.Result.{err_from_is_err_and}
 use Rattle.gix_ref_files.specs.Tree.{Tree}
 use Rattle.gix_ref_files.proofs.Moments.{starts, weaken, joins, passes_starts, passes_weaken, passes_joins}
 use Rattle.gix_ref_theory.specs.OnRealTrees.{view_of}
+use Rattle.gix_ref_transaction.specs.CommitRenames.{HasItsLog}
 use Rattle.gix_ref_lines.specs.AskedEdits.{asked_edit, but_log, leaf_after}
 use Rattle.gix_ref_lines.specs.DueLines.{with_log}
 use Rattle.gix_ref_lines.specs.internal.Leaves.{leaf_id}
 use Rattle.gix_ref_lines.specs.internal.LineSteps.{log_rules, Sees}
 use Rattle.gix_ref_lines.specs.internal.SeenLogs.{paths_in}
 use Rattle.gix_ref_lines.specs.declared.leaves.Leaf.TheVariants.{Itself}
-use Rattle.gix_ref_lines.proofs.Deciding.{decided_more, refused_at}
+use Rattle.gix_ref_lines.proofs.Deciding.{decided_more, refused_at, there_more}
 use Rattle.gix_ref_lines.proofs.LeafSteps.{id_of_leaf}
 use Rattle.gix_ref_lines.proofs.decide.decide_logs.Goals as goal
 
@@ -24,6 +25,7 @@ loop-i-init g c = record {
   leaves = λ h. starts _ _ refl;
   passes = λ h. passes_starts _ _ refl;
   no_fewer = omega arith;
+  there = λ h k d lt. absurd (omega (arith, lt));
   decided = λ h. record {
     files = view_of (g.F.Files.means c.args.files.now).tree;
     sees = λ q. sym (ap (λ (b : Bool). is_some (view_of (g.F.Files.means c.args.files.now).tree q) || b) (c.new-due.ensures q) ∙ or-false _);
@@ -82,6 +84,8 @@ loop-i-preserved g c =
       leaves = λ h. joins (x.leaves h) (weaken (c.decide_log.ensures.leaves h) (λ T same. same ∙ (x.leaves h).tree));
       passes = λ h. passes_joins (x.passes h) (passes_weaken (c.decide_log.ensures.passes h) (λ D same. same ∙ (x.passes h).disk));
       no_fewer = omega (arith, x.no_fewer, c.decide_log.ensures.no_fewer);
+      there = λ h. there_more edits i new (g.F.Files.means c.args.files.now).tree (omega (arith, lt, len)) (x.there h)
+          (subst (λ (T : Tree). HasItsLog T new) (x.leaves h).tree (c.in_ok-decide_log.ensures.there h));
       decided = λ h.
           let so_far = x.decided h in
           let same = (x.leaves h).tree in

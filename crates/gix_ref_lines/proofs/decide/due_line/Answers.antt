@@ -1,4 +1,6 @@
-use Rattle.std.proofs.Common.{◌≡◌, true, None, Some, sym, ◌∙◌}
+use Rattle.std.proofs.Common.{◌≡◌, true, None, Some, ap, sym, ◌∙◌}
+use Rattle.std.specs.Prelude.{vec_items}
+use Rattle.std.specs.Option.{option_map}
 use Rattle.std.proofs.lemmas.Result.{err_from_is_err_and}
 use Rattle.gix_ref_lines.specs.AskedEdits.{asked_edit}
 use Rattle.gix_ref_lines.specs.DueLines.{written_ids, has_log}
@@ -13,7 +15,7 @@ returns-in_default-clause-line g c h view sees =
     let r = log_rules c.args.rules in
     let a = asked_edit c.args.edit.now c.args.leaf in
     let none : written_ids r a ≡ None = sym c.written_ids.ensures ∙ c.in_default.is in
-    sym (no_line r view a (no_ids r view a none))
+    ap (option_map vec_items) c.nothing.ensures.line ∙ sym (no_line r view a (no_ids r view a none))
 
 pub returns-in_default-clause-passed : goal.returns-in_default-clause-passed
 returns-in_default-clause-passed g c h view sees =

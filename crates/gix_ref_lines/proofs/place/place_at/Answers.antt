@@ -5,15 +5,15 @@ use Rattle.gix_ref_files.specs.Tree.{fronts, is_blocked}
 use Rattle.gix_ref_lines.specs.internal.SeenLogs.{is_among, paths_in}
 use Rattle.gix_ref_lines.proofs.BlockedPaths.{blocked_node}
 use Rattle.gix_ref_lines.proofs.place.place_at.Goals as goal
-use Rattle.gix_ref_lines.proofs.place.place_at.Goals.{then-eq-2, else-eq-2}
+use Rattle.gix_ref_lines.proofs.place.place_at.Goals.{then-eq, else-eq}
 
-pub returns-after-eq-2-clause-blocked : goal.returns-after-eq-2-clause-blocked
-returns-after-eq-2-clause-blocked g c h =
+pub returns-after-eq-clause-blocked : goal.returns-after-eq-clause-blocked
+returns-after-eq-clause-blocked g c h =
     let T = (g.F.Files.means c.args.files.now).tree in
     let any = list_any (is_among (paths_in c.args.due.now)) (fronts c.args.path.now) in
-    let is : c.eq-in-Ok.result ≡ is_blocked T c.args.path.now =
-    c.eq-in-Ok.ensures ∙ blocked_node T c.args.path.now (g.met.F.Files.shaped c.args.files.now h) c.in-Ok.node (c.in-Ok.ensures.answer h) in
-    elim c.if-eq-2.branch [
-      | then-eq-2 w ↦ w.result-is ∙ (w.if-eq-2.true ∙ ap (λ (b : Bool). b || any) (sym w.if-eq-2.true ∙ is))
-      | else-eq-2 w ↦ w.result-is ∙ (w.is_above.ensures ∙ ap (λ (b : Bool). b || any) (sym w.if-eq-2.false ∙ is))
+    let is : c.eq.result ≡ is_blocked T c.args.path.now =
+    c.eq.ensures ∙ blocked_node T c.args.path.now (g.met.F.Files.shaped c.args.files.now h) c.in-Ok.node (c.in-Ok.ensures.answer h) in
+    elim c.if-eq.branch [
+      | then-eq w ↦ w.result-is ∙ (w.if-eq.true ∙ ap (λ (b : Bool). b || any) (sym w.if-eq.true ∙ is))
+      | else-eq w ↦ w.result-is ∙ (w.is_above.ensures ∙ ap (λ (b : Bool). b || any) (sym w.if-eq.false ∙ is))
     ]

@@ -5,6 +5,7 @@ ghost use Rattle.gix_ref_files.specs.Files.{disk_of, Leaves, Passes};
 ghost use Rattle.gix_ref_files.specs.Steps.{IsAfter, IsLeftBy};
 ghost use Rattle.gix_ref_files.specs.Lock.{lock_of};
 ghost use Rattle.gix_ref_files.specs.Tree.{Path};
+ghost use Rattle.gix_ref_transaction.specs.CommitRenames.{HaveLogs};
 ghost use Rattle.gix_ref_transaction.specs.OwnLocks.{OnlyLocks, paths_of};
 ghost use Rattle.gix_ref_transaction.specs.PrepareSteps.{packed_places, AreWholeLocks};
 ghost use Rattle.gix_ref_commit.specs.Cleared.{AllInWay, all_removed, commit_entries, folder_lists};
@@ -62,6 +63,8 @@ impl<F: Files> Store<F> {
         ensures logs { F.honest → OnOk result (outcomes_of edits.new.items ≡ log_outcomes
             (line_rules self.old committer.entry) (view_of (F.means (files_of self.old)).tree)
             (asked edits.old.items)) }
+        ensures logged { F.honest → OnOk result (HaveLogs (F.means (files_of self.old)).tree
+            edits.new.items) }
         ensures passed { OnOk result (LinesPass F.honest F.means self.old committer.entry
             edits.old.items) }
         ensures repacked { IfOk result (λ new. RepacksFrom F.honest F.means F.faults self.old
@@ -115,6 +118,8 @@ impl<F: Files> Store<F> {
         ensures logs { F.honest → OnOk result (outcomes_of edits.new.items ≡ log_outcomes
             (line_rules self.old committer.entry) (view_of (F.means (files_of self.old)).tree)
             (asked edits.old.items)) }
+        ensures logged { F.honest → OnOk result (HaveLogs (F.means (files_of self.old)).tree
+            edits.new.items) }
         ensures passed { OnOk result (LinesPass F.honest F.means self.old committer.entry
             edits.old.items) }
         ensures repacked { IfOk result (λ new. RepacksFrom F.honest F.means F.faults self.old
@@ -126,7 +131,7 @@ impl<F: Files> Store<F> {
             (F.means (files_of self.old)).tree (F.means (files_of self.new)).tree) }
         ensures removed { IfOk result (λ new. paths_of new.removed.items
             ≡ all_removed edits.new.items) }
-        ensures in_way { F.honest → IfOk result (λ new. AllInWay self.old.dirs
+        ensures in_way { F.honest → IfOk result (λ new. AllInWay edits.new.items self.old.dirs
             (F.means (files_of self.new)).tree (folder_lists new.ways.items)
             (planned_entries self.old.dirs edits.new.items packed.now new.rewrite)) }
         ensures leaves { F.honest → IsPackedEmpty F.honest F.means F.faults self.old packed.now →

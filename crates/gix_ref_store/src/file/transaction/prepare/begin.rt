@@ -8,7 +8,7 @@ ghost use Rattle.gix_ref_store.specs.Prepared.{RefusesFrom, RefusesGiven, Refuse
 ghost use Rattle.gix_ref_store.specs.Store.{files_of, kind_of, meaning_of, with_files};
 ghost use Rattle.gix_ref_transaction.specs.Parents.{parents_in, split_parents};
 ghost use Rattle.gix_ref_transaction.specs.Splits.{leads_to, values_of, IsSplitCause, OnlyReads};
-ghost use Rattle.gix_ref_transaction.specs.PrepareSteps.{setting_of, effects_of, effects_on, ids_in, packed_ids, targets_of, updates, AreWholeLocks, place_paths, places_of};
+ghost use Rattle.gix_ref_transaction.specs.PrepareSteps.{setting_of, effects_of, effects_on, files_at, ids_in, packed_ids, seen_files, targets_of, updates, AreWholeLocks, place_paths, places_of};
 ghost use Rattle.gix_ref_transaction.specs.Causes.{AllValid, IsCounted};
 
 use crate::file::store::Store;
@@ -68,6 +68,9 @@ impl<F: Files> Store<F> {
         ensures effects { F.honest → HasGoodRecords F.means self.old →
             IfOk result (λ held. effects_of held.edits.items ≡ effects_on (meaning_of self.old)
             (view_of (tree_of F.means self.old)) split.edits.items) }
+        ensures files { F.honest → HasGoodRecords F.means self.old →
+            IfOk result (λ held. seen_files held.edits.items ≡ files_at (meaning_of self.old)
+            (tree_of F.means self.old) split.edits.items) }
         ensures ids { F.honest → HasGoodRecords F.means self.old →
             IfOk result (λ held. ids_in held.edits.items ≡ packed_ids (meaning_of self.old)
             (tree_of F.means self.old) split.edits.items) }
@@ -140,6 +143,9 @@ impl<F: Files> Store<F> {
         ensures effects { F.honest → HasGoodRecords F.means self.old →
             IfOk result (λ held. effects_of held.edits.items ≡ effects_on (meaning_of self.old)
             (view_of (tree_of F.means self.old)) (updates held.edits.items)) }
+        ensures files { F.honest → HasGoodRecords F.means self.old →
+            IfOk result (λ held. seen_files held.edits.items ≡ files_at (meaning_of self.old)
+            (tree_of F.means self.old) (updates held.edits.items)) }
         ensures ids { F.honest → HasGoodRecords F.means self.old →
             IfOk result (λ held. ids_in held.edits.items ≡ packed_ids (meaning_of self.old)
             (tree_of F.means self.old) (updates held.edits.items)) }

@@ -1,4 +1,4 @@
-use Rattle.std.proofs.Common.{◌≡◌, refl, sym, ap, ◌∙◌, subst, [], false}
+use Rattle.std.proofs.Common.{◌≡◌, is_some, refl, sym, ap, ◌∙◌, subst, [], false}
 use Rattle.gix_ref_files.specs.Lock.{lock_of}
 use Rattle.gix_ref_files.specs.Disk.{Disk}
 use Rattle.gix_ref_files.specs.Tree.{Path, Tree}
@@ -36,6 +36,7 @@ returns-clause-decided g c h asked empty =
     on_ok c.write.result
     (λ fills. record {
       was = ap value_of c.decide.ensures.found ∙ is;
+      file = c.decide.ensures.file ∙ (c.in_ok-was.ensures.file h ∙ ap (λ (p : Path). is_some (view p)) placed);
       what = what;
       expects = subst (λ w. Expects (expected_of old.update.change) (new_of old.update.change) w) is c.in_ok-check_expected.ensures;
       filled = filled_with T T' (g.F.Files.means c.write.new.files).tree (lock_of old.lock) (lock_of new.lock) _ _ same at text empty (λ here. fills);

@@ -70,6 +70,7 @@ loop-edit-preserved c =
     record {
       places = map-set_same (λ (a : Edit). a.lock) edits i new e (c.carry.ensures.place ∙ ap (λ (a : Edit). a.lock) is) ∙ x.places;
       parents = map-set_same (λ (a : Edit). a.parent) edits i new e (c.carry.ensures.parent ∙ ap (λ (a : Edit). a.parent) is) ∙ x.parents;
+      files = map-set_same (λ (a : Edit). a.has_file) edits i new e (c.carry.ensures.file ∙ ap (λ (a : Edit). a.has_file) is) ∙ x.files;
       effects = map-set_same (λ (a : Edit). effect_value a.update.change a.effect) edits i new e
           (effect_kept new.update.change e.update.change new.effect c.carry.ensures.carried.change ∙ ap (effect_value e.update.change) c.carry.ensures.effect ∙ ap (λ (a : Edit). effect_value a.update.change a.effect) is) ∙ x.effects;
       ids = map-set_same (λ (a : Edit). a.packed) edits i new e (c.carry.ensures.id ∙ ap (λ (a : Edit). a.packed) is) ∙ x.ids;

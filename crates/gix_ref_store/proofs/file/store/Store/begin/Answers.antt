@@ -4,7 +4,7 @@ use Rattle.gix_ref_theory.specs.OnRealTrees.{view_of}
 use Rattle.gix_ref_edits.specs.declared.transaction.RefEdit.{RefEdit}
 use Rattle.gix_ref_transaction.specs.Causes.{AllValid, IsCounted}
 use Rattle.gix_ref_transaction.specs.OwnLocks.{paths_of}
-use Rattle.gix_ref_transaction.specs.PrepareSteps.{AreWholeLocks, effects_of, effects_on, ids_in, packed_ids, place_paths, places_of, targets_of}
+use Rattle.gix_ref_transaction.specs.PrepareSteps.{AreWholeLocks, effects_of, effects_on, files_at, ids_in, packed_ids, place_paths, places_of, seen_files, targets_of}
 use Rattle.gix_ref_transaction.specs.Splits.{IsSplitCause}
 use Rattle.gix_ref_transaction.specs.declared.prepare.hold.HeldLocks.{HeldLocks}
 use Rattle.gix_ref_transaction.specs.declared.prepare.hold.LockFailure.{LockFailure}
@@ -13,7 +13,7 @@ use Rattle.gix_ref_store.specs.Prepared.{HasGoodRecords, HoldsFrom, HoldsPacked,
 use Rattle.gix_ref_store.specs.Store.{files_of, kind_of, meaning_of, with_files}
 use Rattle.gix_ref_store.specs.declared.file.store.Store.{Store}
 use Rattle.gix_ref_store.proofs.Refusals.{if_asked, if_asked_of}
-use Rattle.gix_ref_store.proofs.SplitRuns.{effects_same, ids_same, good_on, holds_on, locks_same, loses_on, packed_on, refused_before, refused_on}
+use Rattle.gix_ref_store.proofs.SplitRuns.{effects_same, files_same, ids_same, good_on, holds_on, locks_same, loses_on, packed_on, refused_before, refused_on}
 use Rattle.gix_ref_store.proofs.file.store.Store.begin.Goals as goal
 
 pub hold_split-requires : goal.hold_split-requires
@@ -53,6 +53,20 @@ returns-in-Ok-clause-effects g c h good =
     if_asked_of split c.hold_split.result c.hold_split.ensures.asked (λ (held : HeldLocks) (u : List RefEdit). effects_of held.edits.items ≡ effects_on (meaning_of old) (view_of (tree_of F.means old)) u)
     (λ held. effects_of held.edits.items ≡ effects_on (meaning_of old) (view_of (tree_of F.means (with_files old files))) split)
     (λ held is. is ∙ effects_same F.honest F.means F.faults old files reads h split)
+    (found h (good_on F.honest F.means F.faults old files reads h good))
+
+pub returns-in-Ok-clause-files : goal.returns-in-Ok-clause-files
+returns-in-Ok-clause-files g c h good =
+    let F = g.F.Files in
+    let old = c.args.self.now in
+    let split = c.in-Ok.split.edits.items in
+    let new = c.hold_split.new.self in
+    let files = files_of c.split.new.self in
+    let reads = c.in-Ok.ensures.reads in
+    let found = subst (λ (st : Store g.row.F.Denot). F.honest → HasGoodRecords F.means st → IfOk c.hold_split.result (λ held. seen_files held.edits.items ≡ files_at (meaning_of st) (tree_of F.means st) split)) c.in-Ok.ensures.same c.hold_split.ensures.files in
+    if_asked_of split c.hold_split.result c.hold_split.ensures.asked (λ (held : HeldLocks) (u : List RefEdit). seen_files held.edits.items ≡ files_at (meaning_of old) (tree_of F.means old) u)
+    (λ held. seen_files held.edits.items ≡ files_at (meaning_of old) (tree_of F.means (with_files old files)) split)
+    (λ held is. is ∙ files_same F.honest F.means F.faults old files reads h split)
     (found h (good_on F.honest F.means F.faults old files reads h good))
 
 pub returns-in-Ok-clause-ids : goal.returns-in-Ok-clause-ids

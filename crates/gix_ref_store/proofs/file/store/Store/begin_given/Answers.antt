@@ -11,7 +11,7 @@ returns-in-Ok-clause-held g c =
     let F = g.F.Files in
     let e = c.begin.ensures in
     holds_given F.honest F.means F.faults c.args.self.now c.begin.new.self c.args.edits.items c.in-Ok.asked.items c.in-Ok.ensures c.begin.result
-    e.splits e.parents e.held e.lost e.whole e.packed e.places e.effects e.ids
+    e.splits e.parents e.held e.lost e.whole e.packed e.places e.effects e.files e.ids
 
 pub returns-in-Ok-clause-refused : goal.returns-in-Ok-clause-refused
 returns-in-Ok-clause-refused g c =

@@ -104,7 +104,7 @@ returns-in-Err-publish-clause-failed g c =
     subst (λ n. n < length ran.items → place ≡ place_at ran.items n) done (λ lt. e.place (omega (arith, lt, ran.ok))) in
     let logged : done_of (length ran.items) u < length ran.items → log ≡ path_in (log_at ran.items (done_of (length ran.items) u)) =
     subst (λ n. n < length ran.items → log ≡ path_in (log_at ran.items n)) done (λ lt. e.log (omega (arith, lt, ran.ok))) in
-    run_fails F.honest F.means F.faults start new c.args.committer packed held ran.items alike c.in-Ok.ensures.logs c.in-Ok.ensures.passed rewrite c.in-Ok.ensures.repacked decided.tree mid.tree ways c.in-Ok.ensures.in_way
+    run_fails F.honest F.means F.faults start new c.args.committer packed held ran.items alike c.in-Ok.ensures.logs c.in-Ok.ensures.logged c.in-Ok.ensures.passed rewrite c.in-Ok.ensures.repacked decided.tree mid.tree ways c.in-Ok.ensures.in_way
     (λ h empty. c.in-Ok.ensures.filled h empty) (λ h. held_less F.honest F.means F.faults start new c.args.committer packed held ran.items alike renamed mid.tree (less h))
     place log told u c.failure.result ends (record { here = here; logged = logged; at_packed = c.in-Ok.ensures.path }) says
     (raised_wider (F.faults start.files) (F.faults c.decide.new.self.files) (F.faults c.publish.new.self.files) (F.faults c.release_all-edits.new.files) u c.decide.ensures.no_fewer e.no_fewer c.in-Err-publish.ensures.counted)
@@ -134,8 +134,8 @@ returns-in-Err-publish-clause-ended g c old given from =
     let renamed = c.is_packed_renamed.result in
     let alike = c.decide.ensures.alike in
     let same : c.decide.new.self.dirs ≡ old.dirs = ap (λ (st : Store g.row.F.Denot). st.dirs) c.decide.ensures.same ∙ from.held.same.dirs in
-    let in_way : F.honest → AllInWay old.dirs decided.tree (folder_lists ways) (planned_entries old.dirs ran.items packed rewrite) = λ h.
-    subst (λ (d : Dirs). AllInWay d decided.tree (folder_lists ways) (planned_entries d ran.items packed rewrite)) from.held.same.dirs (c.in-Ok.ensures.in_way h) in
+    let in_way : F.honest → AllInWay ran.items old.dirs decided.tree (folder_lists ways) (planned_entries old.dirs ran.items packed rewrite) = λ h.
+    subst (λ (d : Dirs). AllInWay ran.items d decided.tree (folder_lists ways) (planned_entries d ran.items packed rewrite)) from.held.same.dirs (c.in-Ok.ensures.in_way h) in
     let released = F.means c.release_all-edits.new.files in
     let tidies : F.honest → Leaves released released (FoldersGo old.dirs [] released.tree) = λ h. leaves_starts old.dirs [] released in
     let runs : F.honest → Leaves decided mid (IsLeftBy (bare_steps (commit_entries old.dirs ran.items packed rewrite ways)) decided.tree) = λ h.
@@ -181,8 +181,8 @@ returns-clause-ended g c old given from =
     let renamed = c.is_renamed.result in
     let alike = c.decide.ensures.alike in
     let same : c.decide.new.self.dirs ≡ old.dirs = ap (λ (st : Store g.row.F.Denot). st.dirs) c.decide.ensures.same ∙ from.held.same.dirs in
-    let in_way : F.honest → AllInWay old.dirs decided.tree (folder_lists ways) (planned_entries old.dirs ran.items packed rewrite) = λ h.
-    subst (λ (d : Dirs). AllInWay d decided.tree (folder_lists ways) (planned_entries d ran.items packed rewrite)) from.held.same.dirs (c.in-Ok.ensures.in_way h) in
+    let in_way : F.honest → AllInWay ran.items old.dirs decided.tree (folder_lists ways) (planned_entries old.dirs ran.items packed rewrite) = λ h.
+    subst (λ (d : Dirs). AllInWay ran.items d decided.tree (folder_lists ways) (planned_entries d ran.items packed rewrite)) from.held.same.dirs (c.in-Ok.ensures.in_way h) in
     let released = F.means c.release_all-released.new.files in
     let tidied = F.means c.remove_empty_folders.new.files in
     let still : c.publish.new.self.dirs ≡ old.dirs = ap (λ (st : Store g.row.F.Denot). st.dirs) c.publish.ensures.same ∙ same in
@@ -228,8 +228,8 @@ returns-clause-committed g c old given from h good =
     let renamed = c.is_renamed.result in
     let alike = c.decide.ensures.alike in
     let same : c.decide.new.self.dirs ≡ old.dirs = ap (λ (st : Store g.row.F.Denot). st.dirs) c.decide.ensures.same ∙ from.held.same.dirs in
-    let in_way : F.honest → AllInWay old.dirs decided.tree (folder_lists ways) (planned_entries old.dirs ran.items packed rewrite) = λ h.
-    subst (λ (d : Dirs). AllInWay d decided.tree (folder_lists ways) (planned_entries d ran.items packed rewrite)) from.held.same.dirs (c.in-Ok.ensures.in_way h) in
+    let in_way : F.honest → AllInWay ran.items old.dirs decided.tree (folder_lists ways) (planned_entries old.dirs ran.items packed rewrite) = λ h.
+    subst (λ (d : Dirs). AllInWay ran.items d decided.tree (folder_lists ways) (planned_entries d ran.items packed rewrite)) from.held.same.dirs (c.in-Ok.ensures.in_way h) in
     let released = F.means c.release_all-released.new.files in
     let tidied = F.means c.remove_empty_folders.new.files in
     let still : c.publish.new.self.dirs ≡ old.dirs = ap (λ (st : Store g.row.F.Denot). st.dirs) c.publish.ensures.same ∙ same in
@@ -262,8 +262,8 @@ returns-in-Err-publish-clause-lost g c old given from h good at_rest =
     let renamed = c.is_packed_renamed.result in
     let alike = c.decide.ensures.alike in
     let same : c.decide.new.self.dirs ≡ old.dirs = ap (λ (st : Store g.row.F.Denot). st.dirs) c.decide.ensures.same ∙ from.held.same.dirs in
-    let in_way : F.honest → AllInWay old.dirs decided.tree (folder_lists ways) (planned_entries old.dirs ran.items packed rewrite) = λ h.
-    subst (λ (d : Dirs). AllInWay d decided.tree (folder_lists ways) (planned_entries d ran.items packed rewrite)) from.held.same.dirs (c.in-Ok.ensures.in_way h) in
+    let in_way : F.honest → AllInWay ran.items old.dirs decided.tree (folder_lists ways) (planned_entries old.dirs ran.items packed rewrite) = λ h.
+    subst (λ (d : Dirs). AllInWay ran.items d decided.tree (folder_lists ways) (planned_entries d ran.items packed rewrite)) from.held.same.dirs (c.in-Ok.ensures.in_way h) in
     let released = F.means c.release_all-edits.new.files in
     let tidies : F.honest → Leaves released released (FoldersGo old.dirs [] released.tree) = λ h. leaves_starts old.dirs [] released in
     let runs : F.honest → Leaves decided mid (IsLeftBy (bare_steps (commit_entries old.dirs ran.items packed rewrite ways)) decided.tree) = λ h.
@@ -299,8 +299,8 @@ returns-clause-lost g c old given from h good at_rest =
     let renamed = c.is_renamed.result in
     let alike = c.decide.ensures.alike in
     let same : c.decide.new.self.dirs ≡ old.dirs = ap (λ (st : Store g.row.F.Denot). st.dirs) c.decide.ensures.same ∙ from.held.same.dirs in
-    let in_way : F.honest → AllInWay old.dirs decided.tree (folder_lists ways) (planned_entries old.dirs ran.items packed rewrite) = λ h.
-    subst (λ (d : Dirs). AllInWay d decided.tree (folder_lists ways) (planned_entries d ran.items packed rewrite)) from.held.same.dirs (c.in-Ok.ensures.in_way h) in
+    let in_way : F.honest → AllInWay ran.items old.dirs decided.tree (folder_lists ways) (planned_entries old.dirs ran.items packed rewrite) = λ h.
+    subst (λ (d : Dirs). AllInWay ran.items d decided.tree (folder_lists ways) (planned_entries d ran.items packed rewrite)) from.held.same.dirs (c.in-Ok.ensures.in_way h) in
     let released = F.means c.release_all-released.new.files in
     let tidied = F.means c.remove_empty_folders.new.files in
     let still : c.publish.new.self.dirs ≡ old.dirs = ap (λ (st : Store g.row.F.Denot). st.dirs) c.publish.ensures.same ∙ same in
@@ -346,8 +346,8 @@ returns-clause-settled g c old given from h at_rest =
     let renamed = c.is_renamed.result in
     let alike = c.decide.ensures.alike in
     let same : c.decide.new.self.dirs ≡ old.dirs = ap (λ (st : Store g.row.F.Denot). st.dirs) c.decide.ensures.same ∙ from.held.same.dirs in
-    let in_way : F.honest → AllInWay old.dirs decided.tree (folder_lists ways) (planned_entries old.dirs ran.items packed rewrite) = λ h.
-    subst (λ (d : Dirs). AllInWay d decided.tree (folder_lists ways) (planned_entries d ran.items packed rewrite)) from.held.same.dirs (c.in-Ok.ensures.in_way h) in
+    let in_way : F.honest → AllInWay ran.items old.dirs decided.tree (folder_lists ways) (planned_entries old.dirs ran.items packed rewrite) = λ h.
+    subst (λ (d : Dirs). AllInWay ran.items d decided.tree (folder_lists ways) (planned_entries d ran.items packed rewrite)) from.held.same.dirs (c.in-Ok.ensures.in_way h) in
     let released = F.means c.release_all-released.new.files in
     let tidied = F.means c.remove_empty_folders.new.files in
     let still : c.publish.new.self.dirs ≡ old.dirs = ap (λ (st : Store g.row.F.Denot). st.dirs) c.publish.ensures.same ∙ same in

@@ -10,7 +10,7 @@ use Rattle.gix_ref_theory.proofs.LockDisks.{as_before}
 use Rattle.gix_ref_store.specs.Prepared.{disk_in, places_in}
 use Rattle.gix_ref_store.specs.Store.{meaning_of, with_files}
 use Rattle.gix_ref_store.proofs.PreparedLosses.{kept_loses, untouched_loses}
-use Rattle.gix_ref_store.proofs.Refusals.{refused_split, held_asked, held_parents, held_places, held_room, held_effects, held_ids, held_packed, held_split}
+use Rattle.gix_ref_store.proofs.Refusals.{refused_split, held_asked, held_parents, held_places, held_room, held_effects, held_files, held_ids, held_packed, held_split}
 use Rattle.gix_ref_lookup.proofs.Laying.{folders_laid}
 use Rattle.gix_ref_store.proofs.file.store.Store.hold_split.Goals as goal
 
@@ -75,6 +75,12 @@ returns-in-Ok-clause-packed g c =
     let F = g.F.Files in
     let e = c.hold_all.ensures in
     held_packed c.in-Ok.edits.items c.args.split.edits.items c.in-Ok.ensures.asked c.hold_all.result e.asked F.honest F.means F.faults c.args.self.now (with_files c.args.self.now c.hold_all.new.files) e.settled e.place e.packed e.empty
+
+pub returns-in-Ok-clause-files : goal.returns-in-Ok-clause-files
+returns-in-Ok-clause-files g c h good =
+    let F = g.F.Files in
+    let e = c.hold_all.ensures in
+    held_files c.in-Ok.edits.items c.args.split.edits.items c.in-Ok.ensures.asked c.hold_all.result e.asked F.honest F.means F.faults c.args.self.now (with_files c.args.self.now c.hold_all.new.files) e.settled h good
 
 pub returns-in-Ok-clause-ids : goal.returns-in-Ok-clause-ids
 returns-in-Ok-clause-ids g c h good =
