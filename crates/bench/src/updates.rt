@@ -12,7 +12,7 @@ use gix_ref_name::name::FullNameRef;
 use gix_ref_store::file::Store;
 use std::alloc::Global;
 
-/// The ids of the file; a line that is none is passed over.
+/// The ids of the file; a line that is no id is passed over.
 fn ids_in(alloc: Global, files: &mut Disk, folder: &str) -> Option<Vec<ObjectId>> {
     let path = format!(in alloc; "{folder}/peers-ids.txt").ok()?;
     let mut text = Vec::new(alloc);

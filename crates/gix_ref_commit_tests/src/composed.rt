@@ -45,7 +45,7 @@ struct Row {
     meaning: &'static str,
     composes: bool,
     act: Act,
-    /// The names of its edits; an empty one is none.
+    /// The names of its edits; an empty one makes no edit.
     names: [&'static [u8]; 2],
     want: Answer,
     /// The names of the edits that were committed.
@@ -223,7 +223,7 @@ fn files(rt: &impl Abort, alloc: Global, row: Row) -> Memory {
     memory
 }
 
-/// What a file holds; an empty text where there is none.
+/// What a file holds; an empty text where it does not exist.
 fn text_at<'a>(memory: &'a Memory, path: &[u8]) -> &'a [u8] {
     memory.get(path).unwrap_or(b"")
 }

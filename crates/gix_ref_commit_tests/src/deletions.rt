@@ -140,7 +140,7 @@ fn made(rt: &impl Abort, alloc: Global, files: &[(&str, &[u8])]) -> Memory {
     memory
 }
 
-/// What a file holds; an empty text where there is none.
+/// What a file holds; an empty text where it does not exist.
 fn text_at<'a>(memory: &'a Memory, path: &str) -> &'a [u8] {
     memory.get(path.as_bytes()).unwrap_or(b"")
 }

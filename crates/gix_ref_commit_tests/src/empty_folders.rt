@@ -29,7 +29,7 @@ struct Row {
     before: Texts,
     edit: Asked,
     want: Outcome,
-    /// An empty text stands for no file.
+    /// Empty where there is no file.
     after: Texts,
     /// The folders that are there afterwards, and paths where nothing is.
     folders_after: Paths,

@@ -125,7 +125,7 @@ struct Row {
     before: Texts,
     edits: &'static [Asked],
     want: Outcome,
-    /// An empty text stands for no file.
+    /// Empty where there is no file.
     after: Texts,
 }
 
@@ -433,7 +433,7 @@ pub fn made(rt: &impl Abort, alloc: Global, texts: Texts) -> Memory {
     memory
 }
 
-/// Each of these files holds its text; an empty text stands for no file.
+/// Each of these files holds its text; one with an empty text does not exist.
 pub fn hold(rt: &impl Abort, memory: &Memory, texts: Texts, meaning: &str) {
     for (path, text) in texts {
         assert!(rt;
@@ -642,7 +642,7 @@ fn run(rt: &impl Abort, alloc: Global, end: End) -> (Outcome, Memory) {
     (outcome, store.into_files())
 }
 
-/// What a file holds; an empty text where there is none.
+/// What a file holds; an empty text where it does not exist.
 fn text_at<'a>(memory: &'a Memory, path: &str) -> &'a [u8] {
     memory.get(path.as_bytes()).unwrap_or(b"")
 }

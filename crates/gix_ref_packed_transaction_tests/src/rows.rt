@@ -45,7 +45,7 @@ enum Does {
     Update,
 }
 
-/// What a commit comes to.
+/// How a commit ends.
 #[derive(Clone, Copy, Debug, PartialEq, Eq)]
 enum Outcome {
     Done,
@@ -113,7 +113,7 @@ pub fn begun(rt: &impl Abort, alloc: Global, memory: &mut Memory) -> Transaction
     Transaction::new(alloc, buffer, lock, Kind::Sha1)
 }
 
-/// What a commit of the edits comes to.
+/// How a commit of the edits ends.
 fn committed(
     rt: &impl Abort,
     alloc: Global,

@@ -6,9 +6,10 @@ pub use gix_ref_lines::write_reflog::WriteReflog;
 pub struct Options {
     /// When log lines are written.
     pub write_reflog: WriteReflog,
-    /// Whether lookups that ask records look for names in composed Unicode (`core.precomposeUnicode` of `git config`).
+    /// Whether names are composed: those of edits, and those that a lookup asks of records (`core.precomposeUnicode` of
+    /// `git config`).
     pub precompose_unicode: bool,
-    /// Whether components such as `CON` are faults.
+    /// Whether a name with a component such as `CON` is refused.
     pub prohibit_windows_device_names: bool,
 }
 

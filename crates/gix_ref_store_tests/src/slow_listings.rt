@@ -32,7 +32,7 @@ const NAMES: [&str; 17] = [
 /// The prefixes whose listings are compared, beside the whole listing.
 const PREFIXES: [&str; 4] = ["refs/heads/", "refs/heads/a", "refs/t", "refs/bisect/x"];
 
-/// Whether a name is none of a reference.
+/// Whether a name is that of no reference.
 fn is_invalid(name: &str) -> bool {
     name.ends_with("/.x") || name.ends_with(".lock") || name.contains("..")
 }

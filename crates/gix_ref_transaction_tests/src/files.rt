@@ -9,7 +9,7 @@ pub struct Held {
     pub text: String,
 }
 
-/// A text of its own.
+/// An owned text.
 pub fn text(rt: &impl Abort, alloc: Global, text: &str) -> String {
     String::from_str(alloc, text).expect(rt, "memory")
 }

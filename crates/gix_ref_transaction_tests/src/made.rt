@@ -77,7 +77,7 @@ pub enum Who {
     Bracket,
 }
 
-/// The digits of an id; of a letter that is no digit a text that is none.
+/// The digits of an id; of a letter that is no digit a text that is no id.
 pub fn digits(of: char) -> &'static str {
     match of {
         '0' => "0000000000000000000000000000000000000000",

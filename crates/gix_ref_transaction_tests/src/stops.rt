@@ -249,7 +249,7 @@ fn run(rt: &impl Abort, alloc: Global, end: End) -> (Outcome, Memory, bool) {
     (outcome, memory, named)
 }
 
-/// What a file holds; an empty text where there is none.
+/// What a file holds; an empty text where it does not exist.
 fn text_at<'a>(memory: &'a Memory, path: &str) -> &'a [u8] {
     memory.get(path.as_bytes()).unwrap_or(b"")
 }

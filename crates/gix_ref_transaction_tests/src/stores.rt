@@ -27,7 +27,7 @@ pub struct Record {
     /// The text in front of its name: none, or that of the namespace.
     pub space: &'static str,
     pub name: &'static str,
-    /// The digit of its id, `z` for one that is none.
+    /// The digit of its id, `z` for a text that is no id.
     pub digit: char,
     /// It has a peeled id.
     pub is_peeled: bool,

@@ -78,8 +78,8 @@ impl<F: Files> Store<F> {
         find_reference(alloc, &mut self.files, settings, composes, partial, asked)
     }
 
-    /// As `find`, where these records are asked: a caller with many lookups keeps them, and `packed-refs` is opened at most once.
-    /// Not in gix-ref.
+    /// As `find`, and with its errors, where these records are asked: a caller with many lookups keeps them, and `packed-refs` is opened
+    /// at most once. Not in gix-ref.
     pub fn find_existing_among(
         &mut self,
         alloc: Global,
@@ -161,8 +161,8 @@ impl<F: Files> Store<F> {
         self.find_among(alloc, partial, true, &mut Records::Unopened)
     }
 
-    /// As `try_find`, but where no reference is found this is `NotFound`, with the name. As gix-ref's
-    /// `file::Store::find`.
+    /// As `try_find`, but where no reference is found this is `NotFound`, with the name; `Find` has the errors of `try_find`. As
+    /// gix-ref's `file::Store::find`.
     ///
     /// ```text
     /// match store.find(alloc, PartialNameRef::try_from("main")?) {
@@ -198,8 +198,10 @@ impl<F: Files> Store<F> {
         }
     }
 
-    /// As `try_find`, among loose files alone: the name is looked for as it is, also with `precompose_unicode`. As
-    /// gix-ref's `file::Store::try_find_loose`.
+    /// As `try_find`, among loose files alone: the name is looked for as it is, also with `precompose_unicode`. One read for each
+    /// candidate. As gix-ref's `file::Store::try_find_loose`.
+    ///
+    /// `ReadFileContents`, `ReferenceCreation` and `Memory`, as of `try_find`.
     pub fn try_find_loose(
         &mut self,
         alloc: Global,
@@ -221,7 +223,8 @@ impl<F: Files> Store<F> {
         }
     }
 
-    /// As `find`, among loose files alone. As gix-ref's `file::Store::find_loose`.
+    /// As `find`, among loose files alone: `NotFound`, or `Find` with an error of `try_find_loose`. As gix-ref's
+    /// `file::Store::find_loose`.
     ///
     /// ```text
     /// let head = store.find_loose(alloc, PartialNameRef::try_from("HEAD")?)?;
@@ -253,6 +256,8 @@ impl<F: Files> Store<F> {
     /// As `try_find`, among the records of this buffer and not those of the file. Where it is `None` no records are asked, and
     /// the name is looked for as it is. So a caller who holds the buffer opens no file but loose ones. As
     /// gix-ref's `file::Store::try_find_packed`.
+    ///
+    /// `ReadFileContents`, `ReferenceCreation`, `PackedRef` and `Memory`, as of `try_find`.
     ///
     /// ```text
     /// let packed = store.open_packed_buffer(alloc)?;
@@ -287,8 +292,8 @@ impl<F: Files> Store<F> {
         }
     }
 
-    /// As `find`, among the records of this buffer and not those of the file; among loose files alone where it is `None`. As
-    /// gix-ref's `file::Store::find_packed`.
+    /// As `find`, among the records of this buffer and not those of the file; among loose files alone where it is `None`:
+    /// `NotFound`, or `Find` with an error of `try_find_packed`. As gix-ref's `file::Store::find_packed`.
     pub fn find_packed(
         &mut self,
         alloc: Global,

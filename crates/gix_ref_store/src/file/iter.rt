@@ -365,7 +365,7 @@ impl<F: Files> Store<F> {
         }
     }
 
-    /// As `iter_packed`, of the loose references alone. As gix-ref's `file::Store::loose_iter`.
+    /// As `iter_packed`, of the loose references alone; `Memory`. As gix-ref's `file::Store::loose_iter`.
     pub fn loose_iter(&mut self, alloc: Global) -> Result<LooseThenPacked<'_, F>, Error>
         ensures* rests { sem 𝓛 (RestsIfErr (the_row F.row) self.entry
             (λ it. it.store.ghost_name) result
@@ -381,7 +381,8 @@ impl<F: Files> Store<F> {
         self.iter_packed(alloc, None)
     }
 
-    /// As `iter_prefixed_packed`, of the loose references alone. As gix-ref's `file::Store::loose_iter_prefixed`.
+    /// As `iter_prefixed_packed`, of the loose references alone: `EmptyPrefix`, `PrefixNotClean` and `Memory`. As gix-ref's
+    /// `file::Store::loose_iter_prefixed`.
     pub fn loose_iter_prefixed(
         &mut self,
         alloc: Global,

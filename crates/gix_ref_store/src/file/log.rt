@@ -166,8 +166,8 @@ impl<F: Files> Platform<'_, '_, F> {
     ghost use Rattle.gix_ref_name.specs.Names.{full_ref_bytes};
     ghost use Rattle.gix_ref_store.specs.Reflogs.{reflog_at, is_log_prohibited, ReadsForward, ReadsBackward, IsNoReflog, EndsAtErrors};
 
-    /// The lines of the log, oldest first; `None` where the reference has no log. As `Store::reflog_iter`, and as gix-ref's
-    /// `Platform::all`.
+    /// The lines of the log, oldest first; `None` where the reference has no log. As `Store::reflog_iter`, with its errors, and as
+    /// gix-ref's `Platform::all`.
     ///
     /// ```text
     /// let mut platform = reference.log_iter(alloc, &mut store);
@@ -186,7 +186,7 @@ impl<F: Files> Platform<'_, '_, F> {
     }
 
     /// The lines of the log, newest first, through 4,096 bytes of the buffer; `None` where the reference has no log. As
-    /// `Store::reflog_iter_rev`. As gix-ref's `Platform::rev`.
+    /// `Store::reflog_iter_rev`, with its errors but `EmptyBuffer`. As gix-ref's `Platform::rev`.
     ///
     /// ```text
     /// let mut platform = reference.log_iter(alloc, &mut store);

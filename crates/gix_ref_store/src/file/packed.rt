@@ -66,8 +66,8 @@ impl<F: Files> Store<F> {
         )
     }
 
-    /// As `open_packed_buffer`: the file is read anew each time. As gix-ref's `file::Store::cached_packed_buffer`,
-    /// which keeps it.
+    /// As `open_packed_buffer`, and with its errors: the file is read anew each time. As gix-ref's
+    /// `file::Store::cached_packed_buffer`, which keeps it.
     pub fn cached_packed_buffer(&mut self, alloc: Global) -> Result<Option<Buffer>, Error>
         ensures opened { F.honest → IfOk result (OpensBuffer F.means self.old) }
         ensures refused { F.honest → IfErr result (RefusesBuffer F.means self.old) }

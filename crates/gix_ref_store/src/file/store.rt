@@ -77,7 +77,7 @@ impl<F> Store<F> {
         Store::at_opts(files, git_dir, object_hash, Options::default())
     }
 
-    /// As `at`, with options, and as gix-ref's `file::Store::at_opts`.
+    /// As `at`, with options: `PathNotClean` hands the files back. As gix-ref's `file::Store::at_opts`.
     ///
     /// ```text
     /// let options = Options { write_reflog: WriteReflog::Disable, ..Options::default() };
@@ -118,7 +118,8 @@ impl<F> Store<F> {
         Store::for_linked_worktree_opts(files, git_dir, common_dir, object_hash, Options::default())
     }
 
-    /// As `for_linked_worktree`, with options, and as gix-ref's `file::Store::for_linked_worktree_opts`.
+    /// As `for_linked_worktree`, with options: `PathNotClean` and `FoldersMeet` hand the files back. As gix-ref's
+    /// `file::Store::for_linked_worktree_opts`.
     pub fn for_linked_worktree_opts(
         files: F,
         git_dir: Vec<u8>,
