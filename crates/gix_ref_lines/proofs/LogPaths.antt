@@ -1,16 +1,13 @@
 -- The folders in a path, one byte after the other, and sets of paths.
-use Rattle.std.proofs.Common.{◌≡◌, ℕ, ◌+◌, ◌<◌, suc, List, [], ◌∷◌, ◌++◌, length, take, drop, get_or, map, Bool, true, false, refl, sym, ◌∙◌, ap, arith}
+use Rattle.std.proofs.Common.{◌≡◌, ℕ, ◌+◌, ◌<◌, suc, List, [], ◌∷◌, ◌++◌, length, take, drop, get_or, map, Bool, true, false, not, refl, sym, subst, ◌∙◌, ap, arith}
 use Rattle.std.specs.Prelude.{if◌then◌else◌, ◌==◌, ◌||◌, bytes_eq, Vec}
 use Rattle.std.specs.List.{list_any}
-use Rattle.std.specs.Cmp.Lexicographic.{slice_cmp}
-use Rattle.std.specs.Ordering.{is_eq, nat_cmp, match_ordering}
-use Rattle.std.specs.BTreeSet.{insert_key}
+use Rattle.std.specs.Prelude.{MatchBool}
+use Rattle.std.specs.List.Sorted.{IsPermutation}
+use Rattle.std.proofs.lemmas.List.Sorted.{list_any-IsPermutation}
 use Rattle.std.specs.declared.alloc.Global.{Global}
-use Rattle.std.specs.declared.cmp.Ordering.{Ordering}
-use Rattle.std.specs.declared.cmp.Ordering.TheVariants.{Less, Equal, Greater}
 use Rattle.std.proofs.lemmas.List.{take_more}
 use Rattle.std.proofs.lemmas.Slice.Eq.{bytes_eq-Decides}
-use Rattle.std.proofs.lemmas.Map.Text.{is_eq-slice_cmp}
 use Rattle.std.proofs.Math.Seq.{drop-cons}
 use Rattle.gix_ref_files.specs.Tree.{Path, fronts, fronts_after}
 use Rattle.gix_ref_lines.specs.internal.SeenLogs.{is_among}
@@ -54,32 +51,29 @@ bytes_eq_swaps p q = same_test (bytes_eq p q) (bytes_eq q p)
     (λ is. (bytes_eq-Decides q p).1 (sym ((bytes_eq-Decides p q).0 is)))
     (λ is. (bytes_eq-Decides p q).1 (sym ((bytes_eq-Decides q p).0 is)))
 
-swap : (a b c : Bool) → (a || (b || c)) ≡ (b || (a || c))
-swap true true c = refl
-swap true false c = refl
-swap false b c = refl
-
-twice : (a b : Bool) → (a || b) ≡ (a || (a || b))
-twice true b = refl
-twice false b = refl
-
 -- whether a path is a key of a set
-pub key_found : (q : Path) (ks : List (Vec ℕ Global)) → list_any (λ (k : Vec ℕ Global). is_eq (slice_cmp nat_cmp q k.items)) ks ≡ is_among (map (λ (k : Vec ℕ Global). k.items) ks) q
+pub key_found : (q : Path) (ks : List (Vec ℕ Global)) → list_any (λ (k : Vec ℕ Global). bytes_eq q k.items) ks ≡ is_among (map (λ (k : Vec ℕ Global). k.items) ks) q
 key_found q [] = refl
 key_found q (k ∷ ks) =
-    ap (λ (b : Bool). b || list_any (λ (k : Vec ℕ Global). is_eq (slice_cmp nat_cmp q k.items)) ks) (is_eq-slice_cmp q k.items ∙ bytes_eq_swaps q k.items)
+    ap (λ (b : Bool). b || list_any (λ (k : Vec ℕ Global). bytes_eq q k.items) ks) (bytes_eq_swaps q k.items)
     ∙ ap (λ (b : Bool). bytes_eq k.items q || b) (key_found q ks)
 
--- and after one more is put there
-pub key_added : (q : Path) (k : Vec ℕ Global) (ks : List (Vec ℕ Global)) → is_among (map (λ (k : Vec ℕ Global). k.items) (insert_key (λ (x y : Vec ℕ Global). slice_cmp nat_cmp x.items y.items) ks k)) q ≡ (bytes_eq k.items q || is_among (map (λ (k : Vec ℕ Global). k.items) ks) q)
-key_added q k [] = refl
-key_added q k (x ∷ ks) = by (slice_cmp nat_cmp k.items x.items) refl (key_added q k ks)
+-- And after one is put there: its keys are exchanged, with one more where it was none of them.
+pub key_added : (q : Path) (k : Vec ℕ Global) (ks now : List (Vec ℕ Global)) (added : Bool) → added ≡ not (list_any (λ (x : Vec ℕ Global). bytes_eq k.items x.items) ks) →
+    MatchBool added (IsPermutation (k ∷ ks) now) (now ≡ ks) → is_among (map (λ (x : Vec ℕ Global). x.items) now) q ≡ (bytes_eq k.items q || is_among (map (λ (x : Vec ℕ Global). x.items) ks) q)
+key_added q k ks now true is moved =
+    sym (key_found q now)
+    ∙ (sym (list_any-IsPermutation (λ (x : Vec ℕ Global). bytes_eq q x.items) (k ∷ ks) now moved) ∙ key_found q (k ∷ ks))
+key_added q k ks now false is same =
+    ap (λ (l : List (Vec ℕ Global)). is_among (map (λ (x : Vec ℕ Global). x.items) l) q) same ∙ held (bytes_eq k.items q) refl
   where
-    among : List (Vec ℕ Global) → Bool
-    among ks = is_among (map (λ (k : Vec ℕ Global). k.items) ks) q
+    there : is_among (map (λ (x : Vec ℕ Global). x.items) ks) k.items ≡ true
+    there = sym (key_found k.items ks) ∙ only (list_any (λ (x : Vec ℕ Global). bytes_eq k.items x.items) ks) is
+      where
+        only : (b : Bool) → false ≡ not b → b ≡ true
+        only true e = refl
+        only false e = cc
 
-    by : (o : Ordering) → slice_cmp nat_cmp k.items x.items ≡ o → among (insert_key (λ (x y : Vec ℕ Global). slice_cmp nat_cmp x.items y.items) ks k) ≡ (bytes_eq k.items q || among ks)
-        → among (match_ordering o (k ∷ x ∷ ks) (x ∷ ks) (x ∷ insert_key (λ (x y : Vec ℕ Global). slice_cmp nat_cmp x.items y.items) ks k)) ≡ (bytes_eq k.items q || (bytes_eq x.items q || among ks))
-    by Less is rest = refl
-    by Equal is rest = twice (bytes_eq x.items q) (among ks) ∙ ap (λ (p : Path). bytes_eq p q || (bytes_eq x.items q || among ks)) (sym ((bytes_eq-Decides k.items x.items).0 (sym (is_eq-slice_cmp k.items x.items) ∙ ap is_eq is)))
-    by Greater is rest = ap (λ (b : Bool). bytes_eq x.items q || b) rest ∙ swap (bytes_eq x.items q) (bytes_eq k.items q) (among ks)
+    held : (b : Bool) → bytes_eq k.items q ≡ b → is_among (map (λ (x : Vec ℕ Global). x.items) ks) q ≡ (b || is_among (map (λ (x : Vec ℕ Global). x.items) ks) q)
+    held true e = subst (λ (p : Path). is_among (map (λ (x : Vec ℕ Global). x.items) ks) p ≡ true) ((bytes_eq-Decides k.items q).0 e) there
+    held false e = refl

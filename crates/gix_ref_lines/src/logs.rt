@@ -5,12 +5,12 @@ ghost use Rattle.gix_ref_files.specs.Tree.{fronts, Path};
 ghost use Rattle.gix_ref_lines.specs.internal.SeenLogs.{paths_in, is_among};
 
 use std::alloc::{AllocFailed, Global};
-use std::collections::BTreeSet;
+use std::collections::HashSet;
 
 /// The logs that have a line due, by their paths.
 #[derive(Drop)]
 pub struct DueLogs {
-    paths: BTreeSet<Vec<u8>>,
+    paths: HashSet<Vec<u8>>,
 }
 
 impl DueLogs {
@@ -19,7 +19,7 @@ impl DueLogs {
         ensures { (q : Path) → is_among (paths_in result) q ≡ false }
     {
         DueLogs {
-            paths: BTreeSet::new(alloc),
+            paths: HashSet::new(alloc),
         }
     }
 
