@@ -1,5 +1,5 @@
 -- What a commit leaves whose planned steps are run, and whose other locks are then removed.
-use Rattle.std.proofs.Common.{◌≡◌, ◌≢◌, inr, ⊎_elim, ℕ, List, [], ◌∷◌, ◌++◌, Bool, true, false, Option, Some, None, refl, sym, ◌∙◌, ap, subst}
+use Rattle.std.proofs.Common.{◌≡◌, ◌≢◌, ⊎_elim, ℕ, List, [], ◌∷◌, ◌++◌, Bool, true, false, Option, Some, None, refl, sym, ◌∙◌, ap, subst}
 use Rattle.std.specs.Prelude.{bytes_eq}
 use Rattle.gix_ref_hash.specs.declared.hash.Kind.{Kind}
 use Rattle.gix_ref_name.specs.declared.namespace.Namespace.{Namespace}
@@ -8,22 +8,21 @@ use Rattle.gix_ref_files.specs.Tree.{Tree, Path, is_file}
 use Rattle.gix_ref_files.specs.Disk.{Disk, Lost}
 use Rattle.gix_ref_files.specs.Files.{Meaning, disk_of, Passes}
 use Rattle.gix_ref_files.specs.Lock.{lock_of}
-use Rattle.gix_ref_files.specs.Settled.{AllStay, IsAllSettled, IsSettledAt}
+use Rattle.gix_ref_files.specs.Settled.{AllStay, IsAllSettled}
 use Rattle.gix_ref_files.specs.Steps.{IsAfter, IsLeftBy, EndsBy}
 use Rattle.gix_ref_files.specs.DiskSteps.{IsReachedBy, IsSyncedAfter}
 use Rattle.gix_ref_files.specs.declared.steps.Cause.{Cause}
 use Rattle.gix_ref_files.proofs.Moments.{passes_joins, passes_weaken}
 use Rattle.gix_ref_files.proofs.Between.{ended_is_begun}
-use Rattle.gix_ref_files.proofs.Settling.{stands_settled}
 use Rattle.gix_ref_theory.specs.Between.{IsEdit}
 use Rattle.gix_ref_theory.specs.Edits.{Edit}
 use Rattle.gix_ref_theory.specs.Edits.Mode.{DeletionsOnly}
 use Rattle.gix_ref_theory.specs.Losses.{IsLostWell}
-use Rattle.gix_ref_theory.specs.OnDisks.{AreWhole, IsAsBefore, IsSettled, IsWithin, IsSpokenOf}
+use Rattle.gix_ref_theory.specs.OnDisks.{AreWhole, IsAsBefore, IsWithin, IsSpokenOf}
 use Rattle.gix_ref_theory.specs.OnRealTrees.{view_of, file_of, IsCommitRun, IsOldOrNewTree}
 use Rattle.gix_ref_theory.specs.Plan.{plan}
 use Rattle.gix_ref_theory.specs.Readings.{Store}
-use Rattle.gix_ref_theory.specs.Views.{View, Write, IsSameButLocks, after, after_write}
+use Rattle.gix_ref_theory.specs.Views.{View, Write, IsSameButLocks, after}
 use Rattle.gix_ref_theory.proofs.Carrying.{after_alike, no_file}
 use Rattle.gix_ref_theory.proofs.Headline as headline
 use Rattle.gix_ref_theory.proofs.LockDisks.{as_before}
@@ -31,7 +30,6 @@ use Rattle.gix_ref_theory.proofs.Locks as locks
 use Rattle.gix_ref_theory.proofs.LossMain.{every_loss_among}
 use Rattle.gix_ref_theory.proofs.OnDisks as runs
 use Rattle.gix_ref_theory.proofs.Plans.{edit_behind, edit_in_front}
-use Rattle.gix_ref_theory.proofs.Reached.{at_end}
 use Rattle.gix_ref_theory.proofs.Trees as trees
 use Rattle.gix_ref_lookup.specs.Lookups.{ArePackedRecords}
 use Rattle.gix_ref_lookup.specs.declared.folders.Dirs.{Dirs}
@@ -180,22 +178,6 @@ module _ (dirs : Dirs) (namespace : Option Namespace) (kind : Kind) (prohibits :
     pub lost_well : IsAllSettled D → (E : Disk) (T : Tree) → IsWithin (IsSpokenOf locked D) all_writes (view_of D.tree) E → Lost E T → IsLostWell s DeletionsOnly locked edits D before T
     lost_well settled E T within lost =
         every_loss_among s (placing.laws dirs namespace kind prohibits) DeletionsOnly locked edits merged before T D E settled (run.prepared dirs namespace kind prohibits before D given ran packed rewrite ways out laid ready rs are repack text_held) (run.alike dirs namespace kind prohibits before D given ran packed rewrite ways out laid ready) within lost
-
-    end_within : (Counts : Path → Type 0) (writes : List Write) (view : View) (E : Disk) → IsSettled Counts (after writes view) E → IsWithin Counts writes view E
-    end_within Counts [] view E settled = settled
-    end_within Counts (write ∷ writes) view E settled = inr (end_within Counts writes (after_write write view) E settled)
-
-    -- behind the whole run, where all is as it left it but for own locks
-    pub within_end : (mid E : Disk) → AllStay D staying → IsSyncedAfter (steps_in all_entries) D mid → IsAsBefore locked staying mid E → IsWithin (IsSpokenOf locked D) all_writes (view_of D.tree) E
-    within_end mid E stays done same =
-        let on = run.on_disk dirs namespace kind prohibits before D given ran packed rewrite ways out laid ready rs are repack text_held in
-        let end = at_end (IsSpokenOf locked D) staying (steps_in all_entries) all_writes texts (view_of D.tree) D mid (record { files = λ q counts. counts.1; stays = stays; whole = whole }) on done in
-        end_within (IsSpokenOf locked D) all_writes (view_of D.tree) E
-        (λ q counts.
-        let file : Option (List ℕ) = after all_writes (view_of D.tree) q in
-        let here : IsSettledAt mid file q = end.1.files q counts in
-        let is : view_of mid.tree q ≡ file = stands_settled mid file q here in
-        subst (λ (f : Option (List ℕ)). IsSettledAt E f q) is (same.0 q (counts.0, subst (λ (f : Option (List ℕ)). IsSettledAt mid f q) (sym is) here)))
 
     pub within_run : (first mid now : Meaning) → disk_of first ≡ D → AllStay D staying → Passes first mid (IsReachedBy (steps_in all_entries) (disk_of first)) → OnlyRemoves mine mid now →
         Passes first now (IsWithin (IsSpokenOf locked D) all_writes (view_of D.tree))

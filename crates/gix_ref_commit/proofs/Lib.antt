@@ -10,6 +10,7 @@ pub mod Gone
 pub mod Held
 pub mod Lined
 pub mod LogFolders
+pub mod LostFolders
 pub mod Nothing
 pub mod Outcomes
 pub mod OwnPlan

@@ -11,7 +11,7 @@ use Rattle.gix_ref_files.specs.Steps.Step.{RemoveFolder}
 use Rattle.gix_ref_files.specs.Tree.{Tree, Path, Content, file_of, is_file, is_folder}
 use Rattle.gix_ref_files.specs.Tree.Content.{File, Folder}
 use Rattle.gix_ref_files.proofs.Moments.{joins, passes_joins, passes_starts, passes_weaken, starts, weaken}
-use Rattle.gix_ref_files.proofs.Puts.{put_at, put_other}
+use Rattle.gix_ref_files.proofs.Puts.{put_at, put_other, same_tree}
 use Rattle.gix_ref_lookup.specs.declared.folders.Dirs.{Dirs}
 use Rattle.gix_ref_theory.proofs.OnDisks.{own_steps}
 use Rattle.gix_ref_theory.specs.OnDisks.{IsAsBefore}
@@ -19,6 +19,9 @@ use Rattle.gix_ref_theory.specs.OnRealTrees.{view_of}
 use Rattle.gix_ref_transaction.proofs.Adds.{clash, either_way, is_same_path, same_path}
 use Rattle.gix_ref_transaction.specs.OwnLocks.{paths_of}
 use Rattle.gix_ref_commit.specs.Cleared.{FoldersGo, IsAbove, OnlyFolders, kept_of, roots_of}
+use Rattle.gix_ref_commit.specs.Unfinished.{tried_after}
+use Rattle.gix_ref_commit.specs.declared.run.Unfinished.{Unfinished}
+use Rattle.gix_ref_commit.specs.declared.run.Unfinished.TheVariants.{Memory as no_memory, Step as AtStep}
 
 -- One folder is removed, or not.
 pub one_goes : (dirs : Dirs) (path folder : Path) (rest : List ℕ) (S T : Tree) → path ≡ folder ++ 47 ∷ rest → kept_of dirs path < length folder → (IsIn folder (roots_of dirs) → ⊥) → RemovingFolder S folder T → FoldersGo dirs (path ∷ []) S T
@@ -98,3 +101,13 @@ cut_at_slash [] end lt slash = absurd (omega (arith, lt))
 cut_at_slash (c ∷ path) zero lt slash = (path, ap (λ (b : ℕ). b ∷ path) slash, refl)
 cut_at_slash (c ∷ path) (suc end) lt slash =
     let later = cut_at_slash path end (omega (arith, lt)) slash in (later.0, ap (λ (p : Path). c ∷ p) later.1, ap suc later.2)
+
+-- after a run that ended early folders are gone above no more than what it was to remove
+pub tried_go : (dirs : Dirs) (u : Unfinished) (removed : List (Vec ℕ Global)) (S T : Tree) → FoldersGo dirs (paths_of (tried_after u removed)) S T → FoldersGo dirs (paths_of removed) S T
+tried_go dirs no_memory removed S T goes = λ q. ⊎_elim (λ same. inl same) (λ gone. absurd gone.2) (goes q)
+tried_go dirs (AtStep about cause) removed S T goes = goes
+
+-- and none where no step was begun
+pub none_tried : (dirs : Dirs) (u : Unfinished) (removed : List (Vec ℕ Global)) (S T : Tree) → u ≡ no_memory → FoldersGo dirs (paths_of (tried_after u removed)) S T → S ≡ T
+none_tried dirs u removed S T none goes = same_tree (λ q. ⊎_elim (λ same. sym same) (λ gone. absurd gone.2)
+    (subst (λ (v : Unfinished). FoldersGo dirs (paths_of (tried_after v removed)) S T) none goes q))

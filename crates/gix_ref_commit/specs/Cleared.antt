@@ -4,7 +4,7 @@ use Rattle.std.specs.List.{All, flat_map, starts_with}
 use Rattle.gix_ref_files.specs.Tree.{Tree, Path, is_file, is_folder}
 use Rattle.gix_ref_files.specs.Tree.Content.{Folder}
 use Rattle.gix_ref_files.specs.Files.{Meaning, disk_of, Passes}
-use Rattle.gix_ref_files.specs.Disk.{Disk}
+use Rattle.gix_ref_files.specs.Disk.{Disk, Lost}
 use Rattle.gix_ref_files.specs.Settled.{IsIn}
 use Rattle.gix_ref_files.specs.Steps.{Step}
 use Rattle.gix_ref_files.specs.Steps.Step.{Line, Rename, RemoveFolder}
@@ -14,8 +14,9 @@ use Rattle.gix_ref_lookup.specs.StoreLayout.{folders_of, root_in}
 use Rattle.gix_ref_lookup.specs.declared.folders.Dirs.{Dirs}
 use Rattle.gix_ref_rewrite.specs.declared.outcome.Rewrite.{Rewrite}
 use Rattle.gix_ref_theory.specs.OnDisks.{IsAsBefore}
+use Rattle.gix_ref_theory.specs.OnRealTrees.{view_of}
 use Rattle.gix_ref_theory.specs.Roots.{roots}
-use Rattle.gix_ref_transaction.specs.CommitRenames.{had_file_at, had_log_at}
+use Rattle.gix_ref_transaction.specs.CommitRenames.{file_seen_at, is_no_folder_seen, log_seen_at}
 use Rattle.gix_ref_transaction.specs.OwnLocks.{paths_of}
 use Rattle.gix_ref_transaction.specs.declared.edit.Edit.{Edit}
 use Rattle.gix_ref_transaction.specs.declared.edit.Effect.{Effect}
@@ -49,19 +50,20 @@ written_at (Line path bytes) = Some path
 written_at (Rename from to) = Some to
 written_at other = None
 
--- a file was seen at the path that a step about this writes: the loose file with which an edit was compared, or a log
+-- It was seen that no folder is at the path that a step about this writes: there was a loose file as its edit was compared, or no folder
+-- as its line was decided.
 abbrev pub is_seen : List Edit → About → Bool
-is_seen edits (about.Rename at) = had_file_at edits at
-is_seen edits (about.Line at) = had_log_at edits at
+is_seen edits (about.Rename at) = file_seen_at edits at
+is_seen edits (about.Line at) = is_no_folder_seen (log_seen_at edits at)
 is_seen edits other = false
 
--- What is removed before a file is written at a path, where one was seen there, or not.
+-- What is removed before a file is written at a path, where it was seen that no folder is there, or not.
 pub record AreInWay (dirs : Dirs) (T : Tree) (seen : Bool) (path : Path) (folders : List Path) : Type 0 where
   -- nothing but the folder there, and folders in it
   pub inside : All (IsAtOrBelow path) folders
   -- and no folder of the store, or above it
   pub outside : All (λ f. IsIn f (roots_of dirs) → ⊥) folders
-  -- a folder there is the last of them, unless it holds more than empty folders; where a file was seen, none is sought
+  -- a folder there is the last of them, unless it holds more than empty folders; where no folder was seen, none is sought
   pub last : seen ≡ false → is_folder (T path) ≡ true → HoldsMore dirs T path ⊎ ((others : List Path) × (folders ≡ others ++ path ∷ []))
 
 -- and so for a step, which may write no file
@@ -146,3 +148,7 @@ abbrev pub OnlyFolders : Dirs → (old new : Meaning) → Type 0
 OnlyFolders dirs old new =
     (locked staying : List Path) (first : Disk) → ((q : Path) → IsIn q staying → IsIn q (roots_of dirs)) →
     IsAsBefore locked staying first (disk_of old) → Passes old new (IsAsBefore locked staying first)
+
+-- Each loss of power on the disk E leaves the files that one on the disk D leaves.
+abbrev pub LosesNoMore : (D E : Disk) → Type 0
+LosesNoMore D E = (T : Tree) → Lost E T → (U : Tree) × Lost D U × ((q : Path) → view_of T q ≡ view_of U q)

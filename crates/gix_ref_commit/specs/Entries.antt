@@ -14,6 +14,7 @@ use Rattle.gix_ref_lookup.specs.StoreLayout.{root_in}
 use Rattle.gix_ref_lookup.specs.declared.folders.Dirs.{Dirs}
 use Rattle.gix_ref_rewrite.specs.declared.outcome.Rewrite.{Rewrite}
 use Rattle.gix_ref_rewrite.specs.declared.outcome.Rewrite.TheVariants.{Unchanged, Removed, Text}
+use Rattle.gix_ref_transaction.specs.CommitRenames.{is_file_seen}
 use Rattle.gix_ref_transaction.specs.declared.edit.Edit.{Edit}
 use Rattle.gix_ref_transaction.specs.declared.edit.Effect.{Effect}
 use Rattle.gix_ref_transaction.specs.declared.edit.Effect.TheVariants as effects
@@ -50,7 +51,7 @@ folders_for at (logs.Remove log) = []
 
 -- where there was no log
 abbrev pub folders_entry : ℕ → Edit → List Entry
-folders_entry at e = if e.has_log then [] else folders_for at e.log
+folders_entry at e = if is_file_seen e.log_seen then [] else folders_for at e.log
 
 -- the line of a log
 abbrev pub line_for : Dirs → ℕ → LogEffect → List Entry

@@ -1,5 +1,5 @@
 -- Where and why the run of a plan ended early.
-use Rattle.std.specs.Prelude.{◌≡◌, ◌≢◌, ℕ, List, ◌∷◌, ◌++◌, get_or}
+use Rattle.std.specs.Prelude.{◌≡◌, ◌≢◌, ℕ, List, [], ◌∷◌, ◌++◌, get_or}
 use Rattle.gix_ref_files.specs.Tree.{Tree}
 use Rattle.gix_ref_files.specs.Files.{HasRisen}
 use Rattle.gix_ref_files.specs.Steps.{IsAfter, EndsBy}
@@ -40,3 +40,8 @@ IsRaisedBy before now Asked = Unit {0}
 abbrev pub IsRaised : (before now : ℕ) → Unfinished → Type 0
 IsRaised before now Memory = Unit {0}
 IsRaised before now (Step about cause) = IsRaisedBy before now cause
+
+-- the paths above which empty folders are tried: those of all that the plan removes, or none where no step was begun
+abbrev pub tried_after : {A : Type 0} → Unfinished → List A → List A
+tried_after Memory removed = []
+tried_after (Step about cause) removed = removed

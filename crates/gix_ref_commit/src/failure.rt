@@ -4,6 +4,7 @@ ghost use Rattle.gix_ref_transaction.specs.CommitRenames.{path_in};
 ghost use Rattle.gix_ref_commit.specs.Entries.{done_of, packed_done, IsOfEdit};
 ghost use Rattle.gix_ref_commit.specs.Entries.{renames_packed};
 ghost use Rattle.gix_ref_commit.specs.Failures.{SaysWhy, SaysFault, SaysFile, SaysInWay, SaysLogFault, SaysUnlisted, SaysWhyUnlisted, AllOfEdits, AllWrite, IsWriteOf, of_lines, of_repack};
+ghost use Rattle.gix_ref_commit.specs.Unfinished.{tried_after};
 ghost use Rattle.gix_ref_commit.specs.declared.plan.About.TheVariants.{Folders};
 ghost use Rattle.gix_ref_files.specs.Disk.{folder_of};
 
@@ -42,6 +43,16 @@ impl Unfinished {
                 cause: _,
             } => is_renamed(rewrite),
             Unfinished::Step { .. } => false,
+        }
+    }
+
+    /// Of the paths of what a plan removes, those above which empty folders are tried: all, or none where no step was begun.
+    pub fn tried(self, removed: &[Vec<u8>]) -> &[Vec<u8>]
+        ensures { result.now ≡ tried_after self removed.now }
+    {
+        match self {
+            Unfinished::Memory => &removed[..0],
+            Unfinished::Step { .. } => removed,
         }
     }
 }

@@ -277,19 +277,21 @@ fn unlisted(about: About, source: FileError) -> Unfinished
     }
 }
 
-/// Whether a file was seen at the path that a step about this writes.
+/// Whether the path that a step about this writes was seen, and no folder was there: a file at the place of an edit, or whatever is at its log.
 fn is_seen(edits: &[Edit], about: About) -> bool
     ensures { result ≡ is_seen edits.now about }
 {
     match about {
         About::Rename { edit } => edits.get(edit).is_some_and(|edit| edit.has_file),
-        About::Line { edit } => edits.get(edit).is_some_and(|edit| edit.has_log),
+        About::Line { edit } => edits
+            .get(edit)
+            .is_some_and(|edit| edit.has_no_folder_at_log()),
         About::Folders { .. } | About::LogRemoval { .. } | About::Packed | About::Removal { .. } =>
             false,
     }
 }
 
-/// The folders that are in the way of a step of a plan. None is sought where a file was seen.
+/// The folders that are in the way of a step of a plan. None is sought where it was seen that none is there.
 fn way_before<F: Files>(
     alloc: Global,
     files: &mut F,
@@ -320,7 +322,7 @@ fn way_before<F: Files>(
 }
 
 /// The folders that are in the way of each step of a plan. The error names the step before which a folder could not be listed. One call of
-/// files for each step that writes a file where none was seen, and one for each folder in its way.
+/// files for each step that writes a file where it was not seen that no folder is there, and one for each folder in its way.
 pub fn all_in_way<F: Files>(
     alloc: Global,
     files: &mut F,

@@ -33,7 +33,7 @@ pub enum About {
 fn folders_step<'p>(at: usize, edit: &'p Edit) -> Option<Planned<'p, About>>
     ensures { entry_of result ≡ folders_entry at edit.now }
 {
-    if edit.has_log {
+    if edit.has_log() {
         return None;
     }
     match &edit.log {

@@ -2,7 +2,7 @@
 ghost use Rattle.std.specs.Prelude.{◌≡◌, ◌≤◌, ◌<◌, ◌∷◌, ◌++◌, [], IfOk, OnOk, get_or, length};
 ghost use Rattle.gix_ref_files.specs.Files.{disk_of, Leaves, Passes};
 ghost use Rattle.gix_ref_transaction.specs.OwnLocks.{paths_of};
-ghost use Rattle.gix_ref_commit.specs.Cleared.{FoldersGo, OnlyFolders, all_removed, first_component, kept_of, removed_by};
+ghost use Rattle.gix_ref_commit.specs.Cleared.{FoldersGo, LosesNoMore, OnlyFolders, all_removed, first_component, kept_of, removed_by};
 
 use crate::folders::leads_to_store;
 use gix_ref_files::files::Files;
@@ -81,6 +81,8 @@ fn remove_folder<F: Files>(files: &mut F, dirs: &Dirs, path: &[u8], end: usize) 
     ensures leaves { F.honest → Leaves (F.means files.old) (F.means files.new)
         (FoldersGo dirs.now (path.now ∷ []) (F.means files.old).tree) }
     ensures passes { F.honest → OnlyFolders dirs.now (F.means files.old) (F.means files.new) }
+    ensures loses { F.honest → Passes (F.means files.old) (F.means files.new)
+        (LosesNoMore (disk_of (F.means files.old))) }
     ensures no_fewer { F.faults files.old ≤ F.faults files.new }
 {
     let folder = &path[..end];
@@ -100,6 +102,8 @@ fn remove_at<F: Files>(files: &mut F, dirs: &Dirs, path: &[u8], end: usize) -> b
     ensures leaves { F.honest → Leaves (F.means files.old) (F.means files.new)
         (FoldersGo dirs.now (path.now ∷ []) (F.means files.old).tree) }
     ensures passes { F.honest → OnlyFolders dirs.now (F.means files.old) (F.means files.new) }
+    ensures loses { F.honest → Passes (F.means files.old) (F.means files.new)
+        (LosesNoMore (disk_of (F.means files.old))) }
     ensures no_fewer { F.faults files.old ≤ F.faults files.new }
 {
     if path[end] != b'/' {
@@ -113,6 +117,8 @@ fn remove_above<F: Files>(files: &mut F, dirs: &Dirs, path: &[u8])
     ensures leaves { F.honest → Leaves (F.means files.old) (F.means files.new)
         (FoldersGo dirs.now (path.now ∷ []) (F.means files.old).tree) }
     ensures passes { F.honest → OnlyFolders dirs.now (F.means files.old) (F.means files.new) }
+    ensures loses { F.honest → Passes (F.means files.old) (F.means files.new)
+        (LosesNoMore (disk_of (F.means files.old))) }
     ensures no_fewer { F.faults files.old ≤ F.faults files.new }
 {
     let top = kept_len(dirs, path).saturating_add(1);
@@ -131,6 +137,8 @@ pub fn remove_empty_folders<F: Files>(files: &mut F, dirs: &Dirs, paths: &[Vec<u
     ensures leaves { F.honest → Leaves (F.means files.old) (F.means files.new)
         (FoldersGo dirs.now (paths_of paths.now) (F.means files.old).tree) }
     ensures passes { F.honest → OnlyFolders dirs.now (F.means files.old) (F.means files.new) }
+    ensures loses { F.honest → Passes (F.means files.old) (F.means files.new)
+        (LosesNoMore (disk_of (F.means files.old))) }
     ensures no_fewer { F.faults files.old ≤ F.faults files.new }
 {
     for path in paths {

@@ -1,5 +1,5 @@
 //! Empty folders: those in the way of a loose file or of a log are removed before it is written, and those above what a deletion
-//! removed are removed after it.
+//! removed are removed after it, whether the commit failed or not.
 use crate::logs::{
     Asked, DELETION, FIRST, ONE, Outcome, Texts, UPDATE, Who, committed, edits_of, hold, made,
 };
@@ -324,4 +324,45 @@ fn faults_above_deletions(rt: HostRuntime) {
         "the folder stays",
     );
     assert!(rt; memory.get(b"/r/refs/heads/a/b/c").is_none());
+}
+
+/// The deletions of two branches; the call of this number fails.
+fn two_deletions(rt: &impl Abort, alloc: Global, fails: u64) -> (Outcome, Memory) {
+    let before: Texts = &[("/r/refs/heads/a/b/c", ONE), ("/r/refs/heads/d/e", ONE)];
+    let second = Asked {
+        name: "refs/heads/d/e",
+        ..DELETION
+    };
+    let mut memory = made(rt, alloc, before);
+    if fails != 0 {
+        memory.fail_at(fails);
+    }
+    let mut store = store(alloc, memory, "", "").expect(rt, "a store");
+    let edits = edits_of(rt, alloc, &[DEEP, second]);
+    let (outcome, _) = committed(alloc, &mut store, Who::Nobody, edits, "");
+    (outcome, store.into_files())
+}
+
+/// After a commit that failed, too, the empty folders above a deleted branch are removed.
+#[test]
+fn folders_after_a_fault(rt: HostRuntime) {
+    let alloc = rt.alloc();
+    let (whole, memory) = two_deletions(&rt, alloc, 0);
+    assert_eq!(rt; whole, Outcome::Done);
+    let mut seen: u64 = 0;
+    for k in 1..memory.calls() {
+        let (outcome, mut memory) = two_deletions(&rt, alloc, k);
+        if outcome == Outcome::Other && memory.get(b"/r/refs/heads/a/b/c").is_none() {
+            seen = seen.saturating_add(1);
+            are(
+                &rt,
+                &mut memory,
+                &["/r/refs/heads/a"],
+                Node::Nothing,
+                "a deletion that failed",
+            );
+        }
+    }
+    // The syncs of the folders above the first branch, the removal of the second, and the syncs above that.
+    assert!(rt; seen > 2, "{seen}");
 }

@@ -3,7 +3,7 @@ use Rattle.std.proofs.Common.{◌≡◌, ◌<◌, inl, inr, ⊎_elim, ℕ, ◌+�
 use Rattle.std.proofs.Math.ListN.{set}
 use Rattle.std.proofs.Math.Nat.{eq-or-lt_of_le}
 use Rattle.std.proofs.lemmas.List.{get_or-set_same, get_or-set_other, take_more_set}
-use Rattle.gix_ref_transaction.specs.CommitRenames.{HasItsLog}
+use Rattle.gix_ref_transaction.specs.CommitRenames.{SeesItsLog}
 use Rattle.gix_ref_hash.specs.declared.hash.ObjectId.{ObjectId}
 use Rattle.gix_ref_files.specs.Tree.{Path, Tree}
 use Rattle.gix_ref_transaction.specs.declared.edit.Edit.{Edit}
@@ -32,11 +32,11 @@ refused_later r files a rest Memory passes told = tt
 refused_later r files a rest (CreateOrUpdateRefLog error) passes told = inr (passes, told)
 
 -- one edit more has its log, where it says so
-pub there_more : (edits : List Edit) (i : ℕ) (new : Edit) (T : Tree) → i < length edits → ((k : ℕ) (d : Edit) → k < i → HasItsLog T (get_or edits k d)) → HasItsLog T new →
-    (k : ℕ) (d : Edit) → k < i + 1 → HasItsLog T (get_or (set edits i new) k d)
+pub there_more : (edits : List Edit) (i : ℕ) (new : Edit) (T : Tree) → i < length edits → ((k : ℕ) (d : Edit) → k < i → SeesItsLog T (get_or edits k d)) → SeesItsLog T new →
+    (k : ℕ) (d : Edit) → k < i + 1 → SeesItsLog T (get_or (set edits i new) k d)
 there_more edits i new T lt before here k d within = ⊎_elim
-    (λ (same : k ≡ i). subst (λ (e : Edit). HasItsLog T e) (sym (ap (λ j. get_or (set edits i new) j d) same ∙ get_or-set_same edits i new d lt)) here)
-    (λ (less : k < i). subst (λ (e : Edit). HasItsLog T e) (sym (get_or-set_other edits i k new d (λ same. absurd (omega (arith, less, same))))) (before k d less))
+    (λ (same : k ≡ i). subst (λ (e : Edit). SeesItsLog T e) (sym (ap (λ j. get_or (set edits i new) j d) same ∙ get_or-set_same edits i new d lt)) here)
+    (λ (less : k < i). subst (λ (e : Edit). SeesItsLog T e) (sym (get_or-set_other edits i k new d (λ same. absurd (omega (arith, less, same))))) (before k d less))
     (eq-or-lt_of_le (omega (arith, within)))
 
 module _ (r : LogRules) (T : Tree) (given : List Edit) (i : ℕ) (edits : List Edit) (due : List Path) (so_far : IsDecided r T given i edits due) (e : Edit) (leaf : Option ObjectId) (lt : i < length given) (is : e ≡ get_or given i e) (leaf_is : leaf ≡ leaf_after i (i + 1) None (drop (i + 1) given)) where

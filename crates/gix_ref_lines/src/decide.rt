@@ -1,18 +1,18 @@
 //! What a commit decides of the logs of its edits before its first write (`git reflog`, `core.logAllRefUpdates` of `git config`).
-ghost use Rattle.std.specs.Prelude.{◌≡◌, ◌≤◌, true, OnOk, IfOk, IfErr, IsSome, vec_items};
+ghost use Rattle.std.specs.Prelude.{◌≡◌, ◌≤◌, OnOk, IfOk, IfErr, IsSome, Some, vec_items};
 ghost use Rattle.std.specs.Option.{option_map};
 ghost use Rattle.gix_ref_files.specs.Calls.{Unchanged};
 ghost use Rattle.gix_ref_files.specs.DiskCalls.{Untouched};
 ghost use Rattle.gix_ref_files.specs.Files.{disk_of, Leaves, Passes};
-ghost use Rattle.gix_ref_files.specs.Tree.{is_file};
+ghost use Rattle.gix_ref_files.specs.Tree.{node_at};
 ghost use Rattle.gix_ref_theory.specs.OnRealTrees.{view_of};
 ghost use Rattle.gix_ref_theory.specs.Views.{View};
-ghost use Rattle.gix_ref_transaction.specs.CommitRenames.{HasItsLog, HaveLogs, path_in};
+ghost use Rattle.gix_ref_transaction.specs.CommitRenames.{SeesItsLog, SeeLogs, path_in};
 ghost use Rattle.gix_ref_lines.specs.AskedEdits.{asked, asked_edit, all_but_logs, but_log, outcome_of, outcomes_of};
 ghost use Rattle.gix_ref_lines.specs.DueLines.{due_line, log_outcome, log_outcomes, outcome_by, log_path, rules_of, with_log};
 ghost use Rattle.gix_ref_lines.specs.LineCauses.{AllPass, IsCounted, IsRefusal, IsRefusalAt, Passes as IsPassed};
 ghost use Rattle.gix_ref_lines.specs.internal.LineSteps.{log_rules, Sees};
-ghost use Rattle.gix_ref_lines.specs.internal.SeenLogs.{paths_in};
+ghost use Rattle.gix_ref_lines.specs.internal.SeenLogs.{paths_in, IsBounded};
 
 use crate::error::Error;
 use crate::leaves::leaves_of;
@@ -22,7 +22,7 @@ use crate::place::place_at;
 use crate::rules::{Rules, message_of};
 use crate::write_reflog::WriteReflog;
 use gix_ref_edits::transaction::Change;
-use gix_ref_files::files::Files;
+use gix_ref_files::files::{Files, Node};
 use gix_ref_hash::hash::ObjectId;
 use gix_ref_log::actor::SignatureRef;
 use gix_ref_lookup::settings::Settings;
@@ -34,21 +34,21 @@ use std::alloc::Global;
 struct Due {
     /// The line, if one is.
     line: Option<Vec<u8>>,
-    /// Whether it is due to a log that is a file.
-    has_log: bool,
+    /// What is at the path of its log, where a line is due.
+    log_seen: Option<Node>,
 }
 
 impl Due {
-    ghost use Rattle.std.specs.Prelude.{◌≡◌, None, false};
+    ghost use Rattle.std.specs.Prelude.{◌≡◌, None};
 
     /// No line.
     fn nothing() -> Due
         ensures line { result.line ≡ None }
-        ensures has_log { result.has_log ≡ false }
+        ensures log_seen { result.log_seen ≡ None }
     {
         Due {
             line: None,
-            has_log: false,
+            log_seen: None,
         }
     }
 }
@@ -63,13 +63,15 @@ fn due_line<F: Files>(
     leaf: Option<ObjectId>,
     path: &[u8],
 ) -> Result<Due, Error>
-    requires { path.now ≡ log_path (log_rules rules) (asked_edit edit.now leaf) }
+    requires path { path.now ≡ log_path (log_rules rules) (asked_edit edit.now leaf) }
+    requires bounded { IsBounded due.old }
+    ensures bounded { OnOk result (IsBounded due.new) }
     ensures line { F.honest → (view : View) →
         Sees view (F.means files.old).tree (paths_in due.old) →
         IfOk result (λ due. option_map vec_items due.line
         ≡ due_line (log_rules rules.entry) view (asked_edit edit.now leaf)) }
-    ensures there { F.honest → IfOk result (λ due. due.has_log ≡ true → IsSome due.line
-        × (is_file ((F.means files.old).tree path.now) ≡ true)) }
+    ensures there { F.honest → IfOk result (λ due. (node : Node) → due.log_seen ≡ Some node →
+        IsSome due.line × (node ≡ node_at (F.means files.old).tree path.now)) }
     ensures passed { F.honest → (view : View) →
         Sees view (F.means files.old).tree (paths_in due.old) →
         OnOk result (IsPassed (log_rules rules.entry) view (asked_edit edit.now leaf)) }
@@ -99,7 +101,7 @@ fn due_line<F: Files>(
     due.insert(path.to_vec(alloc)?)?;
     Ok(Due {
         line: Some(line),
-        has_log: place.is_file,
+        log_seen: Some(place.node),
     })
 }
 
@@ -125,12 +127,14 @@ fn decide_log<F: Files>(
     leaf: Option<ObjectId>,
     edit: &mut Edit,
 ) -> Result<(), Error>
+    requires { IsBounded due.old }
+    ensures bounded { OnOk result (IsBounded due.new) }
     ensures but_log { but_log edit.new ≡ but_log edit.old }
     ensures log { F.honest → (view : View) →
         Sees view (F.means files.old).tree (paths_in due.old) →
         OnOk result (outcome_of edit.new.log
         ≡ log_outcome (log_rules rules.entry) view (asked_edit edit.old leaf)) }
-    ensures there { F.honest → OnOk result (HasItsLog (F.means files.old).tree edit.new) }
+    ensures there { F.honest → OnOk result (SeesItsLog (F.means files.old).tree edit.new) }
     ensures passed { F.honest → (view : View) →
         Sees view (F.means files.old).tree (paths_in due.old) →
         OnOk result (IsPassed (log_rules rules.entry) view (asked_edit edit.old leaf)) }
@@ -150,7 +154,7 @@ fn decide_log<F: Files>(
 {
     let path = rules.settings.log(alloc, edit.update.name.as_ref())?;
     let found = due_line(alloc, files, rules, due, edit, leaf, &path)?;
-    edit.has_log = found.has_log;
+    edit.log_seen = found.log_seen;
     edit.log = outcome(&edit.update.change, path, found.line);
     Ok(())
 }
@@ -179,7 +183,7 @@ pub fn decide_logs<F: Files>(
     ensures logs { F.honest → OnOk result (outcomes_of edits.new ≡ log_outcomes
         (rules_of settings.now write_reflog committer.entry)
         (view_of (F.means files.old).tree) (asked edits.old)) }
-    ensures there { F.honest → OnOk result (HaveLogs (F.means files.old).tree edits.new) }
+    ensures there { F.honest → OnOk result (SeeLogs (F.means files.old).tree edits.new) }
     ensures passed { F.honest → OnOk result (AllPass
         (rules_of settings.now write_reflog committer.entry)
         (view_of (F.means files.old).tree) (asked edits.old)) }

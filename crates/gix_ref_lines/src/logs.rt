@@ -2,7 +2,7 @@
 ghost use Rattle.std.specs.Prelude.{◌≡◌, ◌||◌, OnOk, bytes_eq, false};
 ghost use Rattle.std.specs.List.{list_any};
 ghost use Rattle.gix_ref_files.specs.Tree.{fronts, Path};
-ghost use Rattle.gix_ref_lines.specs.internal.SeenLogs.{paths_in, is_among};
+ghost use Rattle.gix_ref_lines.specs.internal.SeenLogs.{paths_in, is_among, IsBounded};
 
 use std::alloc::{AllocFailed, Global};
 use std::collections::HashSet;
@@ -11,15 +11,19 @@ use std::collections::HashSet;
 #[derive(Drop)]
 pub struct DueLogs {
     paths: HashSet<Vec<u8>>,
+    /// None of the paths has fewer bytes.
+    shortest: usize,
 }
 
 impl DueLogs {
     /// No log.
     pub fn new(alloc: Global) -> DueLogs
-        ensures { (q : Path) → is_among (paths_in result) q ≡ false }
+        ensures none { (q : Path) → is_among (paths_in result) q ≡ false }
+        ensures bounded { IsBounded result }
     {
         DueLogs {
             paths: HashSet::new(alloc),
+            shortest: usize::MAX,
         }
     }
 
@@ -32,19 +36,23 @@ impl DueLogs {
 
     /// Adds the log at this path.
     pub fn insert(&mut self, path: Vec<u8>) -> Result<(), AllocFailed<Vec<u8>>>
-        ensures { OnOk result ((q : Path) → is_among (paths_in self.new) q
+        ensures added { OnOk result ((q : Path) → is_among (paths_in self.new) q
             ≡ (bytes_eq path.items q || is_among (paths_in self.old) q)) }
+        ensures bounded { IsBounded self.old → OnOk result (IsBounded self.new) }
     {
+        let len = path.len();
         self.paths.insert(path)?;
+        self.shortest = self.shortest.min(len);
         Ok(())
     }
 
     /// Whether such a log is in a path, as a file where a folder would be.
     pub fn is_above(&self, path: &[u8]) -> bool
+        requires { IsBounded self.now }
         ensures { result ≡ list_any (is_among (paths_in self.now)) (fronts path.now) }
     {
         for i in 1..path.len() {
-            if path[i] == b'/' && self.contains(&path[..i]) {
+            if path[i] == b'/' && i >= self.shortest && self.contains(&path[..i]) {
                 return true;
             }
         }

@@ -4,11 +4,11 @@ ghost use Rattle.std.specs.List.{list_any};
 ghost use Rattle.gix_ref_files.specs.Calls.{Unchanged};
 ghost use Rattle.gix_ref_files.specs.DiskCalls.{Untouched};
 ghost use Rattle.gix_ref_files.specs.Files.{count_with, disk_of, Leaves, Passes};
-ghost use Rattle.gix_ref_files.specs.Tree.{fronts, is_blocked};
+ghost use Rattle.gix_ref_files.specs.Tree.{fronts, is_blocked, node_at};
 ghost use Rattle.gix_ref_theory.specs.OnRealTrees.{view_of};
 ghost use Rattle.gix_ref_lines.specs.LineCauses.{IsCounted};
 ghost use Rattle.gix_ref_lines.specs.internal.LineSteps.{IsFaultAt};
-ghost use Rattle.gix_ref_lines.specs.internal.SeenLogs.{is_among, paths_in};
+ghost use Rattle.gix_ref_lines.specs.internal.SeenLogs.{is_among, paths_in, IsBounded};
 
 use crate::create_or_update;
 use crate::error::Error;
@@ -20,8 +20,8 @@ use std::alloc::Global;
 /// What there is at the path of a log.
 #[derive(Clone, Copy, Debug, PartialEq, Eq)]
 pub struct Place {
-    /// Whether a file is there.
-    pub is_file: bool,
+    /// What is there.
+    pub node: Node,
     /// Whether the log is there, or has a line due.
     pub is_log: bool,
     /// Whether a file is where a folder of its path would be.
@@ -53,8 +53,9 @@ pub fn place_at<F: Files>(
     due: &DueLogs,
     path: &[u8],
 ) -> Result<Place, Error>
-    ensures file { F.honest → IfOk result (λ place. place.is_file
-        ≡ is_some (view_of (F.means files.old).tree path.now)) }
+    requires { IsBounded due.now }
+    ensures node { F.honest → IfOk result (λ place. place.node
+        ≡ node_at (F.means files.old).tree path.now) }
     ensures log { F.honest → IfOk result (λ place. place.is_log
         ≡ (is_some (view_of (F.means files.old).tree path.now)
         || is_among (paths_in due.now) path.now)) }
@@ -73,7 +74,7 @@ pub fn place_at<F: Files>(
         Ok(node) => {
             let is_file = node == Node::File;
             Ok(Place {
-                is_file,
+                node,
                 is_log: is_file || due.contains(path),
                 is_blocked: node == Node::Blocked || due.is_above(path),
             })

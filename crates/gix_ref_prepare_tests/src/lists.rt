@@ -401,8 +401,9 @@ const EDITS: [(&str, &[u8], bool); 4] = [
     ("refs/heads/a", b"/r/refs/heads/a", true),
 ];
 
-/// The calls of files before the commit: `packed-refs`, the path of its lock, and five for each edit.
-const PREPARING: u64 = 22;
+/// The calls of files before the commit: `packed-refs`, the path of its lock, and five for each edit, but four for `HEAD`: the folder of its
+/// place leads to the one before.
+const PREPARING: u64 = 21;
 
 /// All calls of files that they make: in the commit, the look at the place that held no file, the rename of each and the syncs up to
 /// the git folder.
@@ -490,10 +491,10 @@ fn a_stop_and_a_loss_show_the_first_updates(rt: HostRuntime) {
 /// The name of the edit at whose place the call of this number looks, or whose rename it is, or a sync after it.
 fn edit_of_call(call: u64) -> &'static str {
     match call {
-        0..=22 => "",
-        24..=27 => "refs/heads/b",
-        23 | 28..=31 => "refs/tags/t",
-        32 | 33 => "HEAD",
+        0..=21 => "",
+        23..=26 => "refs/heads/b",
+        22 | 27..=30 => "refs/tags/t",
+        31 | 32 => "HEAD",
         _ => "refs/heads/a",
     }
 }

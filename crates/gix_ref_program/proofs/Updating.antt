@@ -12,7 +12,8 @@ use Rattle.gix_ref_transaction.specs.declared.prepare.error.Error.{Error as Caus
 use Rattle.gix_ref_transaction.proofs.CommitLosses.{rest_kept}
 use Rattle.gix_ref_store.specs.CommitResult.{CommitsFrom, EveryStopFrom, EveryLossFrom, SettlesFrom, FailsFor, NoBadLineFrom, left_of}
 use Rattle.gix_ref_store.specs.Prepared.{PreparesGiven, HasGoodRecords, RefusesGiven, IsAtRest, disk_in, places_in, tree_of}
-use Rattle.gix_ref_store.specs.CommitLines.{lines_due}
+use Rattle.gix_ref_store.specs.CommitLines.{LinesPass, lines_due}
+use Rattle.gix_ref_store.specs.CommittedFolders.{KeepsFolders}
 use Rattle.gix_ref_commit.specs.CommittedTrees.{IsOldOrNew}
 use Rattle.gix_ref_store.specs.Store.{files_of, folders, meaning_of}
 use Rattle.gix_ref_store.specs.declared.file.store.Store.{Store}
@@ -83,12 +84,12 @@ module _ {F : Type 0} (honest : Type 0) (means : F → Meaning) (faults : F → 
   rises left (inr rose) = inr (rose_before _ _ _ from.prepared.held.no_fewer rose)
 
   pub done : {T : Type 0} (answer : Result (Done T) (Failed T)) (error : Option UpdateError) (left : List Path) → error ≡ error_of answer → left ≡ left_of answer →
-      IfOk answer (λ d. CommitsFrom honest means faults mid new committer packed held (paths_of d.locks_left.items)) → EveryStopFrom honest means faults mid new committer packed held (left_of answer) →
+      IfOk answer (λ d. CommitsFrom honest means faults mid new committer packed held (paths_of d.locks_left.items)) → OnOk answer (LinesPass honest means mid committer held) → KeepsFolders honest means faults mid new packed held → EveryStopFrom honest means faults mid new committer packed held (left_of answer) →
       (left_of answer ≡ []) ⊎ HasRisen (faults (files_of mid)) (faults (files_of new)) → error ≡ None → IsMade honest means faults old new committer edits left
-  done (Ok d) error left told same commits ends counted none =
+  done (Ok d) error left told same commits passed kept ends counted none =
       subst (λ l. IsMade honest means faults old new committer edits l) (sym same)
-      (record { begun = begun; commits = commits; stops = ends; named = rises (paths_of d.locks_left.items) counted })
-  done (Err f) error left told same commits ends counted none = absurd (differ (Commit f.error) (sym told ∙ none))
+      (record { begun = begun; commits = commits; lines = passed; folders = kept; stops = ends; named = rises (paths_of d.locks_left.items) counted })
+  done (Err f) error left told same commits passed kept ends counted none = absurd (differ (Commit f.error) (sym told ∙ none))
 
   pub loses : honest → HasGoodRecords means old → IsAtRest means old → EveryLossFrom honest means faults mid new committer packed held → Loses (means (files_of old)) (means (files_of new)) (IsLossOf honest means faults old committer edits)
   loses h good at_rest losses =
@@ -102,13 +103,13 @@ module _ {F : Type 0} (honest : Type 0) (means : F → Meaning) (faults : F → 
   settles (Err f) error is settled h none at_rest = absurd (differ (Commit f.error) (sym is ∙ none))
 
   pub told : (read : Type 0) {T : Type 0} (answer : Result (Done T) (Failed T)) (error : Option UpdateError) (left : List Path) → error ≡ error_of answer → left ≡ left_of answer →
-      IfErr answer (λ f. FailsFor honest means faults mid new committer packed held f.error) → IfErr answer (λ f. NoBadLineFrom honest means faults mid packed held f.error) → EveryStopFrom honest means faults mid new committer packed held (left_of answer) →
+      IfErr answer (λ f. FailsFor honest means faults mid new committer packed held f.error) → IfErr answer (λ f. NoBadLineFrom honest means faults mid packed held f.error) → KeepsFolders honest means faults mid new packed held → EveryStopFrom honest means faults mid new committer packed held (left_of answer) →
       (left_of answer ≡ []) ⊎ HasRisen (faults (files_of mid)) (faults (files_of new)) → IfSome error (λ u. IsUpdateError honest means faults read old new committer edits u left)
-  told read (Ok d) error left is same fails sound ends counted = subst (λ r. IfSome r (λ u. IsUpdateError honest means faults read old new committer edits u left)) (sym is) tt
-  told read (Err f) error left is same fails sound ends counted =
+  told read (Ok d) error left is same fails sound kept ends counted = subst (λ r. IfSome r (λ u. IsUpdateError honest means faults read old new committer edits u left)) (sym is) tt
+  told read (Err f) error left is same fails sound kept ends counted =
       subst (λ r. IfSome r (λ u. IsUpdateError honest means faults read old new committer edits u left)) (sym is)
       (subst (λ l. HasFailed honest means faults old new committer edits f.error l) (sym same)
-      (record { begun = begun; fails = fails; sound = sound; stops = ends; named = rises (paths_of f.locks_left.items) counted }))
+      (record { begun = begun; fails = fails; sound = sound; folders = kept; stops = ends; named = rises (paths_of f.locks_left.items) counted }))
 
   pub stops : (left : List Path) → EveryStopFrom honest means faults mid new committer packed held left → honest →
       Leaves (means (files_of old)) (means (files_of new)) (IsStopOf honest means faults old committer edits)

@@ -12,8 +12,9 @@ use Rattle.gix_ref_log.specs.declared.actor.SignatureRef.{SignatureRef}
 use Rattle.gix_ref_transaction.specs.OwnLocks.{AddsLocks}
 use Rattle.gix_ref_transaction.specs.Splits.{AreSplit}
 use Rattle.gix_ref_transaction.specs.declared.edit.Edit.{Edit}
-use Rattle.gix_ref_store.specs.CommitLines.{lines_due}
+use Rattle.gix_ref_store.specs.CommitLines.{LinesPass, lines_due}
 use Rattle.gix_ref_store.specs.CommitResult.{CommitsFrom, EveryStopFrom, FailsFor, NoBadLineFrom}
+use Rattle.gix_ref_store.specs.CommittedFolders.{KeepsFolders}
 use Rattle.gix_ref_store.specs.Prepared.{PreparesGiven, RefusesGiven, HasGoodRecords, tree_of, disk_in, locks_in, places_in}
 use Rattle.gix_ref_store.specs.ComposedEdits.{AreAskedAs}
 use Rattle.gix_ref_store.specs.Store.{files_of, meaning_of}
@@ -68,6 +69,9 @@ module _ {F : Type 0} (honest : Type 0) (means : F → Meaning) (faults : F → 
   pub record IsMade (old new : Store F) (committer : Option SignatureRef) (edits : List RefEdit) (left : List Path) : Type 0 where
     pub begun : IsBegun old edits
     pub commits : CommitsFrom honest means faults begun.mid new committer begun.packed begun.held left
+    -- no due line was passed over, and no folder is gone but those in the way of what was written, and those above what was deleted
+    pub lines : LinesPass honest means begun.mid committer begun.held
+    pub folders : KeepsFolders honest means faults begun.mid new begun.packed begun.held
     pub stops : EveryStopFrom honest means faults begun.mid new committer begun.packed begun.held left
     pub named : (left ≡ []) ⊎ HasRisen (faults (files_of old)) (faults (files_of new))
 
@@ -76,6 +80,7 @@ module _ {F : Type 0} (honest : Type 0) (means : F → Meaning) (faults : F → 
     pub begun : IsBegun old edits
     pub fails : FailsFor honest means faults begun.mid new committer begun.packed begun.held error
     pub sound : NoBadLineFrom honest means faults begun.mid begun.packed begun.held error
+    pub folders : KeepsFolders honest means faults begun.mid new begun.packed begun.held
     pub stops : EveryStopFrom honest means faults begun.mid new committer begun.packed begun.held left
     pub named : (left ≡ []) ⊎ HasRisen (faults (files_of old)) (faults (files_of new))
 

@@ -38,9 +38,10 @@ pub struct UpdateReport {
 /// Prepares edits, and commits them in their order, with the log lines that are due.
 ///
 /// The result says why they were not made: the first cause against them, or what stopped their commit. Each lock that could
-/// not be removed is named. Costs what `prepare` and `commit` do: three calls of files for `packed-refs` and its lock, or four where
-/// it exists; six for a reference that changes, the sync of its lock, and one sync for each folder from that of its file up to
-/// the git folder; and for a log line three, its sync, and that of the folders of the log.
+/// not be removed is named. Costs what `prepare` and `commit` do: two calls of files for `packed-refs` and its lock, or five where
+/// that file exists; five for a reference that changes, or six for a new one, the sync of its lock, and one sync for each folder from
+/// that of its file up to the git folder; and for a log line two, or three where its log is made, its sync, and that of the folders of
+/// the log.
 /// (`git update-ref`)
 pub fn update<F: Files>(
     alloc: Global,

@@ -8,8 +8,8 @@ use Rattle.gix_ref_files.proofs.Moments.{passes_joins, passes_weaken}
 use Rattle.gix_ref_theory.specs.OnDisks.{IsAsBefore}
 use Rattle.gix_ref_files.specs.Lock.{lock_of}
 use Rattle.gix_ref_files.specs.Steps.{Step}
-use Rattle.gix_ref_files.specs.Tree.{Tree, Path, Content, IsEmptyFolder, is_file, is_folder}
-use Rattle.gix_ref_files.specs.Tree.Content.{File, Folder}
+use Rattle.gix_ref_files.specs.Tree.{Tree, Path, IsEmptyFolder, is_folder}
+use Rattle.gix_ref_files.specs.Tree.Content.{File}
 use Rattle.gix_ref_files.specs.declared.files.FileError.{FileError}
 use Rattle.gix_ref_files.specs.declared.steps.Cause.{Cause}
 use Rattle.gix_ref_files.specs.declared.steps.Cause.TheVariants.{File as Fault, Unexpected, Asked}
@@ -17,7 +17,7 @@ use Rattle.gix_ref_files.proofs.Puts.{put_other}
 use Rattle.gix_ref_lookup.specs.declared.folders.Dirs.{Dirs}
 use Rattle.gix_ref_rewrite.specs.declared.outcome.Rewrite.{Rewrite}
 use Rattle.gix_ref_edits.specs.declared.transaction.RefEdit.{RefEdit}
-use Rattle.gix_ref_transaction.specs.CommitRenames.{HaveLogs, log_at, path_in, place_at}
+use Rattle.gix_ref_transaction.specs.CommitRenames.{SeeLogs, log_at, path_in, place_at}
 use Rattle.gix_ref_transaction.specs.CarriedEdits.{change_of}
 use Rattle.gix_ref_transaction.specs.declared.edit.LogEffect.{LogEffect}
 use Rattle.gix_ref_transaction.specs.declared.edit.LogEffect.TheVariants as log_effects
@@ -37,7 +37,7 @@ use Rattle.gix_ref_transaction.specs.declared.edit.Edit.{Edit}
 use Rattle.gix_ref_transaction.proofs.Adds.{any_cases, any_left, any_right, clash, in_here}
 use Rattle.gix_ref_repack.specs.declared.error.Error.{Error as RepackError}
 use Rattle.gix_ref_repack.specs.declared.error.Error.TheVariants as repack
-use Rattle.gix_ref_commit.specs.Cleared.{AllInWay, AreInWayOf, HoldsMore, commit_entries, folder_lists, is_seen, written_at}
+use Rattle.gix_ref_commit.specs.Cleared.{AllInWay, AreInWayOf, FoldersGo, HoldsMore, all_removed, commit_entries, folder_lists, is_seen, written_at}
 use Rattle.gix_ref_commit.specs.Decided.{FillsPacked, IsFilled}
 use Rattle.gix_ref_commit.specs.Entries.{Entry, bare, done_before, done_of, planned_entries, IsOfEdit}
 use Rattle.gix_ref_base.specs.PackedRecords.{Record}
@@ -64,21 +64,12 @@ use Rattle.gix_ref_commit.proofs.Endings.{MeetsAt, WritesAt, meets, never_asked,
 use Rattle.gix_ref_commit.proofs.Outcomes.{logs_are}
 use Rattle.gix_ref_commit.proofs.Unlisted.{has_line}
 use Rattle.gix_ref_commit.proofs.Shapes.{AllShaped, HasLine, HasShape, all_shaped, names_edit, shape_at}
-use Rattle.gix_ref_store.specs.CommitResult.{ChangesLocks, FailsAt, FailsAtWrite, FailsFor, FailsForLog, RefusesLine, IsFault, IsOfBadLine, IsPackedEmpty, MeetsFolder, OnlyItsLocks, RepacksFrom, StopsAt}
+use Rattle.gix_ref_store.specs.CommitResult.{ChangesLocks, FailsAt, FailsAtWrite, FailsFor, FailsForLog, RefusesLine, IsFault, IsOfBadLine, IsPackedEmpty, MeetsFolder, OnlyItsLocks, RepacksFrom, EndsEarlyAt}
 use Rattle.gix_ref_store.specs.CommitLines.{LinesPass, line_rules, log_path_at}
 use Rattle.gix_ref_store.specs.Decisions.{IsUndecided}
 use Rattle.gix_ref_store.specs.Prepared.{tree_of}
 use Rattle.gix_ref_store.specs.Store.{files_of, kind_of, meaning_of}
 use Rattle.gix_ref_store.specs.declared.file.store.Store.{Store}
-
--- a folder stays where locks are removed
-folder_stays : (locks : List Path) (T U : Tree) (q : Path) → RemovesLocks locks T U → is_folder (T q) ≡ true → is_folder (U q) ≡ true
-folder_stays locks T U q removes folder = ⊎_elim (λ same. ap is_folder same ∙ folder) (λ gone. absurd (no_both (T q) gone.2 folder)) (removes q)
-  where
-    no_both : (node : Option Content) → is_file node ≡ true → is_folder node ≡ true → ⊥
-    no_both (Some (File bytes)) file folder = clash folder refl
-    no_both (Some Folder) file folder = clash file refl
-    no_both None file folder = clash file refl
 
 -- a rise is one from before, and after
 pub risen_wider : (a b c d : ℕ) → a ≤ b → c ≤ d → HasRisen b c → HasRisen a d
@@ -274,8 +265,8 @@ module _ {F : Type 0} (honest : Type 0) (means : F → Meaning) (faults : F → 
       unless_within true p = clash p refl
       unless_within false p = p
 
-  pub held_less : (renamed : Bool) (T : Tree) → RemovesLocks (held_locks (if renamed then None else packed) ran) T (tree_of means new) → RemovesLocks (held_locks packed held) T (tree_of means new)
-  held_less renamed T removes q = ⊎_elim (λ same. inl same) (λ gone. inr (ran_held renamed q gone.0, gone.1, gone.2)) (removes q)
+  pub held_less : (renamed : Bool) (T U : Tree) → RemovesLocks (held_locks (if renamed then None else packed) ran) T U → RemovesLocks (held_locks packed held) T U
+  held_less renamed T U removes q = ⊎_elim (λ same. inl same) (λ gone. inr (ran_held renamed q gone.0, gone.1, gone.2)) (removes q)
 
   -- before the first write nothing but locks has changed
   pub only_locks : (renamed : Bool) (decided : Tree) → FillsPacked packed (tree_of means start) decided → RemovesLocks (held_locks (if renamed then None else packed) ran) decided (tree_of means new) →
@@ -330,13 +321,13 @@ module _ {F : Type 0} (honest : Type 0) (means : F → Meaning) (faults : F → 
     IsLogAt (Line at) = honest → log ≡ log_path_at start held at
     IsLogAt other = Unit {0}
 
-    log_fault : (about : ℕ → About) (at : ℕ) (fault source : FileError) → source ≡ fault → IsFault honest means faults start new fault → StopsAt honest means faults start new committer packed held (about at) (Fault fault) →
-        IsFault honest means faults start new source × StopsAt honest means faults start new committer packed held (about at) (Fault source)
+    log_fault : (about : ℕ → About) (at : ℕ) (fault source : FileError) → source ≡ fault → IsFault honest means faults start new fault → EndsEarlyAt honest means faults start new committer packed held (about at) (Fault fault) →
+        IsFault honest means faults start new source × EndsEarlyAt honest means faults start new committer packed held (about at) (Fault source)
     log_fault about at fault source same isf stop =
-        (subst (IsFault honest means faults start new) (sym same) isf, subst (λ (f : FileError). StopsAt honest means faults start new committer packed held (about at) (Fault f)) (sym same) stop)
+        (subst (IsFault honest means faults start new) (sym same) isf, subst (λ (f : FileError). EndsEarlyAt honest means faults start new committer packed held (about at) (Fault f)) (sym same) stop)
 
     faults_at_log : (a : About) (fault : FileError) (error : LogError) → SaysLogFault a log fault error → IsFault honest means faults start new fault → IsLogAt a → IsOfEdit (length held) a →
-        StopsAt honest means faults start new committer packed held a (Fault fault) → FailsForLog honest means faults start new committer packed held error
+        EndsEarlyAt honest means faults start new committer packed held a (Fault fault) → FailsForLog honest means faults start new committer packed held error
     faults_at_log (Folders at) fault (CreateLeadingDirectories (Some source) folder) (same, is) isf logged within stop =
         let on = log_fault Folders at fault source same isf stop in (on.0, inr (at, within, (λ h. is ∙ ap folder_of (logged h)), on.1))
     faults_at_log (Line at) fault (Append source path) (same, is) isf logged within stop =
@@ -356,7 +347,7 @@ module _ {F : Type 0} (honest : Type 0) (means : F → Meaning) (faults : F → 
     faults_at_log (Removal at) fault error is isf logged within stop = absurd is
 
     faults_at : (a : About) (fault : FileError) (error : Error) → SaysFault (updates held) log a fault error → IsFault honest means faults start new fault → IsLogAt a → IsOfEdit (length held) a →
-        StopsAt honest means faults start new committer packed held a (Fault fault) → FailsFor honest means faults start new committer packed held error
+        EndsEarlyAt honest means faults start new committer packed held a (Fault fault) → FailsFor honest means faults start new committer packed held error
     faults_at (Folders at) fault (CreateOrUpdateRefLog error) is isf logged within stop = faults_at_log (Folders at) fault error is isf logged within stop
     faults_at (Line at) fault (CreateOrUpdateRefLog error) is isf logged within stop = faults_at_log (Line at) fault error is isf logged within stop
     faults_at (Rename at) fault (CreateOrUpdateRefLog error) is isf logged within stop = faults_at_log (Rename at) fault error is isf logged within stop
@@ -407,14 +398,14 @@ module _ {F : Type 0} (honest : Type 0) (means : F → Meaning) (faults : F → 
     faults_at (Removal at) fault Memory is isf logged within stop = absurd is
 
   -- The run of the steps ended early.
-  module _ (outcomes : honest → outcomes_of ran ≡ log_outcomes (line_rules start committer) (view_of (tree_of means start)) (asked held)) (seen_logs : honest → HaveLogs (tree_of means start) ran) (passes : LinesPass honest means start committer held) (rewrite : Rewrite) (repacked : RepacksFrom honest means faults start packed held rewrite) (filled mid : Tree)
+  module _ (outcomes : honest → outcomes_of ran ≡ log_outcomes (line_rules start committer) (view_of (tree_of means start)) (asked held)) (seen_logs : honest → SeeLogs (tree_of means start) ran) (passes : LinesPass honest means start committer held) (rewrite : Rewrite) (repacked : RepacksFrom honest means faults start packed held rewrite) (filled mid released : Tree)
       (ways : List InWay) (way_is : honest → AllInWay ran start.dirs filled (folder_lists ways) (planned_entries start.dirs ran packed rewrite))
       (fills : honest → IsPackedEmpty honest means faults start packed → IsFilled packed rewrite (tree_of means start) filled)
-      (removes : honest → RemovesLocks (held_locks packed held) mid (tree_of means new)) where
+      (removes : honest → RemovesLocks (held_locks packed held) mid released) (tidies : honest → FoldersGo start.dirs (all_removed ran) released (tree_of means new)) where
     abbrev Ends : About → Cause → Type 0
     Ends a cause = EndsAtStep honest (commit_entries start.dirs ran packed rewrite ways) filled mid a cause
 
-    abbrev stops : (a : About) (cause : Cause) → Ends a cause → StopsAt honest means faults start new committer packed held a cause
+    abbrev stops : (a : About) (cause : Cause) → Ends a cause → EndsEarlyAt honest means faults start new committer packed held a cause
     stops a cause ended = record {
       ran = ran;
       alike = alike;
@@ -429,7 +420,9 @@ module _ {F : Type 0} (honest : Type 0) (means : F → Meaning) (faults : F → 
       in_way = way_is;
       mid = mid;
       stops = ended;
+      released = released;
       removes = removes;
+      tidies = tidies;
     }
 
     same_length : length ran ≡ length held
@@ -530,8 +523,7 @@ module _ {F : Type 0} (honest : Type 0) (means : F → Meaning) (faults : F → 
             n,
             omega (arith, meet.0, same_length),
             here ∙ ap (λ (l : List Path). get_or l n []) (places_alike ran held alike),
-            folder_stays (held_locks packed held) mid (tree_of means new) path (removes h) (ap (λ (p : Path). is_folder (mid p)) here ∙ meet.1),
-            (stops (Rename n) Unexpected e, kept (Rename n) e h path (written (Rename n) e h ∙ ap Some (sym here))),
+            ((stops (Rename n) Unexpected e, kept (Rename n) e h path (written (Rename n) e h ∙ ap Some (sym here))), ap (λ (p : Path). is_folder (mid p)) here ∙ meet.1),
           )
 
       met_line : (n : ℕ) (path : Path) → Ends (Line n) Unexpected → ToldAt (Line n) → path ≡ log → honest → MeetsFolder honest means faults start new committer packed held path
@@ -546,9 +538,7 @@ module _ {F : Type 0} (honest : Type 0) (means : F → Meaning) (faults : F → 
           let here : path ≡ (meaning_of start).packed_path = is ∙ tells.at_packed (λ none. differ meet.0 (sym meet.1 ∙ none)) in
           inr (inr (
             here,
-            (λ place_is.
-                folder_stays (held_locks packed held) mid (tree_of means new) path (removes h) (ap (λ (q : Path). is_folder (mid q)) (here ∙ by meet.0 meet.1 place_is) ∙ meet.2)),
-            stops Packed Unexpected e,
+            (stops Packed Unexpected e, λ place_is. ap (λ (q : Path). is_folder (mid q)) (here ∙ by meet.0 meet.1 place_is) ∙ meet.2),
           ))
         where
           differ : (p : Path) → Some p ≡ None → ⊥

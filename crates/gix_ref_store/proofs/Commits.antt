@@ -30,7 +30,7 @@ use Rattle.gix_ref_theory.specs.Losses.{IsLostWell}
 use Rattle.gix_ref_theory.specs.OnDisks.{IsAsBefore, IsSpokenOf, IsWithin}
 use Rattle.gix_ref_theory.specs.OnRealTrees.{view_of}
 use Rattle.gix_ref_theory.specs.Readings as readings
-use Rattle.gix_ref_theory.specs.Readings.{HasLaws, records_in}
+use Rattle.gix_ref_theory.specs.Readings.{HasLaws}
 use Rattle.gix_ref_theory.specs.Roots.{roots}
 use Rattle.gix_ref_theory.specs.Views.{IsOwnLock, IsSameButLocks}
 use Rattle.gix_ref_theory.proofs.LockDisks.{as_before}
@@ -54,7 +54,7 @@ use Rattle.gix_ref_transaction.proofs.PackedLocks.{taken_was_free}
 use Rattle.gix_ref_transaction.proofs.Removing.{times_append, locks_by_places}
 use Rattle.gix_ref_transaction.proofs.Renames.{lock_found}
 use Rattle.gix_ref_repack.specs.Repacks.{IsRepack}
-use Rattle.gix_ref_commit.specs.Cleared.{AllInWay, FoldersGo, OnlyFolders, commit_entries, folder_lists, roots_of}
+use Rattle.gix_ref_commit.specs.Cleared.{AllInWay, FoldersGo, LosesNoMore, OnlyFolders, commit_entries, folder_lists, roots_of}
 use Rattle.gix_ref_commit.specs.CommittedTrees.{AreCommitted, IsOldOrNew}
 use Rattle.gix_ref_commit.specs.Decided.{FillsPacked, IsFilled}
 use Rattle.gix_ref_commit.specs.Entries.{Entry, bare_steps, done_before, done_of, packed_before, packed_done, planned_entries, renames_packed, steps_in}
@@ -75,6 +75,7 @@ use Rattle.gix_ref_commit.proofs.Ends as ends
 use Rattle.gix_ref_commit.proofs.Endings.{lock_is}
 use Rattle.gix_ref_commit.proofs.Held.{IsReady, edits_apart}
 use Rattle.gix_ref_commit.proofs.Lined.{apart_lined}
+use Rattle.gix_ref_commit.proofs.LostFolders.{lost_well_alike}
 use Rattle.gix_ref_commit.proofs.Nothing as nothing
 use Rattle.gix_ref_commit.proofs.Outcomes.{lines_are, logs_are}
 use Rattle.gix_ref_commit.proofs.Placing.{IsLaid}
@@ -559,38 +560,42 @@ module _ {F : Type 0} (honest : Type 0) (means : F → Meaning) (faults : F → 
               Inside = IsWithin (IsSpokenOf locked (disk_of decided))
                   (ends.all_writes old.dirs old.namespace (kind_of old) old.prohibit_windows_device_names before (disk_of decided) given ran packed rewrite ways (out h) (laid h) (ready h good) good.0 good.1 (repack h good) (text_held h)) (view_of decided.tree)
 
-              pub ran_inside : Passes decided mid (IsReachedBy (steps_in all_entries) (disk_of decided)) → Passes decided released Inside
+              ran_inside : Passes decided mid (IsReachedBy (steps_in all_entries) (disk_of decided)) → Passes decided released Inside
               ran_inside passes =
                   ends.within_run old.dirs old.namespace (kind_of old) old.prohibit_windows_device_names before (disk_of decided) given ran packed rewrite ways (out h) (laid h) (ready h good) good.0 good.1 (repack h good) (text_held h)
                   decided mid released refl settled_then.1 passes only_mine
 
-              pub tidied_inside : Passes decided mid (IsReachedBy (steps_in all_entries) (disk_of decided)) → IsSyncedAfter (steps_in all_entries) (disk_of decided) (disk_of mid) → OnlyFolders old.dirs released now →
-                  AllStay (disk_of mid) staying → Passes decided now Inside
-              tidied_inside passes done folders stays =
-                  passes_joins (ran_inside passes)
-                  (passes_weaken (as_left folders (as_before locked staying (disk_of mid) stays))
-                  (λ E same. ends.within_end old.dirs old.namespace (kind_of old) old.prohibit_windows_device_names before (disk_of decided) given ran packed rewrite ways (out h) (laid h) (ready h good) good.0 good.1 (repack h good) (text_held h)
-                  (disk_of mid) E settled_then.1 done same))
+              -- a loss of power leaves each reference as before or as edited
+              abbrev pub EndsWell : Disk → Type 0
+              EndsWell E = (T : Tree) → Lost E T → IsLostWell s DeletionsOnly locked (with_lines given lines) (disk_of decided) before T
 
-              pub lost : Passes decided now Inside → EveryLossIsOldOrNew honest means faults old start new given lines
-              lost inside_all = record {
+              inside_well : (E : Disk) → Inside E → EndsWell E
+              inside_well E inside T loss = subst (λ (ls : List (Option (List ℕ))). IsLostWell s DeletionsOnly locked (with_lines given ls) (disk_of decided) before T) (own_lines h)
+                  (ends.lost_well old.dirs old.namespace (kind_of old) old.prohibit_windows_device_names before (disk_of decided) given ran packed rewrite ways (out h) (laid h) (ready h good) good.0 good.1 (repack h good) (text_held h)
+                  settled_then.0 E T inside loss)
+
+              -- and so where empty folders are removed behind the run
+              all_well : Passes decided mid (IsReachedBy (steps_in all_entries) (disk_of decided)) → Passes released now (LosesNoMore (disk_of released)) → Passes decided now EndsWell
+              all_well passes tidied =
+                  let inside = ran_inside passes in
+                  passes_joins (passes_weaken inside inside_well)
+                  (passes_weaken tidied
+                  (λ E less T loss.
+                  let early = less T loss in
+                  lost_well_alike s DeletionsOnly locked (with_lines given lines) (disk_of decided) before T early.0 early.2 (inside_well (disk_of released) inside.disk early.0 early.1)))
+
+              pub lost : Passes decided mid (IsReachedBy (steps_in all_entries) (disk_of decided)) → Passes released now (LosesNoMore (disk_of released)) → EveryLossIsOldOrNew honest means faults old start new given lines
+              lost passes tidied = record {
                 began = λ T loss. lost_early h good rest.0 staying (disk_of first) T (as_before locked staying (disk_of first) rest.1) loss;
                 loses = losses (IsLostWell s DeletionsOnly locked (with_lines given lines) (disk_of first) before)
                     (λ E among T loss. ⊎_elim
                     (λ same. lost_early h good rest.0 staying E T same loss)
-                    (λ inside. nothing.lost_before s locked staying (with_lines given lines) (disk_of first) (disk_of decided) before T early.disk
-                    (subst (λ (ls : List (Option (List ℕ))). IsLostWell s DeletionsOnly locked (with_lines given ls) (disk_of decided) before T) (own_lines h)
-                    (ends.lost_well old.dirs old.namespace (kind_of old) old.prohibit_windows_device_names before (disk_of decided) given ran packed rewrite ways (out h) (laid h) (ready h good) good.0 good.1 (repack h good) (text_held h)
-                    settled_then.0 E T inside loss)))
+                    (λ well. nothing.lost_before s locked staying (with_lines given lines) (disk_of first) (disk_of decided) before T early.disk (well T loss))
                     among)
-                    (passes_joins (passes_weaken early (λ E same. inl same)) (passes_weaken inside_all (λ E inside. inr inside)));
+                    (passes_joins (passes_weaken early (λ E same. inl same)) (passes_weaken (all_well passes tidied) (λ E well. inr well)));
               }
 
             -- a whole run leaves all settled
-            pub at_end : IsSyncedAfter (steps_in all_entries) (disk_of decided) (disk_of mid) → IsAllSettled (disk_of mid) × AllStay (disk_of mid) staying
-            at_end done =
-                ends.settles old.dirs old.namespace (kind_of old) old.prohibit_windows_device_names before (disk_of decided) given ran packed rewrite ways (out h) (laid h) mid (disk_of mid) settled_then.0 settled_then.1 done (λ same. same)
-
             pub settled : IsSyncedAfter (steps_in all_entries) (disk_of decided) (disk_of mid) → OnlyFolders old.dirs released now → new.dirs ≡ start.dirs → new.namespace ≡ start.namespace → IsAtRest means new
             settled done folders dirs_same namespace_same =
                 let end = ends.settles old.dirs old.namespace (kind_of old) old.prohibit_windows_device_names before (disk_of decided) given ran packed rewrite ways (out h) (laid h) mid (disk_of now) settled_then.0 settled_then.1 done

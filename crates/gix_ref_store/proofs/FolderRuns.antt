@@ -1,10 +1,10 @@
 -- Which folders a commit removes, from its steps, the removals before each, and the removals above what it deleted.
-use Rattle.std.proofs.Common.{◌≡◌, ◌⊎◌, inl, inr, ⊎_elim, ℕ, suc, ◌+◌, List, [], ◌∷◌, ◌++◌, true, false, Option, Some, None, map, refl, sym, ◌∙◌, ap, subst, arith}
+use Rattle.std.proofs.Common.{◌≡◌, ◌⊎◌, inl, inr, ⊎_elim, ℕ, suc, ◌+◌, List, [], ◌∷◌, ◌++◌, true, false, Option, Some, None, map, refl, sym, ◌∙◌, ap, subst, arith, take}
 use Rattle.std.specs.Prelude.{bytes_eq}
 use Rattle.std.specs.List.{All, flat_map}
 use Rattle.gix_ref_files.specs.Lock.{lock_of}
 use Rattle.gix_ref_files.specs.Settled.{IsIn}
-use Rattle.gix_ref_files.specs.Steps.{Step, Does, IsAfter}
+use Rattle.gix_ref_files.specs.Steps.{Step, Begins, Does, IsLeftBy}
 use Rattle.gix_ref_files.specs.Steps.Step.{Create, Append as AppendStep, Line, Rename, RemoveFile, MakeFolders, RemoveFolder, End}
 use Rattle.gix_ref_files.specs.Tree.{Tree, Path, Content, appended, folders_to, is_file, is_folder, more, put, removed, with_folders}
 use Rattle.gix_ref_files.specs.Tree.Content.{File, Folder}
@@ -16,7 +16,7 @@ use Rattle.gix_ref_theory.specs.Edits as plan
 use Rattle.gix_ref_theory.specs.Readings as readings
 use Rattle.gix_ref_edits.specs.RefEdits.{name_of}
 use Rattle.gix_ref_transaction.specs.CarriedEdits.{change_of}
-use Rattle.gix_ref_transaction.specs.OwnLocks.{is_in, RemovesLocks}
+use Rattle.gix_ref_transaction.specs.OwnLocks.{RemovesLocks}
 use Rattle.gix_ref_transaction.specs.PrepareSteps.{AreEmpty, packed_places, updates}
 use Rattle.gix_ref_transaction.specs.declared.edit.Edit.{Edit}
 use Rattle.gix_ref_transaction.specs.declared.edit.Effect.{Effect}
@@ -82,6 +82,32 @@ stays (MakeFolders p) S T q folder (free, is) = inl (ap (λ (R : Tree). R q) is 
 stays (RemoveFolder p) S T q folder (inl (empty, is)) = ⊎_elim (λ still. inl still) (λ same. inr (ap RemoveFolder same)) (goes S T p q folder is)
 stays (RemoveFolder p) S T q folder (inr (full, is)) = inl (ap (λ (R : Tree). R q) is ∙ folder)
 stays End S T q folder does = absurd does
+
+-- and after one that is begun
+appended_still : (S : Tree) (p q : Path) (bytes : List ℕ) → S q ≡ Some Folder → appended S p bytes q ≡ Some Folder
+appended_still S p q bytes folder = either_way (bytes_eq p q)
+    (λ same.
+    let e = same_path p q same in
+    subst (λ (r : Path). appended S p bytes r ≡ Some Folder) e (put_at S p (more (S p) bytes) ∙ ap (λ (c : Option Content). more c bytes) (ap S e ∙ folder)))
+    (λ other. put_beside S p q (more (S p) bytes) folder (λ e. clash (is_same_path p q e) other))
+
+pub begun_stays : (step : Step) (S T : Tree) (q : Path) → S q ≡ Some Folder → Begins step S T → (T q ≡ Some Folder) ⊎ (step ≡ RemoveFolder q)
+begun_stays (Create p) S T q folder (inl is) = inl (ap (λ (R : Tree). R q) is ∙ folder)
+begun_stays (Create p) S T q folder (inr does) = stays (Create p) S T q folder does
+begun_stays (AppendStep p bytes) S T q folder (n, is) = inl (ap (λ (R : Tree). R q) is ∙ appended_still S p q (take n bytes) folder)
+begun_stays (Line p bytes) S T q folder (inl (n, is)) = inl (ap (λ (R : Tree). R q) is ∙ appended_still S p q (take n bytes) folder)
+begun_stays (Line p bytes) S T q folder (inr (free, inl is)) = inl (ap (λ (R : Tree). R q) is ∙ put_beside S p q (Some (File [])) folder (λ e. nothing S p q folder free.0 e))
+begun_stays (Line p bytes) S T q folder (inr (free, inr (n, is))) =
+    inl (ap (λ (R : Tree). R q) is ∙ appended_still (put S p (Some (File []))) p q (take n bytes) (put_beside S p q (Some (File [])) folder (λ e. nothing S p q folder free.0 e)))
+begun_stays (Rename from to) S T q folder (inl is) = inl (ap (λ (R : Tree). R q) is ∙ folder)
+begun_stays (Rename from to) S T q folder (inr does) = stays (Rename from to) S T q folder does
+begun_stays (RemoveFile p) S T q folder (inl is) = inl (ap (λ (R : Tree). R q) is ∙ folder)
+begun_stays (RemoveFile p) S T q folder (inr gone) = stays (RemoveFile p) S T q folder (inl gone)
+begun_stays (MakeFolders p) S T q folder (inl is) = inl (ap (λ (R : Tree). R q) is ∙ folder)
+begun_stays (MakeFolders p) S T q folder (inr (free, (n, is))) = inl (ap (λ (R : Tree). R q) is ∙ with_more S (take n (folders_to p)) q folder)
+begun_stays (RemoveFolder p) S T q folder (inl is) = inl (ap (λ (R : Tree). R q) is ∙ folder)
+begun_stays (RemoveFolder p) S T q folder (inr gone) = stays (RemoveFolder p) S T q folder (inl gone)
+begun_stays End S T q folder is = inl (ap (λ (R : Tree). R q) is ∙ folder)
 
 -- A plan whose steps write at paths of which W holds, and remove no folder.
 module _ (W : Path → Type 0) where
@@ -170,25 +196,32 @@ module _ (W : Path → Type 0) where
 abbrev pub IsOneOf : (written : List Path) → Path → Type 0
 IsOneOf written path = (q : Path) → IsAtOrBelow path q → IsInOneOf written q
 
--- A run of a plan, each of whose steps is behind the removals of what is in its way.
+-- A run of a plan, to its end or not, each of whose steps is behind the removals of what is in its way.
 module _ (dirs : Dirs) (R : Tree) (written : List Path) where
   abbrev IsCleared : Path → Type 0
   IsCleared q = (IsIn q (roots_of dirs) → ⊥) × IsInOneOf written q
 
   removals_stay : (about : About) (fs : List Path) (rest : List Entry) (S T : Tree) (path : Path) → IsOneOf written path → All (IsAtOrBelow path) fs → All (λ f. IsIn f (roots_of dirs) → ⊥) fs →
-      ((M : Tree) → IsAfter (bare_steps rest) M T → (q : Path) → M q ≡ Some Folder → (T q ≡ Some Folder) ⊎ IsCleared q) →
-      IsAfter (bare_steps (removals about fs ++ rest)) S T → (q : Path) → S q ≡ Some Folder → (T q ≡ Some Folder) ⊎ IsCleared q
-  removals_stay about [] rest S T path one inside out next after q folder = next S after q folder
-  removals_stay about (f ∷ fs) rest S T path one inside out next (mid, does, later) q folder = ⊎_elim
-      (λ still. removals_stay about fs rest mid T path one (λ k d lt. inside (suc k) d (omega (arith, lt))) (λ k d lt. out (suc k) d (omega (arith, lt))) next later q still)
-      (λ gone. let e : f ≡ q = inner gone in
-      inr (subst (λ (r : Path). IsIn r (roots_of dirs) → ⊥) e (out 0 f (omega arith)), one q (subst (IsAtOrBelow path) e (inside 0 f (omega arith)))))
-      (stays (RemoveFolder f) S mid q folder does)
+      ((M : Tree) → IsLeftBy (bare_steps rest) M T → (q : Path) → M q ≡ Some Folder → (T q ≡ Some Folder) ⊎ IsCleared q) →
+      IsLeftBy (bare_steps (removals about fs ++ rest)) S T → (q : Path) → S q ≡ Some Folder → (T q ≡ Some Folder) ⊎ IsCleared q
+  removals_stay about [] rest S T path one inside out next left q folder = next S left q folder
+  removals_stay about (f ∷ fs) rest S T path one inside out next left q folder = by left
+      (λ mid later still. removals_stay about fs rest mid T path one (λ k d lt. inside (suc k) d (omega (arith, lt))) (λ k d lt. out (suc k) d (omega (arith, lt))) next later q still)
     where
       inner : RemoveFolder f ≡ RemoveFolder q → f ≡ q
       inner h = cc
 
-  pub run_stays : (ran : List Edit) (folders : List (List Path)) (plan : List Entry) → AllInWay ran dirs R folders plan → ArePlainSteps (IsOneOf written) plan → (S T : Tree) → IsAfter (bare_steps (cleared folders plan)) S T →
+      taken : RemoveFolder f ≡ RemoveFolder q → IsCleared q
+      taken gone =
+          let e : f ≡ q = inner gone in
+          (subst (λ (r : Path). IsIn r (roots_of dirs) → ⊥) e (out 0 f (omega arith)), one q (subst (IsAtOrBelow path) e (inside 0 f (omega arith))))
+
+      by : IsLeftBy (bare_steps (removals about (f ∷ fs) ++ rest)) S T →
+          ((mid : Tree) → IsLeftBy (bare_steps (removals about fs ++ rest)) mid T → mid q ≡ Some Folder → (T q ≡ Some Folder) ⊎ IsCleared q) → (T q ≡ Some Folder) ⊎ IsCleared q
+      by (inl begun) go = ⊎_elim (λ still. inl still) (λ gone. inr (taken gone)) (begun_stays (RemoveFolder f) S T q folder begun)
+      by (inr (mid, does, later)) go = ⊎_elim (λ still. go mid later still) (λ gone. inr (taken gone)) (stays (RemoveFolder f) S mid q folder does)
+
+  pub run_stays : (ran : List Edit) (folders : List (List Path)) (plan : List Entry) → AllInWay ran dirs R folders plan → ArePlainSteps (IsOneOf written) plan → (S T : Tree) → IsLeftBy (bare_steps (cleared folders plan)) S T →
       (q : Path) → S q ≡ Some Folder → (T q ≡ Some Folder) ⊎ IsCleared q
   run_stays ran [] [] are plain S T after q folder = inl (ap (λ (U : Tree). U q) after ∙ folder)
   run_stays ran [] (e ∷ plan) are plain S T after q folder = absurd are
@@ -196,17 +229,38 @@ module _ (dirs : Dirs) (R : Tree) (written : List Path) where
   run_stays ran (fs ∷ folders) (e ∷ plan) are plain S T after q folder = by (λ mid later r there. run_stays ran folders plan are.1 plain.1 mid T later r there) (written_at (bare e.0)) refl are.0
     where
       Rest : Type 0
-      Rest = (mid : Tree) → IsAfter (bare_steps (cleared folders plan)) mid T → (r : Path) → mid r ≡ Some Folder → (T r ≡ Some Folder) ⊎ IsCleared r
+      Rest = (mid : Tree) → IsLeftBy (bare_steps (cleared folders plan)) mid T → (r : Path) → mid r ≡ Some Folder → (T r ≡ Some Folder) ⊎ IsCleared r
 
-      next : Rest → (M : Tree) → IsAfter (bare_steps (e ∷ cleared folders plan)) M T → (r : Path) → M r ≡ Some Folder → (T r ≡ Some Folder) ⊎ IsCleared r
-      next rest M (mid, does, later) r there = ⊎_elim
+      next : Rest → (M : Tree) → IsLeftBy (bare_steps (e ∷ cleared folders plan)) M T → (r : Path) → M r ≡ Some Folder → (T r ≡ Some Folder) ⊎ IsCleared r
+      next rest M (inl begun) r there = ⊎_elim
+          (λ still. inl still)
+          (λ gone. absurd (plain.0.keeps r gone))
+          (begun_stays (bare e.0) M T r there begun)
+      next rest M (inr (mid, does, later)) r there = ⊎_elim
           (λ still. rest mid later r still)
           (λ gone. absurd (plain.0.keeps r gone))
           (stays (bare e.0) M mid r there does)
 
       by : Rest → (at : Option Path) → written_at (bare e.0) ≡ at → AreInWayOf dirs R (is_seen ran e.1) at fs → (T q ≡ Some Folder) ⊎ IsCleared q
-      by rest None is none = next rest S (subst (λ (l : List Path). IsAfter (bare_steps (removals e.1 l ++ e ∷ cleared folders plan)) S T) none after) q folder
+      by rest None is none = next rest S (subst (λ (l : List Path). IsLeftBy (bare_steps (removals e.1 l ++ e ∷ cleared folders plan)) S T) none after) q folder
       by rest (Some path) is way = removals_stay e.1 fs (e ∷ cleared folders plan) S T path (plain.0.writes path is) way.inside way.outside (next rest) after q folder
+
+-- A folder is there where `packed-refs` was put into its lock, and where locks were removed.
+filled_has : (packed : Option Path) (start filled : Tree) (q : Path) → AreEmpty start (map lock_of (packed_places packed)) → FillsPacked packed start filled → start q ≡ Some Folder → filled q ≡ Some Folder
+filled_has None start filled q empty same folder = ap (λ (U : Tree). U q) same ∙ folder
+filled_has (Some path) start filled q empty (inl same) folder = ap (λ (U : Tree). U q) same ∙ folder
+filled_has (Some path) start filled q empty (inr (text, put_there)) folder =
+    ap (λ (U : Tree). U q) put_there
+    ∙ put_beside start (lock_of path) q (Some (File text)) folder
+    (λ e. no_file start (lock_of path) q folder (ap is_file (empty (lock_of path) (in_here (lock_of path) (lock_of path) [] refl))) e)
+
+released_has : (locks : List Path) (mid released : Tree) (q : Path) → RemovesLocks locks mid released → mid q ≡ Some Folder → released q ≡ Some Folder
+released_has locks mid released q removes still = ⊎_elim (λ same. same ∙ still) (λ gone. absurd (clash gone.2 (ap is_file still))) (removes q)
+
+-- where no step was begun, no folder is gone
+pub no_folder_gone : (dirs : Dirs) (packed : Option Path) (written deleted locks : List Path) (start filled T : Tree) → AreEmpty start (map lock_of (packed_places packed)) → FillsPacked packed start filled →
+    RemovesLocks locks filled T → FoldersStay dirs written deleted start T
+no_folder_gone dirs packed written deleted locks start filled T empty fills removes q folder = inl (released_has locks filled T q removes (filled_has packed start filled q empty fills folder))
 
 -- The edits that were run are those that are held, but for their logs.
 in_left : (a b : List Path) (q : Path) → IsInOneOf a q → IsInOneOf (a ++ b) q
@@ -257,20 +311,20 @@ module _ (s : readings.Store) where
       ∙ (ap (λ r. (log_of_deletion (s.log (name_of e.update)) (change_of e.update.change) ++ removed_file r.2 r.5) ++ all_removed ran) (heads alike).0
       ∙ ap (λ (l : List Path). deleted_by s e ++ l) (removed_same held ran (heads alike).1 logged.1))
 
-  -- a commit from the tree `start` to T
+  -- a commit from the tree `start` to T, whose run came to its end or not
   pub folders_stay : (dirs : Dirs) (held ran : List Edit) (packed : Option Path) (rewrite : Rewrite) (folders : List (List Path)) (start filled mid released T : Tree) (locks : List Path) →
       all_but_logs ran ≡ all_but_logs held → AreLogsOf s (updates held) ran → AreEmpty start (map lock_of (packed_places packed)) → FillsPacked packed start filled →
-      AllInWay ran dirs filled folders (planned_entries dirs ran packed rewrite) → IsAfter (bare_steps (cleared folders (planned_entries dirs ran packed rewrite))) filled mid →
+      AllInWay ran dirs filled folders (planned_entries dirs ran packed rewrite) → IsLeftBy (bare_steps (cleared folders (planned_entries dirs ran packed rewrite))) filled mid →
       RemovesLocks locks mid released → FoldersGo dirs (all_removed ran) released T →
       FoldersStay dirs (packed_places packed ++ flat_map (written_by s) held) (flat_map (deleted_by s) held) start T
   folders_stay dirs held ran packed rewrite folders start filled mid released T locks alike logged empty fills in_way after removes tidied q folder =
       ⊎_elim
       (λ still. ⊎_elim
-      (λ same. inl (same ∙ kept still))
+      (λ same. inl (same ∙ released_has locks mid released q removes still))
       (λ gone. inr (gone.3, inr (subst (λ (l : List Path). IsAbove dirs l q) (removed_same held ran alike logged) gone.2)))
       (tidied q))
       (λ out. inr (out.0, inl out.1))
-      (run_stays dirs filled written ran folders (planned_entries dirs ran packed rewrite) in_way plain filled mid after q (filled_has packed refl fills))
+      (run_stays dirs filled written ran folders (planned_entries dirs ran packed rewrite) in_way plain filled mid after q (filled_has packed start filled q empty fills folder))
     where
       written : List Path
       written = packed_places packed ++ flat_map (written_by s) held
@@ -279,15 +333,3 @@ module _ (s : readings.Store) where
       plain = plan_plain (IsOneOf written) dirs ran packed rewrite
           (are_written written held ran alike logged (λ p within. in_right (packed_places packed) (flat_map (written_by s) held) p within))
           (λ path some p at. in_left (packed_places packed) (flat_map (written_by s) held) p (subst (λ (o : Option Path). IsInOneOf (packed_places o) p) (sym some) (inl at)))
-
-      filled_has : (o : Option Path) → packed ≡ o → FillsPacked o start filled → filled q ≡ Some Folder
-      filled_has None is same = ap (λ (U : Tree). U q) same ∙ folder
-      filled_has (Some path) is (inl same) = ap (λ (U : Tree). U q) same ∙ folder
-      filled_has (Some path) is (inr (text, put_there)) =
-          ap (λ (U : Tree). U q) put_there
-          ∙ put_beside start (lock_of path) q (Some (File text)) folder
-          (λ e. no_file start (lock_of path) q folder
-          (ap is_file (empty (lock_of path) (subst (λ (o : Option Path). is_in (map lock_of (packed_places o)) (lock_of path) ≡ true) (sym is) (in_here (lock_of path) (lock_of path) [] refl)))) e)
-
-      kept : mid q ≡ Some Folder → released q ≡ Some Folder
-      kept still = ⊎_elim (λ same. same ∙ still) (λ gone. absurd (clash gone.2 (ap is_file still))) (removes q)

@@ -16,7 +16,7 @@ use Rattle.gix_ref_theory.specs.Edits.Mode.{DeletionsOnly}
 use Rattle.gix_ref_theory.specs.Losses.{IsLostWell}
 use Rattle.gix_ref_theory.specs.OnRealTrees.{view_of}
 use Rattle.gix_ref_edits.specs.declared.transaction.RefEdit.{RefEdit}
-use Rattle.gix_ref_transaction.specs.CommitRenames.{HaveLogs, place_at}
+use Rattle.gix_ref_transaction.specs.CommitRenames.{SeeLogs, place_at}
 use Rattle.gix_ref_transaction.specs.CommittedEdits.{planned}
 use Rattle.gix_ref_transaction.specs.OwnLocks.{is_in, paths_of, times, RemovesLocks}
 use Rattle.gix_ref_transaction.specs.PackedCauses.{ids_among}
@@ -31,7 +31,7 @@ use Rattle.gix_ref_lines.specs.declared.create_or_update.Error.TheVariants.{Crea
 use Rattle.gix_ref_repack.specs.Refusals.{IsBadLine}
 use Rattle.gix_ref_repack.specs.Repacks.{IsRepack}
 use Rattle.gix_ref_repack.specs.declared.error.Error.TheVariants as repack
-use Rattle.gix_ref_commit.specs.Cleared.{AllInWay, HoldsMore, commit_entries, folder_lists, is_seen}
+use Rattle.gix_ref_commit.specs.Cleared.{AllInWay, FoldersGo, HoldsMore, all_removed, commit_entries, folder_lists, is_seen}
 use Rattle.gix_ref_commit.specs.CommittedTrees.{AreCommitted, IsOldOrNew}
 use Rattle.gix_ref_commit.specs.Decided.{IsFilled}
 use Rattle.gix_ref_commit.specs.Entries.{planned_entries}
@@ -108,13 +108,14 @@ module _ {F : Type 0} (honest : Type 0) (means : F → Meaning) (faults : F → 
   IsPackedEmpty start packed = AreEmpty (tree_of means start) (map lock_of (packed_places packed))
 
   -- Where a commit ended early: at the step about this, for this cause. All lines and `packed-refs` were decided before, the new text of
-  -- `packed-refs` is in its lock, the steps before that one are done, and none after it is begun; then locks were removed.
-  pub record StopsAt (start new : Store F) (committer : Option SignatureRef) (packed : Option Path) (held : List Edit) (about : About) (cause : Cause) : Type 0 where
+  -- `packed-refs` is in its lock, the steps before that one are done, and none after it is begun; then locks were removed, and empty
+  -- folders above what is deleted.
+  pub record EndsEarlyAt (start new : Store F) (committer : Option SignatureRef) (packed : Option Path) (held : List Edit) (about : About) (cause : Cause) : Type 0 where
     pub ran : List Edit
     pub alike : all_but_logs ran ≡ all_but_logs held
     pub logs : honest → outcomes_of ran ≡ log_outcomes (line_rules start committer) (view_of (tree_of means start)) (asked held)
-    -- where an edit says that there was a log, it was a file
-    pub logged : honest → HaveLogs (tree_of means start) ran
+    -- what was seen at the logs of its edits
+    pub logged : honest → SeeLogs (tree_of means start) ran
     pub passed : LinesPass honest means start committer held
     pub rewrite : Rewrite
     pub repacked : RepacksFrom start packed held rewrite
@@ -125,7 +126,9 @@ module _ {F : Type 0} (honest : Type 0) (means : F → Meaning) (faults : F → 
     pub in_way : honest → AllInWay ran start.dirs filled (folder_lists ways) (planned_entries start.dirs ran packed rewrite)
     pub mid : Tree
     pub stops : EndsAtStep honest (commit_entries start.dirs ran packed rewrite ways) filled mid about cause
-    pub removes : honest → RemovesLocks (held_locks packed held) mid (tree_of means new)
+    pub released : Tree
+    pub removes : honest → RemovesLocks (held_locks packed held) mid released
+    pub tidies : honest → FoldersGo start.dirs (all_removed ran) released (tree_of means new)
 
   -- nothing but the transaction's locks has changed
   abbrev pub OnlyItsLocks : (start new : Store F) → Option Path → List Edit → Type 0
@@ -138,18 +141,18 @@ module _ {F : Type 0} (honest : Type 0) (means : F → Meaning) (faults : F → 
   -- a call of files failed at the step about the edit of this name
   abbrev pub FailsAt : (start new : Store F) → Option SignatureRef → Option Path → List Edit → (ℕ → About) → FileError → (ℕ → Type 0) → Type 0
   FailsAt start new committer packed held about fault is_named =
-      IsFault start new fault × ((at : ℕ) × (at < length held) × is_named at × StopsAt start new committer packed held (about at) (File fault))
+      IsFault start new fault × ((at : ℕ) × (at < length held) × is_named at × EndsEarlyAt start new committer packed held (about at) (File fault))
 
   -- or no folder in the way of the write of that edit could be listed
   abbrev pub FailsAtWrite : (start new : Store F) → Option SignatureRef → Option Path → List Edit → (ℕ → About) → FileError → (ℕ → Type 0) → Type 0
   FailsAtWrite start new committer packed held about fault is_named =
       IsFault start new fault
-      × ((at : ℕ) × (at < length held) × is_named at × (OnlyItsLocks start new packed held ⊎ StopsAt start new committer packed held (about at) (File fault)))
+      × ((at : ℕ) × (at < length held) × is_named at × (OnlyItsLocks start new packed held ⊎ EndsEarlyAt start new committer packed held (about at) (File fault)))
 
   -- the run ended at the folders of a log, or at its line, and reports that log
   abbrev pub EndsAtLog : (start new : Store F) → Option SignatureRef → Option Path → List Edit → (ℕ → About) → Cause → (reports : Path → Type 0) → Type 0
   EndsAtLog start new committer packed held about cause reports =
-      (at : ℕ) × (at < length held) × (honest → reports (log_path_at start held at)) × StopsAt start new committer packed held (about at) cause
+      (at : ℕ) × (at < length held) × (honest → reports (log_path_at start held at)) × EndsEarlyAt start new committer packed held (about at) cause
 
   -- a due line was refused before the first write: this is the first cause, edit by edit
   abbrev pub RefusesLine : (start new : Store F) → Option SignatureRef → Option Path → List Edit → LogError → Type 0
@@ -170,22 +173,22 @@ module _ {F : Type 0} (honest : Type 0) (means : F → Meaning) (faults : F → 
   FailsForLog start new committer packed held error = RefusesLine start new committer packed held error
 
   -- What is at this path as a run ends was not emptied: a folder that was there before the first write held more than empty folders, or it is not
-  -- empty now. None was sought where a file was seen there.
-  abbrev pub NotEmptied : (start new : Store F) (committer : Option SignatureRef) (packed : Option Path) (held : List Edit) (about : About) (cause : Cause) → StopsAt start new committer packed held about cause → Path → Type 0
+  -- empty now. None was sought where it was seen that none is there.
+  abbrev pub NotEmptied : (start new : Store F) (committer : Option SignatureRef) (packed : Option Path) (held : List Edit) (about : About) (cause : Cause) → EndsEarlyAt start new committer packed held about cause → Path → Type 0
   NotEmptied start new committer packed held about cause at path = is_seen at.ran about ≡ false → is_folder (at.filled path) ≡ true → HoldsMore start.dirs at.filled path ⊎ (IsEmptyFolder at.mid path → ⊥)
 
   -- the run ended at this step because of a folder that was not emptied
-  abbrev pub StopsBefore : (start new : Store F) → Option SignatureRef → Option Path → List Edit → About → Path → Type 0
-  StopsBefore start new committer packed held about path =
-      (at : StopsAt start new committer packed held about Unexpected) × NotEmptied start new committer packed held about Unexpected at path
+  abbrev pub EndsAtFolder : (start new : Store F) → Option SignatureRef → Option Path → List Edit → About → Path → Type 0
+  EndsAtFolder start new committer packed held about path =
+      (at : EndsEarlyAt start new committer packed held about Unexpected) × NotEmptied start new committer packed held about Unexpected at path
 
-  -- Where a folder is in the place of a reference, of its log, or of `packed-refs`.
+  -- Where a folder was in the place of a reference, of its log, or of `packed-refs`, as the run ended.
   abbrev pub MeetsFolder : (start new : Store F) → Option SignatureRef → Option Path → List Edit → Path → Type 0
   MeetsFolder start new committer packed held path =
-      ((at : ℕ) × (at < length held) × (path ≡ place_at held at) × (is_folder (tree_of means new path) ≡ true) × StopsBefore start new committer packed held (Rename at) path)
-      ⊎ (((at : ℕ) × (at < length held) × (path ≡ log_path_at start held at) × StopsBefore start new committer packed held (Line at) path)
-      ⊎ ((path ≡ (meaning_of start).packed_path) × (IsPackedPlace (meaning_of start) packed → is_folder (tree_of means new path) ≡ true)
-      × StopsAt start new committer packed held Packed Unexpected))
+      ((at : ℕ) × (at < length held) × (path ≡ place_at held at) × ((before : EndsAtFolder start new committer packed held (Rename at) path) × (is_folder (before.0.mid path) ≡ true)))
+      ⊎ (((at : ℕ) × (at < length held) × (path ≡ log_path_at start held at) × EndsAtFolder start new committer packed held (Line at) path)
+      ⊎ ((path ≡ (meaning_of start).packed_path)
+      × ((before : EndsEarlyAt start new committer packed held Packed Unexpected) × (IsPackedPlace (meaning_of start) packed → is_folder (before.mid path) ≡ true))))
 
   -- Why a commit failed, with these edits. A fault of a call of files came with a rise of their count and is no want of memory, and the
   -- error says at which edit; a folder is in the place where the commit ended; a line or `packed-refs` was refused or memory was, and then
@@ -196,7 +199,7 @@ module _ {F : Type 0} (honest : Type 0) (means : F → Meaning) (faults : F → 
   FailsFor start new committer packed held (DeleteReflog name source) = FailsAt start new committer packed held LogRemoval source (λ at. IsNameAt (updates held) at name)
   FailsFor start new committer packed held (DeleteReference name err) = FailsAt start new committer packed held Removal err (λ at. IsNameAt (updates held) at name)
   FailsFor start new committer packed held (PackedTransactionCommit (repack.Io fault)) =
-      IsFault start new fault × (OnlyItsLocks start new packed held ⊎ StopsAt start new committer packed held Packed (File fault))
+      IsFault start new fault × (OnlyItsLocks start new packed held ⊎ EndsEarlyAt start new committer packed held Packed (File fault))
   FailsFor start new committer packed held (PackedTransactionCommit (repack.Iteration line)) =
       (honest → IsBadLine (kind_of start) (tree_of means start (meaning_of start).packed_path) line)
       × LinesPass honest means start committer held

@@ -1,10 +1,11 @@
 -- One round of the loop that takes the locks of edits and compares each with what there is.
-use Rattle.std.proofs.Common.{◌≡◌, ◌⊎◌, inl, ℕ, ◌+◌, ◌<◌, ◌≤◌, List, [], ◌∷◌, ◌++◌, length, get_or, true, None, refl, sym, ◌∙◌, ap, subst, take, drop, map, arith, Option, Result, Ok, Err, OnOk}
+use Rattle.std.proofs.Common.{◌≡◌, ◌⊎◌, inl, ℕ, zero, suc, ◌+◌, ◌-◌, ◌<◌, ◌≤◌, List, [], ◌∷◌, ◌++◌, length, get_or, true, None, refl, sym, ◌∙◌, ap, subst, take, drop, map, arith, Option, Result, Ok, Err, OnOk}
+use Rattle.std.specs.Prelude.{bytes_eq}
 use Rattle.std.proofs.Math.ListN.{set}
 use Rattle.std.proofs.Math.Seq.{map-set_same}
 use Rattle.std.proofs.lemmas.List.{get_or-map, length-map, take_more_set, take_all, drop_all}
 use Rattle.gix_ref_hash.specs.declared.hash.Kind.{Kind}
-use Rattle.gix_ref_files.specs.Tree.{Tree, Path, is_file}
+use Rattle.gix_ref_files.specs.Tree.{Tree, Path, IsShaped, has_folders, is_file}
 use Rattle.gix_ref_hash.specs.declared.hash.ObjectId.{ObjectId}
 use Rattle.gix_ref_files.specs.Files.{Meaning, disk_of, Leaves, Passes}
 use Rattle.gix_ref_files.specs.Lock.{lock_of, LockingOn}
@@ -19,7 +20,8 @@ use Rattle.gix_ref_transaction.specs.Causes.{found, packed_of, IsFirstCause, IsI
 use Rattle.gix_ref_transaction.specs.PrepareSteps.{AreLockable, AreSettled, AreWholeLocks, FillingOn, FillsLock, HoldTexts, IsDecided, IsNewLock, IsRefusedLock, IsSomeWhole, all_given, effect_value, effects_of, effects_on, files_at, given, ids_in, old_targets, packed_ids, place_paths, places_of, seen_files, targets_of, updates}
 use Rattle.gix_ref_transaction.specs.declared.edit.Edit.{Edit}
 use Rattle.gix_ref_transaction.specs.declared.prepare.error.Error.{Error}
-use Rattle.gix_ref_transaction.proofs.Adds.{clash}
+use Rattle.gix_ref_transaction.proofs.Adds.{any_right, clash, in_here}
+use Rattle.gix_ref_transaction.proofs.Led.{led_by_lock}
 use Rattle.gix_ref_transaction.proofs.LockRounds.{filling_round, locking_round, whole_round, wholes_round}
 use Rattle.gix_ref_transaction.proofs.Rounds as rounds
 use Rattle.gix_ref_transaction.proofs.Taking.{Held}
@@ -97,6 +99,23 @@ ids_given (e ∷ edits) = ap (λ (l : List (Option ObjectId)). e.packed ∷ l) (
 
 pub same_ids : (a b : List Edit) → all_given a ≡ all_given b → ids_in a ≡ ids_in b
 same_ids a b same = ids_given a ∙ (ap (map (λ (g : RefEdit × Path × Option ObjectId × Option ℕ). g.2)) same ∙ sym (ids_given b))
+
+-- and the same places
+places_given : (edits : List Edit) → place_paths edits ≡ map (λ (g : RefEdit × Path × Option ObjectId × Option ℕ). g.1) (all_given edits)
+places_given [] = refl
+places_given (e ∷ edits) = ap (λ (l : List Path). e.lock ∷ l) (places_given edits)
+
+same_places : (a b : List Edit) → all_given a ≡ all_given b → place_paths a ≡ place_paths b
+same_places a b same = places_given a ∙ (ap (map (λ (g : RefEdit × Path × Option ObjectId × Option ℕ). g.1)) same ∙ sym (places_given b))
+
+-- the lock of an edit is among those of the edits up to it
+lock_among : (s : Store) (all : List RefEdit) (k i : ℕ) → k < i → i ≤ length all → is_in (locks_of s (take i all)) (lock_of (get_or (places_of s all) k [])) ≡ true
+lock_among s all k zero lt le = absurd (omega (arith, lt))
+lock_among s [] k (suc i) lt le = absurd (omega (arith, le))
+lock_among s (e ∷ all) zero (suc i) lt le = in_here (lock_of (s.place (name_of e))) (lock_of (s.place (name_of e))) (locks_of s (take i all)) refl
+lock_among s (e ∷ all) (suc k) (suc i) lt le =
+    any_right (λ p. bytes_eq p (lock_of (get_or (places_of s all) k []))) (lock_of (s.place (name_of e)) ∷ []) (locks_of s (take i all))
+    (lock_among s all k i (omega (arith, lt)) (omega (arith, le)))
 
 -- One edit of a list that is asked for as `old` is.
 pub record Turn (old : List Edit) : Type 0 where
@@ -182,6 +201,19 @@ module _ (s : Store) (old : List Edit) (t : Turn old) where
 
     at : lock ≡ lock_of (s.place (name_of e.update))
     at = ap lock_of placed
+
+    -- The lock of the edit before it is taken, so the folders that lead to the place of that one are there.
+    led_before : IsShaped mid.tree → 0 < i → has_folders mid.tree (get_or (place_paths now) (i - 1) []) ≡ true
+    led_before shaped some =
+        let before = get_or (places_of s all) (i - 1) [] in
+        subst (λ (l : List Path). has_folders mid.tree (get_or l (i - 1) []) ≡ true) (sym (same_places now old same ∙ places))
+        (led_by_lock mid.tree before shaped (goes.files (lock_of before) (lock_among s all (i - 1) i (omega (arith, some)) (omega (arith, lt_all)))))
+
+    -- and so are those that lead to its own place, where they lead to that one too
+    pub is_led : 0 < i → (has_folders mid.tree (get_or (place_paths now) (i - 1) []) ≡ true → has_folders mid.tree (get_or (place_paths now) i []) ≡ true) → IsShaped mid.tree → has_folders mid.tree e.lock ≡ true
+    is_led some leads shaped =
+        subst (λ (p : Path). has_folders mid.tree p ≡ true) (get_or-map (λ (x : Edit). x.lock) now i e [] lt ∙ ap (λ (x : Edit). x.lock) (sym is))
+        (leads (led_before shaped some))
 
     pub took_refused : (error : Error) (edits : List Edit) → Finds s kind all first i mid edits → IsRefusedLock mid.tree (name_of e.update) lock error → IsFirstCause s kind first.tree [] all error
     took_refused error edits finds why = finds.fault error (rounds.lock_refused s kind all apart first mid i e.update lt_all update_is lock at held goes.run error why)

@@ -5,6 +5,7 @@ pub mod Committing
 pub mod EditRounds
 pub mod Firsts
 pub mod Held
+pub mod Led
 pub mod LockRounds
 pub mod Locking
 pub mod LookupLemmas

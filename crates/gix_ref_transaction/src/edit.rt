@@ -1,18 +1,19 @@
 //! An edit of a transaction, with its lock, what was found of its reference, and what becomes of the loose file.
-ghost use Rattle.std.specs.Prelude.{◌≡◌, ◌≤◌, ◌⊎◌, [], ◌∷◌, OnOk, OnErr, IfOk, IfErr, IsSome, is_some, Some, true, false, if◌then◌else◌};
+ghost use Rattle.std.specs.Prelude.{◌≡◌, ◌≤◌, ◌⊎◌, [], ◌∷◌, OnOk, OnErr, IfOk, IfErr, IsErrOf, IsSome, is_some, Some, true, false, if◌then◌else◌};
 ghost use Rattle.std.specs.Option.{option_map};
 ghost use Rattle.gix_ref_base.specs.Targets.{target_value};
 ghost use Rattle.gix_ref_base.specs.Targets.TargetValue.{object_id};
 ghost use Rattle.gix_ref_files.specs.Calls.{Unchanged};
 ghost use Rattle.gix_ref_files.specs.DiskCalls.{Untouched};
-ghost use Rattle.gix_ref_files.specs.Files.{disk_of, Leaves, Passes};
-ghost use Rattle.gix_ref_files.specs.Lock.{lock_of, LockingOn};
+ghost use Rattle.gix_ref_files.specs.Files.{disk_of, Leaves, Passes, count_after};
+ghost use Rattle.gix_ref_files.specs.Lock.{lock_of, MakesLock, Readying, Acquiring, after_locking, LockingOn};
 ghost use Rattle.gix_ref_files.specs.Settled.{IsWhole};
-ghost use Rattle.gix_ref_files.specs.Tree.{Tree, Path, is_blocked, put};
+ghost use Rattle.gix_ref_files.specs.Tree.{Tree, Path, has_folders, is_blocked, put};
 ghost use Rattle.gix_ref_files.specs.Tree.Content.{File};
 ghost use Rattle.gix_ref_lookup.specs.StoreLayout.{namespace_text};
 ghost use Rattle.gix_ref_theory.specs.OnRealTrees.{view_of};
 ghost use Rattle.gix_ref_edits.specs.RefEdits.{name_of, new_of, is_of_reference};
+ghost use Rattle.gix_ref_transaction.specs.CommitRenames.{is_file_seen, is_no_folder_seen};
 ghost use Rattle.gix_ref_transaction.specs.PackedCauses.{deletes_reference};
 ghost use Rattle.gix_ref_transaction.specs.OwnLocks.{AddsLocks};
 ghost use Rattle.gix_ref_transaction.specs.Causes.{found, found_by, decoded, packed_of, IsCounted, IsNotIo, IsMismatch, IsIoOrMemory, IsPossible};
@@ -22,7 +23,7 @@ use crate::prepare::Error;
 use crate::prepare::expect::check_expected;
 use gix_ref_base::target::Target;
 use gix_ref_edits::transaction::{Change, RefEdit, RefLog};
-use gix_ref_files::files::{Create, Files};
+use gix_ref_files::files::{Create, FileError, Files, Node};
 use gix_ref_files::lock::LockFile;
 use gix_ref_hash::hash::ObjectId;
 use gix_ref_lookup::find::loose::{Loose, loose_at};
@@ -85,8 +86,8 @@ pub struct Edit {
     pub has_file: bool,
     /// What becomes of the loose file. It is decided once, as the edit is compared with what was found.
     pub effect: Effect,
-    /// Whether there was a log, as what becomes of it was decided.
-    pub has_log: bool,
+    /// What was at the path of its log, as what becomes of that was decided: `None` where it was not looked at.
+    pub log_seen: Option<Node>,
     /// What becomes of the log. A commit decides it before its first write.
     pub log: LogEffect,
 }
@@ -263,6 +264,30 @@ fn blocked(edit: &RefEdit) -> Error
     }
 }
 
+/// Makes the file of a lock, and first the folders that lead to its place, unless `is_ready` says that they are there.
+fn take_lock<F: Files>(files: &mut F, lock: &LockFile, is_ready: bool) -> Result<Create, FileError>
+    requires ready { F.honest → is_ready ≡ true →
+        has_folders (F.means files.old).tree lock.now ≡ true }
+    ensures answer { F.honest →
+        IfOk result (MakesLock (F.means files.old).tree lock.now (F.means files.new).tree) }
+    ensures failed { F.honest →
+        OnErr result (Readying (F.means files.old).tree lock.now (F.means files.new).tree) }
+    ensures leaves { F.honest → Leaves (F.means files.old) (F.means files.new)
+        (Acquiring (F.means files.old).tree lock.now) }
+    ensures disk { F.honest → IfOk result (λ create. disk_of (F.means files.new)
+        ≡ after_locking (disk_of (F.means files.old)) lock.now create) }
+    ensures passes { F.honest → Passes (F.means files.old) (F.means files.new)
+        (LockingOn (disk_of (F.means files.old)) lock.now) }
+    ensures count { F.faults files.new ≡ count_after result (F.faults files.old) }
+    ensures memory { IsErrOf result FileError.Memory → ⊥ }
+{
+    if is_ready {
+        lock.create(files)
+    } else {
+        lock.take(files)
+    }
+}
+
 /// Puts the text into the lock, which is empty, and syncs it.
 fn fill<F: Files>(files: &mut F, lock: &LockFile, text: &[u8]) -> Result<(), Error>
     ensures filled { F.honest → (F.means files.old).tree (lock_of lock.now) ≡ Some (File []) →
@@ -305,13 +330,36 @@ impl Edit {
             found: None,
             has_file: false,
             effect: Effect::Keep,
-            has_log: false,
+            log_seen: None,
             log: LogEffect::Keep,
         })
     }
 
-    /// Takes the lock. After a refusal it is not taken.
-    pub fn take<F: Files>(&self, files: &mut F) -> Result<(), Error>
+    /// Whether its log was seen, and is a file.
+    pub fn has_log(&self) -> bool
+        ensures { result ≡ is_file_seen self.now.log_seen }
+    {
+        match self.log_seen {
+            Some(Node::File) => true,
+            Some(Node::Folder | Node::Nothing | Node::Blocked) | None => false,
+        }
+    }
+
+    /// Whether the path of its log was seen, and no folder was there.
+    pub fn has_no_folder_at_log(&self) -> bool
+        ensures { result ≡ is_no_folder_seen self.now.log_seen }
+    {
+        match self.log_seen {
+            Some(Node::File | Node::Nothing | Node::Blocked) => true,
+            Some(Node::Folder) | None => false,
+        }
+    }
+
+    /// Takes the lock. The folders that lead to its place are made first, unless `is_ready` says that they are there. After a refusal
+    /// the lock is not taken.
+    pub fn take<F: Files>(&self, files: &mut F, is_ready: bool) -> Result<(), Error>
+        requires ready { F.honest → is_ready ≡ true →
+            has_folders (F.means files.old).tree self.now.lock ≡ true }
         ensures taken { F.honest → OnOk result (IsNewLock (F.means files.old).tree
             (lock_of self.now.lock) (F.means files.new).tree) }
         ensures refused { F.honest → IfErr result (IsRefusedLock (F.means files.old).tree
@@ -328,7 +376,7 @@ impl Edit {
         ensures no_fewer { F.faults files.old ≤ F.faults files.new }
         ensures counted { IfErr result (IsCounted (F.faults files.old) (F.faults files.new)) }
     {
-        match self.lock.take(files) {
+        match take_lock(files, &self.lock, is_ready) {
             Ok(Create::Made) => Ok(()),
             Ok(Create::Standing) => Err(standing(&self.update)),
             Ok(Create::Blocked) => Err(blocked(&self.update)),

@@ -88,7 +88,7 @@ impl Remains {
             found: _,
             has_file: _,
             effect: _,
-            has_log: _,
+            log_seen: _,
             log,
         } = edit;
         let (place, path) = lock.into_parts();

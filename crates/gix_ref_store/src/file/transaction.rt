@@ -190,24 +190,25 @@ impl<F: Files, T: Find> Prepared<'_, F, Plan<T>> {
     /// deletions; and removes the other locks. What becomes of each log and of `packed-refs` is decided before the first of these, and
     /// the new text is in the lock by then. Which lines are due is said by `Options::write_reflog` and the edits; `committer` is
     /// written in each, trimmed, and may be `None` where no line is due (`git reflog`). Empty folders in the way of a loose file or of a
-    /// log are removed before it is written, and those above deleted references and logs after a commit that succeeds, but for
-    /// `logs`, `refs` and the folders right below `refs`.
+    /// log are removed before it is written, unless it was seen that none is there, and those above deleted references and logs at the end,
+    /// whether the steps failed or not, but for `logs`, `refs` and the folders right below `refs`.
     ///
     /// At every stop on the way, and after every loss of power, each reference reads as before or as edited, no deletion shows
     /// before every update, and updates show in their order: texts are synced before they are renamed, a line before the rename of its
-    /// reference, and the folders above a path before the next step. A commit that succeeds leaves all synced. Costs one call of files
-    /// and the syncs of the folders for each reference and each log that is removed, three or four for each line, and one removal for
-    /// each other lock; where a deleted reference has a record, `packed-refs` is read and written once. (`commit` of
-    /// `git update-ref --stdin`)
+    /// reference, and the folders above a path before the next step. A commit that succeeds leaves all synced. Beside the syncs it costs
+    /// one call of files for each reference, and a look more where no loose file was seen; one for each log that is removed; two for each
+    /// line, or three where its log is made; one for each other lock, and one for each folder above a deletion that is tried. Where a
+    /// deleted reference has a record, `packed-refs` is read and written once. (`commit` of `git update-ref --stdin`)
     ///
     /// `CreateOrUpdateRefLog` where a line is due that cannot be made, where a file is in the path of its log, or where a call of
     /// files failed as the log was looked for, its folders were made or the line was added. `LockCommit`, `DeleteReflog`,
     /// `PackedTransactionCommit` and `DeleteReference` where a call of files failed in that step, or a sync after it;
-    /// `FolderInPlace` where a folder that holds a file is at the place of a reference, of its log, or of `packed-refs`. The steps before
-    /// that one are done then, and the locks are removed but for those that are named. `Append` and `LockCommit` also where such a folder
-    /// could not be listed, and then nothing is done but the removal of locks. `PackedTransactionCommit` also where `packed-refs`
-    /// could not be read or has a line that is no record, and `Memory` where there was none for the plan; then, as where a line was
-    /// refused, nothing is done but the removal of locks.
+    /// `FolderInPlace` where a folder that holds a file is at the place of a reference, of its log, or of `packed-refs`, or any folder
+    /// that came there after a look had found a file, or nothing at a log. The steps before that one are done then, and the locks are
+    /// removed but for those that are named. `Append` and `LockCommit` also where such a folder could not be listed, and then nothing
+    /// is done but the removal of locks. `PackedTransactionCommit` also where `packed-refs` could not be read or has a line that is no
+    /// record, and `Memory` where there was none for the plan; then, as where a line was refused, nothing is done but the removal of
+    /// locks.
     pub fn commit(
         self,
         alloc: Global,
@@ -231,8 +232,8 @@ impl<F: Files, T: Find> Prepared<'_, F, Plan<T>> {
             (left_of result) }
         ensures lost { EveryLossFrom F.honest F.means F.faults self.entry.store.now self.exit.0.now
             committer.entry (held_packed self.entry.plan) (held_edits self.entry.plan) }
-        ensures folders { OnOk result (KeepsFolders F.honest F.means F.faults self.entry.store.now
-            self.exit.0.now (held_packed self.entry.plan) (held_edits self.entry.plan)) }
+        ensures folders { KeepsFolders F.honest F.means F.faults self.entry.store.now
+            self.exit.0.now (held_packed self.entry.plan) (held_edits self.entry.plan) }
         ensures settled { OnOk result (SettlesFrom F.honest F.means F.faults self.entry.store.now
             self.exit.0.now (held_packed self.entry.plan) (held_edits self.entry.plan)) }
         ensures named { (left_of result ≡ []) ⊎ HasRisen (F.faults (files_of self.entry.store.now))

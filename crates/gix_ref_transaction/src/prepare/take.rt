@@ -1,6 +1,6 @@
 //! All locks of a transaction, one edit after the other.
-ghost use Rattle.std.specs.Prelude.{◌≡◌, ◌≤◌, ℕ, List, [], OnOk, IfErr, None, true, length, take};
-ghost use Rattle.gix_ref_files.specs.Tree.{Path};
+ghost use Rattle.std.specs.Prelude.{◌≡◌, ◌≤◌, ◌<◌, ◌-◌, ℕ, List, [], OnOk, IfErr, None, true, length, take, get_or};
+ghost use Rattle.gix_ref_files.specs.Tree.{Tree, Path, has_folders};
 ghost use Rattle.gix_ref_files.specs.Files.{disk_of, Leaves};
 ghost use Rattle.gix_ref_files.specs.Settled.{IsWhole};
 ghost use Rattle.gix_ref_transaction.specs.OwnLocks.{AddsLocks, OnlyLocks, is_in};
@@ -10,11 +10,38 @@ ghost use Rattle.gix_ref_transaction.specs.PrepareSteps.{setting_of, updates, pl
 use crate::edit::Edit;
 use crate::prepare::Error;
 use gix_ref_files::files::Files;
+use gix_ref_files::paths::folder_end;
 use gix_ref_lookup::settings::Settings;
 use std::alloc::Global;
 
+/// Whether every folder that leads to a path leads to another path too: the other path is in the folder of the path, or below it.
+fn shares_folders(path: &[u8], other: &[u8]) -> bool
+    ensures { (T : Tree) → result ≡ true → has_folders T other.now ≡ true →
+        has_folders T path.now ≡ true }
+{
+    let end = folder_end(path);
+    if end == 0 {
+        return true;
+    }
+    end < other.len() && other[end] == b'/' && other[..end] == path[..end]
+}
+
+/// Whether the folders that lead to the place of an edit are known to be there once the lock of the edit before it is taken.
+fn is_led_to(edits: &[Edit], i: usize) -> bool
+    requires within { i < length edits.now }
+    ensures after { result ≡ true → 0 < i }
+    ensures folders { (T : Tree) → result ≡ true →
+        has_folders T (get_or (place_paths edits.now) (i - 1) []) ≡ true →
+        has_folders T (get_or (place_paths edits.now) i []) ≡ true }
+{
+    if i == 0 {
+        return false;
+    }
+    shares_folders(edits[i].lock.place(), edits[i - 1].lock.place())
+}
+
 /// Takes the lock of each edit and compares the edit with what there is, up to the first that is at fault; `taken` counts the locks.
-/// Each edit has the id of its record.
+/// Each edit has the id of its record. The folders that lead to a place are not made again where the place before it shares them.
 pub fn take_locks<F: Files>(
     alloc: Global,
     files: &mut F,
@@ -62,8 +89,10 @@ pub fn take_locks<F: Files>(
     ensures no_fewer { F.faults files.old ≤ F.faults files.new }
     ensures counted { IfErr result (IsCounted (F.faults files.old) (F.faults files.new)) }
 {
-    for (i, edit) in edits.iter_mut().enumerate() {
-        edit.take(files)?;
+    for i in 0..edits.len() {
+        let is_ready = is_led_to(edits, i);
+        let edit = &mut edits[i];
+        edit.take(files, is_ready)?;
         *taken = i + 1;
         edit.settle(alloc, files, settings)?;
     }

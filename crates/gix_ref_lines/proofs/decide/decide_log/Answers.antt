@@ -1,7 +1,7 @@
-use Rattle.std.proofs.Common.{◌≡◌, sym, ap, subst, true, ◌∙◌}
+use Rattle.std.proofs.Common.{◌≡◌, sym, ap, subst, ◌∙◌}
 use Rattle.std.specs.Prelude.{vec_items}
 use Rattle.std.specs.Option.{option_map}
-use Rattle.gix_ref_files.specs.Tree.{Path, is_file}
+use Rattle.gix_ref_files.specs.Tree.{Path, node_at}
 use Rattle.gix_ref_lines.specs.AskedEdits.{asked_edit}
 use Rattle.gix_ref_lines.specs.DueLines.{log_path, outcome_by}
 use Rattle.gix_ref_lines.specs.internal.LineSteps.{log_rules}
@@ -17,6 +17,6 @@ returns-clause-log g c h view sees =
     ∙ ap (outcome_by a.update.change (log_path r a)) (c.in_ok-found.ensures.line h view sees))
 
 pub returns-clause-there : goal.returns-clause-there
-returns-clause-there g c h has =
-    let there = c.in_ok-found.ensures.there h has in
-    subst (λ (p : Path). is_file ((g.F.Files.means c.args.files.now).tree p) ≡ true) (sym (c.outcome.ensures.path there.0)) (rw c.deref.ensures.value at there.1)
+returns-clause-there g c h node seen =
+    let there = c.in_ok-found.ensures.there h node seen in
+    subst (λ (p : Path). node ≡ node_at (g.F.Files.means c.args.files.now).tree p) (sym (c.outcome.ensures.path there.0)) (rw c.deref.ensures.value at there.1)

@@ -7,7 +7,7 @@ use Rattle.std.proofs.lemmas.Result.{err_from_is_err_and}
 use Rattle.gix_ref_files.specs.Tree.{Tree}
 use Rattle.gix_ref_files.proofs.Moments.{starts, weaken, joins, passes_starts, passes_weaken, passes_joins}
 use Rattle.gix_ref_theory.specs.OnRealTrees.{view_of}
-use Rattle.gix_ref_transaction.specs.CommitRenames.{HasItsLog}
+use Rattle.gix_ref_transaction.specs.CommitRenames.{SeesItsLog}
 use Rattle.gix_ref_lines.specs.AskedEdits.{asked_edit, but_log, leaf_after}
 use Rattle.gix_ref_lines.specs.DueLines.{with_log}
 use Rattle.gix_ref_lines.specs.internal.Leaves.{leaf_id}
@@ -26,9 +26,10 @@ loop-i-init g c = record {
   passes = λ h. passes_starts _ _ refl;
   no_fewer = omega arith;
   there = λ h k d lt. absurd (omega (arith, lt));
+  bounded = c.new-due.ensures.bounded;
   decided = λ h. record {
     files = view_of (g.F.Files.means c.args.files.now).tree;
-    sees = λ q. sym (ap (λ (b : Bool). is_some (view_of (g.F.Files.means c.args.files.now).tree q) || b) (c.new-due.ensures q) ∙ or-false _);
+    sees = λ q. sym (ap (λ (b : Bool). is_some (view_of (g.F.Files.means c.args.files.now).tree q) || b) (c.new-due.ensures.none q) ∙ or-false _);
     logs = refl;
     passed = λ all. all;
     refused = λ e told. told;
@@ -85,7 +86,8 @@ loop-i-preserved g c =
       passes = λ h. passes_joins (x.passes h) (passes_weaken (c.decide_log.ensures.passes h) (λ D same. same ∙ (x.passes h).disk));
       no_fewer = omega (arith, x.no_fewer, c.decide_log.ensures.no_fewer);
       there = λ h. there_more edits i new (g.F.Files.means c.args.files.now).tree (omega (arith, lt, len)) (x.there h)
-          (subst (λ (T : Tree). HasItsLog T new) (x.leaves h).tree (c.in_ok-decide_log.ensures.there h));
+          (subst (λ (T : Tree). SeesItsLog T new) (x.leaves h).tree (c.in_ok-decide_log.ensures.there h));
+      bounded = c.in_ok-decide_log.ensures.bounded;
       decided = λ h.
           let so_far = x.decided h in
           let same = (x.leaves h).tree in
@@ -94,3 +96,6 @@ loop-i-preserved g c =
           new (paths_in c.decide_log.new.due) len (c.in_ok-decide_log.ensures.log h so_far.files sees) (c.in_ok-decide_log.ensures.passed h so_far.files sees)
           (subst (λ (S : Tree). Sees (with_log (log_rules (record { settings = c.args.settings; write_reflog = c.args.write_reflog; committer = c.args.committer })) so_far.files (asked_edit e c.id-leaf.result)) S (paths_in c.decide_log.new.due)) same (c.in_ok-decide_log.ensures.seen h so_far.files sees));
     }
+
+pub returns-clause-there : goal.returns-clause-there
+returns-clause-there g c h k d lt node seen = c.loop-i.invariant.there h k d (omega (arith, lt, c.loop-i-test.false)) node seen

@@ -3,10 +3,10 @@ use Rattle.gix_ref_files.specs.Calls.{Unchanged}
 use Rattle.gix_ref_files.specs.DiskCalls.{Untouched}
 use Rattle.gix_ref_files.specs.Files.{disk_of, Leaves, Passes}
 use Rattle.gix_ref_transaction.specs.declared.edit.Edit.{Edit}
-use Rattle.gix_ref_transaction.specs.CommitRenames.{HasItsLog}
+use Rattle.gix_ref_transaction.specs.CommitRenames.{SeesItsLog}
 use Rattle.gix_ref_lines.specs.AskedEdits.{all_but_logs}
 use Rattle.gix_ref_lines.specs.internal.LineSteps.{log_rules}
-use Rattle.gix_ref_lines.specs.internal.SeenLogs.{paths_in}
+use Rattle.gix_ref_lines.specs.internal.SeenLogs.{paths_in, IsBounded}
 use Rattle.gix_ref_lines.specs.internal.Decided.{IsDecided}
 use Rattle.gix_ref_lines.proofs.decide.decide_logs.Given as goal
 
@@ -18,6 +18,7 @@ invariant-loop-i g l = record {
   leaves : g.F.Files.honest → Leaves (g.F.Files.means l.fn.files) (g.F.Files.means l.files) (Unchanged (g.F.Files.means l.fn.files).tree);
   passes : g.F.Files.honest → Passes (g.F.Files.means l.fn.files) (g.F.Files.means l.files) (Untouched (disk_of (g.F.Files.means l.fn.files)));
   no_fewer : g.F.Files.faults l.fn.files ≤ g.F.Files.faults l.files;
-  there : g.F.Files.honest → (k : ℕ) (d : Edit) → k < l.i → HasItsLog (g.F.Files.means l.fn.files).tree (get_or l.edits k d);
+  there : g.F.Files.honest → (k : ℕ) (d : Edit) → k < l.i → SeesItsLog (g.F.Files.means l.fn.files).tree (get_or l.edits k d);
+  bounded : IsBounded l.due;
   decided : g.F.Files.honest → IsDecided (log_rules l.rules) (g.F.Files.means l.fn.files).tree l.fn.edits l.i l.edits (paths_in l.due);
 }

@@ -62,6 +62,31 @@ fn write_head<W: io::Write>(
     }
 }
 
+/// The bytes that most ids and signatures need.
+const HEAD_LEN: usize = 160;
+
+/// Adds the ids and the signature.
+fn push_head(
+    previous: &ObjectId,
+    new: &ObjectId,
+    who: SignatureRef<'_>,
+    line: &mut Vec<u8>,
+) -> io::Result<()>
+    requires { CanWrite (signature_ref_who who) }
+    ensures { OnOk result (line.new.items ≡ line.old.items
+        ++ head_text previous.now new.now (signature_ref_who who.entry)) }
+{
+    previous.push_hex(line)?;
+    line.push(b' ')?;
+    new.push_hex(line)?;
+    line.push(b' ')?;
+    match who.write_to(line) {
+        Ok(()) => Ok(()),
+        Err(actor::WriteError::Io(error)) => Err(error),
+        Err(actor::WriteError::SignatureUnwritable) => unreachable!(),
+    }
+}
+
 /// Writes a line whose signature can be written.
 pub(super) fn write_line<W: io::Write>(line: &Line, out: &mut W) -> io::Result<()>
     requires { CanWrite (signature_who line.now.signature) }
@@ -91,8 +116,8 @@ fn append_parts(
         ≡ head_text previous.now new.now (signature_ref_who who.entry) ++
         (message_part message.now ++ 10 ∷ [])) }
 {
-    let mut line = Vec::new(alloc);
-    write_head(previous, new, who, &mut line)?;
+    let mut line = Vec::with_capacity(alloc, HEAD_LEN.saturating_add(message.len()))?;
+    push_head(previous, new, who, &mut line)?;
     if !message.is_empty() {
         line.extend_from_slice(b"\t")?;
         line.extend_from_slice(message)?;

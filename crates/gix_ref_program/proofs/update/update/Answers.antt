@@ -21,7 +21,7 @@ returns-in-Ok-clause-done g c =
     let left = paths_of c.report_of_commit.result.locks_left.items in
     let from : PreparesGiven F.honest F.means F.faults old mid edits packed held = rw (c.packed_refs.ensures.value, c.transaction.ensures.value) at c.in-Ok.ensures.prepared in
     at_same (λ now. c.report_of_commit.result.error ≡ None → IsMade F.honest F.means F.faults old now c.args.committer edits left) {x = c.store-in-Ok-1.given.0} {y = new} (search rules)
-    (done F.honest F.means F.faults old mid new c.args.committer edits packed held from c.commit.result c.report_of_commit.result.error left c.report_of_commit.ensures.error c.report_of_commit.ensures.left c.commit.ensures.committed c.commit.ensures.ended c.commit.ensures.named)
+    (done F.honest F.means F.faults old mid new c.args.committer edits packed held from c.commit.result c.report_of_commit.result.error left c.report_of_commit.ensures.error c.report_of_commit.ensures.left c.commit.ensures.committed c.commit.ensures.passed c.commit.ensures.folders c.commit.ensures.ended c.commit.ensures.named)
 
 pub returns-in-Ok-clause-error : goal.returns-in-Ok-clause-error
 returns-in-Ok-clause-error g c =
@@ -35,7 +35,7 @@ returns-in-Ok-clause-error g c =
     let left = paths_of c.report_of_commit.result.locks_left.items in
     let from : PreparesGiven F.honest F.means F.faults old mid edits packed held = rw (c.packed_refs.ensures.value, c.transaction.ensures.value) at c.in-Ok.ensures.prepared in
     at_same (λ now. IfSome c.report_of_commit.result.error (λ error. IsUpdateError F.honest F.means F.faults (HasReadFault g.F.Reader.ReadAt.faults) old now c.args.committer edits error left)) {x = c.store-in-Ok-1.given.0} {y = new} (search rules)
-    (told F.honest F.means F.faults old mid new c.args.committer edits packed held from (HasReadFault g.F.Reader.ReadAt.faults) c.commit.result c.report_of_commit.result.error left c.report_of_commit.ensures.error c.report_of_commit.ensures.left c.commit.ensures.failed c.commit.ensures.sound c.commit.ensures.ended c.commit.ensures.named)
+    (told F.honest F.means F.faults old mid new c.args.committer edits packed held from (HasReadFault g.F.Reader.ReadAt.faults) c.commit.result c.report_of_commit.result.error left c.report_of_commit.ensures.error c.report_of_commit.ensures.left c.commit.ensures.failed c.commit.ensures.sound c.commit.ensures.folders c.commit.ensures.ended c.commit.ensures.named)
 
 pub returns-in-Ok-clause-leaves : goal.returns-in-Ok-clause-leaves
 returns-in-Ok-clause-leaves g c =

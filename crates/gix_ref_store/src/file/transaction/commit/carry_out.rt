@@ -32,8 +32,8 @@ pub(crate) struct EndedEarly {
 }
 
 impl<F: Files> Store<F> {
-    /// Decides what becomes of logs and of `packed-refs`, and which folders are in the way, runs the steps, and removes the locks that were not
-    /// renamed, and then the empty folders above what was removed.
+    /// Decides what becomes of logs and of `packed-refs`, and which folders are in the way, and runs the steps. Then, whether the run failed
+    /// or not, it removes the locks that were not renamed, and the empty folders above what is deleted.
     pub(crate) fn carry_out(
         &mut self,
         alloc: Global,
@@ -56,8 +56,8 @@ impl<F: Files> Store<F> {
             packed edits.items (left_in result) }
         ensures lost { EveryLossFrom F.honest F.means F.faults self.old self.new committer.entry
             packed edits.items }
-        ensures folders { OnOk result (KeepsFolders F.honest F.means F.faults self.old self.new
-            packed edits.items) }
+        ensures folders { KeepsFolders F.honest F.means F.faults self.old self.new packed
+            edits.items }
         ensures settled { OnOk result (SettlesFrom F.honest F.means F.faults self.old self.new
             packed edits.items) }
         ensures named { (left_in result ≡ []) ⊎ HasRisen (F.faults (files_of self.old))
@@ -88,6 +88,7 @@ impl<F: Files> Store<F> {
                 place,
                 log,
             } = release_all(&mut self.files, done, packed, edits, remains);
+            remove_empty_folders(&mut self.files, &self.dirs, unfinished.tried(&removed));
             return Err(EndedEarly {
                 error: failure(edits, place, log, path, unfinished),
                 left,

@@ -5,7 +5,7 @@ ghost use Rattle.gix_ref_files.specs.Files.{disk_of, Leaves, Passes};
 ghost use Rattle.gix_ref_files.specs.Steps.{IsAfter, IsLeftBy};
 ghost use Rattle.gix_ref_files.specs.Lock.{lock_of};
 ghost use Rattle.gix_ref_files.specs.Tree.{Path};
-ghost use Rattle.gix_ref_transaction.specs.CommitRenames.{HaveLogs};
+ghost use Rattle.gix_ref_transaction.specs.CommitRenames.{SeeLogs};
 ghost use Rattle.gix_ref_transaction.specs.OwnLocks.{OnlyLocks, paths_of};
 ghost use Rattle.gix_ref_transaction.specs.PrepareSteps.{packed_places, AreWholeLocks};
 ghost use Rattle.gix_ref_commit.specs.Cleared.{AllInWay, all_removed, commit_entries, folder_lists};
@@ -63,7 +63,7 @@ impl<F: Files> Store<F> {
         ensures logs { F.honest → OnOk result (outcomes_of edits.new.items ≡ log_outcomes
             (line_rules self.old committer.entry) (view_of (F.means (files_of self.old)).tree)
             (asked edits.old.items)) }
-        ensures logged { F.honest → OnOk result (HaveLogs (F.means (files_of self.old)).tree
+        ensures logged { F.honest → OnOk result (SeeLogs (F.means (files_of self.old)).tree
             edits.new.items) }
         ensures passed { OnOk result (LinesPass F.honest F.means self.old committer.entry
             edits.old.items) }
@@ -118,7 +118,7 @@ impl<F: Files> Store<F> {
         ensures logs { F.honest → OnOk result (outcomes_of edits.new.items ≡ log_outcomes
             (line_rules self.old committer.entry) (view_of (F.means (files_of self.old)).tree)
             (asked edits.old.items)) }
-        ensures logged { F.honest → OnOk result (HaveLogs (F.means (files_of self.old)).tree
+        ensures logged { F.honest → OnOk result (SeeLogs (F.means (files_of self.old)).tree
             edits.new.items) }
         ensures passed { OnOk result (LinesPass F.honest F.means self.old committer.entry
             edits.old.items) }

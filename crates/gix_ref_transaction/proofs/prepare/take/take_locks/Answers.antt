@@ -4,7 +4,7 @@ use Rattle.std.proofs.lemmas.Result.{err_from_is_err_and}
 use Rattle.gix_ref_files.specs.Tree.{Path}
 use Rattle.gix_ref_transaction.specs.PrepareSteps.{setting_of, updates}
 use Rattle.gix_ref_transaction.specs.declared.edit.Edit.{Edit}
-use Rattle.gix_ref_transaction.proofs.EditRounds.{turn, goes_first, finds_first, lockable_all, whole_all, same_ids, settled_all, lt_all, update_is, place_is, same_then, took_refused, took_still, took_leaves, took_passes, id_then, found_refused, free_then, text_adds, text_leaves, text_passes, goes_then, finds_then}
+use Rattle.gix_ref_transaction.proofs.EditRounds.{turn, goes_first, finds_first, lockable_all, whole_all, same_ids, settled_all, is_led, lt_all, update_is, place_is, same_then, took_refused, took_still, took_leaves, took_passes, id_then, found_refused, free_then, text_adds, text_leaves, text_passes, goes_then, finds_then}
 use Rattle.gix_ref_transaction.proofs.Rounds.{allowed_at, possible_at}
 use Rattle.gix_ref_transaction.proofs.prepare.take.take_locks.Goals as goal
 
@@ -18,6 +18,21 @@ loop-i-init g c =
       counted = c.requires.none;
       goes = λ h. goes_first s c.args.settings.now.kind (updates c.args.edits.now) first;
       finds = λ h asked. finds_first s c.args.settings.now.kind (updates c.args.edits.now) first c.args.edits.now;
+    }
+
+pub take-requires : goal.take-requires
+take-requires g c =
+    let s = setting_of c.args.settings.now in
+    let kind = c.args.settings.now.kind in
+    let old = c.args.edits.now in
+    let x = c.loop-i.invariant in
+    let first = g.F.Files.means c.args.files.now in
+    let mid = g.F.Files.means c.loop-i.files in
+    let t = turn old c.loop-i.edits x.same c.loop-i.i c.index-edits-i.result (omega arith) c.index-edits-i.is in
+    record {
+      ready = λ h ready.
+          is_led s old t kind c.requires.apart c.requires.places first mid (x.goes h) (c.is_led_to-is_ready.ensures.after ready) (c.is_led_to-is_ready.ensures.folders mid.tree ready)
+          (g.met.F.Files.shaped c.loop-i.files h);
     }
 
 pub returns-in_err-take-clause-refused : goal.returns-in_err-take-clause-refused

@@ -1,5 +1,6 @@
-use Rattle.std.proofs.Common.{◌≡◌, ◌∙◌, ◌<◌, List, [], None, false, length, sym, ap, subst, arith}
+use Rattle.std.proofs.Common.{◌≡◌, ◌∙◌, ◌++◌, ◌<◌, List, None, false, length, sym, ap, subst, arith}
 use Rattle.std.specs.Prelude.{if◌then◌else◌}
+use Rattle.std.specs.List.{flat_map}
 use Rattle.std.proofs.lemmas.List.{length-map}
 use Rattle.gix_ref_files.specs.Files.{disk_of, Leaves, Passes}
 use Rattle.gix_ref_files.specs.DiskSteps.{IsReachedBy, IsSyncedAfter}
@@ -9,22 +10,24 @@ use Rattle.gix_ref_lookup.specs.declared.folders.Dirs.{Dirs}
 use Rattle.gix_ref_edits.specs.declared.transaction.RefEdit.{RefEdit}
 use Rattle.gix_ref_transaction.specs.CommitRenames.{log_at, path_in, place_at}
 use Rattle.gix_ref_transaction.specs.OwnLocks.{paths_of, OnlyRemoves, RemovesLocks}
-use Rattle.gix_ref_transaction.specs.PrepareSteps.{held_locks, updates}
+use Rattle.gix_ref_transaction.specs.PrepareSteps.{held_locks, packed_places, updates}
 use Rattle.gix_ref_transaction.specs.declared.edit.Edit.{Edit}
-use Rattle.gix_ref_commit.specs.Cleared.{AllInWay, FoldersGo, OnlyFolders, all_removed, commit_entries, folder_lists}
+use Rattle.gix_ref_commit.specs.Cleared.{AllInWay, FoldersGo, LosesNoMore, OnlyFolders, all_removed, commit_entries, folder_lists}
 use Rattle.gix_ref_commit.specs.Entries.{bare_steps, done_of, planned_entries, steps_in}
-use Rattle.gix_ref_commit.proofs.Tidying.{leaves_starts}
+use Rattle.gix_ref_commit.proofs.Tidying.{none_tried, tried_go}
 use Rattle.gix_ref_commit.specs.Failures.{AllOfEdits, SaysWhy}
-use Rattle.gix_ref_commit.specs.Unfinished.{EndsIn}
+use Rattle.gix_ref_commit.specs.Unfinished.{EndsIn, tried_after}
 use Rattle.gix_ref_commit.proofs.Alike.{updates_alike}
 use Rattle.gix_ref_commit.proofs.Outcomes.{logs_are}
 use Rattle.gix_ref_theory.specs.OnRealTrees.{view_of}
 use Rattle.gix_ref_store.specs.CommitLines.{line_rules}
+use Rattle.gix_ref_store.specs.CommittedFolders.{deleted_by, written_by}
+use Rattle.gix_ref_store.specs.Prepared.{tree_of}
 use Rattle.gix_ref_store.specs.Store.{meaning_of, with_files}
 use Rattle.gix_ref_store.specs.declared.file.store.Store.{Store}
 use Rattle.gix_ref_store.proofs.CommitFailures.{all_of_edits, held_less, never_bad, of_no_line, only_locks, raised_wider, run_fails, undecided_fails, undecided_wider}
-use Rattle.gix_ref_store.proofs.Commits.{at_end, committed, cut_gone, cut_packed_gone, lost, ran_inside, ran_well, settled, tidied_inside, start_edits, start_records, undecided_lost, undecided_well, whole_gone, whole_packed_gone}
-use Rattle.gix_ref_store.proofs.FolderRuns.{folders_stay}
+use Rattle.gix_ref_store.proofs.Commits.{committed, cut_gone, cut_packed_gone, lost, ran_well, settled, start_edits, start_records, undecided_lost, undecided_well, whole_gone, whole_packed_gone}
+use Rattle.gix_ref_store.proofs.FolderRuns.{folders_stay, no_folder_gone}
 use Rattle.gix_ref_store.proofs.file.store.Store.carry_out.Goals as goal
 
 pub returns-in-Err-clause-failed : goal.returns-in-Err-clause-failed
@@ -77,7 +80,7 @@ pub returns-in-Err-publish-clause-failed : goal.returns-in-Err-publish-clause-fa
 returns-in-Err-publish-clause-failed g c =
     let F = g.F.Files in
     let start = c.args.self.now in
-    let new = with_files c.publish.new.self c.release_all-edits.new.files in
+    let new = with_files c.publish.new.self c.remove_empty_folders.new.files in
     let held = c.args.edits.items in
     let ran = c.decide.new.edits in
     let packed = c.args.packed in
@@ -92,7 +95,15 @@ returns-in-Err-publish-clause-failed g c =
     let same : c.decide.new.self.dirs ≡ start.dirs = ap (λ (st : Store g.row.F.Denot). st.dirs) c.decide.ensures.same in
     let ends : EndsIn F.honest (commit_entries start.dirs ran.items packed rewrite ways) decided.tree mid.tree u =
     subst (λ (d : Dirs). EndsIn F.honest (commit_entries d ran.items packed rewrite ways) decided.tree mid.tree u) same (rw c.deref-2.ensures.value at (rw c.deref.ensures.value at c.in-Err-publish.ensures.ended)) in
-    let less : F.honest → RemovesLocks (held_locks (if renamed then None else packed) ran.items) mid.tree (F.means c.release_all-edits.new.files).tree = λ h. rw c.unless_renamed-packed.ensures at (e.leaves h).tree in
+    let released = F.means c.release_all-edits.new.files in
+    let less : F.honest → RemovesLocks (held_locks (if renamed then None else packed) ran.items) mid.tree released.tree = λ h. rw c.unless_renamed-packed.ensures at (e.leaves h).tree in
+    let still : c.publish.new.self.dirs ≡ start.dirs = ap (λ (st : Store g.row.F.Denot). st.dirs) c.publish.ensures.same ∙ same in
+    let removed : paths_of c.deref-in-Err-publish.result.now ≡ all_removed ran.items = ap paths_of c.deref-in-Err-publish.ensures.value ∙ c.in-Ok.ensures.removed in
+    let tidied : F.honest → FoldersGo start.dirs (paths_of (tried_after u c.deref-in-Err-publish.result.now)) released.tree (tree_of F.means new) = λ h.
+    subst (λ (d : Dirs). FoldersGo d (paths_of (tried_after u c.deref-in-Err-publish.result.now)) released.tree (tree_of F.means new)) still
+    (subst (λ ps. FoldersGo c.publish.new.self.dirs (paths_of ps) released.tree (tree_of F.means new)) c.tried.ensures (c.remove_empty_folders.ensures.leaves h).tree) in
+    let tidies : F.honest → FoldersGo start.dirs (all_removed ran.items) released.tree (tree_of F.means new) = λ h.
+    subst (λ ps. FoldersGo start.dirs ps released.tree (tree_of F.means new)) removed (tried_go start.dirs u c.deref-in-Err-publish.result.now released.tree (tree_of F.means new) (tidied h)) in
     let len : c.len.result ≡ length ran.items = omega (arith, c.len.ensures, ran.ok) in
     let done : c.done-done.result ≡ done_of (length ran.items) u = c.done-done.ensures ∙ ap (λ n. done_of n u) len in
     let place = c.release_all-edits.result.place.items in
@@ -104,14 +115,15 @@ returns-in-Err-publish-clause-failed g c =
     subst (λ n. n < length ran.items → place ≡ place_at ran.items n) done (λ lt. e.place (omega (arith, lt, ran.ok))) in
     let logged : done_of (length ran.items) u < length ran.items → log ≡ path_in (log_at ran.items (done_of (length ran.items) u)) =
     subst (λ n. n < length ran.items → log ≡ path_in (log_at ran.items n)) done (λ lt. e.log (omega (arith, lt, ran.ok))) in
-    run_fails F.honest F.means F.faults start new c.args.committer packed held ran.items alike c.in-Ok.ensures.logs c.in-Ok.ensures.logged c.in-Ok.ensures.passed rewrite c.in-Ok.ensures.repacked decided.tree mid.tree ways c.in-Ok.ensures.in_way
-    (λ h empty. c.in-Ok.ensures.filled h empty) (λ h. held_less F.honest F.means F.faults start new c.args.committer packed held ran.items alike renamed mid.tree (less h))
+    run_fails F.honest F.means F.faults start new c.args.committer packed held ran.items alike c.in-Ok.ensures.logs c.in-Ok.ensures.logged c.in-Ok.ensures.passed rewrite c.in-Ok.ensures.repacked decided.tree mid.tree released.tree ways c.in-Ok.ensures.in_way
+    (λ h empty. c.in-Ok.ensures.filled h empty) (λ h. held_less F.honest F.means F.faults start new c.args.committer packed held ran.items alike renamed mid.tree released.tree (less h)) tidies
     place log told u c.failure.result ends (record { here = here; logged = logged; at_packed = c.in-Ok.ensures.path }) says
-    (raised_wider (F.faults start.files) (F.faults c.decide.new.self.files) (F.faults c.publish.new.self.files) (F.faults c.release_all-edits.new.files) u c.decide.ensures.no_fewer e.no_fewer c.in-Err-publish.ensures.counted)
+    (raised_wider (F.faults start.files) (F.faults c.decide.new.self.files) (F.faults c.publish.new.self.files) (F.faults c.remove_empty_folders.new.files) u c.decide.ensures.no_fewer (omega (arith, e.no_fewer, c.remove_empty_folders.ensures.no_fewer)) c.in-Err-publish.ensures.counted)
     (λ none h empty.
-    let still : mid.tree ≡ decided.tree = ap (λ files. (F.means files).tree) (c.in-Err-publish.ensures.memory none) in
+    let still' : mid.tree ≡ decided.tree = ap (λ files. (F.means files).tree) (c.in-Err-publish.ensures.memory none) in
     only_locks F.honest F.means F.faults start new c.args.committer packed held ran.items alike renamed decided.tree (c.decide.ensures.leaves h empty).tree
-    (subst (λ (S : Tree). RemovesLocks (held_locks (if renamed then None else packed) ran.items) S (F.means c.release_all-edits.new.files).tree) still (less h)))
+    (subst (λ (S : Tree). RemovesLocks (held_locks (if renamed then None else packed) ran.items) S (tree_of F.means new)) still'
+    (subst (λ (T : Tree). RemovesLocks (held_locks (if renamed then None else packed) ran.items) mid.tree T) (none_tried start.dirs u c.deref-in-Err-publish.result.now released.tree (tree_of F.means new) none (tidied h)) (less h))))
 
 pub returns-in-Err-publish-clause-sound : goal.returns-in-Err-publish-clause-sound
 returns-in-Err-publish-clause-sound g c old given from h good bad =
@@ -130,14 +142,18 @@ returns-in-Err-publish-clause-ended g c old given from =
     let mid = F.means c.publish.new.self.files in
     let e = c.release_all-edits.ensures in
     let left = paths_of c.release_all-edits.result.left.items in
-    let new = with_files c.publish.new.self c.release_all-edits.new.files in
+    let new = with_files c.publish.new.self c.remove_empty_folders.new.files in
     let renamed = c.is_packed_renamed.result in
     let alike = c.decide.ensures.alike in
     let same : c.decide.new.self.dirs ≡ old.dirs = ap (λ (st : Store g.row.F.Denot). st.dirs) c.decide.ensures.same ∙ from.held.same.dirs in
     let in_way : F.honest → AllInWay ran.items old.dirs decided.tree (folder_lists ways) (planned_entries old.dirs ran.items packed rewrite) = λ h.
     subst (λ (d : Dirs). AllInWay ran.items d decided.tree (folder_lists ways) (planned_entries d ran.items packed rewrite)) from.held.same.dirs (c.in-Ok.ensures.in_way h) in
     let released = F.means c.release_all-edits.new.files in
-    let tidies : F.honest → Leaves released released (FoldersGo old.dirs [] released.tree) = λ h. leaves_starts old.dirs [] released in
+    let tidied = F.means c.remove_empty_folders.new.files in
+    let paths = paths_of c.tried.result.now in
+    let still : c.publish.new.self.dirs ≡ old.dirs = ap (λ (st : Store g.row.F.Denot). st.dirs) c.publish.ensures.same ∙ same in
+    let tidies : F.honest → Leaves released tidied (FoldersGo old.dirs paths released.tree) = λ h.
+    subst (λ (d : Dirs). Leaves released tidied (FoldersGo d paths released.tree)) still (c.remove_empty_folders.ensures.leaves h) in
     let runs : F.honest → Leaves decided mid (IsLeftBy (bare_steps (commit_entries old.dirs ran.items packed rewrite ways)) decided.tree) = λ h.
     subst (λ (d : Dirs). Leaves decided mid (IsLeftBy (bare_steps (commit_entries d ran.items packed rewrite ways)) decided.tree)) same (rw c.deref-2.ensures.value at (rw c.deref.ensures.value at (c.publish.ensures.leaves h))) in
     let releases : F.honest → Leaves mid (F.means c.release_all-edits.new.files) (RemovesLocks (held_locks (if renamed then None else packed) ran.items) mid.tree) = λ h. rw c.unless_renamed-packed.ensures at (e.leaves h) in
@@ -150,17 +166,17 @@ returns-in-Err-publish-clause-ended g c old given from =
     ran_well F.honest F.means F.faults old start c.args.committer given packed held from ran.items alike new left decided
     (λ h. c.decide.ensures.leaves h (from.packed.empty h)) (λ h. c.decide.ensures.passes h (from.packed.empty h))
     c.in-Ok.ensures.logs rewrite c.in-Ok.ensures.repacked (λ h. c.in-Ok.ensures.filled h (from.packed.empty h)) (λ h. c.in-Ok.ensures.wholes h (from.packed.empty h)) ways in_way
-    mid released renamed [] runs releases tidies done
+    mid released renamed paths runs releases tidies done
     (λ h. rw c.unless_renamed-packed.ensures at (e.packed_gone h))
     (λ h text path some. cut_packed_gone F.honest F.means F.faults old start c.args.committer given packed held from ran.items alike new left decided
     (λ h. c.decide.ensures.leaves h (from.packed.empty h)) (λ h. c.decide.ensures.passes h (from.packed.empty h))
     c.in-Ok.ensures.logs rewrite c.in-Ok.ensures.repacked (λ h. c.in-Ok.ensures.filled h (from.packed.empty h)) (λ h. c.in-Ok.ensures.wholes h (from.packed.empty h)) ways in_way
-    mid released renamed [] runs releases tidies u ends h (sym c.is_packed_renamed.ensures ∙ text) path some)
+    mid released renamed paths runs releases tidies u ends h (sym c.is_packed_renamed.ensures ∙ text) path some)
     (λ h k lt. e.gone h k (omega (arith, lt, ran.ok)))
     (λ h k lt early written. cut_gone F.honest F.means F.faults old start c.args.committer given packed held from ran.items alike new left decided
     (λ h. c.decide.ensures.leaves h (from.packed.empty h)) (λ h. c.decide.ensures.passes h (from.packed.empty h))
     c.in-Ok.ensures.logs rewrite c.in-Ok.ensures.repacked (λ h. c.in-Ok.ensures.filled h (from.packed.empty h)) (λ h. c.in-Ok.ensures.wholes h (from.packed.empty h)) ways in_way
-    mid released renamed [] runs releases tidies u ends h k lt (subst (λ n. k < n) done_is early) written)
+    mid released renamed paths runs releases tidies u ends h k lt (subst (λ n. k < n) done_is early) written)
     (rw c.unless_renamed-packed.ensures at e.ours) (rw c.unless_renamed-packed.ensures at e.once)
 
 pub returns-clause-ended : goal.returns-clause-ended
@@ -177,17 +193,17 @@ returns-clause-ended g c old given from =
     let mid = F.means c.publish.new.self.files in
     let e = c.release_all-released.ensures in
     let left = paths_of c.release_all-released.result.left.items in
-    let new = with_files c.publish.new.self c.remove_empty_folders.new.files in
+    let new = with_files c.publish.new.self c.remove_empty_folders-2.new.files in
     let renamed = c.is_renamed.result in
     let alike = c.decide.ensures.alike in
     let same : c.decide.new.self.dirs ≡ old.dirs = ap (λ (st : Store g.row.F.Denot). st.dirs) c.decide.ensures.same ∙ from.held.same.dirs in
     let in_way : F.honest → AllInWay ran.items old.dirs decided.tree (folder_lists ways) (planned_entries old.dirs ran.items packed rewrite) = λ h.
     subst (λ (d : Dirs). AllInWay ran.items d decided.tree (folder_lists ways) (planned_entries d ran.items packed rewrite)) from.held.same.dirs (c.in-Ok.ensures.in_way h) in
     let released = F.means c.release_all-released.new.files in
-    let tidied = F.means c.remove_empty_folders.new.files in
+    let tidied = F.means c.remove_empty_folders-2.new.files in
     let still : c.publish.new.self.dirs ≡ old.dirs = ap (λ (st : Store g.row.F.Denot). st.dirs) c.publish.ensures.same ∙ same in
     let tidies : F.honest → Leaves released tidied (FoldersGo old.dirs paths released.tree) = λ h.
-    subst (λ (d : Dirs). Leaves released tidied (FoldersGo d paths released.tree)) still (c.remove_empty_folders.ensures.leaves h) in
+    subst (λ (d : Dirs). Leaves released tidied (FoldersGo d paths released.tree)) still (c.remove_empty_folders-2.ensures.leaves h) in
     let runs : F.honest → Leaves decided mid (IsLeftBy (bare_steps (commit_entries old.dirs ran.items packed rewrite ways)) decided.tree) = λ h.
     subst (λ (d : Dirs). Leaves decided mid (IsLeftBy (bare_steps (commit_entries d ran.items packed rewrite ways)) decided.tree)) same (rw c.deref-2.ensures.value at (rw c.deref.ensures.value at (c.publish.ensures.leaves h))) in
     let releases : F.honest → Leaves mid (F.means c.release_all-released.new.files) (RemovesLocks (held_locks (if renamed then None else packed) ran.items) mid.tree) = λ h. rw c.unless_renamed-packed-2.ensures at (e.leaves h) in
@@ -224,17 +240,17 @@ returns-clause-committed g c old given from h good =
     let mid = F.means c.publish.new.self.files in
     let e = c.release_all-released.ensures in
     let left = paths_of c.release_all-released.result.left.items in
-    let new = with_files c.publish.new.self c.remove_empty_folders.new.files in
+    let new = with_files c.publish.new.self c.remove_empty_folders-2.new.files in
     let renamed = c.is_renamed.result in
     let alike = c.decide.ensures.alike in
     let same : c.decide.new.self.dirs ≡ old.dirs = ap (λ (st : Store g.row.F.Denot). st.dirs) c.decide.ensures.same ∙ from.held.same.dirs in
     let in_way : F.honest → AllInWay ran.items old.dirs decided.tree (folder_lists ways) (planned_entries old.dirs ran.items packed rewrite) = λ h.
     subst (λ (d : Dirs). AllInWay ran.items d decided.tree (folder_lists ways) (planned_entries d ran.items packed rewrite)) from.held.same.dirs (c.in-Ok.ensures.in_way h) in
     let released = F.means c.release_all-released.new.files in
-    let tidied = F.means c.remove_empty_folders.new.files in
+    let tidied = F.means c.remove_empty_folders-2.new.files in
     let still : c.publish.new.self.dirs ≡ old.dirs = ap (λ (st : Store g.row.F.Denot). st.dirs) c.publish.ensures.same ∙ same in
     let tidies : F.honest → Leaves released tidied (FoldersGo old.dirs paths released.tree) = λ h.
-    subst (λ (d : Dirs). Leaves released tidied (FoldersGo d paths released.tree)) still (c.remove_empty_folders.ensures.leaves h) in
+    subst (λ (d : Dirs). Leaves released tidied (FoldersGo d paths released.tree)) still (c.remove_empty_folders-2.ensures.leaves h) in
     let runs : F.honest → Leaves decided mid (IsLeftBy (bare_steps (commit_entries old.dirs ran.items packed rewrite ways)) decided.tree) = λ h.
     subst (λ (d : Dirs). Leaves decided mid (IsLeftBy (bare_steps (commit_entries d ran.items packed rewrite ways)) decided.tree)) same (rw c.deref-2.ensures.value at (rw c.deref.ensures.value at (c.publish.ensures.leaves h))) in
     let releases : F.honest → Leaves mid (F.means c.release_all-released.new.files) (RemovesLocks (held_locks (if renamed then None else packed) ran.items) mid.tree) = λ h. rw c.unless_renamed-packed-2.ensures at (e.leaves h) in
@@ -258,28 +274,29 @@ returns-in-Err-publish-clause-lost g c old given from h good at_rest =
     let mid = F.means c.publish.new.self.files in
     let e = c.release_all-edits.ensures in
     let left = paths_of c.release_all-edits.result.left.items in
-    let new = with_files c.publish.new.self c.release_all-edits.new.files in
+    let new = with_files c.publish.new.self c.remove_empty_folders.new.files in
     let renamed = c.is_packed_renamed.result in
     let alike = c.decide.ensures.alike in
     let same : c.decide.new.self.dirs ≡ old.dirs = ap (λ (st : Store g.row.F.Denot). st.dirs) c.decide.ensures.same ∙ from.held.same.dirs in
     let in_way : F.honest → AllInWay ran.items old.dirs decided.tree (folder_lists ways) (planned_entries old.dirs ran.items packed rewrite) = λ h.
     subst (λ (d : Dirs). AllInWay ran.items d decided.tree (folder_lists ways) (planned_entries d ran.items packed rewrite)) from.held.same.dirs (c.in-Ok.ensures.in_way h) in
     let released = F.means c.release_all-edits.new.files in
-    let tidies : F.honest → Leaves released released (FoldersGo old.dirs [] released.tree) = λ h. leaves_starts old.dirs [] released in
+    let tidied = F.means c.remove_empty_folders.new.files in
+    let paths = paths_of c.tried.result.now in
+    let still : c.publish.new.self.dirs ≡ old.dirs = ap (λ (st : Store g.row.F.Denot). st.dirs) c.publish.ensures.same ∙ same in
+    let tidies : F.honest → Leaves released tidied (FoldersGo old.dirs paths released.tree) = λ h.
+    subst (λ (d : Dirs). Leaves released tidied (FoldersGo d paths released.tree)) still (c.remove_empty_folders.ensures.leaves h) in
     let runs : F.honest → Leaves decided mid (IsLeftBy (bare_steps (commit_entries old.dirs ran.items packed rewrite ways)) decided.tree) = λ h.
     subst (λ (d : Dirs). Leaves decided mid (IsLeftBy (bare_steps (commit_entries d ran.items packed rewrite ways)) decided.tree)) same (rw c.deref-2.ensures.value at (rw c.deref.ensures.value at (c.publish.ensures.leaves h))) in
     let releases : F.honest → Leaves mid (F.means c.release_all-edits.new.files) (RemovesLocks (held_locks (if renamed then None else packed) ran.items) mid.tree) = λ h. rw c.unless_renamed-packed.ensures at (e.leaves h) in
     let passes : Passes decided mid (IsReachedBy (steps_in (commit_entries old.dirs ran.items packed rewrite ways)) (disk_of decided)) =
     subst (λ (d : Dirs). Passes decided mid (IsReachedBy (steps_in (commit_entries d ran.items packed rewrite ways)) (disk_of decided))) same (rw c.deref-2.ensures.value at (rw c.deref.ensures.value at (c.publish.ensures.passes h))) in
     let only : OnlyRemoves (held_locks (if renamed then None else packed) ran.items) mid (F.means c.release_all-edits.new.files) = rw c.unless_renamed-packed.ensures at (e.passes h) in
-    let only_in = ran_inside F.honest F.means F.faults old start c.args.committer given packed held from ran.items alike new left decided
-    (λ h. c.decide.ensures.leaves h (from.packed.empty h)) (λ h. c.decide.ensures.passes h (from.packed.empty h))
-    c.in-Ok.ensures.logs rewrite c.in-Ok.ensures.repacked (λ h. c.in-Ok.ensures.filled h (from.packed.empty h)) (λ h. c.in-Ok.ensures.wholes h (from.packed.empty h)) ways in_way
-    mid released renamed [] runs releases tidies h at_rest only good passes in
+    let less : Passes released tidied (LosesNoMore (disk_of released)) = c.remove_empty_folders.ensures.loses h in
     lost F.honest F.means F.faults old start c.args.committer given packed held from ran.items alike new left decided
     (λ h. c.decide.ensures.leaves h (from.packed.empty h)) (λ h. c.decide.ensures.passes h (from.packed.empty h))
     c.in-Ok.ensures.logs rewrite c.in-Ok.ensures.repacked (λ h. c.in-Ok.ensures.filled h (from.packed.empty h)) (λ h. c.in-Ok.ensures.wholes h (from.packed.empty h)) ways in_way
-    mid released renamed [] runs releases tidies h at_rest only good only_in
+    mid released renamed paths runs releases tidies h at_rest only good passes less
 
 pub returns-clause-lost : goal.returns-clause-lost
 returns-clause-lost g c old given from h good at_rest =
@@ -295,38 +312,28 @@ returns-clause-lost g c old given from h good at_rest =
     let mid = F.means c.publish.new.self.files in
     let e = c.release_all-released.ensures in
     let left = paths_of c.release_all-released.result.left.items in
-    let new = with_files c.publish.new.self c.remove_empty_folders.new.files in
+    let new = with_files c.publish.new.self c.remove_empty_folders-2.new.files in
     let renamed = c.is_renamed.result in
     let alike = c.decide.ensures.alike in
     let same : c.decide.new.self.dirs ≡ old.dirs = ap (λ (st : Store g.row.F.Denot). st.dirs) c.decide.ensures.same ∙ from.held.same.dirs in
     let in_way : F.honest → AllInWay ran.items old.dirs decided.tree (folder_lists ways) (planned_entries old.dirs ran.items packed rewrite) = λ h.
     subst (λ (d : Dirs). AllInWay ran.items d decided.tree (folder_lists ways) (planned_entries d ran.items packed rewrite)) from.held.same.dirs (c.in-Ok.ensures.in_way h) in
     let released = F.means c.release_all-released.new.files in
-    let tidied = F.means c.remove_empty_folders.new.files in
+    let tidied = F.means c.remove_empty_folders-2.new.files in
     let still : c.publish.new.self.dirs ≡ old.dirs = ap (λ (st : Store g.row.F.Denot). st.dirs) c.publish.ensures.same ∙ same in
     let tidies : F.honest → Leaves released tidied (FoldersGo old.dirs paths released.tree) = λ h.
-    subst (λ (d : Dirs). Leaves released tidied (FoldersGo d paths released.tree)) still (c.remove_empty_folders.ensures.leaves h) in
+    subst (λ (d : Dirs). Leaves released tidied (FoldersGo d paths released.tree)) still (c.remove_empty_folders-2.ensures.leaves h) in
     let runs : F.honest → Leaves decided mid (IsLeftBy (bare_steps (commit_entries old.dirs ran.items packed rewrite ways)) decided.tree) = λ h.
     subst (λ (d : Dirs). Leaves decided mid (IsLeftBy (bare_steps (commit_entries d ran.items packed rewrite ways)) decided.tree)) same (rw c.deref-2.ensures.value at (rw c.deref.ensures.value at (c.publish.ensures.leaves h))) in
     let releases : F.honest → Leaves mid (F.means c.release_all-released.new.files) (RemovesLocks (held_locks (if renamed then None else packed) ran.items) mid.tree) = λ h. rw c.unless_renamed-packed-2.ensures at (e.leaves h) in
     let passes : Passes decided mid (IsReachedBy (steps_in (commit_entries old.dirs ran.items packed rewrite ways)) (disk_of decided)) =
     subst (λ (d : Dirs). Passes decided mid (IsReachedBy (steps_in (commit_entries d ran.items packed rewrite ways)) (disk_of decided))) same (rw c.deref-2.ensures.value at (rw c.deref.ensures.value at (c.publish.ensures.passes h))) in
     let only : OnlyRemoves (held_locks (if renamed then None else packed) ran.items) mid (F.means c.release_all-released.new.files) = rw c.unless_renamed-packed-2.ensures at (e.passes h) in
-    let folders : OnlyFolders old.dirs released tidied = subst (λ (d : Dirs). OnlyFolders d released tidied) still (c.remove_empty_folders.ensures.passes h) in
-    let done : IsSyncedAfter (steps_in (commit_entries old.dirs ran.items packed rewrite ways)) (disk_of decided) (disk_of mid) =
-    subst (λ (d : Dirs). IsSyncedAfter (steps_in (commit_entries d ran.items packed rewrite ways)) (disk_of decided) (disk_of mid)) same (rw c.deref-2.ensures.value at (rw c.deref.ensures.value at (c.in_default.ensures.synced h))) in
-    let stays = at_end F.honest F.means F.faults old start c.args.committer given packed held from ran.items alike new left decided
-    (λ h. c.decide.ensures.leaves h (from.packed.empty h)) (λ h. c.decide.ensures.passes h (from.packed.empty h))
-    c.in-Ok.ensures.logs rewrite c.in-Ok.ensures.repacked (λ h. c.in-Ok.ensures.filled h (from.packed.empty h)) (λ h. c.in-Ok.ensures.wholes h (from.packed.empty h)) ways in_way
-    mid released renamed paths runs releases tidies h at_rest only done in
-    let inside = tidied_inside F.honest F.means F.faults old start c.args.committer given packed held from ran.items alike new left decided
-    (λ h. c.decide.ensures.leaves h (from.packed.empty h)) (λ h. c.decide.ensures.passes h (from.packed.empty h))
-    c.in-Ok.ensures.logs rewrite c.in-Ok.ensures.repacked (λ h. c.in-Ok.ensures.filled h (from.packed.empty h)) (λ h. c.in-Ok.ensures.wholes h (from.packed.empty h)) ways in_way
-    mid released renamed paths runs releases tidies h at_rest only good passes done folders stays.1 in
+    let less : Passes released tidied (LosesNoMore (disk_of released)) = c.remove_empty_folders-2.ensures.loses h in
     lost F.honest F.means F.faults old start c.args.committer given packed held from ran.items alike new left decided
     (λ h. c.decide.ensures.leaves h (from.packed.empty h)) (λ h. c.decide.ensures.passes h (from.packed.empty h))
     c.in-Ok.ensures.logs rewrite c.in-Ok.ensures.repacked (λ h. c.in-Ok.ensures.filled h (from.packed.empty h)) (λ h. c.in-Ok.ensures.wholes h (from.packed.empty h)) ways in_way
-    mid released renamed paths runs releases tidies h at_rest only good inside
+    mid released renamed paths runs releases tidies h at_rest only good passes less
 
 pub returns-clause-settled : goal.returns-clause-settled
 returns-clause-settled g c old given from h at_rest =
@@ -342,17 +349,17 @@ returns-clause-settled g c old given from h at_rest =
     let mid = F.means c.publish.new.self.files in
     let e = c.release_all-released.ensures in
     let left = paths_of c.release_all-released.result.left.items in
-    let new = with_files c.publish.new.self c.remove_empty_folders.new.files in
+    let new = with_files c.publish.new.self c.remove_empty_folders-2.new.files in
     let renamed = c.is_renamed.result in
     let alike = c.decide.ensures.alike in
     let same : c.decide.new.self.dirs ≡ old.dirs = ap (λ (st : Store g.row.F.Denot). st.dirs) c.decide.ensures.same ∙ from.held.same.dirs in
     let in_way : F.honest → AllInWay ran.items old.dirs decided.tree (folder_lists ways) (planned_entries old.dirs ran.items packed rewrite) = λ h.
     subst (λ (d : Dirs). AllInWay ran.items d decided.tree (folder_lists ways) (planned_entries d ran.items packed rewrite)) from.held.same.dirs (c.in-Ok.ensures.in_way h) in
     let released = F.means c.release_all-released.new.files in
-    let tidied = F.means c.remove_empty_folders.new.files in
+    let tidied = F.means c.remove_empty_folders-2.new.files in
     let still : c.publish.new.self.dirs ≡ old.dirs = ap (λ (st : Store g.row.F.Denot). st.dirs) c.publish.ensures.same ∙ same in
     let tidies : F.honest → Leaves released tidied (FoldersGo old.dirs paths released.tree) = λ h.
-    subst (λ (d : Dirs). Leaves released tidied (FoldersGo d paths released.tree)) still (c.remove_empty_folders.ensures.leaves h) in
+    subst (λ (d : Dirs). Leaves released tidied (FoldersGo d paths released.tree)) still (c.remove_empty_folders-2.ensures.leaves h) in
     let runs : F.honest → Leaves decided mid (IsLeftBy (bare_steps (commit_entries old.dirs ran.items packed rewrite ways)) decided.tree) = λ h.
     subst (λ (d : Dirs). Leaves decided mid (IsLeftBy (bare_steps (commit_entries d ran.items packed rewrite ways)) decided.tree)) same (rw c.deref-2.ensures.value at (rw c.deref.ensures.value at (c.publish.ensures.leaves h))) in
     let releases : F.honest → Leaves mid (F.means c.release_all-released.new.files) (RemovesLocks (held_locks (if renamed then None else packed) ran.items) mid.tree) = λ h. rw c.unless_renamed-packed-2.ensures at (e.leaves h) in
@@ -362,12 +369,51 @@ returns-clause-settled g c old given from h at_rest =
     settled F.honest F.means F.faults old start c.args.committer given packed held from ran.items alike new left decided
     (λ h. c.decide.ensures.leaves h (from.packed.empty h)) (λ h. c.decide.ensures.passes h (from.packed.empty h))
     c.in-Ok.ensures.logs rewrite c.in-Ok.ensures.repacked (λ h. c.in-Ok.ensures.filled h (from.packed.empty h)) (λ h. c.in-Ok.ensures.wholes h (from.packed.empty h)) ways in_way
-    mid released renamed paths runs releases tidies h at_rest only done (subst (λ (d : Dirs). OnlyFolders d released tidied) still (c.remove_empty_folders.ensures.passes h))
+    mid released renamed paths runs releases tidies h at_rest only done (subst (λ (d : Dirs). OnlyFolders d released tidied) still (c.remove_empty_folders-2.ensures.passes h))
     (ap (λ (st : Store g.row.F.Denot). st.dirs) c.publish.ensures.same ∙ ap (λ (st : Store g.row.F.Denot). st.dirs) c.decide.ensures.same)
     (ap (λ (st : Store g.row.F.Denot). st.namespace) c.publish.ensures.same ∙ ap (λ (st : Store g.row.F.Denot). st.namespace) c.decide.ensures.same)
 
 pub returns-clause-edits : goal.returns-clause-edits
 returns-clause-edits g c = c.release_all-released.ensures.edits ∙ updates_alike c.decide.new.edits.items c.args.edits.items c.decide.ensures.alike
+
+pub returns-in-Err-clause-folders : goal.returns-in-Err-clause-folders
+returns-in-Err-clause-folders g c h empty =
+    let F = g.F.Files in
+    let start = c.args.self.now in
+    let held = c.args.edits.items in
+    let packed = c.args.packed in
+    no_folder_gone start.dirs packed (packed_places packed ++ flat_map (written_by (meaning_of start)) held) (flat_map (deleted_by (meaning_of start)) held) (held_locks packed c.decide.new.edits.items) (F.means start.files).tree (F.means c.decide.new.self.files).tree (F.means c.release_all-remains.new.files).tree
+    empty (c.decide.ensures.leaves h empty).tree (c.release_all-remains.ensures.leaves h).tree
+
+pub returns-in-Err-publish-clause-folders : goal.returns-in-Err-publish-clause-folders
+returns-in-Err-publish-clause-folders g c h empty =
+    let F = g.F.Files in
+    let start = c.args.self.now in
+    let held = c.args.edits.items in
+    let ran = c.decide.new.edits in
+    let packed = c.args.packed in
+    let rewrite = c.in-Ok.decided.rewrite in
+    let ways = c.in-Ok.decided.ways.items in
+    let first = F.means start.files in
+    let decided = F.means c.decide.new.self.files in
+    let mid = F.means c.publish.new.self.files in
+    let released = F.means c.release_all-edits.new.files in
+    let tidied = F.means c.remove_empty_folders.new.files in
+    let renamed = c.is_packed_renamed.result in
+    let same : c.decide.new.self.dirs ≡ start.dirs = ap (λ (st : Store g.row.F.Denot). st.dirs) c.decide.ensures.same in
+    let still : c.publish.new.self.dirs ≡ start.dirs = ap (λ (st : Store g.row.F.Denot). st.dirs) c.publish.ensures.same ∙ same in
+    let left : IsLeftBy (bare_steps (commit_entries start.dirs ran.items packed rewrite ways)) decided.tree mid.tree =
+    subst (λ (d : Dirs). IsLeftBy (bare_steps (commit_entries d ran.items packed rewrite ways)) decided.tree mid.tree) same (rw c.deref-2.ensures.value at (rw c.deref.ensures.value at (c.publish.ensures.leaves h).tree)) in
+    let releases : Leaves mid released (RemovesLocks (held_locks (if renamed then None else packed) ran.items) mid.tree) = rw c.unless_renamed-packed.ensures at (c.release_all-edits.ensures.leaves h) in
+    let removed : paths_of c.deref-in-Err-publish.result.now ≡ all_removed ran.items = ap paths_of c.deref-in-Err-publish.ensures.value ∙ c.in-Ok.ensures.removed in
+    let u = c.in-Err-publish.unfinished in
+    let tried : FoldersGo start.dirs (paths_of (tried_after u c.deref-in-Err-publish.result.now)) released.tree tidied.tree =
+    subst (λ (d : Dirs). FoldersGo d (paths_of (tried_after u c.deref-in-Err-publish.result.now)) released.tree tidied.tree) still
+    (subst (λ ps. FoldersGo c.publish.new.self.dirs (paths_of ps) released.tree tidied.tree) c.tried.ensures (c.remove_empty_folders.ensures.leaves h).tree) in
+    let tidies : FoldersGo start.dirs (all_removed ran.items) released.tree tidied.tree =
+    subst (λ (paths : List Path). FoldersGo start.dirs paths released.tree tidied.tree) removed (tried_go start.dirs u c.deref-in-Err-publish.result.now released.tree tidied.tree tried) in
+    folders_stay (meaning_of start) start.dirs held ran.items packed rewrite (folder_lists ways) first.tree decided.tree mid.tree released.tree tidied.tree (held_locks (if renamed then None else packed) ran.items)
+    c.decide.ensures.alike (logs_are (line_rules start c.args.committer) (view_of first.tree) 0 held ran.items (c.in-Ok.ensures.logs h)) empty (c.decide.ensures.leaves h empty).tree (c.in-Ok.ensures.in_way h) left releases.tree tidies
 
 pub returns-clause-folders : goal.returns-clause-folders
 returns-clause-folders g c h empty =
@@ -382,16 +428,16 @@ returns-clause-folders g c h empty =
     let decided = F.means c.decide.new.self.files in
     let mid = F.means c.publish.new.self.files in
     let released = F.means c.release_all-released.new.files in
-    let tidied = F.means c.remove_empty_folders.new.files in
+    let tidied = F.means c.remove_empty_folders-2.new.files in
     let renamed = c.is_renamed.result in
     let same : c.decide.new.self.dirs ≡ start.dirs = ap (λ (st : Store g.row.F.Denot). st.dirs) c.decide.ensures.same in
     let still : c.publish.new.self.dirs ≡ start.dirs = ap (λ (st : Store g.row.F.Denot). st.dirs) c.publish.ensures.same ∙ same in
-    let after : IsAfter (bare_steps (commit_entries start.dirs ran.items packed rewrite ways)) decided.tree mid.tree =
-    subst (λ (d : Dirs). IsAfter (bare_steps (commit_entries d ran.items packed rewrite ways)) decided.tree mid.tree) same (rw c.deref-2.ensures.value at (rw c.deref.ensures.value at (c.in_default.ensures.done h))) in
+    let left : IsLeftBy (bare_steps (commit_entries start.dirs ran.items packed rewrite ways)) decided.tree mid.tree =
+    subst (λ (d : Dirs). IsLeftBy (bare_steps (commit_entries d ran.items packed rewrite ways)) decided.tree mid.tree) same (rw c.deref-2.ensures.value at (rw c.deref.ensures.value at (c.publish.ensures.leaves h).tree)) in
     let releases : Leaves mid released (RemovesLocks (held_locks (if renamed then None else packed) ran.items) mid.tree) = rw c.unless_renamed-packed-2.ensures at (c.release_all-released.ensures.leaves h) in
     let removed : paths_of c.deref-3.result.now ≡ all_removed ran.items = ap paths_of c.deref-3.ensures.value ∙ c.in-Ok.ensures.removed in
     let tidies : FoldersGo start.dirs (all_removed ran.items) released.tree tidied.tree =
     subst (λ (paths : List Path). FoldersGo start.dirs paths released.tree tidied.tree) removed
-    (subst (λ (d : Dirs). FoldersGo d (paths_of c.deref-3.result.now) released.tree tidied.tree) still (c.remove_empty_folders.ensures.leaves h).tree) in
+    (subst (λ (d : Dirs). FoldersGo d (paths_of c.deref-3.result.now) released.tree tidied.tree) still (c.remove_empty_folders-2.ensures.leaves h).tree) in
     folders_stay (meaning_of start) start.dirs held ran.items packed rewrite (folder_lists ways) first.tree decided.tree mid.tree released.tree tidied.tree (held_locks (if renamed then None else packed) ran.items)
-    c.decide.ensures.alike (logs_are (line_rules start c.args.committer) (view_of first.tree) 0 held ran.items (c.in-Ok.ensures.logs h)) empty (c.decide.ensures.leaves h empty).tree (c.in-Ok.ensures.in_way h) after releases.tree tidies
+    c.decide.ensures.alike (logs_are (line_rules start c.args.committer) (view_of first.tree) 0 held ran.items (c.in-Ok.ensures.logs h)) empty (c.decide.ensures.leaves h empty).tree (c.in-Ok.ensures.in_way h) left releases.tree tidies

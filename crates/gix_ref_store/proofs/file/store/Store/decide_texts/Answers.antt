@@ -1,10 +1,11 @@
-use Rattle.std.proofs.Common.{◌≡◌, ◌∙◌, ◌++◌, ℕ, List, length, map, take, sym, ap, subst, arith}
+use Rattle.std.proofs.Common.{◌≡◌, ◌∙◌, ◌++◌, ℕ, List, drop, length, map, take, sym, ap, subst, arith}
 use Rattle.std.proofs.Math.Seq.{take-append_seam}
 use Rattle.std.proofs.lemmas.List.{length-map}
 use Rattle.gix_ref_files.specs.Lock.{lock_of}
 use Rattle.gix_ref_files.specs.Tree.{Tree}
 use Rattle.gix_ref_lookup.specs.Lookups.{ArePackedRecords}
 use Rattle.gix_ref_theory.specs.OnRealTrees.{view_of}
+use Rattle.gix_ref_transaction.specs.CommitRenames.{SeeLogs}
 use Rattle.gix_ref_transaction.specs.PrepareSteps.{AreEmpty, packed_places}
 use Rattle.gix_ref_transaction.specs.declared.edit.Edit.{Edit}
 use Rattle.gix_ref_lines.specs.AskedEdits.{all_but_logs, asked, but_log}
@@ -22,6 +23,13 @@ taken len now rest held seen is all alike =
     ap all_but_logs
     (is ∙ (ap (λ n. take n (now ++ rest)) (omega (arith, all, length-map now but_log, length-map held but_log, ap length alike)) ∙ take-append_seam now rest))
     ∙ alike
+
+pub returns-in-Ok-clause-logged : goal.returns-in-Ok-clause-logged
+returns-in-Ok-clause-logged g c h =
+    let held = c.args.edits.now in
+    let now = c.decide_logs.new.edits in
+    let len : held.len ≡ length now = omega (arith, held.ok, length-map now but_log, length-map held.items but_log, ap length (c.decide_logs.ensures.but_logs ∙ ap all_but_logs c.deref_mut.ensures.value)) in
+    subst (SeeLogs (g.F.Files.means c.args.self.now.files).tree) (sym (ap (λ n. take n (now ++ drop (length now) held.items)) len ∙ take-append_seam now (drop (length now) held.items))) (c.in_default.ensures.there h)
 
 pub returns-in-Ok-clause-repacked : goal.returns-in-Ok-clause-repacked
 returns-in-Ok-clause-repacked g c =
