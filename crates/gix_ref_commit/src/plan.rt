@@ -55,6 +55,7 @@ fn line_step<'p>(dirs: &Dirs, at: usize, edit: &'p Edit) -> Option<Planned<'p, A
             action: Action::Line {
                 path: log,
                 bytes: line,
+                seen: edit.has_log(),
             },
             settle: Settle::UpTo {
                 root: dirs.root(log),

@@ -2,7 +2,7 @@
 use Rattle.std.proofs.Common.{◌≡◌, inl, inr, ⊎_elim, ℕ, zero, suc, List, [], ◌∷◌, length, refl, sym, ◌∙◌, ap, subst}
 use Rattle.std.proofs.Math.Seq.{take-length}
 use Rattle.gix_ref_files.specs.Tree.{Tree, Path, appended, folders_to, with_folders}
-use Rattle.gix_ref_files.specs.Calls.{created}
+use Rattle.gix_ref_files.specs.Calls.{created, Creating}
 use Rattle.gix_ref_files.specs.Steps.{Step, Create, Append, Line, Rename, RemoveFile, MakeFolders, RemoveFolder, End, Does, Begins, IsAfter, IsLeftBy, EndsBy, EndsAt}
 use Rattle.gix_ref_files.specs.declared.steps.Cause.{Cause}
 use Rattle.gix_ref_files.specs.declared.steps.Cause.TheVariants.{File, Unexpected, Asked}
@@ -18,6 +18,11 @@ not_begun (RemoveFile path) T = inl refl
 not_begun (MakeFolders path) T = inl refl
 not_begun (RemoveFolder path) T = inl refl
 not_begun End T = refl
+
+-- a line whose file was perhaps made, with no byte of it
+pub line_begun : (before : Tree) (path : Path) (bytes : List ℕ) (T : Tree) → Creating before path T → Begins (Line path bytes) before T
+line_begun before path bytes T =
+    ⊎_elim (λ same. subst (Begins (Line path bytes) before) (sym same) (not_begun (Line path bytes) before)) (λ made. inr (made.0, inl made.1))
 
 -- a step that is done
 pub done_is_begun : (step : Step) (before T : Tree) → Does step before T → Begins step before T

@@ -89,7 +89,7 @@ path_syncs false p (settles.UpTo root) = climb p root
 abbrev pub syncs_of : Action → Settle → List Sync
 syncs_of (actions.Create path) settle = path_syncs false path.now settle
 syncs_of (actions.Append path bytes) settle = path_syncs true path.now settle
-syncs_of (actions.Line path bytes) settle = path_syncs true path.now settle
+syncs_of (actions.Line path bytes seen) settle = path_syncs true path.now settle
 syncs_of (actions.Rename from to) settle = path_syncs false to.now settle
 syncs_of (actions.RemoveFile path) settle = path_syncs false path.now settle
 syncs_of (actions.MakeFolders path) settle = []
@@ -117,7 +117,7 @@ CanSync grows T p = (has_folders T p ≡ true) × (grows ≡ true → is_file (T
 abbrev pub CanSettle : Action → Tree → Type 0
 CanSettle (actions.Create path) T = CanSync false T path.now
 CanSettle (actions.Append path bytes) T = CanSync true T path.now
-CanSettle (actions.Line path bytes) T = CanSync true T path.now
+CanSettle (actions.Line path bytes seen) T = CanSync true T path.now
 CanSettle (actions.Rename from to) T = CanSync false T to.now
 CanSettle (actions.RemoveFile path) T = CanSync false T path.now
 CanSettle (actions.MakeFolders path) T = Unit {0}

@@ -85,7 +85,7 @@ EndsAt (step ∷ steps) (suc at) cause before T = (mid : Tree) × Does step befo
 abbrev pub step_of : Action → Step
 step_of (CreateAction path) = Create path.now
 step_of (AppendAction path bytes) = Append path.now bytes.now
-step_of (LineAction path bytes) = Line path.now bytes.now
+step_of (LineAction path bytes seen) = Line path.now bytes.now
 step_of (RenameAction from to) = Rename from.now to.now
 step_of (RemoveFileAction path) = RemoveFile path.now
 step_of (MakeFoldersAction path) = MakeFolders path.now

@@ -4,6 +4,7 @@ ghost use Rattle.gix_ref_files.specs.Files.{one_more};
 ghost use Rattle.gix_ref_files.specs.declared.files.FileError.TheVariants.{Device, NotUtf8};
 
 use crate::files::{Create, Entry, FileError, Files, Node, ReadAt, Rename};
+use crate::paths;
 use std::alloc::Global;
 use std::fs::{File, OpenOptions};
 use std::io::{ErrorKind, Read, Write};
@@ -19,12 +20,16 @@ use std::{fs, io};
 ///
 /// The file that `create_new` made last stays open until it is renamed or removed, or another one is made: so what is added to it and
 /// synced is one system call each.
+///
+/// The folder that `make_folders` found or made last is not looked at again. Where another program has removed it since, `create_new`
+/// makes it anew.
 #[derive(Drop)]
 pub struct Disk {
     rt: HostRuntime,
     faults: u64,
     syncs: bool,
     made: Option<MadeFile>,
+    folder: Option<Vec<u8>>,
 }
 
 /// A file that was made and is open.
@@ -79,6 +84,7 @@ impl Disk {
             faults: 0,
             syncs: true,
             made: None,
+            folder: None,
         }
     }
 
@@ -96,6 +102,7 @@ impl Disk {
             faults: 0,
             syncs: false,
             made: None,
+            folder: None,
         }
     }
 }
@@ -110,6 +117,24 @@ impl Disk {
             Some(made) => made.path.as_slice() == path,
             None => false,
         }
+    }
+
+    /// Whether a path is that of the folder that `make_folders` found or made last.
+    fn knows(&self, path: &[u8]) -> bool {
+        match &self.folder {
+            Some(folder) => folder.as_slice() == path,
+            None => false,
+        }
+    }
+
+    /// Makes a file whose folder was known and is gone, and the folder first.
+    fn make_again(&mut self, path: &str) -> io::Result<File>
+        ensures { self.new.faults ≡ self.old.faults }
+    {
+        if let Some(folder) = self.folder.take() {
+            fs::create_dir_all(&self.rt, std::str::from_utf8(&folder).unwrap_or(""))?;
+        }
+        make_file(&self.rt, path)
     }
 
     /// Syncs a file or a folder, whichever is asked for; false where there is no such thing.
@@ -242,10 +267,11 @@ impl Files for Disk {
     fn create_new(&mut self, path: &[u8]) -> Result<Create, FileError> {
         self.made = None;
         let name = text_of(&mut self.faults, path)?;
-        let made = OpenOptions::new()
-            .append(true)
-            .create_new(true)
-            .open(&self.rt, name);
+        let made = match make_file(&self.rt, name) {
+            Err(error) if error.kind() == ErrorKind::NotFound && self.knows(paths::folder(path)) =>
+                { self.make_again(name) }
+            made => made,
+        };
         match made {
             Ok(file) => {
                 self.made = kept(self.rt.alloc(), path, file);
@@ -259,14 +285,18 @@ impl Files for Disk {
         }
     }
 
-    /// One system call where the folder exists.
+    /// One system call where the folder exists, and none for the one that was asked for last.
     fn make_folders(&mut self, path: &[u8]) -> Result<bool, FileError> {
-        let path = text_of(&mut self.faults, path)?;
-        if let Ok(about) = fs::metadata(&self.rt, path) {
-            return Ok(about.is_dir());
+        if self.knows(path) {
+            return Ok(true);
         }
-        match fs::create_dir_all(&self.rt, path) {
-            Ok(()) => Ok(true),
+        let name = text_of(&mut self.faults, path)?;
+        match make_folders_at(&self.rt, name) {
+            Ok(true) => {
+                self.folder = path.to_vec(self.rt.alloc()).ok();
+                Ok(true)
+            }
+            Ok(false) => Ok(false),
             Err(error) => match error.kind() {
                 ErrorKind::AlreadyExists | ErrorKind::NotADirectory => Ok(false),
                 kind => Err(fault(&mut self.faults, kind)),
@@ -342,6 +372,7 @@ impl Files for Disk {
 
     /// One system call.
     fn remove_folder(&mut self, path: &[u8]) -> Result<bool, FileError> {
+        self.folder = None;
         let path = text_of(&mut self.faults, path)?;
         match fs::remove_dir(&self.rt, path) {
             Ok(()) => Ok(true),
@@ -400,6 +431,23 @@ fn open_file(rt: &HostRuntime, path: &str) -> io::Result<Option<DiskReader>> {
         len,
         faults: 0,
     }))
+}
+
+/// Makes a file; an error where there is something.
+fn make_file(rt: &HostRuntime, path: &str) -> io::Result<File> {
+    OpenOptions::new()
+        .append(true)
+        .create_new(true)
+        .open(rt, path)
+}
+
+/// Makes a folder and those above it, after a look; false where there is something else.
+fn make_folders_at(rt: &HostRuntime, path: &str) -> io::Result<bool> {
+    if let Ok(about) = fs::metadata(rt, path) {
+        return Ok(about.is_dir());
+    }
+    fs::create_dir_all(rt, path)?;
+    Ok(true)
 }
 
 /// Adds bytes to a file that is open.

@@ -17,19 +17,38 @@ use crate::files::{Create, FileError, Files, Rename};
 #[derive(Clone, Copy, Debug)]
 pub enum Action<'p> {
     /// Makes an empty file where there is nothing and folders lead there.
-    Create { path: &'p [u8] },
+    Create {
+        path: &'p [u8],
+    },
     /// Adds bytes to the end of a file that exists.
-    Append { path: &'p [u8], bytes: &'p [u8] },
-    /// Adds bytes to the end of a file, which is made where it is missing and folders lead there.
-    Line { path: &'p [u8], bytes: &'p [u8] },
+    Append {
+        path: &'p [u8],
+        bytes: &'p [u8],
+    },
+    /// Adds bytes to the end of a file, which is made where it is missing and folders lead there. Where one was `seen` it is
+    /// looked for first, else made first: either does the same, in fewer calls if what was seen is still so.
+    Line {
+        path: &'p [u8],
+        bytes: &'p [u8],
+        seen: bool,
+    },
     /// Moves a file, also onto a file.
-    Rename { from: &'p [u8], to: &'p [u8] },
+    Rename {
+        from: &'p [u8],
+        to: &'p [u8],
+    },
     /// Removes a file, if there is one.
-    RemoveFile { path: &'p [u8] },
+    RemoveFile {
+        path: &'p [u8],
+    },
     /// Makes the folders that lead to a path, and one there. Nothing is synced after it.
-    MakeFolders { path: &'p [u8] },
+    MakeFolders {
+        path: &'p [u8],
+    },
     /// Removes a folder, if there is an empty one. Nothing is synced after it.
-    RemoveFolder { path: &'p [u8] },
+    RemoveFolder {
+        path: &'p [u8],
+    },
     /// Ends the run.
     End,
 }
@@ -87,7 +106,7 @@ impl From<FileError> for Cause {
 }
 
 /// Adds bytes to a file, which is made where it is missing. False where it cannot be made.
-fn add_line<F: Files>(files: &mut F, path: &[u8], bytes: &[u8]) -> Result<bool, FileError>
+fn append_line<F: Files>(files: &mut F, path: &[u8], bytes: &[u8]) -> Result<bool, FileError>
     ensures done { F.honest → IfOk result (λ done. IsTrue done →
         Does (Line path.now bytes.now) (F.means files.old).tree (F.means files.new).tree) }
     ensures done_on { F.honest → IfOk result (λ done. IsTrue done →
@@ -110,6 +129,58 @@ fn add_line<F: Files>(files: &mut F, path: &[u8], bytes: &[u8]) -> Result<bool, 
         return Ok(false);
     }
     files.append(path, bytes)
+}
+
+/// Makes a file and adds bytes to it, or to the one that is there. False where there is something else.
+fn make_line<F: Files>(files: &mut F, path: &[u8], bytes: &[u8]) -> Result<bool, FileError>
+    ensures done { F.honest → IfOk result (λ done. IsTrue done →
+        Does (Line path.now bytes.now) (F.means files.old).tree (F.means files.new).tree) }
+    ensures done_on { F.honest → IfOk result (λ done. IsTrue done →
+        DoesOn (Line path.now bytes.now) (disk_of (F.means files.old))
+        (disk_of (F.means files.new))) }
+    ensures refused { F.honest → IfOk result (λ done. done ≡ false →
+        EndsBy (Line path.now bytes.now) Cause.Unexpected (F.means files.old).tree
+        (F.means files.new).tree) }
+    ensures leaves { F.honest → Leaves (F.means files.old) (F.means files.new)
+        (Begins (Line path.now bytes.now) (F.means files.old).tree) }
+    ensures passes { F.honest → Passes (F.means files.old) (F.means files.new)
+        (BeginsOn (Line path.now bytes.now) (disk_of (F.means files.old))) }
+    ensures count { F.faults files.new ≡ count_after result (F.faults files.old) }
+    ensures memory { IsErrOf result FileError.Memory → ⊥ }
+{
+    match files.create_new(path)? {
+        Create::Made | Create::Standing => files.append(path, bytes),
+        Create::Blocked => Ok(false),
+    }
+}
+
+/// Adds bytes to a file, which is made where it is missing; first where none was seen. False where it cannot be made.
+fn add_line<F: Files>(
+    files: &mut F,
+    path: &[u8],
+    bytes: &[u8],
+    seen: bool,
+) -> Result<bool, FileError>
+    ensures done { F.honest → IfOk result (λ done. IsTrue done →
+        Does (Line path.now bytes.now) (F.means files.old).tree (F.means files.new).tree) }
+    ensures done_on { F.honest → IfOk result (λ done. IsTrue done →
+        DoesOn (Line path.now bytes.now) (disk_of (F.means files.old))
+        (disk_of (F.means files.new))) }
+    ensures refused { F.honest → IfOk result (λ done. done ≡ false →
+        EndsBy (Line path.now bytes.now) Cause.Unexpected (F.means files.old).tree
+        (F.means files.new).tree) }
+    ensures leaves { F.honest → Leaves (F.means files.old) (F.means files.new)
+        (Begins (Line path.now bytes.now) (F.means files.old).tree) }
+    ensures passes { F.honest → Passes (F.means files.old) (F.means files.new)
+        (BeginsOn (Line path.now bytes.now) (disk_of (F.means files.old))) }
+    ensures count { F.faults files.new ≡ count_after result (F.faults files.old) }
+    ensures memory { IsErrOf result FileError.Memory → ⊥ }
+{
+    if seen {
+        append_line(files, path, bytes)
+    } else {
+        make_line(files, path, bytes)
+    }
 }
 
 /// True for a step that is done, and an unexpected result for one that cannot be.
@@ -151,7 +222,7 @@ fn change<F: Files>(files: &mut F, action: &Action<'_>) -> Result<bool, Cause>
     match *action {
         Action::Create { path } => as_done(files.create_new(path)? == Create::Made),
         Action::Append { path, bytes } => as_done(files.append(path, bytes)?),
-        Action::Line { path, bytes } => as_done(add_line(files, path, bytes)?),
+        Action::Line { path, bytes, seen } => as_done(add_line(files, path, bytes, seen)?),
         Action::Rename { from, to } => as_done(files.rename(from, to)? == Rename::Moved),
         Action::MakeFolders { path } => as_done(files.make_folders(path)?),
         Action::RemoveFile { path } => Ok(files.remove_file(path)?),

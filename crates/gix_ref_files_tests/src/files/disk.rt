@@ -2,8 +2,9 @@
 
 use crate::files::table;
 use gix_ref_files::disk::Disk;
-use gix_ref_files::files::{FileError, Files, Node};
+use gix_ref_files::files::{Create, FileError, Files, Node};
 use std::fs;
+use std::io::ErrorKind;
 use std::os::unix::fs::symlink;
 use std::test::Fail;
 
@@ -60,6 +61,35 @@ fn sees_what_others_put(rt: HostRuntime) -> Result<(), Fail> {
         b"other".as_slice(),
         "what was written meanwhile"
     );
+    Ok(())
+}
+
+#[test]
+fn makes_a_known_folder_anew_where_it_is_gone(rt: HostRuntime) -> Result<(), Fail> {
+    let mut disk = Disk::new(rt.clone()?);
+    let found = disk.make_folders(b"known/folder");
+    fs::remove_dir_all(&rt, "known")?;
+    let known = disk.make_folders(b"known/folder");
+    let made = disk.create_new(b"known/folder/file");
+    let kind = disk.kind(b"known/folder/file");
+    let other = disk.create_new(b"known/other/file");
+    disk.remove_file(b"known/folder/file")?;
+    let removed = disk.remove_folder(b"known/folder");
+    let seen = disk.make_folders(b"known/folder");
+    let again = disk.kind(b"known/folder");
+    fs::remove_dir_all(&rt, "known")?;
+    assert_eq!(rt; found, Ok(true), "made");
+    assert_eq!(rt; known, Ok(true), "not looked at again");
+    assert_eq!(rt; made, Ok(Create::Made), "in a folder that was made anew");
+    assert_eq!(rt; kind, Ok(Node::File));
+    assert_eq!(rt;
+        other,
+        Err(FileError::Device(ErrorKind::NotFound)),
+        "a folder that was not asked for"
+    );
+    assert_eq!(rt; removed, Ok(true), "removed by the disk itself");
+    assert_eq!(rt; seen, Ok(true), "so made again");
+    assert_eq!(rt; again, Ok(Node::Folder));
     Ok(())
 }
 

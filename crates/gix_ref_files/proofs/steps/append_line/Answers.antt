@@ -4,7 +4,7 @@ use Rattle.gix_ref_files.specs.Calls.{Creates}
 use Rattle.gix_ref_files.specs.declared.files.Create.TheVariants.{Made}
 use Rattle.gix_ref_files.proofs.LockLemmas.{if_ok}
 use Rattle.gix_ref_files.proofs.Ready.{made_appends}
-use Rattle.gix_ref_files.proofs.steps.add_line.Goals as goal
+use Rattle.gix_ref_files.proofs.steps.append_line.Goals as goal
 
 pub returns-clause-refused : goal.returns-clause-refused
 returns-clause-refused g c h =
