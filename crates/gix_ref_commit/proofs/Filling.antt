@@ -4,7 +4,7 @@ use Rattle.std.specs.Prelude.{bytes_eq}
 use Rattle.gix_ref_files.specs.Disk.{Disk}
 use Rattle.gix_ref_files.specs.DiskCalls.{Untouched}
 use Rattle.gix_ref_files.specs.Files.{Meaning, disk_of, Passes}
-use Rattle.gix_ref_files.specs.Settled.{IsWhole}
+use Rattle.gix_ref_files.specs.Settled.{IsWholeAt}
 use Rattle.gix_ref_files.specs.Tree.{Tree, Path, is_file}
 use Rattle.gix_ref_files.specs.Tree.Content.{File}
 use Rattle.gix_ref_files.proofs.Moments.{passes_weaken}
@@ -19,25 +19,25 @@ same_bytes : {x y : List ℕ} → Some (File x) ≡ Some (File y) → x ≡ y
 same_bytes h = cc
 
 -- locks that are whole stay so
-pub wholes_filled : (D E : Disk) (lock : Path) (text : List ℕ) → D.tree lock ≡ Some (File []) → (IsWhole D lock [] → IsWhole E lock text) → FillingOn D lock E →
+pub wholes_filled : (D E : Disk) (lock : Path) (text : List ℕ) → D.tree lock ≡ Some (File []) → (IsWholeAt D lock [] → IsWholeAt E lock text) → FillingOn D lock E →
     (locks : List Path) → AreWholeLocks D locks → AreWholeLocks E locks
 wholes_filled D E lock text empty here filling [] whole = tt
 wholes_filled D E lock text empty here filling (q ∷ locks) whole = (
   either_way (bytes_eq lock q)
       (λ same. (
         text,
-        subst (λ (p : Path). IsWhole E p text) (same_path lock q same)
-            (here (subst (IsWhole D lock) (none (subst (λ (p : Path). IsWhole D p whole.0.0) (sym (same_path lock q same)) whole.0.1)) (subst (λ (p : Path). IsWhole D p whole.0.0) (sym (same_path lock q same)) whole.0.1))),
+        subst (λ (p : Path). IsWholeAt E p text) (same_path lock q same)
+            (here (subst (IsWholeAt D lock) (none (subst (λ (p : Path). IsWholeAt D p whole.0.0) (sym (same_path lock q same)) whole.0.1)) (subst (λ (p : Path). IsWholeAt D p whole.0.0) (sym (same_path lock q same)) whole.0.1))),
       ))
       (λ other. (whole.0.0, still (λ is. clash (is_same_path lock q is) other) whole.0.1 filling)),
   wholes_filled D E lock text empty here filling locks whole.1,
 )
   where
-    none : {bytes : List ℕ} → IsWhole D lock bytes → bytes ≡ []
+    none : {bytes : List ℕ} → IsWholeAt D lock bytes → bytes ≡ []
     none is = same_bytes (sym is.0 ∙ empty)
 
-    still : {bytes : List ℕ} → lock ≢ q → IsWhole D q bytes → FillingOn D lock E → IsWhole E q bytes
-    still {bytes} apart is (inl e) = subst (λ (X : Disk). IsWhole X q bytes) (sym e) is
+    still : {bytes : List ℕ} → lock ≢ q → IsWholeAt D q bytes → FillingOn D lock E → IsWholeAt E q bytes
+    still {bytes} apart is (inl e) = subst (λ (X : Disk). IsWholeAt X q bytes) (sym e) is
     still {bytes} apart is (inr (t, writing)) = whole_writing D E lock q t bytes apart is writing
 
 -- where nothing is touched, no lock is either

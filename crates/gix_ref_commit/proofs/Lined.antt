@@ -5,8 +5,8 @@ use Rattle.gix_ref_hash.specs.declared.hash.Kind.{Kind}
 use Rattle.gix_ref_base.specs.PackedRecords.{Record, record_named}
 use Rattle.gix_ref_rewrite.specs.declared.outcome.Rewrite.{Rewrite}
 use Rattle.gix_ref_rewrite.specs.declared.outcome.Rewrite.TheVariants.{Unchanged, Removed, Text}
-use Rattle.gix_ref_theory.specs.Between.{AreEdits, IsEdit, IsMerged}
-use Rattle.gix_ref_theory.specs.Edits.{Edit, alters_change, alters_packed, is_key, merged_record, record_after}
+use Rattle.gix_ref_theory.specs.Between.{AreEdits, IsEdit, MergesRecords}
+use Rattle.gix_ref_theory.specs.Edits.{Edit, alters_change, alters_packed, is_key, merged_record, edited_record}
 use Rattle.gix_ref_theory.specs.Edits.Mode.{DeletionsOnly}
 use Rattle.gix_ref_theory.specs.Readings.{Store}
 use Rattle.gix_ref_edits.specs.RefEdits.{name_of, mode_of, is_of_reference}
@@ -51,11 +51,11 @@ module _ (s : Store) where
       merged_record s DeletionsOnly (with_lines given lines) key old ≡ merged_record s DeletionsOnly (planned given) key old
   merged_lined key old [] lines = refl
   merged_lined key old (e ∷ given) [] =
-      ap (λ (r : Option Record). if is_of_reference (mode_of e.change) && is_key (s.key (name_of e)) key then record_after DeletionsOnly key (edit_of e) (change_of e.change) old else r) (merged_lined key old given [])
+      ap (λ (r : Option Record). if is_of_reference (mode_of e.change) && is_key (s.key (name_of e)) key then edited_record DeletionsOnly key (edit_of e) (change_of e.change) old else r) (merged_lined key old given [])
   merged_lined key old (e ∷ given) (line ∷ lines) =
-      ap (λ (r : Option Record). if is_of_reference (mode_of e.change) && is_key (s.key (name_of e)) key then record_after DeletionsOnly key (edit_of e) (change_of e.change) old else r) (merged_lined key old given lines)
+      ap (λ (r : Option Record). if is_of_reference (mode_of e.change) && is_key (s.key (name_of e)) key then edited_record DeletionsOnly key (edit_of e) (change_of e.change) old else r) (merged_lined key old given lines)
 
-  records_lined : (given : List RefEdit) (lines : List (Option (List ℕ))) (old new : List Record) → IsMerged s DeletionsOnly (planned given) old new → IsMerged s DeletionsOnly (with_lines given lines) old new
+  records_lined : (given : List RefEdit) (lines : List (Option (List ℕ))) (old new : List Record) → MergesRecords s DeletionsOnly (planned given) old new → MergesRecords s DeletionsOnly (with_lines given lines) old new
   records_lined given lines old new merged = record {
     each = λ key. merged.each key ∙ sym (merged_lined key (record_named key old) given lines);
     ascending = merged.ascending;

@@ -6,7 +6,7 @@ use Rattle.gix_ref_files.specs.Tree.{Path}
 use Rattle.gix_ref_files.specs.Lock.{lock_of}
 use Rattle.gix_ref_theory.specs.Edits.{Mode, effect}
 use Rattle.gix_ref_theory.specs.Edits as plan
-use Rattle.gix_ref_theory.specs.Plan.{plan as planned, line_writes, place_writes, updates, log_removal, log_removals, place_removal, loose_removals, packed_writes}
+use Rattle.gix_ref_theory.specs.Plan.{plan as planned, line_writes, place_writes, writes_of_updates, log_removal, log_removals, place_removal, loose_removals, packed_writes}
 use Rattle.gix_ref_theory.specs.Readings.{Store}
 use Rattle.gix_ref_theory.specs.Views.{View, Write, Write as writes, file_bytes}
 use Rattle.gix_ref_rewrite.specs.declared.outcome.Rewrite.{Rewrite}
@@ -79,13 +79,13 @@ module _ (s : Store) (mode : Mode) (view texts : View) where
   AreAsPlanned (x ∷ xs) [] = ⊥
   AreAsPlanned (x ∷ xs) (e ∷ edits) = IsAsPlanned x e × AreAsPlanned xs edits
 
-  updates_are : (xs : List plan.Edit) (edits : List Edit) → AreAsPlanned xs edits → updates s mode view xs ≡ own_updates texts edits
+  updates_are : (xs : List plan.Edit) (edits : List Edit) → AreAsPlanned xs edits → writes_of_updates s mode view xs ≡ own_updates texts edits
   updates_are [] [] are = refl
   updates_are [] (e ∷ edits) are = absurd are
   updates_are (x ∷ xs) [] are = absurd are
   updates_are (x ∷ xs) (e ∷ edits) (one, rest) =
-      ap (λ ws. ws ++ (place_writes (s.place x.name) (effect s mode view x) ++ updates s mode view xs)) one.line
-      ∙ (ap (λ ws. line_written e.log ++ (ws ++ updates s mode view xs)) one.put
+      ap (λ ws. ws ++ (place_writes (s.place x.name) (effect s mode view x) ++ writes_of_updates s mode view xs)) one.line
+      ∙ (ap (λ ws. line_written e.log ++ (ws ++ writes_of_updates s mode view xs)) one.put
       ∙ ap (λ ws. line_written e.log ++ (file_put texts e.lock e.effect ++ ws)) (updates_are xs edits rest))
 
   log_removals_are : (xs : List plan.Edit) (edits : List Edit) → AreAsPlanned xs edits → log_removals s xs ≡ logs_removed edits

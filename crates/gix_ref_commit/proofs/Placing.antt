@@ -38,7 +38,7 @@ use Rattle.gix_ref_commit.specs.Entries.{planned_entries, steps_in}
 use Rattle.gix_ref_commit.specs.LogEffects.{IsLogOf, AreLogsOf}
 use Rattle.gix_ref_commit.proofs.Carries.{AreIn, Carries}
 use Rattle.gix_ref_commit.proofs.Carrying as carrying
-use Rattle.gix_ref_commit.proofs.Carrying.{IsPlain, IsLogPlain, IsPlaced, ArePlaced, IsElsewhere, AreApart, IsPackedPlaced}
+use Rattle.gix_ref_commit.proofs.Carrying.{IsPlain, IsLogPlain, ArePlaced, IsElsewhere, AreApart, IsPackedPlaced}
 use Rattle.gix_ref_commit.proofs.Held.{heads}
 use Rattle.gix_ref_commit.proofs.OwnPlan.{own_plan}
 

@@ -12,7 +12,7 @@ use Rattle.gix_ref_files.specs.Tree.{Tree, Path, Content, file_of, is_file}
 use Rattle.gix_ref_files.specs.Tree.Content.{File, Folder}
 use Rattle.gix_ref_files.specs.Disk.{Disk}
 use Rattle.gix_ref_files.specs.Lock.{lock_of}
-use Rattle.gix_ref_theory.specs.Between.{AreEdits, IsEdit, IsPrepared, IsMerged}
+use Rattle.gix_ref_theory.specs.Between.{AreEdits, IsEdit, IsPrepared, MergesRecords}
 use Rattle.gix_ref_theory.specs.ConcreteStore.{written_id}
 use Rattle.gix_ref_theory.specs.Edits.{Change, Edit, Effect, effect, alters_change, alters_packed, file_of_records}
 use Rattle.gix_ref_theory.specs.Edits.Change.{Update, Delete}
@@ -23,7 +23,7 @@ use Rattle.gix_ref_theory.specs.OnRealTrees.{view_of, IsCommitRun}
 use Rattle.gix_ref_theory.specs.OnDisks as disk
 use Rattle.gix_ref_theory.specs.OnDisks.{IsSpokenOf}
 use Rattle.gix_ref_theory.specs.Plan.{plan, line_writes, place_writes, log_removal, place_removal, packed_writes, file_writes}
-use Rattle.gix_ref_theory.specs.Readings.{Store, records_in}
+use Rattle.gix_ref_theory.specs.Readings.{Store, records_of_file}
 use Rattle.gix_ref_theory.specs.Views.{View, Write, file_bytes, IsSameButLocks}
 use Rattle.gix_ref_theory.proofs.OnDisks.{own_is_lock}
 use Rattle.gix_ref_lookup.specs.StoreLayout.{folders_of}
@@ -110,20 +110,20 @@ module _ (s : Store) (T : Tree) where
       by true r false a is rest = let others = rest is in (later others.0, others.1)
       by false r a' a is rest = let others = rest is in (later others.0, others.1)
 
-  no_file : is_file (T s.packed_path) ≡ false → records_in s (view_of T s.packed_path) ≡ []
-  no_file none = ap (records_in s) (by (T s.packed_path) none)
+  no_file : is_file (T s.packed_path) ≡ false → records_of_file s (view_of T s.packed_path) ≡ []
+  no_file none = ap (records_of_file s) (by (T s.packed_path) none)
     where
       by : (node : Option Content) → is_file node ≡ false → file_of node ≡ None
       by None h = refl
       by (Some Folder) h = refl
       by (Some (File bytes)) h = clash refl h
 
-  pub alters_takes : (given : List RefEdit) → alters_packed s DeletionsOnly (records_in s (view_of T s.packed_path)) (planned given) ≡ true → packed_taken s T given ≡ s.packed_path ∷ []
+  pub alters_takes : (given : List RefEdit) → alters_packed s DeletionsOnly (records_of_file s (view_of T s.packed_path)) (planned given) ≡ true → packed_taken s T given ≡ s.packed_path ∷ []
   alters_takes given h =
-      let asks = alters_asks (records_in s (view_of T s.packed_path)) given h in
+      let asks = alters_asks (records_of_file s (view_of T s.packed_path)) given h in
       ap (λ b. if b && is_file (T s.packed_path) then s.packed_path ∷ [] else []) asks.0 ∙ ap (λ b. if b then s.packed_path ∷ [] else []) (there (is_file (T s.packed_path)) refl asks.1)
     where
-      there : (b : Bool) → is_file (T s.packed_path) ≡ b → ((records_in s (view_of T s.packed_path) ≡ []) → ⊥) → is_file (T s.packed_path) ≡ true
+      there : (b : Bool) → is_file (T s.packed_path) ≡ b → ((records_of_file s (view_of T s.packed_path) ≡ []) → ⊥) → is_file (T s.packed_path) ≡ true
       there true is some = is
       there false is some = absurd (some (no_file is))
 
@@ -276,19 +276,19 @@ module _ (dirs : Dirs) (namespace : Option Namespace) (kind : Kind) (prohibits :
     repack some = repack_lined s kind rs given (lines_in ran) rewrite (repack_given some)
 
     -- these are the records that are read
-    records : records_in s (view s.packed_path) ≡ rs
-    records = ap (records_in s) same_packed ∙ records_are (folders_of dirs namespace) kind prohibits (view_of before s.packed_path) rs are
+    records : records_of_file s (view s.packed_path) ≡ rs
+    records = ap (records_of_file s) same_packed ∙ records_are (folders_of dirs namespace) kind prohibits (view_of before s.packed_path) rs are
 
     abbrev alters : Bool
-    alters = alters_packed s DeletionsOnly (records_in s (view s.packed_path)) edits
+    alters = alters_packed s DeletionsOnly (records_of_file s (view s.packed_path)) edits
 
     alters_is : alters_packed s DeletionsOnly rs edits ≡ alters
     alters_is = ap (λ (l : List Record). alters_packed s DeletionsOnly l edits) (sym records)
 
     -- the merged records, and the writes of `packed-refs`
     pub record IsPackedPlan (merged : List Record) : Type 0 where
-      pub is_merged : alters ≡ true → IsMerged s DeletionsOnly edits (records_in s (view s.packed_path)) merged
-      pub reads_back : alters ≡ true → records_in s (file_of_records s merged) ≡ merged
+      pub is_merged : alters ≡ true → MergesRecords s DeletionsOnly edits (records_of_file s (view s.packed_path)) merged
+      pub reads_back : alters ≡ true → records_of_file s (file_of_records s merged) ≡ merged
       pub writes : packed_writes s DeletionsOnly view edits merged ≡ packed_written view packed rewrite
 
     abbrev written_as : Bool → List Record → List Write
@@ -311,7 +311,7 @@ module _ (dirs : Dirs) (namespace : Option Namespace) (kind : Kind) (prohibits :
         inner h = cc
 
         no_record : packed ≡ None → alters ≡ false
-        no_record none = is_false alters (λ some. no_lock none (alters_takes s before given (ap (λ (l : List Record). alters_packed s DeletionsOnly l (planned given)) (ap (records_in s) (sym same_packed)) ∙ (sym (alters_lined s (records_in s (view s.packed_path)) given (lines_in ran)) ∙ some))))
+        no_record none = is_false alters (λ some. no_lock none (alters_takes s before given (ap (λ (l : List Record). alters_packed s DeletionsOnly l (planned given)) (ap (records_of_file s) (sym same_packed)) ∙ (sym (alters_lined s (records_of_file s (view s.packed_path)) given (lines_in ran)) ∙ some))))
           where
             no_lock : packed ≡ None → packed_taken s before given ≡ s.packed_path ∷ [] → ⊥
             no_lock h taken = nil_cons (ap packed_places (sym h) ∙ (laid.packed_due ∙ taken))
@@ -343,7 +343,7 @@ module _ (dirs : Dirs) (namespace : Option Namespace) (kind : Kind) (prohibits :
         by (Some path) some Removed is = let all = subst (IsRepack s kind rs edits) is (repack (held_one path some)) in (
           [],
           record {
-            is_merged = λ _. subst (λ (l : List Record). IsMerged s DeletionsOnly edits l []) (sym records) all.1;
+            is_merged = λ _. subst (λ (l : List Record). MergesRecords s DeletionsOnly edits l []) (sym records) all.1;
             reads_back = λ _. refl;
             writes = ap (λ b. written_as b []) (sym alters_is ∙ all.0)
                 ∙ (ap (λ (q : Path). Write.Remove q ∷ []) (sym (path_is path some))
@@ -355,8 +355,8 @@ module _ (dirs : Dirs) (namespace : Option Namespace) (kind : Kind) (prohibits :
             let new = all.1 in (
               new.merged,
               record {
-                is_merged = λ _. subst (λ (l : List Record). IsMerged s DeletionsOnly edits l new.merged) (sym records) new.is_merged;
-                reads_back = λ _. ap (records_in s) new.is_file ∙ new.reads_back;
+                is_merged = λ _. subst (λ (l : List Record). MergesRecords s DeletionsOnly edits l new.merged) (sym records) new.is_merged;
+                reads_back = λ _. ap (records_of_file s) new.is_file ∙ new.reads_back;
                 writes = ap (λ b. written_as b new.merged) (sym alters_is ∙ all.0)
                     ∙ (ap (file_writes s.packed_path) new.is_file
                     ∙ (ap (λ (q : Path). Write.Put q text.items ∷ []) (sym (path_is path some))

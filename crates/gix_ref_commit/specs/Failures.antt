@@ -53,13 +53,13 @@ SaysFault edits log (Removal at) fault (DeleteReference name source) = (source �
 SaysFault edits log about fault error = ⊥
 
 -- the path that is reported where a step found something in its way
-abbrev pub path_told : (place log packed : Path) → About → Path
-path_told place log packed Packed = packed
-path_told place log packed (Folders at) = log
-path_told place log packed (Line at) = log
-path_told place log packed (Rename at) = place
-path_told place log packed (LogRemoval at) = place
-path_told place log packed (Removal at) = place
+abbrev pub path_reported : (place log packed : Path) → About → Path
+path_reported place log packed Packed = packed
+path_reported place log packed (Folders at) = log
+path_reported place log packed (Line at) = log
+path_reported place log packed (Rename at) = place
+path_reported place log packed (LogRemoval at) = place
+path_reported place log packed (Removal at) = place
 
 -- the error of a step that found a file in the path of a log
 abbrev pub SaysFile : (log : Path) → LogError → Type 0
@@ -70,7 +70,7 @@ SaysFile log error = ⊥
 abbrev pub SaysInWay : (place log packed : Path) → About → Error → Type 0
 SaysInWay place log packed (Folders at) (CreateOrUpdateRefLog error) = SaysFile log error
 SaysInWay place log packed (Folders at) error = ⊥
-SaysInWay place log packed about (FolderInPlace path) = path.items ≡ path_told place log packed about
+SaysInWay place log packed about (FolderInPlace path) = path.items ≡ path_reported place log packed about
 SaysInWay place log packed about error = ⊥
 
 -- the error of a commit whose plan was not run to its end

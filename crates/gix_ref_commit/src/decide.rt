@@ -13,7 +13,7 @@ ghost use Rattle.gix_ref_transaction.specs.CommittedEdits.{planned};
 ghost use Rattle.gix_ref_transaction.specs.OwnLocks.{OnlyLocks};
 ghost use Rattle.gix_ref_transaction.specs.PackedCauses.{ids_among};
 ghost use Rattle.gix_ref_transaction.specs.PrepareSteps.{setting_of, updates, ids_in, packed_places, AreEmpty, AreWholeLocks, FillsLock};
-ghost use Rattle.gix_ref_repack.specs.Refusals.{IsCounted, IsIoOrMemory, IsRefused};
+ghost use Rattle.gix_ref_repack.specs.Refusals.{IsCountedRefusal, IsIoOrMemory, IsRefusedRewrite};
 ghost use Rattle.gix_ref_repack.specs.Repacks.{IsRepack};
 ghost use Rattle.gix_ref_commit.specs.Cleared.{AllInWay, folder_lists};
 ghost use Rattle.gix_ref_commit.specs.Decided.{FillsPacked, IsFilled};
@@ -29,7 +29,7 @@ use gix_ref_files::lock::LockFile;
 use gix_ref_lookup::folders::Dirs;
 use gix_ref_lookup::settings::Settings;
 use gix_ref_repack::error::Error;
-use gix_ref_repack::fill::fill;
+use gix_ref_repack::fill::write_text;
 use gix_ref_repack::repack::repack;
 use gix_ref_rewrite::outcome::Rewrite;
 use gix_ref_transaction::edit::Edit;
@@ -62,7 +62,7 @@ fn rewrite_packed<F: Files>(
         (rs : List Record) →
         ArePackedRecords settings.now.kind (packed_refs_in settings.now (F.means files.old)) rs →
         IfErr result IsIoOrMemory }
-    ensures refused { F.honest → IfErr result (IsRefused settings.now.kind
+    ensures refused { F.honest → IfErr result (IsRefusedRewrite settings.now.kind
         ((F.means files.old).tree (setting_of settings.now).packed_path)) }
     ensures filled { F.honest → (F.means files.old).tree (lock_of lock.now) ≡ Some (File []) →
         IfOk result (λ rewrite. IsFilled (Some lock.now) rewrite (F.means files.old).tree
@@ -76,11 +76,11 @@ fn rewrite_packed<F: Files>(
     ensures passes { F.honest → (F.means files.old).tree (lock_of lock.now) ≡ Some (File []) →
         OnlyLocks (lock_of lock.now ∷ []) (F.means files.old) (F.means files.new) }
     ensures no_fewer { F.faults files.old ≤ F.faults files.new }
-    ensures counted { IfErr result (IsCounted (F.faults files.old) (F.faults files.new)) }
+    ensures counted { IfErr result (IsCountedRefusal (F.faults files.old) (F.faults files.new)) }
 {
     let rewrite = repack(alloc, files, settings, edits)?;
     if let Rewrite::Text(text) = &rewrite {
-        if let Err(error) = fill(files, lock, text) {
+        if let Err(error) = write_text(files, lock, text) {
             return Err(Error::Io(error));
         }
     }
@@ -106,7 +106,7 @@ pub fn decide_packed<F: Files>(
         (rs : List Record) →
         ArePackedRecords settings.now.kind (packed_refs_in settings.now (F.means files.old)) rs →
         IfErr result IsIoOrMemory }
-    ensures refused { F.honest → IfErr result (IsRefused settings.now.kind
+    ensures refused { F.honest → IfErr result (IsRefusedRewrite settings.now.kind
         ((F.means files.old).tree (setting_of settings.now).packed_path)) }
     ensures path { IfOk result (λ new. packed.now ≢ None →
         new.path.items ≡ (setting_of settings.now).packed_path) }
@@ -126,7 +126,7 @@ pub fn decide_packed<F: Files>(
         AreEmpty (F.means files.old).tree (map lock_of (packed_places packed.now)) →
         OnlyLocks (map lock_of (packed_places packed.now)) (F.means files.old) (F.means files.new) }
     ensures no_fewer { F.faults files.old ≤ F.faults files.new }
-    ensures counted { IfErr result (IsCounted (F.faults files.old) (F.faults files.new)) }
+    ensures counted { IfErr result (IsCountedRefusal (F.faults files.old) (F.faults files.new)) }
 {
     match packed {
         None => Ok(NewPacked {

@@ -5,7 +5,7 @@ use Rattle.std.proofs.lemmas.Slice.Eq.{bytes_eq-Decides}
 use Rattle.std.proofs.Math.Seq.{take-length}
 use Rattle.gix_ref_files.specs.Tree.{Path, Content, bytes_of}
 use Rattle.gix_ref_files.specs.Tree.Content.{File, Folder}
-use Rattle.gix_ref_files.specs.Disk.{Item, Disk, refilled, Remains, OneRemains, item_at, MayBe, with_item, folder_synced, folder_of}
+use Rattle.gix_ref_files.specs.Disk.{DiskItem, Disk, refilled, Remains, OneRemains, item_at, MayBe, with_item, folder_synced, folder_of}
 use Rattle.gix_ref_files.specs.Settled.{Sync, synced, synced_by}
 use Rattle.gix_ref_files.specs.Settled.Sync.{OfFile, OfFolder}
 
@@ -15,7 +15,7 @@ refilled_same (Some Folder) = refl
 refilled_same None = refl
 
 -- what is there may remain whole
-pub remains_whole : (h : Item) → Remains h h.content
+pub remains_whole : (h : DiskItem) → Remains h h.content
 remains_whole h = (
   drop h.synced (bytes_of h.content),
   omega (arith, length-drop h.synced (bytes_of h.content)),
@@ -26,7 +26,7 @@ pub now_may_be : (D : Disk) (p : Path) → MayBe D p (D.tree p)
 now_may_be D p = inl (remains_whole (item_at D p))
 
 -- an entry becomes another
-pub entered_may : (D : Disk) (p q : Path) (h : Item) (c : Option Content) → MayBe (with_item D p h) q c → MayBe D q c ⊎ ((p ≡ q) × Remains h c)
+pub entered_may : (D : Disk) (p q : Path) (h : DiskItem) (c : Option Content) → MayBe (with_item D p h) q c → MayBe D q c ⊎ ((p ≡ q) × Remains h c)
 entered_may D p q h c = by (bytes_eq p q) refl
   where
     by : (b : Bool) → bytes_eq p q ≡ b →
@@ -37,7 +37,7 @@ entered_may D p q h c = by (bytes_eq p q) refl
     by false e may = inl may
 
 -- nothing that may be is taken away
-pub entered_grows : (D : Disk) (p q : Path) (h : Item) (c : Option Content) → MayBe D q c → MayBe (with_item D p h) q c
+pub entered_grows : (D : Disk) (p q : Path) (h : DiskItem) (c : Option Content) → MayBe D q c → MayBe (with_item D p h) q c
 entered_grows D p q h c = by (bytes_eq p q) refl
   where
     by : (b : Bool) → bytes_eq p q ≡ b → MayBe D q c →

@@ -6,7 +6,7 @@ use Rattle.std.proofs.lemmas.Slice.Eq.{bytes_eq-Decides}
 use Rattle.std.proofs.lemmas.Bool.{false≢true}
 use Rattle.gix_ref_files.specs.Tree.{Tree, Path, Content, put, no_tree, bytes_of, is_folder, file_of, fronts}
 use Rattle.gix_ref_files.specs.Tree.Content.{File, Folder}
-use Rattle.gix_ref_files.specs.Disk.{Item, Disk, Remains, OneRemains, item_at, MayBe, reachable, Lost, moved_on}
+use Rattle.gix_ref_files.specs.Disk.{DiskItem, Disk, Remains, OneRemains, item_at, MayBe, reachable, Lost, moved_on}
 use Rattle.gix_ref_files.specs.Settled.{AllStay}
 use Rattle.gix_ref_files.specs.Theorems.{EveryChoiceIsALoss, WhatIsLeftIsSettled}
 use Rattle.gix_ref_files.specs.Losing.{last_synced, kept, all_synced, UnsyncedLockIsWrong, SyncAtTheEndIsWrong}
@@ -17,11 +17,11 @@ length_replicate : (n x : ℕ) → length (replicate n x) ≤ n
 length_replicate zero x = omega arith
 length_replicate (suc n) x = omega (arith, length_replicate n x)
 
-kept_remains : (b : Bool) (h : Item) → Remains h (kept b h)
+kept_remains : (b : Bool) (h : DiskItem) → Remains h (kept b h)
 kept_remains true h = remains_whole h
 kept_remains false h = (replicate (length (bytes_of h.content) - h.synced) 63, length_replicate (length (bytes_of h.content) - h.synced) 63, refl)
 
-last_remains : (h : Item) (past : List Item) (c : Option Content) → Remains (last_synced h past) c → OneRemains (h ∷ past) c
+last_remains : (h : DiskItem) (past : List DiskItem) (c : Option Content) → Remains (last_synced h past) c → OneRemains (h ∷ past) c
 last_remains h [] c r = inl r
 last_remains h (older ∷ past) c r = inr (last_remains older past c r)
 

@@ -6,9 +6,9 @@ use Rattle.std.proofs.lemmas.Bool.{cases_Bool, false≢true, true≢false, cond-
 use Rattle.std.proofs.lemmas.Slice.Eq.{bytes_eq-Decides}
 use Rattle.gix_ref_files.specs.Tree.{Tree, Path, Content, bytes_of, is_file, is_folder, file_of, has_folders, fronts, fronts_after, IsEmptyFolder, IsShaped}
 use Rattle.gix_ref_files.specs.Tree.Content.{File, Folder}
-use Rattle.gix_ref_files.specs.Disk.{Item, Disk, Remains, item_at, MayBe, with_item, file_synced, folder_synced, folder_of, a_folder, with_folder_on, Lost}
+use Rattle.gix_ref_files.specs.Disk.{DiskItem, Disk, Remains, item_at, MayBe, with_item, file_synced, folder_synced, folder_of, a_folder, with_folder_on, Lost}
 use Rattle.gix_ref_files.specs.Settled.Sync.{OfFile, OfFolder}
-use Rattle.gix_ref_files.specs.Settled.{StaysFolder, AllStay, MayHold, IsSettledAt, IsWhole, IsIn, AreIn, Settles, SettlesPath, Sync, synced_by}
+use Rattle.gix_ref_files.specs.Settled.{StaysFolder, AllStay, MayHold, IsSettledAt, IsWholeAt, IsIn, AreIn, Settles, SettlesPath, Sync, synced_by}
 use Rattle.gix_ref_files.proofs.FolderOf.{fronts_of_folder}
 use Rattle.gix_ref_files.proofs.Entries.{now_may_be, entered_may, synced_may, synced_by_may, entry_synced, folder_remains}
 
@@ -70,7 +70,7 @@ holds_weaker D before P Q p wider holds = record { entry = λ c may. wider (file
 pub folder_now : (D : Disk) (f : Path) → StaysFolder D f → is_folder (D.tree f) ≡ true
 folder_now D f stays = ap is_folder (stays (D.tree f) (now_may_be D f))
 
-pub stay_entered : (D : Disk) (p : Path) (h : Item) (fs : List Path) → is_folder (D.tree p) ≡ false → AllStay D fs → AllStay (with_item D p h) fs
+pub stay_entered : (D : Disk) (p : Path) (h : DiskItem) (fs : List Path) → is_folder (D.tree p) ≡ false → AllStay D fs → AllStay (with_item D p h) fs
 stay_entered D p h [] none stay = tt
 stay_entered D p h (f ∷ fs) none stay = (
   λ c may. elim (entered_may D p f h c may) [
@@ -80,7 +80,7 @@ stay_entered D p h (f ∷ fs) none stay = (
   stay_entered D p h fs none stay.1,
 )
 
-pub stay_apart : (D : Disk) (p : Path) (h : Item) (fs : List Path) → (IsIn p fs → ⊥) → AllStay D fs → AllStay (with_item D p h) fs
+pub stay_apart : (D : Disk) (p : Path) (h : DiskItem) (fs : List Path) → (IsIn p fs → ⊥) → AllStay D fs → AllStay (with_item D p h) fs
 stay_apart D p h [] none stay = tt
 stay_apart D p h (f ∷ fs) none stay = (
   λ c may. elim (entered_may D p f h c may) [ inl old ↦ stay.0 c old | inr new ↦ absurd (none (inl (sym new.0))) ],
@@ -143,7 +143,7 @@ front_splits (b ∷ q) f is = after (b ∷ []) q is
         by false e later go = on (go later)
 
 -- an empty folder is removed
-pub settled_without_folder : (D : Disk) (p q : Path) (h : Item) (file : Option (List ℕ)) → IsEmptyFolder D.tree p → ((c : Option Content) → Remains h c → c ≡ None) → IsSettledAt D file q → IsSettledAt (with_item D p h) file q
+pub settled_without_folder : (D : Disk) (p q : Path) (h : DiskItem) (file : Option (List ℕ)) → IsEmptyFolder D.tree p → ((c : Option Content) → Remains h c → c ≡ None) → IsSettledAt D file q → IsSettledAt (with_item D p h) file q
 settled_without_folder D p q h file empty none settled = record {
   entry = λ c may. elim (entered_may D p q h c may) [
     | inl old ↦ settled.entry c old
@@ -227,7 +227,7 @@ settled_way staying p (OfFolder f ∷ ss) D settles stay folders =
     (settled_folder staying f ss (folder_synced D f) settles.2 staying_still parts.1, tt))
 
 -- what is whole stays whole
-pub whole_synced : (ss : List Sync) (D : Disk) (p : Path) (bytes : List ℕ) → IsWhole D p bytes → IsWhole (synced_by ss D) p bytes
+pub whole_synced : (ss : List Sync) (D : Disk) (p : Path) (bytes : List ℕ) → IsWholeAt D p bytes → IsWholeAt (synced_by ss D) p bytes
 whole_synced [] D p bytes whole = whole
 whole_synced (OfFolder f ∷ ss) D p bytes whole = whole_synced ss (folder_synced D f) p bytes whole
 whole_synced (OfFile f ∷ ss) D p bytes whole = whole_synced ss (file_synced D f) p bytes (whole.0, by (bytes_eq f p) refl)

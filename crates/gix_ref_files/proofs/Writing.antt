@@ -6,7 +6,7 @@ use Rattle.gix_ref_files.specs.Tree.{Tree, Path, more, is_file}
 use Rattle.gix_ref_files.specs.Disk.{Disk, file_synced}
 use Rattle.gix_ref_files.specs.Files.{Meaning, disk_of, Leaves, Passes, Adds}
 use Rattle.gix_ref_files.specs.Calls.{Appends, Appending, Unchanged}
-use Rattle.gix_ref_files.specs.DiskCalls.{AppendingOn, after_append, after_write, Syncs, SyncingOn, WritingOn}
+use Rattle.gix_ref_files.specs.DiskCalls.{AppendingOn, after_append, after_synced_append, Syncs, SyncingOn, WritingOn}
 use Rattle.gix_ref_files.proofs.Moments.{weaken, joins, passes_weaken, passes_joins}
 use Rattle.gix_ref_files.proofs.Puts.{put_at}
 use Rattle.gix_ref_files.proofs.Ready.{file_grown}
@@ -16,7 +16,7 @@ module _ (old mid new : Meaning) (p : Path) (bytes : List ℕ) (grown : Appends 
   still_file = ap (λ (T : Tree). is_file (T p)) grown.1 ∙ (ap is_file (put_at old.tree p (more (old.tree p) bytes)) ∙ file_grown (old.tree p) bytes grown.0)
 
   pub syncs_grown : {E : Type 0} (r : Result Bool E) → Syncs (is_file (mid.tree p)) (disk_of mid) (file_synced (disk_of mid) p) (disk_of new) r →
-      IfOk r (λ there. disk_of new ≡ after_write (disk_of old) p bytes there)
+      IfOk r (λ there. disk_of new ≡ after_synced_append (disk_of old) p bytes there)
   syncs_grown (Ok true) done = done.1 ∙ ap (λ (D : Disk). file_synced D p) grown_on
   syncs_grown (Ok false) done = absurd (true≢false (sym still_file ∙ done.0))
   syncs_grown (Err error) done = tt

@@ -98,8 +98,8 @@ abbrev pub RemovingFolder : Tree → Path → Tree → Type 0
 RemovingFolder before p = BeforeOrAfter before (IsEmptyFolder before p) (removed before p)
 
 -- a name has a byte, and no slash
-abbrev pub IsName : List ℕ → Type 0
-IsName name = (name ≢ []) × (Contains name 47 → ⊥)
+abbrev pub IsEntryName : List ℕ → Type 0
+IsEntryName name = (name ≢ []) × (Contains name 47 → ⊥)
 
 -- the name of an entry
 abbrev pub entry_name : Entry → List ℕ
@@ -110,16 +110,16 @@ abbrev pub IsEntryOf : Tree → Path → Entry → Type 0
 IsEntryOf T p entry = let content = T (p ++ 47 ∷ entry_name entry) in (IsSome content × (entry.is_folder ≡ is_folder content))
 
 -- The entries of the folder p: each name below it that exists, once, and no other.
-pub record IsListing (T : Tree) (p : Path) (entries : List Entry) : Type 0 where
-  pub names : All (λ entry. IsName (entry_name entry)) entries
+pub record ListsFolder (T : Tree) (p : Path) (entries : List Entry) : Type 0 where
+  pub names : All (λ entry. IsEntryName (entry_name entry)) entries
   pub tells : All (IsEntryOf T p) entries
-  pub each : (name : List ℕ) → IsName name → IsSome (T (p ++ 47 ∷ name)) → Any (λ entry. entry_name entry ≡ name) entries
+  pub each : (name : List ℕ) → IsEntryName name → IsSome (T (p ++ 47 ∷ name)) → Any (λ entry. entry_name entry ≡ name) entries
   pub once : AllPairs (λ entry later. entry_name entry ≢ entry_name later) entries
 
 -- the results of `list`
 abbrev pub Lists : Tree → Path → Option (Vec Entry Global) → Type 0
 Lists T p None = is_folder (T p) ≡ false
-Lists T p (Some entries) = (is_folder (T p) ≡ true) × IsListing T p entries.items
+Lists T p (Some entries) = (is_folder (T p) ≡ true) × ListsFolder T p entries.items
 
 -- the bytes from a place on, which all have to be there
 abbrev pub IsRead : List ℕ → ℕ → List ℕ → Type 0

@@ -6,7 +6,7 @@ use Rattle.gix_ref_files.specs.Tree.{Tree, Path, Content, put, no_tree, more, by
 use Rattle.gix_ref_files.specs.Tree.Content.{File, Folder}
 
 -- What an entry of a folder is: a file, of whose bytes so many are synced; a folder; or nothing.
-pub record Item : Type 0 where
+pub record DiskItem : Type 0 where
   pub content : Option Content
   pub synced : ℕ
 
@@ -15,7 +15,7 @@ pub record Unsynced : Type 0 where
   -- so many bytes of the file at a path are synced, and all of them where it has fewer
   pub synced : Path → ℕ
   -- what the entry at a path was at the last sync of its folder and since, the newest first, but for what it is now
-  pub past : Path → List Item
+  pub past : Path → List DiskItem
 
 -- A disk: what is at each path, and what of it is not synced.
 pub record Disk : Type 0 where
@@ -33,18 +33,18 @@ refilled (Some Folder) bytes = Some Folder
 refilled None bytes = None
 
 -- What a loss of power leaves of an item: of a file the synced bytes, and after them any bytes, no more than there were.
-abbrev pub Remains : Item → Option Content → Type 0
+abbrev pub Remains : DiskItem → Option Content → Type 0
 Remains item left =
     (any : List ℕ) × (length any ≤ length (bytes_of item.content) - item.synced)
     × (left ≡ refilled item.content (take item.synced (bytes_of item.content) ++ any))
 
 -- one of these remains
-abbrev pub OneRemains : List Item → Option Content → Type 0
+abbrev pub OneRemains : List DiskItem → Option Content → Type 0
 OneRemains [] left = ⊥
 OneRemains (item ∷ items) left = Remains item left ⊎ OneRemains items left
 
 -- what the entry at a path is now
-abbrev pub item_at : Disk → Path → Item
+abbrev pub item_at : Disk → Path → DiskItem
 item_at D p = record { content = D.tree p; synced = D.unsynced.synced p }
 
 -- What the entry at a path may be after a loss of power: what it is now, what it was at the last sync of its folder, or what
@@ -63,7 +63,7 @@ Lost D T = (entries : Tree) × ((p : Path) → MayBe D p (entries p)) × ((p : P
 -- What the calls make of a disk.
 
 -- the entry at p becomes this
-abbrev pub with_item : Disk → Path → Item → Disk
+abbrev pub with_item : Disk → Path → DiskItem → Disk
 with_item D p item = record {
   tree = put D.tree p item.content;
   unsynced = record {
@@ -73,15 +73,15 @@ with_item D p item = record {
 }
 
 -- nothing
-abbrev pub nothing : Item
+abbrev pub nothing : DiskItem
 nothing = record { content = None; synced = 0 }
 
 -- a folder
-abbrev pub a_folder : Item
+abbrev pub a_folder : DiskItem
 a_folder = record { content = Some Folder; synced = 0 }
 
 -- an empty file
-abbrev pub empty_file : Item
+abbrev pub empty_file : DiskItem
 empty_file = record { content = Some (File []); synced = 0 }
 
 -- the same disk with another tree

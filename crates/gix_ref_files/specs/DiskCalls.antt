@@ -75,8 +75,8 @@ abbrev pub SyncingOn : Bool → Disk → Disk → Disk → Type 0
 SyncingOn there before after = BeforeOrAfterOn before (there ≡ true) after
 
 -- the disk after each result of a write of a lock: the text is there, and all of it is synced
-abbrev pub after_write : Disk → Path → List ℕ → Bool → Disk
-after_write before p bytes there = if there then file_synced (appended_on before p bytes) p else before
+abbrev pub after_synced_append : Disk → Path → List ℕ → Bool → Disk
+after_synced_append before p bytes there = if there then file_synced (appended_on before p bytes) p else before
 
 -- the disks that are found in a write of a lock
 abbrev pub WritingOn : Disk → Path → List ℕ → Disk → Type 0

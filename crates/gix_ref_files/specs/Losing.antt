@@ -2,17 +2,17 @@
 use Rattle.std.specs.Prelude.{◌≡◌, ◌-◌, List, [], ◌∷◌, ◌++◌, length, take, replicate, Bool, true, false, Option, Some, None, if◌then◌else◌, codes}
 use Rattle.gix_ref_files.specs.Tree.{Tree, Path, Content, bytes_of}
 use Rattle.gix_ref_files.specs.Tree.Content.{File}
-use Rattle.gix_ref_files.specs.Disk.{Item, Disk, item_at, refilled, reachable, moved_on, Lost}
+use Rattle.gix_ref_files.specs.Disk.{DiskItem, Disk, item_at, refilled, reachable, moved_on, Lost}
 use Rattle.gix_ref_files.specs.Calls.{IsMovable}
-use Rattle.gix_ref_files.specs.Settled.{IsWhole}
+use Rattle.gix_ref_files.specs.Settled.{IsWholeAt}
 
 -- the entry as it was when its folder was last synced: the oldest one
-abbrev pub last_synced : Item → List Item → Item
+abbrev pub last_synced : DiskItem → List DiskItem → DiskItem
 last_synced item [] = item
 last_synced item (older ∷ past) = last_synced older past
 
 -- what is left of an item: its bytes, or in place of those that were not synced as many bytes 0x3F
-abbrev pub kept : Bool → Item → Option Content
+abbrev pub kept : Bool → DiskItem → Option Content
 kept true item = item.content
 kept false item =
     refilled item.content (take item.synced (bytes_of item.content) ++ replicate (length (bytes_of item.content) - item.synced) 63)
@@ -43,6 +43,6 @@ UnsyncedLockIsWrong =
 -- A wrong order: two renames of whole locks, and all syncs of folders after both. The second may show and the first not.
 abbrev pub SyncAtTheEndIsWrong : Type 0
 SyncAtTheEndIsWrong =
-    (D M E : Disk) × (T : Tree) × IsWhole D (codes "a.lock") (codes "I") × IsWhole D (codes "b.lock") (codes "J") × (D.tree (codes "a") ≡ None)
+    (D M E : Disk) × (T : Tree) × IsWholeAt D (codes "a.lock") (codes "I") × IsWholeAt D (codes "b.lock") (codes "J") × (D.tree (codes "a") ≡ None)
     × RenamesOn D (codes "a.lock") (codes "a") M × RenamesOn M (codes "b.lock") (codes "b") E × Lost E T
     × (T (codes "a") ≡ None) × (T (codes "b") ≡ Some (File (codes "J")))

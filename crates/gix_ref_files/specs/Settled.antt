@@ -29,8 +29,8 @@ abbrev pub IsAllSettled : Disk → Type 0
 IsAllSettled D = (q : Path) → ((p : Path) → q ≢ lock_of p) → IsSettledAt D (file_of (D.tree q)) q
 
 -- the file at p holds these bytes, and all of them are synced
-abbrev pub IsWhole : Disk → Path → List ℕ → Type 0
-IsWhole D p bytes = (D.tree p ≡ Some (File bytes)) × (D.unsynced.synced p ≡ length bytes)
+abbrev pub IsWholeAt : Disk → Path → List ℕ → Type 0
+IsWholeAt D p bytes = (D.tree p ≡ Some (File bytes)) × (D.unsynced.synced p ≡ length bytes)
 
 -- A sync of a file's bytes, or of a folder's entries.
 pub data Sync : Type 0 where

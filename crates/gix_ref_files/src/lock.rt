@@ -3,7 +3,7 @@
 ghost use Rattle.std.specs.Prelude.{◌≡◌, ◌≤◌, IfOk, IfErr, OnOk, OnErr, IsErrOf, length};
 ghost use Rattle.gix_ref_files.specs.Tree.{fronts};
 ghost use Rattle.gix_ref_files.specs.Files.{disk_of, Leaves, Adds, Passes, count_after};
-ghost use Rattle.gix_ref_files.specs.DiskCalls.{after_create, CreatingOn, after_write, WritingOn, RenamingOn, after_removal, RemovingFileOn};
+ghost use Rattle.gix_ref_files.specs.DiskCalls.{after_create, CreatingOn, after_synced_append, WritingOn, RenamingOn, after_removal, RemovingFileOn};
 ghost use Rattle.gix_ref_files.specs.Calls.{Creates, Creating, Appends, Appending, Renaming, RemovesFile, RemovingFile};
 ghost use Rattle.gix_ref_files.specs.Lock.{lock_of, Readies, Readying, after_readying, ReadyingOn, MakesLock, after_locking, LockingOn, Acquires, Acquiring, after_acquire, Commits, after_commit, count_unspent, folders_up_to};
 
@@ -176,7 +176,8 @@ impl LockFile {
             OnOk result (Adds (F.means files.old) (F.means files.new)
             (Appending (F.means files.old).tree (lock_of self.now) bytes.now)) }
         ensures disk { F.honest → IfOk result (λ there. disk_of (F.means files.new)
-            ≡ after_write (disk_of (F.means files.old)) (lock_of self.now) bytes.now there) }
+            ≡ after_synced_append (disk_of (F.means files.old)) (lock_of self.now) bytes.now
+            there) }
         ensures passes { F.honest → Passes (F.means files.old) (F.means files.new)
             (WritingOn (disk_of (F.means files.old)) (lock_of self.now) bytes.now) }
         ensures count { F.faults files.new ≡ count_after result (F.faults files.old) }
@@ -276,7 +277,8 @@ impl Lock {
             OnOk result (Adds (F.means files.old) (F.means files.new)
             (Appending (F.means files.old).tree (lock_of self.now) bytes.now)) }
         ensures disk { F.honest → IfOk result (λ there. disk_of (F.means files.new)
-            ≡ after_write (disk_of (F.means files.old)) (lock_of self.now) bytes.now there) }
+            ≡ after_synced_append (disk_of (F.means files.old)) (lock_of self.now) bytes.now
+            there) }
         ensures passes { F.honest → Passes (F.means files.old) (F.means files.new)
             (WritingOn (disk_of (F.means files.old)) (lock_of self.now) bytes.now) }
         ensures count { F.faults files.new ≡ count_after result (F.faults files.old) }

@@ -2,10 +2,10 @@
 use Rattle.std.proofs.Common.{◌≡◌, ◌≢◌, inl, inr, [], ◌∷◌, sym, ◌∙◌, ap}
 use Rattle.gix_ref_files.specs.Tree.{Tree, Path, moved}
 use Rattle.gix_ref_files.specs.Steps.{Rename, IsLeftBy}
-use Rattle.gix_ref_files_tests.specs.Publish.{IsOld, IsNew, InOrder, AreApart}
+use Rattle.gix_ref_files_tests.specs.Publish.{IsOldPlace, IsNew, ArePublishedInOrder, ArePathsApart}
 use Rattle.gix_ref_files.proofs.Puts.{moved_to, moved_other}
 
-module _ (first_lock first second_lock second : Path) (apart : AreApart first_lock first second_lock second) (before : Tree) where
+module _ (first_lock first second_lock second : Path) (apart : ArePathsApart first_lock first second_lock second) (before : Tree) where
   abbrev once : Tree
   once = moved before first_lock first
 
@@ -24,20 +24,20 @@ module _ (first_lock first second_lock second : Path) (apart : AreApart first_lo
   at : {S T : Tree} (p : Path) → T ≡ S → T p ≡ S p
   at p e = ap (λ (t : Tree). t p) e
 
-  pub untouched : (T : Tree) → T ≡ before → InOrder first_lock first second_lock second before T
+  pub untouched : (T : Tree) → T ≡ before → ArePublishedInOrder first_lock first second_lock second before T
   untouched T e = record { first_place = inl (at first e); second_place = inl (at second e); order = inl (at second e) }
 
-  after_once : (T : Tree) → T ≡ once → InOrder first_lock first second_lock second before T
+  after_once : (T : Tree) → T ≡ once → ArePublishedInOrder first_lock first second_lock second before T
   after_once T e =
-      let second_old : IsOld second before T = at second e ∙ moved_other before first_lock first second apart.first_lock_apart apart.places in
+      let second_old : IsOldPlace second before T = at second e ∙ moved_other before first_lock first second apart.first_lock_apart apart.places in
       record { first_place = inr (at first e ∙ moved_to before first_lock first); second_place = inl second_old; order = inl second_old }
 
-  after_twice : (T : Tree) → T ≡ twice → InOrder first_lock first second_lock second before T
+  after_twice : (T : Tree) → T ≡ twice → ArePublishedInOrder first_lock first second_lock second before T
   after_twice T e =
       let first_new : IsNew first_lock first before T = at first e ∙ first_in_twice in
       record { first_place = inr first_new; second_place = inr (at second e ∙ second_in_twice); order = inr first_new }
 
-  pub in_order : (T : Tree) → IsLeftBy (Rename first_lock first ∷ Rename second_lock second ∷ []) before T → InOrder first_lock first second_lock second before T
+  pub in_order : (T : Tree) → IsLeftBy (Rename first_lock first ∷ Rename second_lock second ∷ []) before T → ArePublishedInOrder first_lock first second_lock second before T
   in_order T (inl (inl e)) = untouched T e
   in_order T (inl (inr done)) = after_once T done.1
   in_order T (inr (mid, does, inl (inl e))) = after_once T (e ∙ does.1)

@@ -2,7 +2,7 @@
 //! new, and the second new only if the first is.
 ghost use Rattle.std.specs.Prelude.{◌≡◌};
 ghost use Rattle.gix_ref_files.specs.Files.{StopsLeave};
-ghost use Rattle.gix_ref_files_tests.specs.Publish.{InOrder, AreApart};
+ghost use Rattle.gix_ref_files_tests.specs.Publish.{ArePublishedInOrder, ArePathsApart};
 
 use gix_ref_files::files::Files;
 use gix_ref_files::steps::{Action, Ended, Planned, Settle, run_steps};
@@ -16,11 +16,13 @@ pub struct Place {
 
 /// Renames the first lock to its place, and then the second. Each place is settled before the next is renamed.
 pub fn publish_both<F: Files>(files: &mut F, first: Place, second: Place) -> Result<(), Ended>
-    requires { AreApart first.lock.items first.path.items second.lock.items second.path.items }
-    ensures stops { F.honest → StopsLeave (F.means files.old) (F.means files.new) (InOrder
+    requires { ArePathsApart first.lock.items first.path.items second.lock.items second.path.items }
+    ensures stops { F.honest → StopsLeave (F.means files.old) (F.means files.new)
+        (ArePublishedInOrder
         first.lock.items first.path.items second.lock.items second.path.items (F.means
         files.old).tree) }
-    ensures at_end { F.honest → InOrder first.lock.items first.path.items second.lock.items
+    ensures at_end { F.honest → ArePublishedInOrder first.lock.items first.path.items
+        second.lock.items
         second.path.items (F.means files.old).tree (F.means files.new).tree }
 {
     let once = Action::Rename {

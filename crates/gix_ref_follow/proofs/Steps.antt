@@ -11,14 +11,14 @@ use Rattle.gix_ref_theory.specs.Lookups.{Hit}
 use Rattle.gix_ref_lookup.specs.Lookups.{Answers, IsSound}
 use Rattle.gix_ref_lookup.specs.declared.find.existing.Error.{Error as Missing}
 use Rattle.gix_ref_lookup.specs.declared.find.existing.Error.TheVariants.{Find, NotFound}
-use Rattle.gix_ref_follow.specs.Following.{At, Finds, IsStep, Leads, at_of, follow, following, is_in, step_from, step_by, arrive}
-use Rattle.gix_ref_follow.specs.Following.Ending.{Reached, Circular, TooDeep}
+use Rattle.gix_ref_follow.specs.Following.{At, Finds, IsStep, Leads, at_of, follow, following, is_one_of, step_from, step_by, arrive}
+use Rattle.gix_ref_follow.specs.Following.EndOfChain.{Reached, Circular, TooDeep}
 use Rattle.gix_ref_follow.specs.Followed.{names_of, OfStep, IsCycle, IsReturn, RefusesStep, Follows}
 use Rattle.gix_ref_follow.specs.declared.peel.to_object.Error.{Error}
 use Rattle.gix_ref_follow.specs.declared.peel.to_object.Error.TheVariants.{Follow, Cycle, DepthLimitExceeded, Memory}
 
 -- a test of names one by one
-pub any_named : (name : List ℕ) (names : List FullName) → list_any (λ (n : FullName). bytes_eq name (full_bytes n)) names ≡ is_in name (names_of names)
+pub any_named : (name : List ℕ) (names : List FullName) → list_any (λ (n : FullName). bytes_eq name (full_bytes n)) names ≡ is_one_of name (names_of names)
 any_named name [] = refl
 any_named name (n ∷ names) = ap (λ b. bytes_eq name (full_bytes n) || b) (any_named name names)
 
@@ -117,7 +117,7 @@ follow_symbolic find steps reached at name hit is found =
     ∙ ap (step_by reached (λ next. follow find steps (reached ++ next.name ∷ []) next) at name) found
 
 follow_hit : (find : Finds) (steps : ℕ) (reached : List (List ℕ)) (at next : At) (step : IsStep find at next) →
-    follow find (suc steps) reached at ≡ (if is_in step.hit.name reached then Circular at else follow find steps (reached ++ step.hit.name ∷ []) (record { name = step.hit.name; target = next.target; peeled = step.hit.peeled }))
+    follow find (suc steps) reached at ≡ (if is_one_of step.hit.name reached then Circular at else follow find steps (reached ++ step.hit.name ∷ []) (record { name = step.hit.name; target = next.target; peeled = step.hit.peeled }))
 follow_hit find steps reached at next step =
     follow_symbolic find steps reached at step.name (Some step.hit) step.target step.found
     ∙ ap (arrive reached (λ n. follow find steps (reached ++ n.name ∷ []) n) at step.hit) step.reads
@@ -128,18 +128,18 @@ found_at find at next step =
     ∙ ap (λ (p : Option ObjectId). let a : At = record { name = next.name; target = next.target; peeled = p } in a) (sym step.peeled)
 
 -- a step to a reference that no step reached goes on from there
-pub follow_on : (find : Finds) (steps : ℕ) (reached : List (List ℕ)) (at next : At) → IsStep find at next → is_in next.name reached ≡ false →
+pub follow_on : (find : Finds) (steps : ℕ) (reached : List (List ℕ)) (at next : At) → IsStep find at next → is_one_of next.name reached ≡ false →
     follow find (suc steps) reached at ≡ follow find steps (reached ++ next.name ∷ []) next
 follow_on find steps reached at next step first =
     follow_hit find steps reached at next step
-    ∙ (ap (λ (b : Bool). if b then Circular at else follow find steps (reached ++ step.hit.name ∷ []) (record { name = step.hit.name; target = next.target; peeled = step.hit.peeled })) (ap (λ n. is_in n reached) (sym step.named) ∙ first)
+    ∙ (ap (λ (b : Bool). if b then Circular at else follow find steps (reached ++ step.hit.name ∷ []) (record { name = step.hit.name; target = next.target; peeled = step.hit.peeled })) (ap (λ n. is_one_of n reached) (sym step.named) ∙ first)
     ∙ (ap (λ (n : List ℕ). follow find steps (reached ++ n ∷ []) (record { name = step.hit.name; target = next.target; peeled = step.hit.peeled })) (sym step.named)
     ∙ ap (follow find steps (reached ++ next.name ∷ [])) (found_at find at next step)))
 
-pub follow_back : (find : Finds) (steps : ℕ) (reached : List (List ℕ)) (at next : At) → IsStep find at next → is_in next.name reached ≡ true → follow find (suc steps) reached at ≡ Circular at
+pub follow_back : (find : Finds) (steps : ℕ) (reached : List (List ℕ)) (at next : At) → IsStep find at next → is_one_of next.name reached ≡ true → follow find (suc steps) reached at ≡ Circular at
 follow_back find steps reached at next step again =
     follow_hit find steps reached at next step
-    ∙ ap (λ (b : Bool). if b then Circular at else follow find steps (reached ++ step.hit.name ∷ []) (record { name = step.hit.name; target = next.target; peeled = step.hit.peeled })) (ap (λ n. is_in n reached) (sym step.named) ∙ again)
+    ∙ ap (λ (b : Bool). if b then Circular at else follow find steps (reached ++ step.hit.name ∷ []) (record { name = step.hit.name; target = next.target; peeled = step.hit.peeled })) (ap (λ n. is_one_of n reached) (sym step.named) ∙ again)
 
 -- a refused step ends the following
 pub follows_refused : (find : Finds) (start at : At) (steps left : ℕ) (reached : List (List ℕ)) (error : Error) → steps ≤ 5 → Leads (IsStep find) steps start at →

@@ -17,12 +17,13 @@ use Rattle.gix_ref_lookup.specs.declared.find.records.Records.{Records}
 use Rattle.gix_ref_lookup.specs.declared.find.existing.Error.{Error as Missing}
 use Rattle.gix_ref_lookup.specs.declared.find.existing.Error.TheVariants.{Find, NotFound}
 use Rattle.gix_ref_lookup.proofs.Looking.{packed_refs_at, fails_from, hit_from, among_wider, still_asked}
-use Rattle.gix_ref_store.specs.Lookup.{settings_of, composes_in, lent, view_in, AreAskedIn, AreStillAskedIn, MissesIn, LooksUp}
+use Rattle.gix_ref_store.specs.Lookup.{settings_of, composes_in, view_in, AreAskedIn, AreStillAskedIn, MissesIn, LooksUp}
 use Rattle.gix_ref_store.specs.Store as stores
 use Rattle.gix_ref_store.specs.declared.file.store.Store.{Store}
 use Rattle.gix_ref_follow.specs.Followed.{finds_in, HitsNext, IsNotFollowed}
 use Rattle.gix_ref_follow.specs.declared.peel.to_object.Error.{Error}
 use Rattle.gix_ref_follow.specs.declared.peel.to_object.Error.TheVariants.{Follow, Cycle, DepthLimitExceeded, Memory}
+use Rattle.gix_ref_listing.specs.PlainSettings.{lent}
 
 pub fails_wider : (Passed Passed' Fails Fails' : List ℕ → Type 0) (names : List (List ℕ)) → ((n : List ℕ) → Passed n → Passed' n) → ((n : List ℕ) → Fails n → Fails' n) →
     FailsAt Passed Fails names → FailsAt Passed' Fails' names

@@ -16,8 +16,8 @@ use Rattle.gix_ref_lookup.specs.declared.find.existing.Error.TheVariants.{Find, 
 use Rattle.gix_ref_store.specs.Lookup.{hit_in, FindsBy, MissesBy, HitsIn, MissesIn}
 use Rattle.gix_ref_store.specs.Store as stores
 use Rattle.gix_ref_store.specs.declared.file.store.Store.{Store}
-use Rattle.gix_ref_follow.specs.Following.{At, Finds, IsStep, Passes, following, is_in}
-use Rattle.gix_ref_follow.specs.Following.Ending.{Reached, Dangling, Circular, TooDeep}
+use Rattle.gix_ref_follow.specs.Following.{At, Finds, IsStep, LeadsWithinLimit, following, is_one_of}
+use Rattle.gix_ref_follow.specs.Following.EndOfChain.{Reached, Dangling, Circular, TooDeep}
 use Rattle.gix_ref_follow.specs.declared.peel.to_object.Error.{Error}
 use Rattle.gix_ref_follow.specs.declared.peel.to_object.Error.TheVariants.{Follow, Cycle, DepthLimitExceeded, Memory}
 
@@ -47,7 +47,7 @@ IsCycle place other = ⊥
 
 -- the next reference is one of these, and the reference at this path leads back; or there was no memory
 abbrev pub IsReturn : List ℕ → (reached : List (List ℕ)) → (place : List ℕ) → Error → Type 0
-IsReturn name reached place (Cycle path) = (is_in name reached ≡ true) × (path.items ≡ place)
+IsReturn name reached place (Cycle path) = (is_one_of name reached ≡ true) × (path.items ≡ place)
 IsReturn name reached place Memory = Unit {0}
 IsReturn name reached place other = ⊥
 
@@ -55,7 +55,7 @@ IsReturn name reached place other = ⊥
 abbrev pub RefusesStep : Finds → (reached : List (List ℕ)) → At → Error → Type 0
 RefusesStep find reached at (Follow (NotFound name)) = (at.target ≡ symbolic_name (partial_bytes name)) × (find (partial_bytes name) ≡ None)
 RefusesStep find reached at (Follow (Find error)) = IsSound error
-RefusesStep find reached at (Cycle path) = (next : At) × IsStep find at next × (is_in next.name reached ≡ true)
+RefusesStep find reached at (Cycle path) = (next : At) × IsStep find at next × (is_one_of next.name reached ≡ true)
 RefusesStep find reached at (DepthLimitExceeded steps) = ⊥
 RefusesStep find reached at Memory = Unit {0}
 
@@ -64,10 +64,10 @@ RefusesStep find reached at Memory = Unit {0}
 abbrev pub Follows : Finds → (start now : At) → Result ObjectId Error → Type 0
 Follows find start now (Ok id) = following find start ≡ Reached now id
 Follows find start now (Err (Follow (NotFound name))) = following find start ≡ Dangling now (partial_bytes name)
-Follows find start now (Err (Follow (Find error))) = IsSound error × Passes (IsStep find) start now
+Follows find start now (Err (Follow (Find error))) = IsSound error × LeadsWithinLimit (IsStep find) start now
 Follows find start now (Err (Cycle path)) = following find start ≡ Circular now
 Follows find start now (Err (DepthLimitExceeded steps)) = following find start ≡ TooDeep now
-Follows find start now (Err Memory) = Passes (IsStep find) start now
+Follows find start now (Err Memory) = LeadsWithinLimit (IsStep find) start now
 
 module _ {F : Type 0} (means : F → Meaning) where
   -- what lookups in a store find, among these records

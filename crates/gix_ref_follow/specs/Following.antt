@@ -24,46 +24,46 @@ abbrev pub Finds : Type 0
 Finds = List ℕ → Option Hit
 
 -- how a following ends, and at which reference
-pub data Ending : Type 0 where
+pub data EndOfChain : Type 0 where
   -- the target is this object
-  Reached : At → ObjectId → Ending
+  Reached : At → ObjectId → EndOfChain
   -- there is no reference of the name that is the target
-  Dangling : At → List ℕ → Ending
+  Dangling : At → List ℕ → EndOfChain
   -- there is one, and it has no target that can be read
-  Unreadable : At → Ending
+  Unreadable : At → EndOfChain
   -- there is one, and a step has reached it before
-  Circular : At → Ending
+  Circular : At → EndOfChain
   -- the last step that may be taken led here
-  TooDeep : At → Ending
+  TooDeep : At → EndOfChain
 
-abbrev pub is_in : List ℕ → List (List ℕ) → Bool
-is_in name names = list_any (bytes_eq name) names
+abbrev pub is_one_of : List ℕ → List (List ℕ) → Bool
+is_one_of name names = list_any (bytes_eq name) names
 
 -- at the reference that a lookup found, with this reading; `more` goes on from it
-abbrev pub arrive : (reached : List (List ℕ)) → (more : At → Ending) → At → Hit → Reading → Ending
+abbrev pub arrive : (reached : List (List ℕ)) → (more : At → EndOfChain) → At → Hit → Reading → EndOfChain
 arrive reached more at hit (Is target) =
-    if is_in hit.name reached then Circular at else more (record { name = hit.name; target = target; peeled = hit.peeled })
+    if is_one_of hit.name reached then Circular at else more (record { name = hit.name; target = target; peeled = hit.peeled })
 arrive reached more at hit Fault = Unreadable at
 arrive reached more at hit Absent = Unreadable at
 
 -- one step, by what the lookup of the symbolic target finds
-abbrev pub step_by : (reached : List (List ℕ)) → (more : At → Ending) → At → List ℕ → Option Hit → Ending
+abbrev pub step_by : (reached : List (List ℕ)) → (more : At → EndOfChain) → At → List ℕ → Option Hit → EndOfChain
 step_by reached more at name None = Dangling at name
 step_by reached more at name (Some hit) = arrive reached more at hit hit.reading
 
 -- at an object, or one step on
-abbrev pub step_from : Finds → (reached : List (List ℕ)) → (more : At → Ending) → At → TargetValue → Ending
+abbrev pub step_from : Finds → (reached : List (List ℕ)) → (more : At → EndOfChain) → At → TargetValue → EndOfChain
 step_from find reached more at (object_id id) = Reached at id
 step_from find reached more at (symbolic_name name) = step_by reached more at name (find name)
 
 -- With so many steps left, behind the references of these names, which earlier steps reached. The last step is taken and then
 -- refused, whatever it reached.
-unfoldable pub follow : Finds → (steps : ℕ) → (reached : List (List ℕ)) → At → Ending
+unfoldable pub follow : Finds → (steps : ℕ) → (reached : List (List ℕ)) → At → EndOfChain
 follow find zero reached at = TooDeep at
 follow find (suc steps) reached at = step_from find reached (λ next. follow find steps (reached ++ next.name ∷ []) next) at at.target
 
 -- From a reference: up to four steps lead to an object, and a fifth is refused. The name of the start may come again.
-abbrev pub following : Finds → At → Ending
+abbrev pub following : Finds → At → EndOfChain
 following find start = follow find 5 [] start
 
 -- one step leads from a reference with a symbolic target to what its lookup finds
@@ -82,12 +82,12 @@ Leads Step zero start end = start ≡ end
 Leads {A} Step (suc steps) start end = (before : A) × Leads Step steps start before × Step before end
 
 -- a reference that a following passes, the start included
-abbrev pub Passes : {A : Type 0} → (A → A → Type 0) → A → A → Type 0
-Passes Step start end = (steps : ℕ) × (steps ≤ 5) × Leads Step steps start end
+abbrev pub LeadsWithinLimit : {A : Type 0} → (A → A → Type 0) → A → A → Type 0
+LeadsWithinLimit Step start end = (steps : ℕ) × (steps ≤ 5) × Leads Step steps start end
 
 -- So many steps lead from one reference to another, to references of these names, none of which an earlier step reached.
-abbrev pub Chain : Finds → (steps : ℕ) → (start : At) → (reached : List (List ℕ)) → (end : At) → Type 0
-Chain find zero start reached end = (start ≡ end) × (reached ≡ [])
-Chain find (suc steps) start reached end =
-    (before : At) × (earlier : List (List ℕ)) × Chain find steps start earlier before × IsStep find before end
-    × (is_in end.name earlier ≡ false) × (reached ≡ earlier ++ end.name ∷ [])
+abbrev pub ChainOfSteps : Finds → (steps : ℕ) → (start : At) → (reached : List (List ℕ)) → (end : At) → Type 0
+ChainOfSteps find zero start reached end = (start ≡ end) × (reached ≡ [])
+ChainOfSteps find (suc steps) start reached end =
+    (before : At) × (earlier : List (List ℕ)) × ChainOfSteps find steps start earlier before × IsStep find before end
+    × (is_one_of end.name earlier ≡ false) × (reached ≡ earlier ++ end.name ∷ [])

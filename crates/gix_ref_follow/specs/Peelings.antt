@@ -14,8 +14,8 @@ use Rattle.gix_ref_object.specs.declared.peel.PeelError.TheVariants as peeling_e
 use Rattle.gix_ref_records.specs.declared.raw.Reference.{Reference}
 use Rattle.gix_ref_lookup.specs.declared.find.records.Records.{Records}
 use Rattle.gix_ref_store.specs.declared.file.store.Store.{Store}
-use Rattle.gix_ref_follow.specs.Following.{At, Ending, Finds, Passes, following}
-use Rattle.gix_ref_follow.specs.Following.Ending.{Reached}
+use Rattle.gix_ref_follow.specs.Following.{At, EndOfChain, Finds, LeadsWithinLimit, following}
+use Rattle.gix_ref_follow.specs.Following.EndOfChain.{Reached}
 use Rattle.gix_ref_follow.specs.Followed.{Follows, HitsNext, IsNotFollowed}
 use Rattle.gix_ref_follow.specs.declared.peel.to_id.Error.{Error}
 use Rattle.gix_ref_follow.specs.declared.peel.to_id.Error.TheVariants.{FollowToObject, Find, NotFound, TagChainTooLong, Memory}
@@ -23,7 +23,7 @@ use Rattle.gix_ref_follow.specs.declared.peel.to_id.Error.TheVariants.{FollowToO
 -- how a peeling ends: at a reference with the object that was found, in following it, or in peeling the tags of the object there
 pub data Peeling : Type 0 where
   Done : At → ObjectId → Peeling
-  NotFollowed : Ending → Peeling
+  NotFollowed : EndOfChain → Peeling
   NotPeeled : At → tags.Peeled → Peeling
 
 -- the reference that points to an object which it is peeled to
@@ -36,7 +36,7 @@ by_tags at (End id) = Done (peeled_to at id) id
 by_tags at other = NotPeeled at other
 
 -- behind a following: at most 1,000 tags
-abbrev pub by_ending : (ObjectId → Stored) → Ending → Peeling
+abbrev pub by_ending : (ObjectId → Stored) → EndOfChain → Peeling
 by_ending meaning (Reached at id) = by_tags at (tags.peel meaning 1000 id)
 by_ending meaning other = NotFollowed other
 
@@ -95,5 +95,5 @@ module _ {F R : Type 0} {G : Ghosts R} (means : F → Meaning) where
   -- on any text of `packed-refs`: the name is that of a reference to which hits lead
   pub record HasPassed (asks_records : Bool) (store : Store F) (asked : Records R G) (start now : Reference) : Type 0 where
     pub reached : Reference
-    pub passes : Passes (HitsNext means asks_records store asked) start reached
+    pub passes : LeadsWithinLimit (HitsNext means asks_records store asked) start reached
     pub name : full_bytes now.name ≡ full_bytes reached.name

@@ -9,7 +9,7 @@ ghost use Rattle.gix_ref_base.specs.declared.target.Kind.TheVariants.{Symbolic};
 ghost use Rattle.gix_ref_lookup.specs.Lookups.{AreHonest};
 ghost use Rattle.gix_ref_store.specs.Lookup.{AreAskedIn, AreStillAskedIn, LooksUp};
 ghost use Rattle.gix_ref_store.specs.Store.{files_of, meaning_of};
-ghost use Rattle.gix_ref_follow.specs.Following.{at_of, is_in, IsStep, Passes};
+ghost use Rattle.gix_ref_follow.specs.Following.{at_of, is_one_of, IsStep, LeadsWithinLimit};
 ghost use Rattle.gix_ref_follow.specs.Followed.{names_of, OnStep, StepFinds, StepHits, StepFails, IsCycle, IsReturn, RefusesStep, Follows, finds_in, HitsNext, IsNotFollowed};
 
 use crate::peel::to_object::Error;
@@ -98,7 +98,7 @@ fn arrive<F>(
     reached: &mut Vec<FullName>,
 ) -> Result<(), Error>
     ensures moved { OnOk result (reference.new ≡ next) }
-    ensures first { OnOk result (is_in (full_bytes next.name) (names_of reached.old.items)
+    ensures first { OnOk result (is_one_of (full_bytes next.name) (names_of reached.old.items)
         ≡ false) }
     ensures reached { OnOk result (names_of reached.new.items ≡ names_of reached.old.items
         ++ full_bytes next.name ∷ []) }
@@ -129,7 +129,7 @@ fn take_step<F: Files>(
         OnOk result (IsStep (finds_in F.means asks_records store.old records) (at_of reference.old)
         (at_of
         reference.new)) }
-    ensures first { OnOk result (is_in (full_bytes reference.new.name)
+    ensures first { OnOk result (is_one_of (full_bytes reference.new.name)
         (names_of reached.old.items) ≡ false) }
     ensures refused { F.honest → (records : List Record) → AreAskedIn F.means store.old asked.old
         records →
@@ -171,7 +171,8 @@ pub(crate) fn follow_among<F: Files>(
         reference.new)
         result }
     ensures hits { F.honest → AreHonest asked.old →
-        Passes (HitsNext F.means asks_records store.old asked.old) reference.old reference.new }
+        LeadsWithinLimit (HitsNext F.means asks_records store.old asked.old) reference.old
+        reference.new }
     ensures object { IfOk result (λ id. target_value reference.new.target ≡ object_id id) }
     ensures failed { IfErr result (IsNotFollowed F.honest F.means F.faults asks_records store.old
         store.new

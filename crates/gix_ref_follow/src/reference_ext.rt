@@ -153,7 +153,7 @@ impl ReferenceExt for Reference {
     ghost use Rattle.gix_ref_store.specs.Lookup.{AreRecordsIn, AreHeld, held, LooksUp};
     ghost use Rattle.gix_ref_store.specs.Reflogs.{reflog_at, is_log_prohibited, IsNoReflog};
     ghost use Rattle.gix_ref_store.specs.Store.{files_of};
-    ghost use Rattle.gix_ref_follow.specs.Following.{at_of, Passes};
+    ghost use Rattle.gix_ref_follow.specs.Following.{at_of, LeadsWithinLimit};
     ghost use Rattle.gix_ref_follow.specs.Followed.{OnStep, StepFinds, StepHits, StepFails, Follows, finds_in, HitsNext, IsNotFollowed};
     ghost use Rattle.gix_ref_follow.specs.Peelings.{peeled_to, Peels, IsNotPeeled, HasPassed};
 
@@ -316,7 +316,7 @@ impl ReferenceExt for Reference {
         ensures followed { F.honest → (records : List Record) → AreHeld packed.entry records →
             Follows (finds_in F.means (is_some packed.entry) store.old records) (at_of self.old)
             (at_of self.new) result }
-        ensures hits { F.honest → Passes (HitsNext {G = F.Reader.ReadAt} F.means (is_some
+        ensures hits { F.honest → LeadsWithinLimit (HitsNext {G = F.Reader.ReadAt} F.means (is_some
             packed.entry) store.old
             (held packed.entry)) self.old self.new }
         ensures object { IfOk result (λ id. target_value self.new.target ≡ object_id id) }
@@ -342,7 +342,7 @@ impl ReferenceExt for Reference {
         ensures followed { F.honest → (records : List Record) → AreHeld packed.entry records →
             Follows (finds_in F.means (is_some packed.entry) store.old records) (at_of self.old)
             (at_of self.new) result }
-        ensures hits { F.honest → Passes (HitsNext {G = F.Reader.ReadAt} F.means (is_some
+        ensures hits { F.honest → LeadsWithinLimit (HitsNext {G = F.Reader.ReadAt} F.means (is_some
             packed.entry) store.old
             (held packed.entry)) self.old self.new }
         ensures object { IfOk result (λ id. target_value self.new.target ≡ object_id id) }

@@ -10,7 +10,7 @@ use Rattle.std.proofs.lemmas.List.{take_more}
 use Rattle.std.proofs.lemmas.Slice.Eq.{bytes_eq-Decides}
 use Rattle.std.proofs.Math.Seq.{drop-cons}
 use Rattle.gix_ref_files.specs.Tree.{Path, fronts, fronts_after}
-use Rattle.gix_ref_lines.specs.internal.SeenLogs.{is_among}
+use Rattle.gix_ref_transaction.specs.OwnLocks.{is_in}
 
 -- the fronts of a path that are still to come, past the first byte and past the next one
 pub fronts_first : (p : Path) → fronts p ≡ fronts_after (take 1 p) (drop 1 p)
@@ -52,7 +52,7 @@ bytes_eq_swaps p q = same_test (bytes_eq p q) (bytes_eq q p)
     (λ is. (bytes_eq-Decides p q).1 (sym ((bytes_eq-Decides q p).0 is)))
 
 -- whether a path is a key of a set
-pub key_found : (q : Path) (ks : List (Vec ℕ Global)) → list_any (λ (k : Vec ℕ Global). bytes_eq q k.items) ks ≡ is_among (map (λ (k : Vec ℕ Global). k.items) ks) q
+pub key_found : (q : Path) (ks : List (Vec ℕ Global)) → list_any (λ (k : Vec ℕ Global). bytes_eq q k.items) ks ≡ is_in (map (λ (k : Vec ℕ Global). k.items) ks) q
 key_found q [] = refl
 key_found q (k ∷ ks) =
     ap (λ (b : Bool). b || list_any (λ (k : Vec ℕ Global). bytes_eq q k.items) ks) (bytes_eq_swaps q k.items)
@@ -60,20 +60,20 @@ key_found q (k ∷ ks) =
 
 -- And after one is put there: its keys are exchanged, with one more where it was none of them.
 pub key_added : (q : Path) (k : Vec ℕ Global) (ks now : List (Vec ℕ Global)) (added : Bool) → added ≡ not (list_any (λ (x : Vec ℕ Global). bytes_eq k.items x.items) ks) →
-    MatchBool added (IsPermutation (k ∷ ks) now) (now ≡ ks) → is_among (map (λ (x : Vec ℕ Global). x.items) now) q ≡ (bytes_eq k.items q || is_among (map (λ (x : Vec ℕ Global). x.items) ks) q)
+    MatchBool added (IsPermutation (k ∷ ks) now) (now ≡ ks) → is_in (map (λ (x : Vec ℕ Global). x.items) now) q ≡ (bytes_eq k.items q || is_in (map (λ (x : Vec ℕ Global). x.items) ks) q)
 key_added q k ks now true is moved =
     sym (key_found q now)
     ∙ (sym (list_any-IsPermutation (λ (x : Vec ℕ Global). bytes_eq q x.items) (k ∷ ks) now moved) ∙ key_found q (k ∷ ks))
 key_added q k ks now false is same =
-    ap (λ (l : List (Vec ℕ Global)). is_among (map (λ (x : Vec ℕ Global). x.items) l) q) same ∙ held (bytes_eq k.items q) refl
+    ap (λ (l : List (Vec ℕ Global)). is_in (map (λ (x : Vec ℕ Global). x.items) l) q) same ∙ held (bytes_eq k.items q) refl
   where
-    there : is_among (map (λ (x : Vec ℕ Global). x.items) ks) k.items ≡ true
+    there : is_in (map (λ (x : Vec ℕ Global). x.items) ks) k.items ≡ true
     there = sym (key_found k.items ks) ∙ only (list_any (λ (x : Vec ℕ Global). bytes_eq k.items x.items) ks) is
       where
         only : (b : Bool) → false ≡ not b → b ≡ true
         only true e = refl
         only false e = cc
 
-    held : (b : Bool) → bytes_eq k.items q ≡ b → is_among (map (λ (x : Vec ℕ Global). x.items) ks) q ≡ (b || is_among (map (λ (x : Vec ℕ Global). x.items) ks) q)
-    held true e = subst (λ (p : Path). is_among (map (λ (x : Vec ℕ Global). x.items) ks) p ≡ true) ((bytes_eq-Decides k.items q).0 e) there
+    held : (b : Bool) → bytes_eq k.items q ≡ b → is_in (map (λ (x : Vec ℕ Global). x.items) ks) q ≡ (b || is_in (map (λ (x : Vec ℕ Global). x.items) ks) q)
+    held true e = subst (λ (p : Path). is_in (map (λ (x : Vec ℕ Global). x.items) ks) p ≡ true) ((bytes_eq-Decides k.items q).0 e) there
     held false e = refl

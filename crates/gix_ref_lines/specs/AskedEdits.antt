@@ -10,7 +10,7 @@ use Rattle.gix_ref_transaction.specs.declared.edit.Edit.{Edit}
 use Rattle.gix_ref_transaction.specs.declared.edit.Effect.{Effect}
 use Rattle.gix_ref_transaction.specs.declared.edit.LogEffect.{LogEffect}
 use Rattle.gix_ref_transaction.specs.declared.edit.LogEffect.TheVariants.{Keep, Append, Remove}
-use Rattle.gix_ref_lines.specs.DueLines.{Asked, LogOutcome, expected_id}
+use Rattle.gix_ref_lines.specs.DueLines.{AskedEdit, LogOutcome, expected_id}
 use Rattle.gix_ref_lines.specs.DueLines.LogOutcome.{Stays, Gains, Goes}
 
 -- an edit was split from the one at this place of the list
@@ -27,15 +27,15 @@ leaf_after place next leaf (e ∷ rest) =
     else leaf_after place (next + 1) leaf rest
 
 -- a prepared edit with what its line depends on: it expects what was found for it
-abbrev pub asked_edit : Edit → (leaf : Option ObjectId) → Asked
+abbrev pub asked_edit : Edit → (leaf : Option ObjectId) → AskedEdit
 asked_edit e leaf = record { update = e.update; found = matched (expected_of e.update.change); leaf = leaf }
 
 -- the edits from this place on; an edit that was not split is its own leaf, and expects nothing of another
-abbrev pub asked_from : ℕ → List Edit → List Asked
+abbrev pub asked_from : ℕ → List Edit → List AskedEdit
 asked_from place [] = []
 asked_from place (e ∷ rest) = asked_edit e (leaf_after place (place + 1) None rest) ∷ asked_from (place + 1) rest
 
-abbrev pub asked : List Edit → List Asked
+abbrev pub asked : List Edit → List AskedEdit
 asked edits = asked_from 0 edits
 
 -- what becomes of the logs, as the edits have it

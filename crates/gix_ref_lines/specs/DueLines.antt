@@ -44,20 +44,20 @@ rules_of settings mode committer = record {
 
 -- An edit, the target that was found for it, and the object that its leaf expects: the edit at the end of the chain of those
 -- that were split from it.
-pub record Asked : Type 0 where
+pub record AskedEdit : Type 0 where
   pub update : RefEdit
   pub found : Option TargetValue
   pub leaf : Option ObjectId
 
 -- the object of a target
-abbrev pub object_in : Option TargetValue → Option ObjectId
-object_in None = None
-object_in (Some (object_id id)) = Some id
-object_in (Some (symbolic_name name)) = None
+abbrev pub object_id_in : Option TargetValue → Option ObjectId
+object_id_in None = None
+object_id_in (Some (object_id id)) = Some id
+object_id_in (Some (symbolic_name name)) = None
 
 -- the object that an edit expects, if it names one
 abbrev pub expected_id : Change → Option ObjectId
-expected_id change = object_in (previous_of (expected_of change))
+expected_id change = object_id_in (previous_of (expected_of change))
 
 -- THE PREVIOUS ID: the object that was found, else the one that the leaf expects
 abbrev pub previous_id : (found : Option TargetValue) (leaf : Option ObjectId) → Option ObjectId
@@ -94,8 +94,8 @@ ids_of (Update log expected new) found leaf = ids_of_update expected (target_val
 ids_of (Delete expected log) found leaf = None
 
 -- the path of an edit's log
-abbrev pub log_path : LogRules → Asked → Path
-log_path r a = r.store.log (name_of a.update)
+abbrev pub asked_log : LogRules → AskedEdit → Path
+asked_log r a = r.store.log (name_of a.update)
 
 -- the store writes no lines
 abbrev pub is_off : WriteReflog → Bool
@@ -103,33 +103,33 @@ is_off Disable = true
 is_off mode = false
 
 -- the ids of a line, if the store writes lines
-abbrev pub written_ids : LogRules → Asked → Option LineIds
+abbrev pub written_ids : LogRules → AskedEdit → Option LineIds
 written_ids r a = if is_off r.mode then None else ids_of a.update.change a.found a.leaf
 
 -- the log of an edit is there, or it is made
-abbrev pub has_log : LogRules → View → Asked → Bool
-has_log r files a = is_some (files (log_path r a)) || makes_log r.mode (is_forced a.update.change) (below_logs r.namespace (name_of a.update))
+abbrev pub has_log : LogRules → View → AskedEdit → Bool
+has_log r files a = is_some (files (asked_log r a)) || makes_log r.mode (is_forced a.update.change) (below_logs r.namespace (name_of a.update))
 
 -- A LINE IS DUE for an update with ids for one, and with a log
-abbrev pub due_ids : LogRules → View → Asked → Option LineIds
+abbrev pub due_ids : LogRules → View → AskedEdit → Option LineIds
 due_ids r files a = if has_log r files a then written_ids r a else None
 
 -- the files as later edits find them: the log of a due line is there
-abbrev pub with_log : LogRules → View → Asked → View
-with_log r files a = if is_some (due_ids r files a) then after_write (Append (log_path r a) []) files else files
+abbrev pub with_log : LogRules → View → AskedEdit → View
+with_log r files a = if is_some (due_ids r files a) then after_write (Append (asked_log r a) []) files else files
 
 -- the bytes of a line
-abbrev pub line_of : Option Who → Option LineIds → (message : List ℕ) → Option (List ℕ)
-line_of (Some who) (Some ids) message = Some (appended_text ids.previous ids.new who message)
-line_of (Some who) None message = None
-line_of None ids message = None
+abbrev pub due_line_text : Option Who → Option LineIds → (message : List ℕ) → Option (List ℕ)
+due_line_text (Some who) (Some ids) message = Some (appended_text ids.previous ids.new who message)
+due_line_text (Some who) None message = None
+due_line_text None ids message = None
 
 -- THE DUE LINE of an edit among these files
-abbrev pub due_line : LogRules → View → Asked → Option (List ℕ)
-due_line r files a = line_of r.committer (due_ids r files a) (message_of a.update.change)
+abbrev pub due_line : LogRules → View → AskedEdit → Option (List ℕ)
+due_line r files a = due_line_text r.committer (due_ids r files a) (message_of a.update.change)
 
 -- the due lines of edits, each among the files as the lines before it leave them
-abbrev pub due_lines : LogRules → View → List Asked → List (Option (List ℕ))
+abbrev pub due_lines : LogRules → View → List AskedEdit → List (Option (List ℕ))
 due_lines r files [] = []
 due_lines r files (a ∷ rest) = due_line r files a ∷ due_lines r (with_log r files a) rest
 
@@ -145,10 +145,10 @@ outcome_by (Update change expected new) log None = Stays
 outcome_by (Update change expected new) log (Some line) = Gains log line
 
 -- WHAT BECOMES OF THE LOG of an edit: that of a deletion goes, in both log modes, and that of an update gains the due line
-abbrev pub log_outcome : LogRules → View → Asked → LogOutcome
-log_outcome r files a = outcome_by a.update.change (log_path r a) (due_line r files a)
+abbrev pub log_outcome : LogRules → View → AskedEdit → LogOutcome
+log_outcome r files a = outcome_by a.update.change (asked_log r a) (due_line r files a)
 
 -- and so for each of these
-abbrev pub log_outcomes : LogRules → View → List Asked → List LogOutcome
+abbrev pub log_outcomes : LogRules → View → List AskedEdit → List LogOutcome
 log_outcomes r files [] = []
 log_outcomes r files (a ∷ rest) = log_outcome r files a ∷ log_outcomes r (with_log r files a) rest

@@ -12,7 +12,7 @@ use Rattle.gix_ref_files.specs.declared.files.FileError.TheVariants.{Memory as n
 use Rattle.gix_ref_log.specs.LogLines.{CanWriteLine}
 use Rattle.gix_ref_log.specs.Signatures.{Who, CanWrite, trimmed_who}
 use Rattle.gix_ref_theory.specs.Views.{View}
-use Rattle.gix_ref_lines.specs.DueLines.{LogRules, Asked, log_path, written_ids, due_ids, with_log}
+use Rattle.gix_ref_lines.specs.DueLines.{LogRules, AskedEdit, asked_log, written_ids, due_ids, with_log}
 use Rattle.gix_ref_lines.specs.declared.create_or_update.Error.{Error}
 use Rattle.gix_ref_lines.specs.declared.create_or_update.Error.TheVariants.{CreateLeadingDirectories, Append, MessageWithNewlines, MissingCommitter, SignatureUnwritable}
 use Rattle.gix_ref_lines.specs.declared.error.Error.{Error as Refusal}
@@ -42,31 +42,31 @@ CannotAdd committer message path blocked (CreateLeadingDirectories (Some fault) 
 CannotAdd committer message path blocked error = CannotMake committer message error
 
 -- A due line of an edit fails. So does the search for a log that a line may be added to, by a fault of files.
-abbrev pub Fails : LogRules → View → Asked → Error → Type 0
-Fails r files a (CreateLeadingDirectories (Some fault) folder) = IsSome (written_ids r a) × (folder.items ≡ folder_of (log_path r a))
-Fails r files a error = IsSomeAnd (due_ids r files a) (λ ids. CannotAdd r.committer (message_of a.update.change) (log_path r a) (has_file_in_path files (log_path r a)) error)
+abbrev pub Fails : LogRules → View → AskedEdit → Error → Type 0
+Fails r files a (CreateLeadingDirectories (Some fault) folder) = IsSome (written_ids r a) × (folder.items ≡ folder_of (asked_log r a))
+Fails r files a error = IsSomeAnd (due_ids r files a) (λ ids. CannotAdd r.committer (message_of a.update.change) (asked_log r a) (has_file_in_path files (asked_log r a)) error)
 
 -- an edit without a due line passes, and so does one whose line can be made and has no file in its path
-abbrev pub Passes : LogRules → View → Asked → Type 0
-Passes r files a =
-    IfSome (due_ids r files a) (λ ids. CanMake r.committer (message_of a.update.change) × (has_file_in_path files (log_path r a) ≡ false))
+abbrev pub HasNoCause : LogRules → View → AskedEdit → Type 0
+HasNoCause r files a =
+    IfSome (due_ids r files a) (λ ids. CanMake r.committer (message_of a.update.change) × (has_file_in_path files (asked_log r a) ≡ false))
 
 -- all of these pass, each among the files as the lines before it leave them
-abbrev pub AllPass : LogRules → View → List Asked → Type 0
+abbrev pub AllPass : LogRules → View → List AskedEdit → Type 0
 AllPass r files [] = Unit {0}
-AllPass r files (a ∷ rest) = Passes r files a × AllPass r (with_log r files a) rest
+AllPass r files (a ∷ rest) = HasNoCause r files a × AllPass r (with_log r files a) rest
 
 -- the first that fails does so for this cause
-abbrev pub FirstFails : LogRules → View → List Asked → Error → Type 0
+abbrev pub FirstFails : LogRules → View → List AskedEdit → Error → Type 0
 FirstFails r files [] error = ⊥
-FirstFails r files (a ∷ rest) error = Fails r files a error ⊎ (Passes r files a × FirstFails r (with_log r files a) rest error)
+FirstFails r files (a ∷ rest) error = Fails r files a error ⊎ (HasNoCause r files a × FirstFails r (with_log r files a) rest error)
 
 -- a refusal at an edit, and of a list of edits: it reports the first cause, or that there was no memory
-abbrev pub IsRefusalAt : LogRules → View → Asked → Refusal → Type 0
+abbrev pub IsRefusalAt : LogRules → View → AskedEdit → Refusal → Type 0
 IsRefusalAt r files a (CreateOrUpdateRefLog error) = Fails r files a error
 IsRefusalAt r files a Memory = Unit {0}
 
-abbrev pub IsRefusal : LogRules → View → List Asked → Refusal → Type 0
+abbrev pub IsRefusal : LogRules → View → List AskedEdit → Refusal → Type 0
 IsRefusal r files edits (CreateOrUpdateRefLog error) = FirstFails r files edits error
 IsRefusal r files edits Memory = Unit {0}
 
@@ -76,6 +76,6 @@ IsCountedError before now (CreateLeadingDirectories (Some fault) folder) = HasRi
 IsCountedError before now (Append source path) = ⊥
 IsCountedError before now error = Unit {0}
 
-abbrev pub IsCounted : (before now : ℕ) → Refusal → Type 0
-IsCounted before now (CreateOrUpdateRefLog error) = IsCountedError before now error
-IsCounted before now Memory = Unit {0}
+abbrev pub IsCountedCause : (before now : ℕ) → Refusal → Type 0
+IsCountedCause before now (CreateOrUpdateRefLog error) = IsCountedError before now error
+IsCountedCause before now Memory = Unit {0}

@@ -8,15 +8,15 @@ use Rattle.gix_ref_lines.specs.declared.write_reflog.WriteReflog.{WriteReflog}
 use Rattle.gix_ref_lines.specs.declared.write_reflog.WriteReflog.TheVariants.{Always, Normal, Disable}
 
 -- the name under which a worktree keeps a reference: without `main-worktree/`, and without `worktrees/` and the worktree
-abbrev pub own_name : Location → List ℕ
-own_name (Common name) = name
-own_name (ThisWorktree name) = name
-own_name (MainWorktree name) = name
-own_name (LinkedWorktree w name) = name
+abbrev pub location_name : Location → List ℕ
+location_name (Common name) = name
+location_name (ThisWorktree name) = name
+location_name (MainWorktree name) = name
+location_name (LinkedWorktree w name) = name
 
 -- the path of a log below `logs/`: the namespace, and that name
 abbrev pub below_logs : (namespace name : List ℕ) → List ℕ
-below_logs namespace name = namespace ++ own_name (unwrap_or (location name) (Common name))
+below_logs namespace name = namespace ++ location_name (unwrap_or (location name) (Common name))
 
 -- a path begins with these components
 abbrev pub begins_with : (path components : List ℕ) → Bool

@@ -9,10 +9,10 @@ ghost use Rattle.gix_ref_theory.specs.OnRealTrees.{view_of};
 ghost use Rattle.gix_ref_theory.specs.Views.{View};
 ghost use Rattle.gix_ref_transaction.specs.CommitRenames.{SeesItsLog, SeeLogs, path_in};
 ghost use Rattle.gix_ref_lines.specs.AskedEdits.{asked, asked_edit, all_but_logs, but_log, outcome_of, outcomes_of};
-ghost use Rattle.gix_ref_lines.specs.DueLines.{due_line, log_outcome, log_outcomes, outcome_by, log_path, rules_of, with_log};
-ghost use Rattle.gix_ref_lines.specs.LineCauses.{AllPass, IsCounted, IsRefusal, IsRefusalAt, Passes as IsPassed};
+ghost use Rattle.gix_ref_lines.specs.DueLines.{due_line, log_outcome, log_outcomes, outcome_by, asked_log, rules_of, with_log};
+ghost use Rattle.gix_ref_lines.specs.LineCauses.{AllPass, IsCountedCause, IsRefusal, IsRefusalAt, HasNoCause};
 ghost use Rattle.gix_ref_lines.specs.internal.LineSteps.{log_rules, Sees};
-ghost use Rattle.gix_ref_lines.specs.internal.SeenLogs.{paths_in, IsBounded};
+ghost use Rattle.gix_ref_lines.specs.internal.SeenLogs.{due_paths, IsBounded};
 
 use crate::error::Error;
 use crate::leaves::leaves_of;
@@ -63,31 +63,31 @@ fn due_line<F: Files>(
     leaf: Option<ObjectId>,
     path: &[u8],
 ) -> Result<Due, Error>
-    requires path { path.now ≡ log_path (log_rules rules) (asked_edit edit.now leaf) }
+    requires path { path.now ≡ asked_log (log_rules rules) (asked_edit edit.now leaf) }
     requires bounded { IsBounded due.old }
     ensures bounded { OnOk result (IsBounded due.new) }
     ensures line { F.honest → (view : View) →
-        Sees view (F.means files.old).tree (paths_in due.old) →
+        Sees view (F.means files.old).tree (due_paths due.old) →
         IfOk result (λ due. option_map vec_items due.line
         ≡ due_line (log_rules rules.entry) view (asked_edit edit.now leaf)) }
     ensures there { F.honest → IfOk result (λ due. (node : Node) → due.log_seen ≡ Some node →
         IsSome due.line × (node ≡ node_at (F.means files.old).tree path.now)) }
     ensures passed { F.honest → (view : View) →
-        Sees view (F.means files.old).tree (paths_in due.old) →
-        OnOk result (IsPassed (log_rules rules.entry) view (asked_edit edit.now leaf)) }
+        Sees view (F.means files.old).tree (due_paths due.old) →
+        OnOk result (HasNoCause (log_rules rules.entry) view (asked_edit edit.now leaf)) }
     ensures seen { F.honest → (view : View) →
-        Sees view (F.means files.old).tree (paths_in due.old) →
+        Sees view (F.means files.old).tree (due_paths due.old) →
         OnOk result (Sees (with_log (log_rules rules.entry) view (asked_edit edit.now leaf))
-        (F.means files.old).tree (paths_in due.new)) }
+        (F.means files.old).tree (due_paths due.new)) }
     ensures refused { F.honest → (view : View) →
-        Sees view (F.means files.old).tree (paths_in due.old) →
+        Sees view (F.means files.old).tree (due_paths due.old) →
         IfErr result (IsRefusalAt (log_rules rules.entry) view (asked_edit edit.now leaf)) }
     ensures leaves { F.honest → Leaves (F.means files.old) (F.means files.new)
         (Unchanged (F.means files.old).tree) }
     ensures passes { F.honest → Passes (F.means files.old) (F.means files.new)
         (Untouched (disk_of (F.means files.old))) }
     ensures no_fewer { F.faults files.old ≤ F.faults files.new }
-    ensures counted { IfErr result (IsCounted (F.faults files.old) (F.faults files.new)) }
+    ensures counted { IfErr result (IsCountedCause (F.faults files.old) (F.faults files.new)) }
 {
     let Some(ids) = rules.written_ids(edit, leaf) else {
         return Ok(Due::nothing());
@@ -131,26 +131,26 @@ fn decide_log<F: Files>(
     ensures bounded { OnOk result (IsBounded due.new) }
     ensures but_log { but_log edit.new ≡ but_log edit.old }
     ensures log { F.honest → (view : View) →
-        Sees view (F.means files.old).tree (paths_in due.old) →
+        Sees view (F.means files.old).tree (due_paths due.old) →
         OnOk result (outcome_of edit.new.log
         ≡ log_outcome (log_rules rules.entry) view (asked_edit edit.old leaf)) }
     ensures there { F.honest → OnOk result (SeesItsLog (F.means files.old).tree edit.new) }
     ensures passed { F.honest → (view : View) →
-        Sees view (F.means files.old).tree (paths_in due.old) →
-        OnOk result (IsPassed (log_rules rules.entry) view (asked_edit edit.old leaf)) }
+        Sees view (F.means files.old).tree (due_paths due.old) →
+        OnOk result (HasNoCause (log_rules rules.entry) view (asked_edit edit.old leaf)) }
     ensures seen { F.honest → (view : View) →
-        Sees view (F.means files.old).tree (paths_in due.old) →
+        Sees view (F.means files.old).tree (due_paths due.old) →
         OnOk result (Sees (with_log (log_rules rules.entry) view (asked_edit edit.old leaf))
-        (F.means files.old).tree (paths_in due.new)) }
+        (F.means files.old).tree (due_paths due.new)) }
     ensures refused { F.honest → (view : View) →
-        Sees view (F.means files.old).tree (paths_in due.old) →
+        Sees view (F.means files.old).tree (due_paths due.old) →
         IfErr result (IsRefusalAt (log_rules rules.entry) view (asked_edit edit.old leaf)) }
     ensures leaves { F.honest → Leaves (F.means files.old) (F.means files.new)
         (Unchanged (F.means files.old).tree) }
     ensures passes { F.honest → Passes (F.means files.old) (F.means files.new)
         (Untouched (disk_of (F.means files.old))) }
     ensures no_fewer { F.faults files.old ≤ F.faults files.new }
-    ensures counted { IfErr result (IsCounted (F.faults files.old) (F.faults files.new)) }
+    ensures counted { IfErr result (IsCountedCause (F.faults files.old) (F.faults files.new)) }
 {
     let path = rules.settings.log(alloc, edit.update.name.as_ref())?;
     let found = due_line(alloc, files, rules, due, edit, leaf, &path)?;
@@ -195,7 +195,7 @@ pub fn decide_logs<F: Files>(
     ensures passes { F.honest → Passes (F.means files.old) (F.means files.new)
         (Untouched (disk_of (F.means files.old))) }
     ensures no_fewer { F.faults files.old ≤ F.faults files.new }
-    ensures counted { IfErr result (IsCounted (F.faults files.old) (F.faults files.new)) }
+    ensures counted { IfErr result (IsCountedCause (F.faults files.old) (F.faults files.new)) }
 {
     let rules = Rules {
         settings,

@@ -2,7 +2,7 @@
 ghost use Rattle.std.specs.Prelude.{◌≡◌, false, Some, IfOk, IfErr, OnOk};
 ghost use Rattle.std.specs.Option.{option_map};
 ghost use Rattle.gix_ref_log.specs.Signatures.{signature_ref_who};
-ghost use Rattle.gix_ref_lines.specs.DueLines.{line_of};
+ghost use Rattle.gix_ref_lines.specs.DueLines.{due_line_text};
 ghost use Rattle.gix_ref_lines.specs.LineCauses.{CanMake};
 ghost use Rattle.gix_ref_lines.specs.internal.LineSteps.{refusal_of, IsInPath, IsUnadded, IsUnmade};
 
@@ -39,7 +39,7 @@ fn make_line(
     message: &[u8],
 ) -> Result<Vec<u8>, Error>
     ensures made { IfOk result (λ line. Some line.items
-        ≡ line_of (option_map signature_ref_who committer.entry) (Some ids.now) message.now) }
+        ≡ due_line_text (option_map signature_ref_who committer.entry) (Some ids.now) message.now) }
     ensures can { OnOk result (CanMake (option_map signature_ref_who committer.entry) message.now) }
     ensures refused { IfErr result (IsUnmade (option_map signature_ref_who committer.entry)
         message.now) }
@@ -79,7 +79,7 @@ pub fn line_at(
     path: &[u8],
 ) -> Result<Vec<u8>, Error>
     ensures made { IfOk result (λ line. Some line.items
-        ≡ line_of (option_map signature_ref_who committer.entry) (Some ids.now) message.now) }
+        ≡ due_line_text (option_map signature_ref_who committer.entry) (Some ids.now) message.now) }
     ensures can { OnOk result (CanMake (option_map signature_ref_who committer.entry) message.now) }
     ensures open { OnOk result (place.is_blocked ≡ false) }
     ensures refused { IfErr result (IsUnadded (option_map signature_ref_who committer.entry)

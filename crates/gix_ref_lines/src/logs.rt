@@ -2,7 +2,8 @@
 ghost use Rattle.std.specs.Prelude.{◌≡◌, ◌||◌, OnOk, bytes_eq, false};
 ghost use Rattle.std.specs.List.{list_any};
 ghost use Rattle.gix_ref_files.specs.Tree.{fronts, Path};
-ghost use Rattle.gix_ref_lines.specs.internal.SeenLogs.{paths_in, is_among, IsBounded};
+ghost use Rattle.gix_ref_lines.specs.internal.SeenLogs.{due_paths, IsBounded};
+ghost use Rattle.gix_ref_transaction.specs.OwnLocks.{is_in};
 
 use std::alloc::{AllocFailed, Global};
 use std::collections::HashSet;
@@ -18,7 +19,7 @@ pub struct DueLogs {
 impl DueLogs {
     /// No log.
     pub fn new(alloc: Global) -> DueLogs
-        ensures none { (q : Path) → is_among (paths_in result) q ≡ false }
+        ensures none { (q : Path) → is_in (due_paths result) q ≡ false }
         ensures bounded { IsBounded result }
     {
         DueLogs {
@@ -29,15 +30,15 @@ impl DueLogs {
 
     /// Whether the log at this path has a line due.
     pub fn contains(&self, path: &[u8]) -> bool
-        ensures { result ≡ is_among (paths_in self.now) path.now }
+        ensures { result ≡ is_in (due_paths self.now) path.now }
     {
         self.paths.contains(path)
     }
 
     /// Adds the log at this path.
     pub fn insert(&mut self, path: Vec<u8>) -> Result<(), AllocFailed<Vec<u8>>>
-        ensures added { OnOk result ((q : Path) → is_among (paths_in self.new) q
-            ≡ (bytes_eq path.items q || is_among (paths_in self.old) q)) }
+        ensures added { OnOk result ((q : Path) → is_in (due_paths self.new) q
+            ≡ (bytes_eq path.items q || is_in (due_paths self.old) q)) }
         ensures bounded { IsBounded self.old → OnOk result (IsBounded self.new) }
     {
         let len = path.len();
@@ -49,7 +50,7 @@ impl DueLogs {
     /// Whether such a log is in a path, as a file where a folder would be.
     pub fn is_above(&self, path: &[u8]) -> bool
         requires { IsBounded self.now }
-        ensures { result ≡ list_any (is_among (paths_in self.now)) (fronts path.now) }
+        ensures { result ≡ list_any (is_in (due_paths self.now)) (fronts path.now) }
     {
         for i in 1..path.len() {
             if path[i] == b'/' && i >= self.shortest && self.contains(&path[..i]) {

@@ -2,15 +2,15 @@
 ghost use Rattle.std.specs.Prelude.{◌≡◌, ◌++◌, ◌∷◌, [], IfOk};
 ghost use Rattle.gix_ref_base.specs.RefLayout.{location_value};
 ghost use Rattle.gix_ref_name.specs.Names.{full_ref_bytes};
-ghost use Rattle.gix_ref_lines.specs.MadeLogs.{begins_with, below_logs, is_usual, own_name};
+ghost use Rattle.gix_ref_lines.specs.MadeLogs.{begins_with, below_logs, is_usual, location_name};
 
 use gix_ref_base::layout::{Location, location_or_common};
 use gix_ref_name::name::FullNameRef;
 use std::alloc::{AllocError, Global};
 
 /// The name under which a worktree keeps a reference.
-fn own_name(location: Location<'_>) -> &[u8]
-    ensures { result.now ≡ own_name (location_value location.entry) }
+fn location_name(location: Location<'_>) -> &[u8]
+    ensures { result.now ≡ location_name (location_value location.entry) }
 {
     match location {
         Location::Common(name) | Location::ThisWorktree(name) | Location::MainWorktree(name) =>
@@ -29,7 +29,7 @@ pub fn below_logs(
     ensures { IfOk result (λ path. path.items
         ≡ below_logs namespace.now (full_ref_bytes name.entry)) }
 {
-    let own = own_name(location_or_common(name));
+    let own = location_name(location_or_common(name));
     let mut path = Vec::with_capacity(alloc, namespace.len().saturating_add(own.len()))?;
     path.extend_from_slice(namespace)?;
     path.extend_from_slice(own)?;

@@ -6,9 +6,10 @@ ghost use Rattle.gix_ref_files.specs.DiskCalls.{Untouched};
 ghost use Rattle.gix_ref_files.specs.Files.{count_with, disk_of, Leaves, Passes};
 ghost use Rattle.gix_ref_files.specs.Tree.{fronts, is_blocked, node_at};
 ghost use Rattle.gix_ref_theory.specs.OnRealTrees.{view_of};
-ghost use Rattle.gix_ref_lines.specs.LineCauses.{IsCounted};
+ghost use Rattle.gix_ref_lines.specs.LineCauses.{IsCountedCause};
 ghost use Rattle.gix_ref_lines.specs.internal.LineSteps.{IsFaultAt};
-ghost use Rattle.gix_ref_lines.specs.internal.SeenLogs.{is_among, paths_in, IsBounded};
+ghost use Rattle.gix_ref_lines.specs.internal.SeenLogs.{due_paths, IsBounded};
+ghost use Rattle.gix_ref_transaction.specs.OwnLocks.{is_in};
 
 use crate::create_or_update;
 use crate::error::Error;
@@ -33,7 +34,7 @@ fn fault_at(alloc: Global, path: &[u8], fault: FileError) -> Error
     requires { fault ≡ FileError.Memory → ⊥ }
     ensures at { IsFaultAt path.now result }
     ensures counted { (before now : ℕ) → now ≡ count_with fault before →
-        IsCounted before now result }
+        IsCountedCause before now result }
 {
     match folder(path).to_vec(alloc) {
         Ok(reflog_directory) => Error::CreateOrUpdateRefLog(
@@ -58,17 +59,17 @@ pub fn place_at<F: Files>(
         ≡ node_at (F.means files.old).tree path.now) }
     ensures log { F.honest → IfOk result (λ place. place.is_log
         ≡ (is_some (view_of (F.means files.old).tree path.now)
-        || is_among (paths_in due.now) path.now)) }
+        || is_in (due_paths due.now) path.now)) }
     ensures blocked { F.honest → IfOk result (λ place. place.is_blocked
         ≡ (is_blocked (F.means files.old).tree path.now
-        || list_any (is_among (paths_in due.now)) (fronts path.now))) }
+        || list_any (is_in (due_paths due.now)) (fronts path.now))) }
     ensures failed { IfErr result (IsFaultAt path.now) }
     ensures leaves { F.honest → Leaves (F.means files.old) (F.means files.new)
         (Unchanged (F.means files.old).tree) }
     ensures passes { F.honest → Passes (F.means files.old) (F.means files.new)
         (Untouched (disk_of (F.means files.old))) }
     ensures no_fewer { F.faults files.old ≤ F.faults files.new }
-    ensures counted { IfErr result (IsCounted (F.faults files.old) (F.faults files.new)) }
+    ensures counted { IfErr result (IsCountedCause (F.faults files.old) (F.faults files.new)) }
 {
     match files.kind(path) {
         Ok(node) => {

@@ -14,7 +14,7 @@ use Rattle.gix_ref_base.proofs.LocationLemmas.{has_slash, cut_is, test_no_slash}
 use Rattle.gix_ref_base.specs.Locations.{cut_at_slash}
 use Rattle.gix_ref_files.specs.Tree.{Tree, Path, Content, IsShaped, is_folder, fronts, fronts_after}
 use Rattle.gix_ref_files.specs.Tree.Content.{File, Folder}
-use Rattle.gix_ref_files.specs.Calls.{IsListing, IsEntryOf, IsName, entry_name}
+use Rattle.gix_ref_files.specs.Calls.{ListsFolder, IsEntryOf, IsEntryName, entry_name}
 use Rattle.gix_ref_files.specs.Files.{HasRisen, Leaves, Meaning, count_with, one_more}
 use Rattle.gix_ref_files.specs.Calls.{Unchanged}
 use Rattle.gix_ref_files.proofs.Moments.{joins}
@@ -23,8 +23,9 @@ use Rattle.gix_ref_files.specs.declared.files.FileError.{FileError}
 use Rattle.gix_ref_files.specs.declared.files.FileError.TheVariants.{Device, NotUtf8, Memory}
 use Rattle.gix_ref_theory.specs.OnRealTrees.{view_of, file_of}
 use Rattle.gix_ref_lookup.proofs.Opening.{risen}
-use Rattle.gix_ref_listing.specs.Walks.{Among, FoundEntry, Holds, IsFileOf, IsTaken, IsFolderPath, IsBelow, IsListedName, IsLooseName, IsRootPath}
+use Rattle.gix_ref_listing.specs.Walks.{FoundEntry, Holds, IsFileOf, IsTaken, IsFolderPath, IsBelow, IsListedName, IsLooseName, IsRootPath}
 use Rattle.gix_ref_listing.specs.declared.walk.Root.{Root}
+use Rattle.gix_ref_lookup.specs.Lookups.{Among}
 
 all_behind : (P : Path → Bool) (front : Path) (b : Bool) (rest : List Path) → list_all P (if b then front ∷ rest else rest) ≡ true → list_all P rest ≡ true
 all_behind P front true rest all = both (P front) (list_all P rest) all
@@ -72,7 +73,7 @@ pub path_below : (front folder path rest : List ℕ) → front ++ folder ≡ pat
 path_below front folder path rest is = sym (append_assoc front folder rest) ∙ (ap (λ p. p ++ rest) is ∙ append_assoc path (47 ∷ []) rest)
 
 -- the files of a folder are there
-pub entries_there : (root : Root) (T : Tree) (folder path : List ℕ) (entries : List ListedEntry) → root.path.now ++ folder ≡ path ++ 47 ∷ [] → IsListing T path entries → All (IsFileOf root (view_of T) folder) entries
+pub entries_there : (root : Root) (T : Tree) (folder path : List ℕ) (entries : List ListedEntry) → root.path.now ++ folder ≡ path ++ 47 ∷ [] → ListsFolder T path entries → All (IsFileOf root (view_of T) folder) entries
 entries_there root T folder path entries is listing = λ k d below not_folder.
     let entry = slice_index_or entries k d in
     let tells = listing.tells k d below in
@@ -95,7 +96,7 @@ no_empty : (c : List ℕ) → is_empty c ≡ false → c ≢ []
 no_empty [] some is = absurd (cc)
 no_empty (x ∷ c) some is = absurd (cc)
 
-a_name : (c : List ℕ) → is_empty c ≡ false → NoByte 47 c → IsName c
+a_name : (c : List ℕ) → is_empty c ≡ false → NoByte 47 c → IsEntryName c
 a_name c some none = (no_empty c some, λ has. none has.0 has.1 (get_or_default c has.0 0 47 has.1 ∙ has.2))
 
 -- a text without a slash is not cut
@@ -125,9 +126,9 @@ module _ (root : Root) (T : Tree) (folder path : List ℕ) (shaped : IsShaped T)
   pub folder_is_there : is_folder (T path) ≡ true
   folder_is_there = folder_above T path rest shaped some file.0
 
-  module _ (entries : List ListedEntry) (listing : IsListing T path entries) (found : List FoundEntry) (next : List (Vec ℕ Global)) (taken : All (IsTaken root folder found next) entries) where
+  module _ (entries : List ListedEntry) (listing : ListsFolder T path entries) (found : List FoundEntry) (next : List (Vec ℕ Global)) (taken : All (IsTaken root folder found next) entries) where
     -- the entry of a file or folder
-    entry_of : (c : List ℕ) → IsName c → is_some (T (path ++ 47 ∷ c)) ≡ true → (entry : ListedEntry) × (entry_name entry ≡ c) × IsTaken root folder found next entry × (entry.is_folder ≡ is_folder (T (path ++ 47 ∷ c)))
+    entry_of : (c : List ℕ) → IsEntryName c → is_some (T (path ++ 47 ∷ c)) ≡ true → (entry : ListedEntry) × (entry_name entry ≡ c) × IsTaken root folder found next entry × (entry.is_folder ≡ is_folder (T (path ++ 47 ∷ c)))
     entry_of c named there =
         let any = listing.each c named there in
         let entry = any.1 in

@@ -10,15 +10,16 @@ use Rattle.gix_ref_records.specs.RecordGrammar.{Below, Ascending}
 use Rattle.gix_ref_records.specs.Prefixes.{records_prefixed}
 use Rattle.gix_ref_theory.specs.Views.{View}
 use Rattle.gix_ref_lookup.specs.declared.settings.Settings.{Settings}
-use Rattle.gix_ref_listing.specs.Walks.{Among, Holds, FoundEntry, IsFile}
+use Rattle.gix_ref_listing.specs.Walks.{Holds, FoundEntry, IsFile}
 use Rattle.gix_ref_listing.specs.OwnRecords.{Own, own_records}
-use Rattle.gix_ref_listing.specs.Listings.{merged}
+use Rattle.gix_ref_listing.specs.Listings.{merged_listing}
 use Rattle.gix_ref_listing.specs.Listings.Listed.{InPacked}
 use Rattle.gix_ref_listing.specs.LooseListings.{IsFoundIn, IsLooseListed}
-use Rattle.gix_ref_listing.specs.WholeListings.{IsListing, IsInStore, IsPackedListed, IsName, key_in}
+use Rattle.gix_ref_listing.specs.WholeListings.{IsListing, IsInStore, IsPackedListed, IsNameItem, key_in}
 use Rattle.gix_ref_listing.proofs.WalkLemmas.{key_cmp}
 use Rattle.gix_ref_listing.proofs.MergedListings.{FoundRises, all_merged, merged_rises, loose_merged, packed_merged}
 use Rattle.gix_ref_listing.proofs.OwnListings.{prefixed_rise, prefixed_there, prefixed_are}
+use Rattle.gix_ref_lookup.specs.Lookups.{Among}
 
 -- the keys of a map ascend
 pub found_rises : (es : List FoundEntry) → IsStrictlySortedBy key_cmp (keys_of es) → FoundRises es
@@ -48,7 +49,7 @@ module _ (settings : Settings) (view : View) (records held : List Record) (prefi
 
   -- what a walk found and the records with the prefix are the listing
   pub listing_is : FoundRises es → ((name : List ℕ) → IsLooseListed settings view prefix name → Among (Holds name) es) → All (IsFoundIn settings view prefix) es →
-      IsListing settings view records prefix (merged es (own_records settings (records_prefixed (key_in settings prefix) held)))
+      IsListing settings view records prefix (merged_listing es (own_records settings (records_prefixed (key_in settings prefix) held)))
   listing_is rises finds found = record {
     ascending = merged_rises es (own_records settings (records_prefixed (key_in settings prefix) held)) rises (prefixed_rise settings held prefix up);
     loose = λ name listed. loose_merged name es (own_records settings (records_prefixed (key_in settings prefix) held)) (finds name listed);
@@ -58,10 +59,10 @@ module _ (settings : Settings) (view : View) (records held : List Record) (prefi
         (own_records settings (records_prefixed (key_in settings prefix) held)) (prefixed_are settings held prefix up));
   }
 
-any_own : (owns : List Own) → AllByRecursion (λ (o : Own). IsName (InPacked o)) owns
+any_own : (owns : List Own) → AllByRecursion (λ (o : Own). IsNameItem (InPacked o)) owns
 any_own [] = _
 any_own (o ∷ owns) = (_, any_own owns)
 
 -- where what was found are files, all are names
-pub all_names : (es : List FoundEntry) (owns : List Own) → All IsFile es → AllByRecursion IsName (merged es owns)
-all_names es owns files = all_merged IsName es owns (by_recursion IsFile es files) (any_own owns)
+pub all_names : (es : List FoundEntry) (owns : List Own) → All IsFile es → AllByRecursion IsNameItem (merged_listing es owns)
+all_names es owns files = all_merged IsNameItem es owns (by_recursion IsFile es files) (any_own owns)

@@ -16,7 +16,8 @@ use Rattle.gix_ref_theory.proofs.PlaceLaws.{cancel}
 use Rattle.gix_ref_lookup.specs.Lookups.{meaning_in}
 use Rattle.gix_ref_lookup.specs.StoreLayout.{namespace_text}
 use Rattle.gix_ref_lookup.specs.declared.settings.Settings.{Settings}
-use Rattle.gix_ref_listing.specs.OwnRecords.{is_key, own_name}
+use Rattle.gix_ref_listing.specs.OwnRecords.{own_name}
+use Rattle.gix_ref_theory.specs.Edits.{is_key}
 
 key_by : (f : Layout) (x : Location) → (paths_of f x).key ≡ option_map (λ k. f.namespace ++ k) (paths_of no_namespace x).key
 key_by f (Common n) = refl

@@ -16,14 +16,14 @@ use Rattle.gix_ref_records.specs.Prefixes.{records_prefixed}
 use Rattle.gix_ref_records.proofs.LowerBounds.{same_byte}
 use Rattle.gix_ref_records.proofs.Halves.{not_itself}
 use Rattle.gix_ref_theory.proofs.PlaceLaws.{cancel}
-use Rattle.gix_ref_lookup.specs.Lookups.{meaning_in}
+use Rattle.gix_ref_lookup.specs.Lookups.{meaning_in, Among}
 use Rattle.gix_ref_lookup.specs.StoreLayout.{namespace_text}
 use Rattle.gix_ref_lookup.specs.declared.settings.Settings.{Settings}
-use Rattle.gix_ref_listing.specs.Walks.{Among}
-use Rattle.gix_ref_listing.specs.OwnRecords.{Own, own_name, own_records, with_own, is_key}
+use Rattle.gix_ref_listing.specs.OwnRecords.{Own, own_name, own_records, with_own}
 use Rattle.gix_ref_listing.specs.WholeListings.{IsPackedListed, key_in}
 use Rattle.gix_ref_listing.proofs.MergedListings.{OwnRises}
 use Rattle.gix_ref_listing.proofs.OwnLemmas.{own_inside, choose}
+use Rattle.gix_ref_theory.specs.Edits.{is_key}
 
 -- ---- names of keys
 

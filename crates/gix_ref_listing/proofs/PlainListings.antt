@@ -11,7 +11,7 @@ use Rattle.gix_ref_lookup.specs.declared.settings.Settings.{Settings}
 use Rattle.gix_ref_listing.specs.PlainSettings.{plain}
 use Rattle.gix_ref_listing.specs.Walks.{FoundEntry}
 use Rattle.gix_ref_listing.specs.OwnRecords.{Own, own_of, own_name, own_records, with_own, AheadOf, AreAhead}
-use Rattle.gix_ref_listing.specs.Listings.{Listed, merged, TakesRecord, IsNoRecord}
+use Rattle.gix_ref_listing.specs.Listings.{Listed, merged_listing, TakesRecord, IsNoRecord}
 use Rattle.gix_ref_listing.specs.Listings.Listed.{Walked, InPacked}
 use Rattle.gix_ref_listing.specs.LooseListings.{IsLooseListed, IsFoundIn}
 use Rattle.gix_ref_listing.specs.Items.{IsItem}
@@ -49,19 +49,19 @@ module _ (s : Settings) where
 
   -- a record that is lent
   pub lends_plain : (old new : Merge) (result : Option OwnRecord) →
-      IfSome result (λ own. (owns : List Own) → AreAhead s old.packed owns → TakesRecord s (merged old.found.entries owns) own new) → IfSome result (λ own. IsDrained old → ⊥) →
+      IfSome result (λ own. (owns : List Own) → AreAhead s old.packed owns → TakesRecord s (merged_listing old.found.entries owns) own new) → IfSome result (λ own. IsDrained old → ⊥) →
       IfSome result (GivesRecord (plain s) old new)
   lends_plain old new None takes goes_on = _
   lends_plain old new (Some own) takes goes_on = record {
     gives = λ listed yet.
         let before = of_plain old listed yet in
         let took = takes before.0 before.1 in
-        (merged new.found.entries took.0, before.2 ∙ took.2, to_plain new (merged new.found.entries took.0) (took.0, took.1, refl));
+        (merged_listing new.found.entries took.0, before.2 ∙ took.2, to_plain new (merged_listing new.found.entries took.0) (took.0, took.1, refl));
     goes_on = goes_on;
   }
 
   -- no record is lent
-  pub none_plain : (old : Merge) (result : Option OwnRecord) → IfNone result ((owns : List Own) → AreAhead s old.packed owns → IsNoRecord (merged old.found.entries owns)) →
+  pub none_plain : (old : Merge) (result : Option OwnRecord) → IfNone result ((owns : List Own) → AreAhead s old.packed owns → IsNoRecord (merged_listing old.found.entries owns)) →
       IfNone result ((listed : List Listed) → AreYet (plain s) old listed → IsNoRecord listed)
   none_plain old (Some own) none = _
   none_plain old None none = λ listed yet. let before = of_plain old listed yet in subst IsNoRecord (sym before.2) (none before.0 before.1)

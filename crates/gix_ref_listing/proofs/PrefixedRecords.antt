@@ -1,10 +1,10 @@
 -- What a buffer holds that was read for a prefix.
-use Rattle.std.proofs.Common.{◌≡◌, ◌≢◌, ℕ, List, [], ◌∷◌, Bool, true, false, Option, Some, None, refl}
+use Rattle.std.proofs.Common.{◌≡◌, ◌≢◌, ℕ, List, [], ◌∷◌, false, Option, Some, None, refl}
 use Rattle.std.specs.List.{All}
 use Rattle.std.specs.Prelude.{slice_index_or}
 use Rattle.gix_ref_hash.specs.declared.hash.Kind.{Kind}
 use Rattle.gix_ref_base.specs.PackedRecords.{Record}
-use Rattle.gix_ref_files.specs.Tree.{Content, is_file, bytes_of, file_of}
+use Rattle.gix_ref_files.specs.Tree.{Content, is_file, file_of}
 use Rattle.gix_ref_files.specs.Tree.Content.{File, Folder}
 use Rattle.gix_ref_packed.specs.Buffers.{HoldsRecords, buffer_kind, buffer_text}
 use Rattle.gix_ref_packed.specs.FilePrefixes.{HoldsPrefix}

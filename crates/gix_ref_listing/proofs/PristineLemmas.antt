@@ -10,14 +10,14 @@ use Rattle.gix_ref_theory.specs.Readings.Reading.{Is, Fault}
 use Rattle.gix_ref_theory.specs.Views.{View}
 use Rattle.gix_ref_lookup.specs.LooseFiles.{IsUndecodable}
 use Rattle.gix_ref_lookup.specs.LooseText.{target_in}
-use Rattle.gix_ref_lookup.specs.Lookups.{meaning_in}
+use Rattle.gix_ref_lookup.specs.Lookups.{meaning_in, Among}
 use Rattle.gix_ref_lookup.specs.declared.settings.Settings.{Settings}
 use Rattle.gix_ref_lookup.specs.declared.loose.error.Error.{Error as Undecoded}
 use Rattle.gix_ref_lookup.proofs.LooseLemmas.{refused_none}
 use Rattle.gix_ref_listing.specs.PlainSettings.{plain}
 use Rattle.gix_ref_listing.specs.LooseListings.{IsFoundIn, IsFileListed, IsLooseListed}
-use Rattle.gix_ref_listing.specs.PristineStores.{Says, ReadsNone, IsReadable, IsUnreadable, IsFoundFile, HasLoose, HasNoLoose}
-use Rattle.gix_ref_listing.specs.Walks.{Among, Holds, FoundEntry, IsFile}
+use Rattle.gix_ref_listing.specs.PristineStores.{Says, ReadsNone, IsReadableFile, IsUnreadableFile, IsFoundFile, HasLoose, HasNoLoose}
+use Rattle.gix_ref_listing.specs.Walks.{Holds, FoundEntry, IsFile}
 use Rattle.gix_ref_listing.specs.declared.found.Found.TheVariants.{File, Unlisted}
 use Rattle.gix_ref_listing.proofs.PlainListings.{found_plain, loose_of_plain}
 
@@ -61,26 +61,26 @@ found_file (key, Unlisted path error) is = is
 
 module _ (s : Settings) (view : View) (prefix : List ℕ) where
   -- a file that was found and can be read is a loose reference that can be read
-  pub has_one : (es : List FoundEntry) → All (IsFoundIn s view prefix) es → Among (λ (e : FoundEntry). IsReadable (plain s) view e.1) es → HasLoose (plain s) view prefix
+  pub has_one : (es : List FoundEntry) → All (IsFoundIn s view prefix) es → Among (λ (e : FoundEntry). IsReadableFile (plain s) view e.1) es → HasLoose (plain s) view prefix
   has_one [] all has = absurd has
   has_one (e ∷ es) all has = ⊎_elim (here e (found_plain s view prefix e (All-head (IsFoundIn s view prefix) e es all))) (λ later. has_one es (All-tail (IsFoundIn s view prefix) e es all) later) has
     where
-      here : (f : FoundEntry) → IsFoundIn (plain s) view prefix f → IsReadable (plain s) view f.1 → HasLoose (plain s) view prefix
+      here : (f : FoundEntry) → IsFoundIn (plain s) view prefix f → IsReadableFile (plain s) view f.1 → HasLoose (plain s) view prefix
       here (key, File name path) (named, listed) (target, reads) = record { name = key.items; path = path.items; target = target; listed = listed; reads = reads }
       here (key, Unlisted path error) found reads = absurd reads
 
   -- where none can be read, no loose reference can
-  none_at : (name : List ℕ) (es : List FoundEntry) → All (IsFoundIn s view prefix) es → All (λ (e : FoundEntry). IsUnreadable (plain s) view e.1) es → Among (Holds name) es →
+  none_at : (name : List ℕ) (es : List FoundEntry) → All (IsFoundIn s view prefix) es → All (λ (e : FoundEntry). IsUnreadableFile (plain s) view e.1) es → Among (Holds name) es →
       (path : List ℕ) × IsFileListed (plain s) view prefix name path × ReadsNone (plain s) view path
   none_at name [] all none has = absurd has
   none_at name (e ∷ es) all none has =
-      ⊎_elim (here e (found_plain s view prefix e (All-head (IsFoundIn s view prefix) e es all)) (All-head (λ (f : FoundEntry). IsUnreadable (plain s) view f.1) e es none))
-      (λ later. none_at name es (All-tail (IsFoundIn s view prefix) e es all) (All-tail (λ (f : FoundEntry). IsUnreadable (plain s) view f.1) e es none) later) has
+      ⊎_elim (here e (found_plain s view prefix e (All-head (IsFoundIn s view prefix) e es all)) (All-head (λ (f : FoundEntry). IsUnreadableFile (plain s) view f.1) e es none))
+      (λ later. none_at name es (All-tail (IsFoundIn s view prefix) e es all) (All-tail (λ (f : FoundEntry). IsUnreadableFile (plain s) view f.1) e es none) later) has
     where
-      here : (f : FoundEntry) → IsFoundIn (plain s) view prefix f → IsUnreadable (plain s) view f.1 → Holds name f → (path : List ℕ) × IsFileListed (plain s) view prefix name path × ReadsNone (plain s) view path
+      here : (f : FoundEntry) → IsFoundIn (plain s) view prefix f → IsUnreadableFile (plain s) view f.1 → Holds name f → (path : List ℕ) × IsFileListed (plain s) view prefix name path × ReadsNone (plain s) view path
       here (key, File n path) (named, listed) reads is = (path.items, subst (λ m. IsFileListed (plain s) view prefix m path.items) is listed, reads)
       here (key, Unlisted path error) found reads is = absurd reads
 
   pub has_none : (es : List FoundEntry) → All (IsFoundIn s view prefix) es → ((name : List ℕ) → IsLooseListed s view prefix name → Among (Holds name) es) →
-      All (λ (e : FoundEntry). IsUnreadable (plain s) view e.1) es → HasNoLoose (plain s) view prefix
+      All (λ (e : FoundEntry). IsUnreadableFile (plain s) view e.1) es → HasNoLoose (plain s) view prefix
   has_none es all finds none name listed = none_at name es all none (finds name (loose_of_plain s view prefix name listed))

@@ -7,18 +7,18 @@ use Rattle.std.proofs.lemmas.List.Elements.{All-cons, All-head, All-tail}
 use Rattle.gix_ref_hash.specs.Bytes.{BeginsWith, is_slash}
 use Rattle.gix_ref_theory.specs.Views.{View}
 use Rattle.gix_ref_lookup.specs.declared.settings.Settings.{Settings}
-use Rattle.gix_ref_lookup.specs.Lookups.{meaning_in, name_asked}
+use Rattle.gix_ref_lookup.specs.Lookups.{meaning_in, name_asked, Among}
 use Rattle.gix_ref_listing.specs.PlainSettings.{plain}
-use Rattle.gix_ref_listing.specs.Walks.{Among, Holds, FoundEntry, IsThereOr, IsInnerPath, IsBelow, IsLooseName}
-use Rattle.gix_ref_listing.specs.Listings.{merged}
-use Rattle.gix_ref_listing.specs.PseudoListings.{is_pseudo, is_kept, git_front, IsPseudoListed, IsPseudoFound, IsPseudoItem, IsPseudoListing}
+use Rattle.gix_ref_listing.specs.Walks.{Holds, FoundEntry, IsThereOr, IsInnerPath, IsBelow, IsLooseName}
+use Rattle.gix_ref_listing.specs.Listings.{merged_listing}
+use Rattle.gix_ref_listing.specs.PseudoListings.{is_head_file, is_kept, git_front, IsPseudoListed, IsPseudoFound, IsPseudoItem, IsPseudoListing}
 use Rattle.gix_ref_listing.specs.declared.found.Found.TheVariants.{File, Unlisted}
 use Rattle.gix_ref_listing.specs.declared.walk.Root.{Root}
 use Rattle.gix_ref_listing.proofs.StoreWalks.{of_root}
 use Rattle.gix_ref_listing.proofs.MergedListings.{FoundRises, all_merged, merged_rises, loose_merged}
 use Rattle.gix_ref_listing.proofs.Listing.{by_recursion}
 
-no_slash : (name : List ℕ) → is_pseudo name ≡ true → list_any is_slash name ≡ false
+no_slash : (name : List ℕ) → is_head_file name ≡ true → list_any is_slash name ≡ false
 no_slash name is = by _ (list_any is_slash name) is
   where
     by : (a b : Bool) → (a && not b) ≡ true → b ≡ false
@@ -38,7 +38,7 @@ not_both : (b : Bool) → b ≡ true → b ≡ false → ⊥
 not_both b is is_not = let bad : false ≡ true = sym is_not ∙ is in absurd cc
 
 -- a pseudo reference is in no inner folder
-pub not_inner : (name : List ℕ) → is_pseudo name ≡ true → (folders : List (Vec ℕ Global)) → All (λ f. IsInnerPath f.items) folders → IsBelow folders name → ⊥
+pub not_inner : (name : List ℕ) → is_head_file name ≡ true → (folders : List (Vec ℕ Global)) → All (λ f. IsInnerPath f.items) folders → IsBelow folders name → ⊥
 not_inner name is [] all below = absurd below
 not_inner name is (f ∷ folders) all below =
     ⊎_elim (λ (begins : BeginsWith name f.items).
@@ -47,11 +47,11 @@ not_inner name is (f ∷ folders) all below =
     (λ later. not_inner name is folders (All-tail (λ (g : Vec ℕ Global). IsInnerPath g.items) f folders all) later) below
 
 -- what holds such a name is kept
-holder_kept : (name : List ℕ) → is_pseudo name ≡ true → (e : FoundEntry) → Holds name e → is_kept e ≡ true
-holder_kept name is (key, File n path) held = ap is_pseudo held ∙ is
+holder_kept : (name : List ℕ) → is_head_file name ≡ true → (e : FoundEntry) → Holds name e → is_kept e ≡ true
+holder_kept name is (key, File n path) held = ap is_head_file held ∙ is
 holder_kept name is (key, Unlisted path error) held = refl
 
-pub kept_holds : (name : List ℕ) → is_pseudo name ≡ true → (es : List FoundEntry) → Among (Holds name) es → Among (Holds name) (filter is_kept es)
+pub kept_holds : (name : List ℕ) → is_head_file name ≡ true → (es : List FoundEntry) → Among (Holds name) es → Among (Holds name) (filter is_kept es)
 kept_holds name is [] has = absurd has
 kept_holds name is (e ∷ es) has = by (is_kept e) refl (kept_holds name is es)
   where
@@ -133,7 +133,7 @@ found_plain s view (key, Unlisted path error) found = found
 
 -- what was found is the listing
 pub pseudo_listing : (s : Settings) (view : View) (es : List FoundEntry) → FoundRises es → ((name : List ℕ) → IsPseudoListed s view name → Among (Holds name) es) → All (IsPseudoFound s view) es →
-    IsPseudoListing (plain s) view (merged es [])
+    IsPseudoListing (plain s) view (merged_listing es [])
 pseudo_listing s view es rises finds found = record {
   ascending = merged_rises es [] rises _;
   each = λ name listed. loose_merged name es [] (finds name (pseudo_of_plain s view name listed));

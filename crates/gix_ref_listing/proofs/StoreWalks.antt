@@ -4,10 +4,10 @@ use Rattle.std.specs.List.{All}
 use Rattle.gix_ref_hash.specs.Bytes.{BeginsWith}
 use Rattle.gix_ref_base.specs.Layout.{below}
 use Rattle.gix_ref_theory.specs.Views.{View}
-use Rattle.gix_ref_lookup.specs.Lookups.{meaning_in, name_asked}
+use Rattle.gix_ref_lookup.specs.Lookups.{meaning_in, name_asked, Among}
 use Rattle.gix_ref_lookup.specs.StoreLayout.{folders_of}
 use Rattle.gix_ref_lookup.specs.declared.settings.Settings.{Settings}
-use Rattle.gix_ref_listing.specs.Walks.{Among, Holds, StaysFound, FoundEntry, IsFolderPath, IsRootPath, IsLooseName, IsThere, IsThereOr}
+use Rattle.gix_ref_listing.specs.Walks.{Holds, StaysFound, FoundEntry, IsFolderPath, IsRootPath, IsLooseName, IsThere, IsThereOr}
 use Rattle.gix_ref_listing.specs.LooseListings.{front_in, IsLooseListed, IsFront, LooseIn, IsFoundIn}
 use Rattle.gix_ref_listing.specs.declared.found.Found.TheVariants.{File, Unlisted}
 use Rattle.gix_ref_listing.specs.declared.walk.Root.{Root}

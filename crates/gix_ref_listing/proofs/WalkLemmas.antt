@@ -26,10 +26,11 @@ use Rattle.gix_ref_files.specs.declared.files.Entry.{Entry as ListedEntry}
 use Rattle.gix_ref_files.specs.declared.files.FileError.{FileError}
 use Rattle.gix_ref_files.specs.declared.files.FileError.TheVariants.{Memory as no_memory}
 use Rattle.gix_ref_theory.specs.Views.{View}
-use Rattle.gix_ref_listing.specs.Walks.{Among, IsFolderPath, FoundEntry, Holds, IsThereOr, IsFile, IsFileOfName, StaysFound, IsTaken, IsBelow}
+use Rattle.gix_ref_listing.specs.Walks.{IsFolderPath, FoundEntry, Holds, IsThereOr, IsFile, IsFileOfName, StaysFound, IsTaken, IsBelow}
 use Rattle.gix_ref_listing.specs.declared.found.Found.{Found}
 use Rattle.gix_ref_listing.specs.declared.found.Found.TheVariants.{File, Unlisted}
 use Rattle.gix_ref_listing.specs.declared.walk.Root.{Root}
+use Rattle.gix_ref_lookup.specs.Lookups.{Among}
 
 module _ {K X : Type 0} (cmp : K → K → Ordering) (P : K × X → Type 0) (k : K) (v : X) where
   stays_by : (e : K × X) (es rest : List (K × X)) (o : Ordering) → (o ≡ Equal → P e → P (e.0, v)) → (Among P es → Among P rest) → Among P (e ∷ es) → Among P (match_ordering o ((k, v) ∷ e ∷ es) ((e.0, v) ∷ es) (e ∷ rest))

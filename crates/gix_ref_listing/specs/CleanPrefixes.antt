@@ -19,11 +19,11 @@ abbrev pub is_no_prefix : Option Namespace → List ℕ → Bool
 is_no_prefix namespace prefix = bytes_eq prefix [] && is_none namespace
 
 -- the prefix has a listing
-abbrev pub IsTaken : Option Namespace → List ℕ → Type 0
-IsTaken namespace prefix = (is_no_prefix namespace prefix ≡ false) × (is_clean_prefix prefix ≡ true)
+abbrev pub IsAcceptedPrefix : Option Namespace → List ℕ → Type 0
+IsAcceptedPrefix namespace prefix = (is_no_prefix namespace prefix ≡ false) × (is_clean_prefix prefix ≡ true)
 
 -- why it has none
-abbrev pub IsRefused : Option Namespace → List ℕ → Error → Type 0
-IsRefused namespace prefix EmptyPrefix = is_no_prefix namespace prefix ≡ true
-IsRefused namespace prefix PrefixNotClean = (is_no_prefix namespace prefix ≡ false) × (is_clean_prefix prefix ≡ false)
-IsRefused namespace prefix other = ⊥
+abbrev pub IsRefusedPrefix : Option Namespace → List ℕ → Error → Type 0
+IsRefusedPrefix namespace prefix EmptyPrefix = is_no_prefix namespace prefix ≡ true
+IsRefusedPrefix namespace prefix PrefixNotClean = (is_no_prefix namespace prefix ≡ false) × (is_clean_prefix prefix ≡ false)
+IsRefusedPrefix namespace prefix other = ⊥

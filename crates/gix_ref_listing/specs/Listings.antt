@@ -21,15 +21,15 @@ pub data Listed : Type 0 where
 
 -- before these records comes what was found, where its key is below the first of them; a loose file has precedence over the
 -- record of its name; `more` is the rest of what was found among the records that are left
-abbrev pub merged_one : FoundEntry → (more : List Own → List Listed) → List Own → List Listed
-merged_one e more [] = Walked e ∷ more []
-merged_one e more (own ∷ owns) =
-    match_ordering (slice_cmp nat_cmp e.0.items own.name) (Walked e ∷ more (own ∷ owns)) (Walked e ∷ more owns) (InPacked own ∷ merged_one e more owns)
+abbrev pub merged_entry : FoundEntry → (more : List Own → List Listed) → List Own → List Listed
+merged_entry e more [] = Walked e ∷ more []
+merged_entry e more (own ∷ owns) =
+    match_ordering (slice_cmp nat_cmp e.0.items own.name) (Walked e ∷ more (own ∷ owns)) (Walked e ∷ more owns) (InPacked own ∷ merged_entry e more owns)
 
 -- what was found and the records, by ascending names
-abbrev pub merged : List FoundEntry → List Own → List Listed
-merged [] owns = map InPacked owns
-merged (e ∷ found) owns = merged_one e (merged found) owns
+abbrev pub merged_listing : List FoundEntry → List Own → List Listed
+merged_listing [] owns = map InPacked owns
+merged_listing (e ∷ found) owns = merged_entry e (merged_listing found) owns
 
 -- what was found comes first, has the same name as the first record, or comes after it
 abbrev pub order_of : List FoundEntry → Option (Result OwnRecord Error) → Ordering
@@ -48,15 +48,15 @@ TakesFirst found (Some (taking.Packed item)) left = ⊥
 abbrev pub TakesListed : Settings → List Listed → Option Taken → Merge → Type 0
 TakesListed settings listed None t = (listed ≡ []) × (t.found.entries ≡ []) × AreAhead settings t.packed []
 TakesListed settings listed (Some (taking.Walked found)) t =
-    (e : FoundEntry) × (e.1 ≡ found) × (owns : List Own) × AreAhead settings t.packed owns × (listed ≡ Walked e ∷ merged t.found.entries owns)
+    (e : FoundEntry) × (e.1 ≡ found) × (owns : List Own) × AreAhead settings t.packed owns × (listed ≡ Walked e ∷ merged_listing t.found.entries owns)
 TakesListed settings listed (Some (taking.Packed (Ok own))) t =
-    (owns : List Own) × AreAhead settings t.packed owns × (listed ≡ InPacked (own_of own) ∷ merged t.found.entries owns)
+    (owns : List Own) × AreAhead settings t.packed owns × (listed ≡ InPacked (own_of own) ∷ merged_listing t.found.entries owns)
 TakesListed settings listed (Some (taking.Packed (Err error))) t = ⊥
 
 -- the first of a listing is this record, and what is left then
 abbrev pub TakesRecord : Settings → List Listed → OwnRecord → Merge → Type 0
 TakesRecord settings listed own t =
-    (owns : List Own) × AreAhead settings t.packed owns × (listed ≡ InPacked (own_of own) ∷ merged t.found.entries owns)
+    (owns : List Own) × AreAhead settings t.packed owns × (listed ≡ InPacked (own_of own) ∷ merged_listing t.found.entries owns)
 
 -- what comes next is no record
 abbrev pub IsNoRecord : List Listed → Type 0

@@ -1,5 +1,5 @@
 -- The records of `packed-refs` that a listing gives: each has a name whose own key it is.
-use Rattle.std.specs.Prelude.{◌≡◌, ◌+◌, ℕ, List, [], ◌∷◌, length, drop, nat_eq, bytes_eq, Bool, false, ◌&&◌, if◌then◌else◌, Option, Some, None, is_none, Result, Ok, Err}
+use Rattle.std.specs.Prelude.{◌≡◌, ◌+◌, ℕ, List, [], ◌∷◌, length, drop, nat_eq, ◌&&◌, if◌then◌else◌, Option, Some, None, is_none, Result, Ok, Err}
 use Rattle.std.specs.List.{starts_with}
 use Rattle.std.specs.Option.{option_len}
 use Rattle.gix_ref_name.specs.Names.{full_ref_bytes}
@@ -15,11 +15,7 @@ use Rattle.gix_ref_lookup.specs.StoreLayout.{namespace_text}
 use Rattle.gix_ref_lookup.specs.declared.settings.Settings.{Settings}
 use Rattle.gix_ref_listing.specs.declared.own_records.OwnRecord.{OwnRecord}
 use Rattle.gix_ref_listing.specs.declared.own_records.OwnRecords.{OwnRecords}
-
--- it is this key
-abbrev pub is_key : Option (List ℕ) → List ℕ → Bool
-is_key None key = false
-is_key (Some own) key = bytes_eq own key
+use Rattle.gix_ref_theory.specs.Edits.{is_key}
 
 -- the name that has this key, where that is the namespace and the name
 unfoldable pub own_name : Settings → (key : List ℕ) → Option (List ℕ)

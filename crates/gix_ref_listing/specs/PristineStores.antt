@@ -81,14 +81,14 @@ IsReading settings view path said.Nothing = ReadsNone settings view path
 IsReading settings view path said.Fault = Unit {0}
 
 -- what was found is a file that can be read
-abbrev pub IsReadable : Settings → View → Found → Type 0
-IsReadable settings view (File name path) = (target : TargetValue) × ReadsAt settings view path.items target
-IsReadable settings view (Unlisted path error) = ⊥
+abbrev pub IsReadableFile : Settings → View → Found → Type 0
+IsReadableFile settings view (File name path) = (target : TargetValue) × ReadsAt settings view path.items target
+IsReadableFile settings view (Unlisted path error) = ⊥
 
 -- or one that cannot
-abbrev pub IsUnreadable : Settings → View → Found → Type 0
-IsUnreadable settings view (File name path) = ReadsNone settings view path.items
-IsUnreadable settings view (Unlisted path error) = ⊥
+abbrev pub IsUnreadableFile : Settings → View → Found → Type 0
+IsUnreadableFile settings view (File name path) = ReadsNone settings view path.items
+IsUnreadableFile settings view (Unlisted path error) = ⊥
 
 -- what was found is a file
 abbrev pub IsFoundFile : Found → Type 0

@@ -8,22 +8,23 @@ use Rattle.gix_ref_files.specs.declared.files.FileError.TheVariants as faulty
 use Rattle.gix_ref_theory.specs.Views.{View}
 use Rattle.gix_ref_lookup.specs.StoreLayout.{folders_of}
 use Rattle.gix_ref_lookup.specs.declared.settings.Settings.{Settings}
-use Rattle.gix_ref_listing.specs.Walks.{Among, FoundEntry}
+use Rattle.gix_ref_listing.specs.Walks.{FoundEntry}
 use Rattle.gix_ref_listing.specs.LooseListings.{front_in, LooseIn, IsFileListed}
 use Rattle.gix_ref_listing.specs.Listings.{Listed}
 use Rattle.gix_ref_listing.specs.Listings.Listed.{Walked, InPacked}
-use Rattle.gix_ref_listing.specs.WholeListings.{Rises, IsLooseOf, IsName}
+use Rattle.gix_ref_listing.specs.WholeListings.{Rises, IsLooseOf, IsNameItem}
 use Rattle.gix_ref_listing.specs.Steps.{AreYet}
 use Rattle.gix_ref_listing.specs.declared.found.Found.TheVariants.{File, Unlisted}
 use Rattle.gix_ref_listing.specs.declared.merge.Merge.{Merge}
+use Rattle.gix_ref_lookup.specs.Lookups.{Among}
 
 -- a name without a slash that ends with `HEAD`
-abbrev pub is_pseudo : List ℕ → Bool
-is_pseudo name = ends_with nat_eq name (codes "HEAD") && not (list_any is_slash name)
+abbrev pub is_head_file : List ℕ → Bool
+is_head_file name = ends_with nat_eq name (codes "HEAD") && not (list_any is_slash name)
 
 -- what was found under a key is the file of such a name, or a folder that could not be listed
 abbrev pub is_kept : FoundEntry → Bool
-is_kept (key, File name path) = is_pseudo key.items
+is_kept (key, File name path) = is_head_file key.items
 is_kept (key, Unlisted path error) = true
 
 -- what comes before such names: the git folder and a slash, and in a namespace its folder there
@@ -32,11 +33,11 @@ git_front settings = front_in settings (folders_of settings.dirs.now settings.na
 
 -- such a name whose own place is directly in that folder, and a file is there
 abbrev pub IsPseudoListed : Settings → View → (name : List ℕ) → Type 0
-IsPseudoListed settings view name = (is_pseudo name ≡ true) × LooseIn settings view [] (git_front settings) name
+IsPseudoListed settings view name = (is_head_file name ≡ true) × LooseIn settings view [] (git_front settings) name
 
 -- the file at this path is the one of such a name
 pub record IsPseudoFile (settings : Settings) (view : View) (name path : List ℕ) : Type 0 where
-  pub is : is_pseudo name ≡ true
+  pub is : is_head_file name ≡ true
   pub file : IsFileListed settings view [] name path
   pub in_git : file.front ≡ git_front settings
 
@@ -61,5 +62,5 @@ pub record IsPseudoListing (settings : Settings) (view : View) (listed : List Li
 pub record ListsPseudo (settings : Settings) (view : View) (before now : ℕ) (m : Merge) : Type 0 where
   pub listed : List Listed
   pub is : IsPseudoListing settings view listed
-  pub names : AllByRecursion IsName listed ⊎ HasRisen before now
+  pub names : AllByRecursion IsNameItem listed ⊎ HasRisen before now
   pub yet : AreYet settings m listed

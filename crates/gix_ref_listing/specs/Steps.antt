@@ -6,7 +6,7 @@ use Rattle.gix_ref_theory.specs.OnRealTrees.{view_of}
 use Rattle.gix_ref_records.specs.declared.raw.Reference.{Reference}
 use Rattle.gix_ref_lookup.specs.declared.settings.Settings.{Settings}
 use Rattle.gix_ref_listing.specs.OwnRecords.{Own, own_of, AreAhead}
-use Rattle.gix_ref_listing.specs.Listings.{Listed, merged}
+use Rattle.gix_ref_listing.specs.Listings.{Listed, merged_listing}
 use Rattle.gix_ref_listing.specs.Listings.Listed.{InPacked}
 use Rattle.gix_ref_listing.specs.Items.{IsItem}
 use Rattle.gix_ref_listing.specs.declared.own_records.OwnRecord.{OwnRecord}
@@ -19,7 +19,7 @@ IsDrained m = (m.found.entries ≡ []) × (m.packed.first ≡ None)
 
 -- these are yet to come, without a line that is no record
 abbrev pub AreYet : Settings → Merge → List Listed → Type 0
-AreYet settings m listed = (owns : List Own) × AreAhead settings m.packed owns × (listed ≡ merged m.found.entries owns)
+AreYet settings m listed = (owns : List Own) × AreAhead settings m.packed owns × (listed ≡ merged_listing m.found.entries owns)
 
 -- What lending a record does: it is the first of those that are yet to come, of which there are some.
 pub record GivesRecord (settings : Settings) (s t : Merge) (own : OwnRecord) : Type 0 where

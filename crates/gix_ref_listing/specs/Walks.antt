@@ -7,7 +7,7 @@ use Rattle.gix_ref_name.specs.Names.{full_bytes}
 use Rattle.gix_ref_files.specs.declared.files.Entry.{Entry as ListedEntry}
 use Rattle.gix_ref_files.specs.declared.files.FileError.TheVariants as faulty
 use Rattle.gix_ref_theory.specs.Views.{View}
-use Rattle.gix_ref_lookup.specs.Lookups.{meaning_in, name_asked}
+use Rattle.gix_ref_lookup.specs.Lookups.{meaning_in, name_asked, Among}
 use Rattle.gix_ref_listing.specs.declared.found.Found.{Found}
 use Rattle.gix_ref_listing.specs.declared.found.Found.TheVariants.{File, Unlisted}
 use Rattle.gix_ref_listing.specs.declared.walk.Root.{Root}
@@ -37,11 +37,6 @@ pub record IsFileOfName (root : Root) (view : View) (name path : List ℕ) : Typ
   pub is : path ≡ root.path.now ++ disk
   pub asked : name ≡ name_asked root.settings.precompose_unicode disk
   pub there : IsSome (view path)
-
--- one of these has it
-abbrev pub Among : {A : Type 0} → (A → Type 0) → List A → Type 0
-Among P [] = ⊥
-Among P (x ∷ xs) = P x ⊎ Among P xs
 
 -- what was found under a key: a file, and the key is its name; or a folder that could not be listed
 abbrev pub FoundEntry : Type 0

@@ -13,10 +13,10 @@ use Rattle.gix_ref_packed.specs.Buffers.{buffer_kind, buffer_text}
 use Rattle.gix_ref_packed.specs.declared.packed.buffer.Buffer.{Buffer}
 use Rattle.gix_ref_packed.specs.declared.packed.iter.Iter.{Iter}
 use Rattle.gix_ref_theory.specs.Views.{View}
-use Rattle.gix_ref_lookup.specs.Lookups.{meaning_in}
+use Rattle.gix_ref_lookup.specs.Lookups.{meaning_in, Among}
 use Rattle.gix_ref_lookup.specs.StoreLayout.{namespace_text}
 use Rattle.gix_ref_lookup.specs.declared.settings.Settings.{Settings}
-use Rattle.gix_ref_listing.specs.Walks.{Among, Holds, IsFile}
+use Rattle.gix_ref_listing.specs.Walks.{Holds, IsFile}
 use Rattle.gix_ref_listing.specs.OwnRecords.{YetOf}
 use Rattle.gix_ref_listing.specs.Steps.{AreYet}
 use Rattle.gix_ref_listing.specs.declared.merge.Merge.{Merge}
@@ -81,9 +81,9 @@ pub record HoldsFor (kind : Kind) (prefix : List ℕ) (records : List Record) (t
   pub kept : records_prefixed prefix part ≡ records_prefixed prefix held
 
 -- so the buffer, if one is given
-abbrev pub AreHeld : (prefix : List ℕ) → Option (Bor Buffer) → List Record → Type 0
-AreHeld prefix None records = records ≡ []
-AreHeld prefix (Some buffer) records = HoldsFor (buffer_kind buffer.now) prefix records (buffer_text buffer.now)
+abbrev pub AreHeldOf : (prefix : List ℕ) → Option (Bor Buffer) → List Record → Type 0
+AreHeldOf prefix None records = records ≡ []
+AreHeldOf prefix (Some buffer) records = HoldsFor (buffer_kind buffer.now) prefix records (buffer_text buffer.now)
 
 -- the iterator is yet to give the records with this prefix of ascending records, each found by its name as among these
 pub record IsAskedOf (prefix : List ℕ) (records : List Record) (it : Option Iter) : Type 0 where
@@ -93,13 +93,13 @@ pub record IsAskedOf (prefix : List ℕ) (records : List Record) (it : Option It
   pub yet : YetOf it (records_prefixed prefix held)
 
 -- no folder
-abbrev pub IsName : Listed → Type 0
-IsName (Walked e) = IsFile e
-IsName (InPacked own) = Unit {0}
+abbrev pub IsNameItem : Listed → Type 0
+IsNameItem (Walked e) = IsFile e
+IsNameItem (InPacked own) = Unit {0}
 
 -- What is yet to come is the listing. A folder is in it only where the count of faults rose.
 pub record ListsAll (settings : Settings) (view : View) (records : List Record) (prefix : List ℕ) (before now : ℕ) (m : Merge) : Type 0 where
   pub listed : List Listed
   pub is : IsListing settings view records prefix listed
-  pub names : AllByRecursion IsName listed ⊎ HasRisen before now
+  pub names : AllByRecursion IsNameItem listed ⊎ HasRisen before now
   pub yet : AreYet settings m listed

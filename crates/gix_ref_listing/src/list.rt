@@ -6,7 +6,7 @@ ghost use Rattle.gix_ref_files.specs.Calls.{Unchanged};
 ghost use Rattle.gix_ref_theory.specs.OnRealTrees.{view_of};
 ghost use Rattle.gix_ref_lookup.specs.StoreLayout.{namespace_text};
 ghost use Rattle.gix_ref_listing.specs.PlainSettings.{plain};
-ghost use Rattle.gix_ref_listing.specs.WholeListings.{AreHeld, IsAskedOf, ListsAll, key_in};
+ghost use Rattle.gix_ref_listing.specs.WholeListings.{AreHeldOf, IsAskedOf, ListsAll, key_in};
 ghost use Rattle.gix_ref_listing.specs.declared.prefix.Error.TheVariants.{Memory};
 
 use crate::merge::Merge;
@@ -28,7 +28,7 @@ fn records_of<'p>(
     packed: Option<&'p Buffer>,
 ) -> Result<Option<Iter<'p>>, AllocError>
     ensures { (records : List Record) →
-        AreHeld (namespace_text namespace.now ++ prefix.now) packed.entry records →
+        AreHeldOf (namespace_text namespace.now ++ prefix.now) packed.entry records →
         IfOk result (IsAskedOf (namespace_text namespace.now ++ prefix.now) records) }
 {
     match packed {
@@ -51,7 +51,7 @@ pub fn list<'p, F: Files>(
     packed: Option<&'p Buffer>,
 ) -> Result<Merge<'p>, Error>
     ensures lists { F.honest → (records : List Record) →
-        AreHeld (key_in settings.entry prefix.now) packed.entry records →
+        AreHeldOf (key_in settings.entry prefix.now) packed.entry records →
         IfOk result (ListsAll (plain settings.entry) (view_of (F.means files.old).tree) records
         prefix.now (F.faults files.old) (F.faults files.new)) }
     ensures rises { F.faults files.old ≤ F.faults files.new }

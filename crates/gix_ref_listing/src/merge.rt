@@ -27,7 +27,7 @@ impl<'p> Merge<'p> {
     ghost use Rattle.std.specs.Prelude.{◌≡◌, ◌≤◌, ◌+◌, List, IfNone, IfSome, None};
     ghost use Rattle.std.specs.Option.{option_len};
     ghost use Rattle.gix_ref_listing.specs.OwnRecords.{Own, AreAhead};
-    ghost use Rattle.gix_ref_listing.specs.Listings.{merged, order_of, TakesFirst, TakesListed, TakesRecord, IsNoRecord, merge_left};
+    ghost use Rattle.gix_ref_listing.specs.Listings.{merged_listing, order_of, TakesFirst, TakesListed, TakesRecord, IsNoRecord, merge_left};
     ghost use Rattle.gix_ref_listing.specs.Steps.{IsDrained};
 
     /// Whether what was found comes before the next record, is of the same name, or comes after it.
@@ -58,7 +58,8 @@ impl<'p> Merge<'p> {
     /// The next of the listing.
     pub fn take(&mut self, settings: Settings<'_>) -> Option<Taken<'p>>
         ensures takes { (owns : List Own) → AreAhead settings.entry self.old.packed owns →
-            TakesListed settings.entry (merged self.old.found.entries owns) result self.new }
+            TakesListed settings.entry (merged_listing self.old.found.entries owns) result
+            self.new }
         ensures left { option_len result + merge_left self.new ≤ merge_left self.old }
         ensures ends { IfNone result (IsDrained self.new) }
         ensures stays_ended { IsDrained self.old → result ≡ None }
@@ -81,10 +82,10 @@ impl<'p> Merge<'p> {
     pub fn take_record(&mut self, settings: Settings<'_>) -> Option<OwnRecord<'p>>
         ensures takes { IfSome result (λ own. (owns : List Own) →
             AreAhead settings.entry self.old.packed owns →
-            TakesRecord settings.entry (merged self.old.found.entries owns) own self.new) }
+            TakesRecord settings.entry (merged_listing self.old.found.entries owns) own self.new) }
         ensures none { IfNone result ((owns : List Own) →
             AreAhead settings.entry self.old.packed owns →
-            IsNoRecord (merged self.old.found.entries owns)) }
+            IsNoRecord (merged_listing self.old.found.entries owns)) }
         ensures goes_on { IfSome result (λ _. IsDrained self.old → ⊥) }
         ensures stays { IfNone result (self.new ≡ self.old) }
         ensures left { option_len result + merge_left self.new ≤ merge_left self.old }

@@ -7,7 +7,8 @@ ghost use Rattle.gix_ref_base.specs.PackedRecords.{Record};
 ghost use Rattle.gix_ref_lookup.specs.StoreLayout.{namespace_text};
 ghost use Rattle.gix_ref_packed.specs.YetToGive.{IsYet};
 ghost use Rattle.gix_ref_lookup.specs.Lookups.{meaning_in};
-ghost use Rattle.gix_ref_listing.specs.OwnRecords.{is_key, own_name, own_records, records_left, GivesOwn};
+ghost use Rattle.gix_ref_theory.specs.Edits.{is_key};
+ghost use Rattle.gix_ref_listing.specs.OwnRecords.{own_name, own_records, records_left, GivesOwn};
 
 use gix_ref_base::layout::packed_key;
 use gix_ref_hash::bytes::strip_front;

@@ -1,6 +1,6 @@
 //! Which prefixes have a listing.
 ghost use Rattle.std.specs.Prelude.{◌≡◌, MatchResult};
-ghost use Rattle.gix_ref_listing.specs.CleanPrefixes.{is_clean_prefix, without_slash, IsTaken, IsRefused};
+ghost use Rattle.gix_ref_listing.specs.CleanPrefixes.{is_clean_prefix, without_slash, IsAcceptedPrefix, IsRefusedPrefix};
 
 use gix_ref_lookup::folders::is_clean_path;
 use gix_ref_name::namespace::Namespace;
@@ -55,8 +55,8 @@ fn is_clean(prefix: &[u8]) -> bool
 
 /// Whether the prefix has a listing, in this namespace or in none.
 pub fn check_prefix(namespace: &Option<Namespace>, prefix: &[u8]) -> Result<(), Error>
-    ensures { MatchResult result (λ _. IsTaken namespace.now prefix.now)
-        (IsRefused namespace.now prefix.now) }
+    ensures { MatchResult result (λ _. IsAcceptedPrefix namespace.now prefix.now)
+        (IsRefusedPrefix namespace.now prefix.now) }
 {
     if prefix.is_empty() && namespace.is_none() {
         return Err(Error::EmptyPrefix);

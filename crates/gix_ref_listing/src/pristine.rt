@@ -8,9 +8,10 @@ ghost use Rattle.gix_ref_files.specs.Files.{Leaves, HasRisen};
 ghost use Rattle.gix_ref_files.specs.Calls.{Unchanged};
 ghost use Rattle.gix_ref_theory.specs.OnRealTrees.{view_of};
 ghost use Rattle.gix_ref_listing.specs.PlainSettings.{plain};
-ghost use Rattle.gix_ref_listing.specs.PristineStores.{Says, IsReading, IsReadable, IsUnreadable, ReadsAt, ReadsNone, HasOtherHead, HasLoose, HasNoLoose, HasReferences, HasNoReferences, IsFoundFile, IsPristine, IsInUse, has_packed_refs, head_path};
-ghost use Rattle.gix_ref_listing.specs.Walks.{Among, IsFile, FoundEntry};
+ghost use Rattle.gix_ref_listing.specs.PristineStores.{Says, IsReading, IsReadableFile, IsUnreadableFile, ReadsAt, ReadsNone, HasOtherHead, HasLoose, HasNoLoose, HasReferences, HasNoReferences, IsFoundFile, IsPristine, IsInUse, has_packed_refs, head_path};
+ghost use Rattle.gix_ref_listing.specs.Walks.{IsFile, FoundEntry};
 ghost use Rattle.gix_ref_listing.specs.declared.pristine.Reading.TheVariants.{Fault};
+ghost use Rattle.gix_ref_lookup.specs.Lookups.{Among};
 
 use crate::found::{Found, FoundByKey};
 use crate::store_walk::walk_store;
@@ -133,9 +134,9 @@ fn is_readable<F: Files>(
     other: bool,
 ) -> Result<Option<bool>, AllocError>
     ensures says { IfOk result (Says
-        ((other ≡ true) ⊎ (F.honest → IsReadable (plain settings.entry)
+        ((other ≡ true) ⊎ (F.honest → IsReadableFile (plain settings.entry)
         (view_of (F.means files.old).tree) found))
-        ((other ≡ false) × (F.honest → IsUnreadable (plain settings.entry)
+        ((other ≡ false) × (F.honest → IsUnreadableFile (plain settings.entry)
         (view_of (F.means files.old).tree) found))
         (IsFoundFile found → HasRisen (F.faults files.old) (F.faults files.new))) }
     ensures rises { F.faults files.old ≤ F.faults files.new }
@@ -164,9 +165,9 @@ fn any_readable<F: Files>(
     mut found: FoundByKey,
 ) -> Result<Option<bool>, AllocError>
     ensures says { IfOk result (Says
-        (F.honest → Among (λ e. IsReadable (plain settings.entry)
+        (F.honest → Among (λ e. IsReadableFile (plain settings.entry)
         (view_of (F.means files.old).tree) e.1) found.entries)
-        (F.honest → All (λ e. IsUnreadable (plain settings.entry)
+        (F.honest → All (λ e. IsUnreadableFile (plain settings.entry)
         (view_of (F.means files.old).tree) e.1) found.entries)
         (All IsFile found.entries → HasRisen (F.faults files.old) (F.faults files.new))) }
     ensures rises { F.faults files.old ≤ F.faults files.new }

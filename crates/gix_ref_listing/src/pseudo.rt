@@ -7,9 +7,10 @@ ghost use Rattle.gix_ref_files.specs.Calls.{Unchanged};
 ghost use Rattle.gix_ref_files.specs.declared.files.FileError.TheVariants.{Memory as no_memory};
 ghost use Rattle.gix_ref_theory.specs.OnRealTrees.{view_of};
 ghost use Rattle.gix_ref_listing.specs.PlainSettings.{plain};
-ghost use Rattle.gix_ref_listing.specs.PseudoListings.{is_pseudo, is_kept, IsPseudoListed, IsPseudoFound, ListsPseudo};
-ghost use Rattle.gix_ref_listing.specs.Walks.{Among, Holds, IsFile};
+ghost use Rattle.gix_ref_listing.specs.PseudoListings.{is_head_file, is_kept, IsPseudoListed, IsPseudoFound, ListsPseudo};
+ghost use Rattle.gix_ref_listing.specs.Walks.{Holds, IsFile};
 ghost use Rattle.gix_ref_listing.specs.declared.prefix.Error.TheVariants.{Memory};
+ghost use Rattle.gix_ref_lookup.specs.Lookups.{Among};
 
 use crate::found::{Found, FoundByKey};
 use crate::merge::Merge;
@@ -23,8 +24,8 @@ use std::alloc::Global;
 use std::collections::BTreeMap;
 
 /// Whether a name has no slash and ends with `HEAD`.
-fn is_pseudo(name: &[u8]) -> bool
-    ensures { result ≡ is_pseudo name.now }
+fn is_head_file(name: &[u8]) -> bool
+    ensures { result ≡ is_head_file name.now }
 {
     name.ends_with(b"HEAD") && !name.contains(&b'/')
 }
@@ -34,7 +35,7 @@ fn is_kept(key: &[u8], found: &Found) -> bool
     ensures { (k : _) → k.items ≡ key.now → result ≡ is_kept (k, found.now) }
 {
     match found {
-        Found::File { .. } => is_pseudo(key),
+        Found::File { .. } => is_head_file(key),
         Found::Unlisted { .. } => true,
     }
 }

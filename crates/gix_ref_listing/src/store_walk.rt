@@ -7,8 +7,9 @@ ghost use Rattle.gix_ref_files.specs.Calls.{Unchanged};
 ghost use Rattle.gix_ref_files.specs.declared.files.FileError.TheVariants.{Memory};
 ghost use Rattle.gix_ref_theory.specs.OnRealTrees.{view_of};
 ghost use Rattle.gix_ref_lookup.specs.StoreLayout.{namespace_text};
-ghost use Rattle.gix_ref_listing.specs.Walks.{Among, Holds, IsFile, IsFolderPath, IsRootPath, StaysFound};
+ghost use Rattle.gix_ref_listing.specs.Walks.{Holds, IsFile, IsFolderPath, IsRootPath, StaysFound};
 ghost use Rattle.gix_ref_listing.specs.LooseListings.{IsFront, IsLooseListed, IsFoundIn, LooseIn};
+ghost use Rattle.gix_ref_lookup.specs.Lookups.{Among};
 
 use crate::found::FoundByKey;
 use crate::walk::Root;

@@ -6,12 +6,12 @@ ghost use Rattle.gix_ref_hash.specs.Bytes.{BeginsWith, NoByte};
 ghost use Rattle.gix_ref_grammar.specs.NameGrammar.{IsPartialName};
 ghost use Rattle.gix_ref_name.specs.Names.{full_bytes, full_ref_bytes};
 ghost use Rattle.gix_ref_files.specs.Files.{Leaves, HasRisen};
-ghost use Rattle.gix_ref_files.specs.Calls.{Unchanged, IsListing};
+ghost use Rattle.gix_ref_files.specs.Calls.{Unchanged, ListsFolder};
 ghost use Rattle.gix_ref_files.specs.declared.files.FileError.TheVariants.{Memory};
 ghost use Rattle.gix_ref_theory.specs.OnRealTrees.{view_of};
 ghost use Rattle.gix_ref_theory.specs.Views.{View};
-ghost use Rattle.gix_ref_lookup.specs.Lookups.{name_asked};
-ghost use Rattle.gix_ref_listing.specs.Walks.{FoundEntry, IsListedName, IsThereOr, IsOwnName, IsLooseName, Among, Holds, IsThere, IsFile, IsFileOf, IsTaken, StaysFound, IsFolderPath, IsInnerPath, IsBelow, IsRootPath, Reaches};
+ghost use Rattle.gix_ref_lookup.specs.Lookups.{name_asked, Among};
+ghost use Rattle.gix_ref_listing.specs.Walks.{FoundEntry, IsListedName, IsThereOr, IsOwnName, IsLooseName, Holds, IsThere, IsFile, IsFileOf, IsTaken, StaysFound, IsFolderPath, IsInnerPath, IsBelow, IsRootPath, Reaches};
 
 use crate::found::{Found, FoundByKey};
 use gix_ref_files::files::{Entry, FileError, Files};

@@ -13,9 +13,9 @@ use Rattle.gix_ref_log.specs.declared.log.iter.error.ReverseError.TheVariants.{I
 use Rattle.gix_ref_files.specs.declared.files.FileError.{FileError}
 use Rattle.gix_ref_log.specs.declared.log.iter.stage.Stage.{Stage}
 use Rattle.gix_ref_log.specs.declared.log.iter.stage.Stage.TheVariants.{Unread, Reading, Done}
-use Rattle.gix_ref_log.specs.LogItems.{Item, Text, TooSmall, backward, bytes_in, items_from, Gives, LineGives}
+use Rattle.gix_ref_log.specs.LogItems.{Item, Text, TooSmall, backward, len_without_feed, items_from, GivesLine, LineGives}
 use Rattle.gix_ref_log.specs.LogStages.{NoFeed, tail_of, text_of_line, stage_of}
-use Rattle.gix_ref_log.specs.LogWindows.{IsWindow, Begins, Ends, Tied, to_come}
+use Rattle.gix_ref_log.specs.LogWindows.{IsLogWindow, BeginsAtEnd, EndsWindow, Tied, to_come}
 use Rattle.gix_ref_log.proofs.LastLines.{found, lone, long, some_lines}
 
 by : (A : Type 0) → A → A
@@ -37,11 +37,11 @@ at_feed w i h =
     let here : slice_index w i ≡ 10 = eqb-true _ _ h.1 in
     sym (take-append-drop i w) ∙ ap (λ (z : List ℕ). take i w ++ z) (drop_more w i 0 (omega arith) ∙ ap (λ (b : ℕ). b ∷ drop (i + 1) w) here)
 
-front_is : (log buf : List ℕ) (pos end : ℕ) → IsWindow log buf pos end → take (pos + end) log ≡ take pos log ++ take end buf
+front_is : (log buf : List ℕ) (pos end : ℕ) → IsLogWindow log buf pos end → take (pos + end) log ≡ take pos log ++ take end buf
 front_is log buf pos end w = take-add pos end log ∙ ap (λ (z : List ℕ). take pos log ++ z) (sym w.same)
 
 -- the line at the end of a log has a byte where no line feed follows it
-some_last : (log buf : List ℕ) (pos end i e n : ℕ) (ends : Bool) → IsWindow log buf pos end → pos + end ≡ e → Ends ends log e n
+some_last : (log buf : List ℕ) (pos end i e n : ℕ) (ends : Bool) → IsLogWindow log buf pos end → pos + end ≡ e → EndsWindow ends log e n
     → IsLastByte (is_byte 10) (take end buf) (Some i) → (0 < length (drop (i + 1) (take end buf) ++ tail_of ends)) × (n + 1 + (pos + i) ≤ length log) × (i < end)
 some_last log buf pos end i e n true w sum o h =
     let high = h.0.high in
@@ -61,7 +61,7 @@ some_last log buf pos end i e n false w sum o h =
     let more : i + 1 < end = ⊎_elim (λ (l : i + 1 < end). l) (λ (g : end ≤ i + 1). absurd (o.3 (ap (slice_index log) (by (length log - 1 ≡ pos + i) (omega arith)) ∙ in_log))) (cases_lt (i + 1) end) in
     (omega arith, omega arith, omega arith)
 
-found_items : (room n : ℕ) (log buf : List ℕ) (pos end i : ℕ) (ends : Bool) → length buf ≡ room → IsWindow log buf pos end → IsLastByte (is_byte 10) (take end buf) (Some i)
+found_items : (room n : ℕ) (log buf : List ℕ) (pos end i : ℕ) (ends : Bool) → length buf ≡ room → IsLogWindow log buf pos end → IsLastByte (is_byte 10) (take end buf) (Some i)
     → 0 < length (drop (i + 1) (take end buf) ++ tail_of ends)
     → items_from room n (take (pos + end) log ++ tail_of ends) ≡ Text n (text_of_line ends (slice_range buf (i + 1) end)) ∷ items_from room (n + 1) (take (pos + i) log ++ 10 ∷ [])
 found_items room n log buf pos end i ends size w h some =
@@ -85,8 +85,8 @@ found_items room n log buf pos end i ends size w h some =
 -- a line that was found, and what is to come after it
 found_case : (room n e : ℕ) (log buf : List ℕ) (pos i : ℕ) (ends : Bool) (text : List ℕ) (r : Result Line ReverseError)
     → items_from room n (take e log ++ tail_of ends) ≡ Text n text ∷ items_from room (n + 1) (take (pos + i) log ++ 10 ∷ [])
-    → LineGives n text r → IsWindow log buf pos i → n + 1 + (pos + i) ≤ length log
-    → Gives (items_from room n (take e log ++ tail_of ends)) (Some r) (to_come (stage_of r) room log pos i (n + 1)) × Tied (stage_of r) log buf pos i (n + 1)
+    → LineGives n text r → IsLogWindow log buf pos i → n + 1 + (pos + i) ≤ length log
+    → GivesLine (items_from room n (take e log ++ tail_of ends)) (Some r) (to_come (stage_of r) room log pos i (n + 1)) × Tied (stage_of r) log buf pos i (n + 1)
 found_case room n e log buf pos i ends text (Ok l) is h w bound = ((n, text, is, h), (w, bound))
 found_case room n e log buf pos i ends text (Err (Decode d)) is h w bound = ((n, text, is, h.0, h.1), (w, bound))
 found_case room n e log buf pos i ends text (Err Memory) is h w bound = ((refl, (n, text, _, h.0, is, h.1)), tt)
@@ -94,9 +94,9 @@ found_case room n e log buf pos i ends text (Err BufferTooSmall) is h w bound = 
 found_case room n e log buf pos i ends text (Err (Io d)) is h w bound = absurd h
 
 pub found_step : (room n m e : ℕ) (log buf : List ℕ) (pos end i : ℕ) (ends : Bool) (r : Result Line ReverseError) (s : Stage) → length buf ≡ room → length log < 2 ^ 64 → m ≡ n + 1 → s ≡ stage_of r
-    → pos + end ≡ e → IsWindow log buf pos end → Ends ends log e n → IsLastByte (is_byte 10) (take end buf) (Some i)
+    → pos + end ≡ e → IsLogWindow log buf pos end → EndsWindow ends log e n → IsLastByte (is_byte 10) (take end buf) (Some i)
     → LineGives n (text_of_line ends (slice_range buf (i + 1) end)) r
-    → Gives (items_from room n (take e log ++ tail_of ends)) (Some r) (to_come s room log pos i m) × ((length log < 2 ^ 64) × Tied s log buf pos i m)
+    → GivesLine (items_from room n (take e log ++ tail_of ends)) (Some r) (to_come s room log pos i m) × ((length log < 2 ^ 64) × Tied s log buf pos i m)
 found_step room n m e log buf pos end i ends r s size small next stage sum w o h gives =
     let facts = some_last log buf pos end i e n ends w sum o h in
     let items = found_items room n log buf pos end i ends size w h facts.0 in
@@ -107,21 +107,21 @@ found_step room n m e log buf pos end i ends r s size small next stage sum w o h
     let lt = facts.2 in
     let shorter : take i buf ≡ take i (drop pos log) =
     sym (take-take i end buf (omega arith)) ∙ ap (take i) w.same ∙ take-take i end (drop pos log) (omega arith) in
-    let window : IsWindow log buf pos i = record { fits = omega arith; within = omega arith; same = shorter } in
+    let window : IsLogWindow log buf pos i = record { fits = omega arith; within = omega arith; same = shorter } in
     let all = found_case room n e log buf pos i ends (text_of_line ends (slice_range buf (i + 1) end)) r there gives window facts.1 in
-    let step : Gives (items_from room n (take e log ++ tail_of ends)) (Some r) (to_come s room log pos i m) =
-    subst (λ (k : ℕ). Gives (items_from room n (take e log ++ tail_of ends)) (Some r) (to_come s room log pos i k)) (sym next)
-    (subst (λ (t : Stage). Gives (items_from room n (take e log ++ tail_of ends)) (Some r) (to_come t room log pos i (n + 1))) (sym stage) all.0) in
+    let step : GivesLine (items_from room n (take e log ++ tail_of ends)) (Some r) (to_come s room log pos i m) =
+    subst (λ (k : ℕ). GivesLine (items_from room n (take e log ++ tail_of ends)) (Some r) (to_come s room log pos i k)) (sym next)
+    (subst (λ (t : Stage). GivesLine (items_from room n (take e log ++ tail_of ends)) (Some r) (to_come t room log pos i (n + 1))) (sym stage) all.0) in
     let tied : Tied s log buf pos i m = subst (λ (k : ℕ). Tied s log buf pos i k) (sym next) (subst (λ (t : Stage). Tied t log buf pos i (n + 1)) (sym stage) all.1) in
     (step, (small, tied))
 
 -- something is left
-some_left : (log : List ℕ) (e n : ℕ) (ends : Bool) → e ≤ length log → Ends ends log e n → 0 < length (take e log ++ tail_of ends)
+some_left : (log : List ℕ) (e n : ℕ) (ends : Bool) → e ≤ length log → EndsWindow ends log e n → 0 < length (take e log ++ tail_of ends)
 some_left log e n true within o = let l = length-append (take e log) (10 ∷ []) in omega arith
 some_left log e n false within o = let l = length-append (take e log) [] in let k = length-take-le e log within in let p = o.1 in omega arith
 
 -- the oldest line, which is all that is left
-lone_case : (n : ℕ) (items : List Item) (text : List ℕ) (r : Result Line ReverseError) → items ≡ Text n text ∷ [] → LineGives n text r → Gives items (Some r) []
+lone_case : (n : ℕ) (items : List Item) (text : List ℕ) (r : Result Line ReverseError) → items ≡ Text n text ∷ [] → LineGives n text r → GivesLine items (Some r) []
 lone_case n items text (Ok l) is h = (n, text, is, h)
 lone_case n items text (Err (Decode d)) is h = (n, text, is, h.0, h.1)
 lone_case n items text (Err Memory) is h = (refl, (n, text, _, h.0, is, h.1))
@@ -129,9 +129,9 @@ lone_case n items text (Err BufferTooSmall) is h = absurd h
 lone_case n items text (Err (Io d)) is h = absurd h
 
 pub lone_step : (room n e : ℕ) (log buf : List ℕ) (pos end : ℕ) (ends : Bool) (r : Result Line ReverseError) → length buf ≡ room → pos ≡ 0
-    → pos + end ≡ e → IsWindow log buf pos end → Ends ends log e n → IsLastByte (is_byte 10) (take end buf) None
+    → pos + end ≡ e → IsLogWindow log buf pos end → EndsWindow ends log e n → IsLastByte (is_byte 10) (take end buf) None
     → LineGives n (text_of_line ends (slice_range buf 0 end)) r
-    → Gives (items_from room n (take e log ++ tail_of ends)) (Some r) []
+    → GivesLine (items_from room n (take e log ++ tail_of ends)) (Some r) []
 lone_step room n e log buf pos end ends r size first sum w o h gives =
     let fits = w.fits in
     let within = w.within in
@@ -147,8 +147,8 @@ lone_step room n e log buf pos end ends r size first sum w o h gives =
     lone_case n _ _ r items gives
 
 pub small_step : (room n e : ℕ) (log buf : List ℕ) (pos end : ℕ) (ends : Bool) → length buf ≡ room → 0 < room → 0 < pos → end ≡ room
-    → pos + end ≡ e → IsWindow log buf pos end → IsLastByte (is_byte 10) (take end buf) None
-    → Gives (items_from room n (take e log ++ tail_of ends)) (Some (Err BufferTooSmall)) []
+    → pos + end ≡ e → IsLogWindow log buf pos end → IsLastByte (is_byte 10) (take end buf) None
+    → GivesLine (items_from room n (take e log ++ tail_of ends)) (Some (Err BufferTooSmall)) []
 small_step room n e log buf pos end ends size pos_room more full sum w h =
     let fits = w.fits in
     let within = w.within in
@@ -164,34 +164,34 @@ small_step room n e log buf pos end ends size pos_room more full sum w h =
 some_backward : (room n : ℕ) (ps : List (List ℕ)) → 0 < length ps → backward room n ps ≢ []
 some_backward room n [] some is = absurd (omega arith)
 some_backward room n (p ∷ []) some is = ⊎_elim
-    (λ (yes : nat_le (bytes_in p) room ≡ true). let e : cond true (Text n (without_terminator p) ∷ []) (TooSmall ∷ []) ≡ [] = subst (λ (b : Bool). cond b (Text n (without_terminator p) ∷ []) (TooSmall ∷ []) ≡ []) yes is in cc)
-    (λ (no : nat_le (bytes_in p) room ≡ false). let e : cond false (Text n (without_terminator p) ∷ []) (TooSmall ∷ []) ≡ [] = subst (λ (b : Bool). cond b (Text n (without_terminator p) ∷ []) (TooSmall ∷ []) ≡ []) no is in cc)
-    (cases_Bool (nat_le (bytes_in p) room))
+    (λ (yes : nat_le (len_without_feed p) room ≡ true). let e : cond true (Text n (without_terminator p) ∷ []) (TooSmall ∷ []) ≡ [] = subst (λ (b : Bool). cond b (Text n (without_terminator p) ∷ []) (TooSmall ∷ []) ≡ []) yes is in cc)
+    (λ (no : nat_le (len_without_feed p) room ≡ false). let e : cond false (Text n (without_terminator p) ∷ []) (TooSmall ∷ []) ≡ [] = subst (λ (b : Bool). cond b (Text n (without_terminator p) ∷ []) (TooSmall ∷ []) ≡ []) no is in cc)
+    (cases_Bool (nat_le (len_without_feed p) room))
 some_backward room n (p ∷ q ∷ ps) some is = ⊎_elim
-    (λ (yes : nat_le (bytes_in p + 1) room ≡ true). let e : cond true (Text n (without_terminator p) ∷ backward room (n + 1) (q ∷ ps)) (TooSmall ∷ []) ≡ [] = subst (λ (b : Bool). cond b (Text n (without_terminator p) ∷ backward room (n + 1) (q ∷ ps)) (TooSmall ∷ []) ≡ []) yes is in cc)
-    (λ (no : nat_le (bytes_in p + 1) room ≡ false). let e : cond false (Text n (without_terminator p) ∷ backward room (n + 1) (q ∷ ps)) (TooSmall ∷ []) ≡ [] = subst (λ (b : Bool). cond b (Text n (without_terminator p) ∷ backward room (n + 1) (q ∷ ps)) (TooSmall ∷ []) ≡ []) no is in cc)
-    (cases_Bool (nat_le (bytes_in p + 1) room))
+    (λ (yes : nat_le (len_without_feed p + 1) room ≡ true). let e : cond true (Text n (without_terminator p) ∷ backward room (n + 1) (q ∷ ps)) (TooSmall ∷ []) ≡ [] = subst (λ (b : Bool). cond b (Text n (without_terminator p) ∷ backward room (n + 1) (q ∷ ps)) (TooSmall ∷ []) ≡ []) yes is in cc)
+    (λ (no : nat_le (len_without_feed p + 1) room ≡ false). let e : cond false (Text n (without_terminator p) ∷ backward room (n + 1) (q ∷ ps)) (TooSmall ∷ []) ≡ [] = subst (λ (b : Bool). cond b (Text n (without_terminator p) ∷ backward room (n + 1) (q ∷ ps)) (TooSmall ∷ []) ≡ []) no is in cc)
+    (cases_Bool (nat_le (len_without_feed p + 1) room))
 
 pub some_items : (room n : ℕ) (log : List ℕ) → 0 < length log → items_from room n log ≢ []
 unfolding items_from
 some_items room n log some = some_backward room n (reverse (lines_of log)) (some_lines log some)
 
-pub fault_step : (room n e : ℕ) (log : List ℕ) (ends : Bool) (error : FileError) → e ≤ length log → Ends ends log e n
-    → Gives (items_from room n (take e log ++ tail_of ends)) (Some (Err (Io error))) []
+pub fault_step : (room n e : ℕ) (log : List ℕ) (ends : Bool) (error : FileError) → e ≤ length log → EndsWindow ends log e n
+    → GivesLine (items_from room n (take e log ++ tail_of ends)) (Some (Err (Io error))) []
 fault_step room n e log ends error within o = (some_items room n (take e log ++ tail_of ends) (some_left log e n ends within o), refl)
 
 -- the same, at the values after the call
 pub found_after : (room room' n n' m pos' end' : ℕ) (log log' buf : List ℕ) (pos end i : ℕ) (ends : Bool) (r : Result Line ReverseError) (s : Stage)
     → log' ≡ log → room' ≡ room → n' ≡ n → length buf ≡ room' → length log < 2 ^ 64 → m ≡ n' + 1 → s ≡ stage_of r
-    → pos + end ≡ pos' + end' → IsWindow log buf pos end → Ends ends log (pos' + end') n → IsLastByte (is_byte 10) (take end buf) (Some i)
+    → pos + end ≡ pos' + end' → IsLogWindow log buf pos end → EndsWindow ends log (pos' + end') n → IsLastByte (is_byte 10) (take end buf) (Some i)
     → LineGives n' (text_of_line ends (slice_range buf (i + 1) end)) r
-    → Gives (items_from room n (take (pos' + end') log ++ tail_of ends)) (Some r) (to_come s room' log' pos i m) × ((length log' < 2 ^ 64) × Tied s log' buf pos i m)
+    → GivesLine (items_from room n (take (pos' + end') log ++ tail_of ends)) (Some r) (to_come s room' log' pos i m) × ((length log' < 2 ^ 64) × Tied s log' buf pos i m)
 found_after room room' n n' m pos' end' log log' buf pos end i ends r s same_log same_room same_number size small next stage sum w o h gives =
     let e = pos' + end' in
     let given : LineGives n (text_of_line ends (slice_range buf (i + 1) end)) r = subst (λ (k : ℕ). LineGives k (text_of_line ends (slice_range buf (i + 1) end)) r) same_number gives in
     let step = found_step room n m e log buf pos end i ends r s (size ∙ same_room) small (next ∙ ap (λ (k : ℕ). k + 1) same_number) stage sum w o h given in
-    subst (λ (l : List ℕ). Gives (items_from room n (take (pos' + end') log ++ tail_of ends)) (Some r) (to_come s room' l pos i m) × ((length l < 2 ^ 64) × Tied s l buf pos i m)) (sym same_log)
-    (subst (λ (k : ℕ). Gives (items_from room n (take (pos' + end') log ++ tail_of ends)) (Some r) (to_come s k log pos i m) × ((length log < 2 ^ 64) × Tied s log buf pos i m)) (sym same_room) step)
+    subst (λ (l : List ℕ). GivesLine (items_from room n (take (pos' + end') log ++ tail_of ends)) (Some r) (to_come s room' l pos i m) × ((length l < 2 ^ 64) × Tied s l buf pos i m)) (sym same_log)
+    (subst (λ (k : ℕ). GivesLine (items_from room n (take (pos' + end') log ++ tail_of ends)) (Some r) (to_come s k log pos i m) × ((length log < 2 ^ 64) × Tied s log buf pos i m)) (sym same_room) step)
 
 none_left : (room n : ℕ) (log : List ℕ) → length log ≡ 0 → items_from room n log ≡ []
 unfolding items_from
@@ -200,25 +200,25 @@ none_left room n (b ∷ log) none = absurd (omega arith)
 
 -- the first call, of an empty log
 pub start_none : (st : Stage) (room n pos end : ℕ) (log buf : List ℕ) → st ≡ Unread → pos ≡ 0 → length log < 2 ^ 64 → Tied st log buf pos end n
-    → Gives (to_come st room log pos end n) None [] × ((length log < 2 ^ 64) × Unit {0})
+    → GivesLine (to_come st room log pos end n) None [] × ((length log < 2 ^ 64) × Unit {0})
 start_none Unread room n pos end log buf is first small tied = let at = tied.0 in ((none_left room n log (omega arith), refl), (small, tt))
 start_none Reading room n pos end log buf is first small tied = absurd (cc)
 start_none Done room n pos end log buf is first small tied = absurd (cc)
 
 -- the first call, and a fault
 pub start_fault : (st : Stage) (room n pos end : ℕ) (log buf : List ℕ) (error : FileError) → st ≡ Unread → 0 < pos → Tied st log buf pos end n
-    → Gives (to_come st room log pos end n) (Some (Err (Io error))) []
+    → GivesLine (to_come st room log pos end n) (Some (Err (Io error))) []
 start_fault Unread room n pos end log buf error is more tied = let at = tied.0 in (some_items room n log (omega arith), refl)
 start_fault Reading room n pos end log buf error is more tied = absurd (cc)
 start_fault Done room n pos end log buf error is more tied = absurd (cc)
 
 -- what the first read leaves to be given
-begin_open : (log buf : List ℕ) (pos end n : ℕ) (ends : Bool) → n ≡ 1 → length log < 2 ^ 64 → Begins log buf pos end ends
-    → (length log < 2 ^ 64) × IsWindow log buf pos end × Ends ends log (pos + end) n
+begin_open : (log buf : List ℕ) (pos end n : ℕ) (ends : Bool) → n ≡ 1 → length log < 2 ^ 64 → BeginsAtEnd log buf pos end ends
+    → (length log < 2 ^ 64) × IsLogWindow log buf pos end × EndsWindow ends log (pos + end) n
 begin_open log buf pos end n true one small b = let whole = b.1 in (small, b.0, omega arith)
 begin_open log buf pos end n false one small b = let some = b.2 in (small, b.0, (one, omega arith, b.1, b.3))
 
-begin_items : (room n : ℕ) (log buf : List ℕ) (pos end : ℕ) (ends : Bool) → Begins log buf pos end ends
+begin_items : (room n : ℕ) (log buf : List ℕ) (pos end : ℕ) (ends : Bool) → BeginsAtEnd log buf pos end ends
     → items_from room n (take (pos + end) log ++ tail_of ends) ≡ items_from room n log
 begin_items room n log buf pos end true b = ap (items_from room n) b.2
 begin_items room n log buf pos end false b =
@@ -227,18 +227,18 @@ begin_items room n log buf pos end false b =
 -- the first call, and a line
 pub start_line : (st : Stage) (room room' n n' pos end pos' end' : ℕ) (log log' buf buf' : List ℕ) (ends : Bool) (r : Result Line ReverseError) (rest : List Item) (T : Type 0)
     → st ≡ Unread → log' ≡ log → room' ≡ room → n' ≡ n → length log < 2 ^ 64 → Tied st log buf pos end n
-    → (end ≡ 0 → pos ≡ length log → Begins log buf' pos' end' ends)
-    → ((length log' < 2 ^ 64) × IsWindow log' buf' pos' end' × Ends ends log' (pos' + end') n' → Gives (items_from room' n' (take (pos' + end') log' ++ tail_of ends)) (Some r) rest × T)
-    → Gives (to_come st room log pos end n) (Some r) rest × T
+    → (end ≡ 0 → pos ≡ length log → BeginsAtEnd log buf' pos' end' ends)
+    → ((length log' < 2 ^ 64) × IsLogWindow log' buf' pos' end' × EndsWindow ends log' (pos' + end') n' → GivesLine (items_from room' n' (take (pos' + end') log' ++ tail_of ends)) (Some r) rest × T)
+    → GivesLine (to_come st room log pos end n) (Some r) rest × T
 start_line Unread room room' n n' pos end pos' end' log log' buf buf' ends r rest T is same_log same_room same_number small tied begins step =
     let b = begins tied.1 tied.0 in
     let open' = begin_open log buf' pos' end' n' ends (same_number ∙ tied.2) small b in
-    let given = step (subst (λ (l : List ℕ). (length l < 2 ^ 64) × IsWindow l buf' pos' end' × Ends ends l (pos' + end') n') (sym same_log) open') in
+    let given = step (subst (λ (l : List ℕ). (length l < 2 ^ 64) × IsLogWindow l buf' pos' end' × EndsWindow ends l (pos' + end') n') (sym same_log) open') in
     let items : items_from room' n' (take (pos' + end') log' ++ tail_of ends) ≡ items_from room n log =
     ap (λ (l : List ℕ). items_from room' n' (take (pos' + end') l ++ tail_of ends)) same_log
     ∙ ap (λ (k : ℕ). items_from k n' (take (pos' + end') log ++ tail_of ends)) same_room
     ∙ ap (λ (k : ℕ). items_from room k (take (pos' + end') log ++ tail_of ends)) same_number
     ∙ begin_items room n log buf' pos' end' ends b in
-    (subst (λ (l : List Item). Gives l (Some r) rest) items given.0, given.1)
+    (subst (λ (l : List Item). GivesLine l (Some r) rest) items given.0, given.1)
 start_line Reading room room' n n' pos end pos' end' log log' buf buf' ends r rest T is same_log same_room same_number small tied begins step = absurd (cc)
 start_line Done room room' n n' pos end pos' end' log log' buf buf' ends r rest T is same_log same_room same_number small tied begins step = absurd (cc)

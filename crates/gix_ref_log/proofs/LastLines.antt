@@ -4,7 +4,7 @@ use Rattle.std.proofs.lemmas.Bool.{eq-eqb, ne_eqb, cases_eq, cond-true, cond-fal
 use Rattle.std.proofs.lemmas.List.{append_assoc, length-append, length-reverse, reverse-append, get_or_append_left, get_or-append_right, take_at, append-nil}
 use Rattle.bstr.specs.Text.{lines_of, line_len, without_terminator, no_cr}
 use Rattle.bstr.proofs.lemmas.LineLemmas.{lines-append, lines-one, lines-step}
-use Rattle.gix_ref_log.specs.LogItems.{Text, TooSmall, bytes_in, backward, items_from}
+use Rattle.gix_ref_log.specs.LogItems.{Text, TooSmall, len_without_feed, backward, items_from}
 use Rattle.gix_ref_log.specs.LogStages.{NoFeed, tail_of, text_of_line}
 
 by : (A : Type 0) → A → A
@@ -12,7 +12,7 @@ by A a = a
 
 -- two lists of which the second has one more line behind
 older_stand : (room n : ℕ) (p : List ℕ) (ps : List (List ℕ)) → 0 < length ps
-    → backward room n (p ∷ ps) ≡ cond (nat_le (bytes_in p + 1) room) (Text n (without_terminator p) ∷ backward room (n + 1) ps) (TooSmall ∷ [])
+    → backward room n (p ∷ ps) ≡ cond (nat_le (len_without_feed p + 1) room) (Text n (without_terminator p) ∷ backward room (n + 1) ps) (TooSmall ∷ [])
 older_stand room n p [] some = absurd (omega arith)
 older_stand room n p (q ∷ ps) some = refl
 
@@ -42,9 +42,9 @@ feed_no (x ∷ v) none =
     let some : nat_lt 0 (length (x ∷ v)) ≡ true = lt-ltb 0 _ (omega arith) in
     ap (λ (b : Bool). b && slice_index (x ∷ v) (length (x ∷ v) - 1) == 10) some ∙ ne_eqb _ 10 (none (length (x ∷ v) - 1) (omega arith))
 
-bytes_is : (v : List ℕ) (ends : Bool) → NoFeed v → bytes_in (v ++ tail_of ends) ≡ length v
+bytes_is : (v : List ℕ) (ends : Bool) → NoFeed v → len_without_feed (v ++ tail_of ends) ≡ length v
 bytes_is v true none = let long = length-append v (10 ∷ []) in cond-true _ _ _ (feed_yes v) ∙ omega arith
-bytes_is v false none = ap bytes_in (append-nil v) ∙ cond-false _ _ _ (feed_no v none)
+bytes_is v false none = ap len_without_feed (append-nil v) ∙ cond-false _ _ _ (feed_no v none)
 
 pub text_is : (v : List ℕ) (ends : Bool) → NoFeed v → without_terminator (v ++ tail_of ends) ≡ text_of_line ends v
 text_is v true none =

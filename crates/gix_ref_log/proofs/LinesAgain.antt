@@ -10,7 +10,7 @@ use Rattle.gix_ref_hash.specs.declared.hash.Kind.TheVariants as kinds
 use Rattle.gix_ref_hash.specs.declared.hash.ObjectId.{ObjectId}
 use Rattle.gix_ref_hash.proofs.IdLemmas.{written_reads, reads_whole}
 use Rattle.gix_ref_log.proofs.SignaturesAgain.{none_append, none_cons, none_signature, signature_again}
-use Rattle.gix_ref_log.specs.LogLines.{IsLine, IsReadAs, IsReadable, written_parts, head_text, line_text, appended_text}
+use Rattle.gix_ref_log.specs.LogLines.{IsLine, IsReadAs, IsReadableLine, written_parts, head_text, line_text, appended_text}
 use Rattle.gix_ref_log.specs.declared.log.line.Line.{Line}
 use Rattle.gix_ref_hash.proofs.IdDigits.{hex_id}
 
@@ -30,7 +30,7 @@ head_then previous new who more =
     append_assoc p (32 ∷ (n ++ 32 ∷ signature_text who)) more
     ∙ ap (λ (t : List ℕ). p ++ 32 ∷ t) (append_assoc n (32 ∷ signature_text who) more)
 
-module _ (previous new : ObjectId) (who : Who) (message : List ℕ) (r : IsReadable previous new who message) where
+module _ (previous new : ObjectId) (who : Who) (message : List ℕ) (r : IsReadableLine previous new who message) where
   no_feed : NoByte 10 (signature_text who)
   no_feed = none_signature who r.writable.signature r.seconds 10 (omega arith) r.writable.signature.name.2 r.writable.signature.email.2
 
@@ -51,7 +51,7 @@ module _ (previous new : ObjectId) (who : Who) (message : List ℕ) (r : IsReada
     who = signature_again who r.writable.signature r.seconds;
   }
 
-module _ (previous new : ObjectId) (who : Who) (r : IsReadable previous new who []) where
+module _ (previous new : ObjectId) (who : Who) (r : IsReadableLine previous new who []) where
   without_tab : IsLine (head_text previous new who ++ 10 ∷ []) (written_parts previous new who [])
   without_tab = record {
     ids = encode_lower (id_bytes new) ++ 32 ∷ (signature_text who ++ 10 ∷ []);
@@ -66,12 +66,12 @@ module _ (previous new : ObjectId) (who : Who) (r : IsReadable previous new who 
     who = signature_again who r.writable.signature r.seconds;
   }
 
-pub appended_again : (previous new : ObjectId) (who : Who) (message : List ℕ) → IsReadable previous new (trimmed_who who) message
+pub appended_again : (previous new : ObjectId) (who : Who) (message : List ℕ) → IsReadableLine previous new (trimmed_who who) message
     → IsLine (appended_text previous new who message) (written_parts previous new (trimmed_who who) message)
 appended_again previous new who [] r = without_tab previous new (trimmed_who who) r
 appended_again previous new who (b ∷ message) r = with_tab previous new (trimmed_who who) (b ∷ message) r
 
-pub written_again : (line : Line) → IsReadable line.previous_oid line.new_oid (signature_who line.signature) line.message.items → IsReadAs (line_text line) line
+pub written_again : (line : Line) → IsReadableLine line.previous_oid line.new_oid (signature_who line.signature) line.message.items → IsReadAs (line_text line) line
 written_again line r = (
   written_parts line.previous_oid line.new_oid (signature_who line.signature) line.message.items,
   with_tab line.previous_oid line.new_oid (signature_who line.signature) line.message.items r,

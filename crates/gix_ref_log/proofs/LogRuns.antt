@@ -11,12 +11,12 @@ use Rattle.gix_ref_log.specs.declared.log.iter.decode.Error as decode
 use Rattle.gix_ref_log.specs.declared.log.iter.forwards.Forward.{Forward}
 use Rattle.gix_ref_log.specs.LogCuts.{log_lines}
 use Rattle.gix_ref_log.specs.LogForward.{ForwardStep}
-use Rattle.gix_ref_log.specs.LogItems.{Item, Gives, IsRun, IsAnswer, IsForwardRun, EndsAtError, count_of, faults_after}
+use Rattle.gix_ref_log.specs.LogItems.{Item, GivesLine, IsRun, IsAnswer, IsForwardRun, EndsAtError, count_of, faults_after}
 use Rattle.gix_ref_log.specs.declared.log.iter.stage.Stage.TheVariants.{Done}
 use Rattle.gix_ref_log.specs.LogWindows.{IsTied, items_left, NextStep}
 
 -- where nothing is to come, no item comes
-ended : (r : Result Line ReverseError) (rest : List Item) → Gives [] (Some r) rest → ⊥
+ended : (r : Result Line ReverseError) (rest : List Item) → GivesLine [] (Some r) rest → ⊥
 ended (Ok l) rest h = let e = h.2 in cc
 ended (Err (Decode e)) rest h = let e = h.2 in cc
 ended (Err BufferTooSmall) rest h = let e = h.0 in cc
@@ -51,7 +51,7 @@ module _ {F : Type 0} (honest : Type 0) (bytes : F → List ℕ) (faults : F →
   nothing [] s t tied none y = refl
   nothing (x ∷ xs) s t tied none y =
       absurd (ended x (items_left bytes y.0)
-      (subst (λ (items : List Item). Gives items (Some x) (items_left bytes y.0)) none (y.1.gives ho tied).0))
+      (subst (λ (items : List Item). GivesLine items (Some x) (items_left bytes y.0)) none (y.1.gives ho tied).0))
 
   pub run_law : (Ended : Type 0) (xs : List (Result Line ReverseError)) (s t : Reverse F) → IsTied bytes s → Yields (NextStep honest bytes faults) s xs t
       → (Ended → (u : Reverse F) × NextStep honest bytes faults t None u) → IsRun Ended (items_left bytes s) xs

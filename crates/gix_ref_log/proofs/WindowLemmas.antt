@@ -4,7 +4,7 @@ use Rattle.std.specs.List.{copy_within}
 use Rattle.std.proofs.lemmas.List.{take_at, drop_at, drop-drop, append_assoc, length-take-le, length-append, length-drop}
 use Rattle.std.proofs.Math.Seq.{take-add}
 use Rattle.gix_ref_files.specs.Calls.{IsRead}
-use Rattle.gix_ref_log.specs.LogWindows.{IsWindow}
+use Rattle.gix_ref_log.specs.LogWindows.{IsLogWindow}
 
 by : (A : Type 0) → A → A
 by A a = a
@@ -19,8 +19,8 @@ moved_is buf end more fits =
     ∙ drop_at (take more buf) (take end buf ++ drop (more + end) buf) more len
 
 pub widened : (log buf moved front : List ℕ) (pos end more : ℕ) → more ≤ pos → end + more ≤ length buf → length moved ≡ length buf
-    → moved ≡ copy_within buf 0 end more → length front ≡ more → IsRead log (pos - more) front → IsWindow log buf pos end
-    → IsWindow log (front ++ drop more moved) (pos - more) (end + more)
+    → moved ≡ copy_within buf 0 end more → length front ≡ more → IsRead log (pos - more) front → IsLogWindow log buf pos end
+    → IsLogWindow log (front ++ drop more moved) (pos - more) (end + more)
 widened log buf moved front pos end more low fits same_len was front_len read w =
     let within = w.within in
     let p = pos - more in

@@ -27,28 +27,28 @@ pub data Item : Type 0 where
   TooSmall : Item
 
 -- how many bytes a line has, its CR counted and its LF not
-abbrev pub bytes_in : List ℕ → ℕ
-bytes_in p = if nat_lt 0 (length p) && slice_index p (length p - 1) == 10 then length p - 1 else length p
+abbrev pub len_without_feed : List ℕ → ℕ
+len_without_feed p = if nat_lt 0 (length p) && slice_index p (length p - 1) == 10 then length p - 1 else length p
 
 -- of lines with their LF, newest first: a buffer of `room` bytes holds a line and the LF before it, and the first line
 -- of the file alone; after the first line that does not fit there is nothing
 abbrev pub backward : ℕ → ℕ → List (List ℕ) → List Item
 backward room n [] = []
-backward room n (p ∷ []) = if nat_le (bytes_in p) room then Text n (without_terminator p) ∷ [] else TooSmall ∷ []
-backward room n (p ∷ q ∷ ps) = if nat_le (bytes_in p + 1) room then Text n (without_terminator p) ∷ backward room (n + 1) (q ∷ ps) else TooSmall ∷ []
+backward room n (p ∷ []) = if nat_le (len_without_feed p) room then Text n (without_terminator p) ∷ [] else TooSmall ∷ []
+backward room n (p ∷ q ∷ ps) = if nat_le (len_without_feed p + 1) room then Text n (without_terminator p) ∷ backward room (n + 1) (q ∷ ps) else TooSmall ∷ []
 
 -- the items of a log, newest first, the next of which has the number n
 unfoldable pub items_from : ℕ → ℕ → List ℕ → List Item
 items_from room n log = backward room n (reverse (lines_of log))
 
 -- one call of `next`, by the items that were to come before it and those to come after it
-abbrev pub Gives : List Item → Option (Result Line ReverseError) → List Item → Type 0
-Gives items None rest = (items ≡ []) × (rest ≡ [])
-Gives items (Some (Ok l)) rest = (n : ℕ) × (text : List ℕ) × (items ≡ Text n text ∷ rest) × IsReadAs text l
-Gives items (Some (Err (Decode e))) rest = (n : ℕ) × (text : List ℕ) × (items ≡ Text n text ∷ rest) × (e.line ≡ FromEnd n) × NoLine text
-Gives items (Some (Err BufferTooSmall)) rest = (items ≡ TooSmall ∷ []) × (rest ≡ [])
-Gives items (Some (Err Memory)) rest = (rest ≡ []) × ((n : ℕ) × (text : List ℕ) × (more : List Item) × (l : LogLine) × (items ≡ Text n text ∷ more) × IsLine text l)
-Gives items (Some (Err (Io e))) rest = (items ≢ []) × (rest ≡ [])
+abbrev pub GivesLine : List Item → Option (Result Line ReverseError) → List Item → Type 0
+GivesLine items None rest = (items ≡ []) × (rest ≡ [])
+GivesLine items (Some (Ok l)) rest = (n : ℕ) × (text : List ℕ) × (items ≡ Text n text ∷ rest) × IsReadAs text l
+GivesLine items (Some (Err (Decode e))) rest = (n : ℕ) × (text : List ℕ) × (items ≡ Text n text ∷ rest) × (e.line ≡ FromEnd n) × NoLine text
+GivesLine items (Some (Err BufferTooSmall)) rest = (items ≡ TooSmall ∷ []) × (rest ≡ [])
+GivesLine items (Some (Err Memory)) rest = (rest ≡ []) × ((n : ℕ) × (text : List ℕ) × (more : List Item) × (l : LogLine) × (items ≡ Text n text ∷ more) × IsLine text l)
+GivesLine items (Some (Err (Io e))) rest = (items ≢ []) × (rest ≡ [])
 
 -- what is made of a line's text
 abbrev pub LineGives : ℕ → List ℕ → Result Line ReverseError → Type 0

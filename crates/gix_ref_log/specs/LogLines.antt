@@ -84,7 +84,7 @@ pub record CanWriteLine (who : Who) (message : List ℕ) : Type 0 where
   pub signature : CanWrite who
 
 -- a line that is read again as it was written: it can be written, and no tab is in name or email
-pub record IsReadable (previous new : ObjectId) (who : Who) (message : List ℕ) : Type 0 where
+pub record IsReadableLine (previous new : ObjectId) (who : Who) (message : List ℕ) : Type 0 where
   pub previous_whole : IsWhole previous
   pub new_whole : IsWhole new
   pub seconds : FitsSigned w64 who.seconds

@@ -4,7 +4,7 @@ use Rattle.gix_ref_files.specs.Files.{count_after}
 use Rattle.gix_ref_files.specs.declared.files.FileError.{FileError}
 use Rattle.gix_ref_files.specs.declared.files.FileError.TheVariants as faulty
 use Rattle.gix_ref_log.specs.LogStages.{tail_of, IsDoneAfter}
-use Rattle.gix_ref_log.specs.LogItems.{Item, items_from, Gives, count_of}
+use Rattle.gix_ref_log.specs.LogItems.{Item, items_from, GivesLine, count_of}
 use Rattle.gix_ref_log.specs.declared.log.line.Line.{Line}
 use Rattle.gix_ref_log.specs.declared.log.iter.error.ReverseError.{ReverseError}
 use Rattle.gix_ref_log.specs.declared.log.iter.backward.Reverse.{Reverse}
@@ -12,20 +12,20 @@ use Rattle.gix_ref_log.specs.declared.log.iter.stage.Stage.{Stage}
 use Rattle.gix_ref_log.specs.declared.log.iter.stage.Stage.TheVariants.{Unread, Reading, Done}
 
 -- the first `end` bytes of the buffer are those of the log from `pos` on
-pub record IsWindow (log buf : List ℕ) (pos end : ℕ) : Type 0 where
+pub record IsLogWindow (log buf : List ℕ) (pos end : ℕ) : Type 0 where
   pub fits : end ≤ length buf
   pub within : pos + end ≤ length log
   pub same : take end buf ≡ take end (drop pos log)
 
 -- the window ends at the log's end, or before a line feed there
-abbrev pub Begins : List ℕ → List ℕ → ℕ → ℕ → Bool → Type 0
-Begins log buf pos end true = IsWindow log buf pos end × (pos + end + 1 ≡ length log) × (take (pos + end) log ++ 10 ∷ [] ≡ log)
-Begins log buf pos end false = IsWindow log buf pos end × (pos + end ≡ length log) × (0 < end) × (slice_index log (length log - 1) ≢ 10)
+abbrev pub BeginsAtEnd : List ℕ → List ℕ → ℕ → ℕ → Bool → Type 0
+BeginsAtEnd log buf pos end true = IsLogWindow log buf pos end × (pos + end + 1 ≡ length log) × (take (pos + end) log ++ 10 ∷ [] ≡ log)
+BeginsAtEnd log buf pos end false = IsLogWindow log buf pos end × (pos + end ≡ length log) × (0 < end) × (slice_index log (length log - 1) ≢ 10)
 
 -- at each stage, how the place in the file and the buffer belong to the log
 abbrev pub Tied : Stage → List ℕ → List ℕ → ℕ → ℕ → ℕ → Type 0
 Tied Unread log buf pos end n = (pos ≡ length log) × (end ≡ 0) × (n ≡ 1)
-Tied Reading log buf pos end n = IsWindow log buf pos end × (n + (pos + end) ≤ length log)
+Tied Reading log buf pos end n = IsLogWindow log buf pos end × (n + (pos + end) ≤ length log)
 Tied Done log buf pos end n = Unit {0}
 
 -- what is to come: while it reads, all before the window's end, and a line feed
@@ -35,9 +35,9 @@ to_come Reading room log pos end n = items_from room n (take (pos + end) log ++ 
 to_come Done room log pos end n = []
 
 -- what is left of a log ends at e, before a line feed or at the end of the log, and the next line has the number n
-abbrev pub Ends : Bool → List ℕ → ℕ → ℕ → Type 0
-Ends true log e n = n + e ≤ length log
-Ends false log e n = (n ≡ 1) × (0 < e) × (e ≡ length log) × (slice_index log (length log - 1) ≢ 10)
+abbrev pub EndsWindow : Bool → List ℕ → ℕ → ℕ → Type 0
+EndsWindow true log e n = n + e ≤ length log
+EndsWindow false log e n = (n ≡ 1) × (0 < e) × (e ≡ length log) × (slice_index log (length log - 1) ≢ 10)
 
 -- at most how many items are left
 abbrev pub most_at : Stage → ℕ → ℕ → ℕ
@@ -57,7 +57,7 @@ module _ {F : Type 0} (bytes : F → List ℕ) where
   items_left s = to_come s.stage (length s.buf.now) (bytes s.reader) s.pos s.end s.number
 
   abbrev pub IsOpen : Bool → Reverse F → Type 0
-  IsOpen ends s = (length (bytes s.reader) < 2 ^ 64) × IsWindow (bytes s.reader) s.buf.now s.pos s.end × Ends ends (bytes s.reader) (s.pos + s.end) s.number
+  IsOpen ends s = (length (bytes s.reader) < 2 ^ 64) × IsLogWindow (bytes s.reader) s.buf.now s.pos s.end × EndsWindow ends (bytes s.reader) (s.pos + s.end) s.number
 
   abbrev pub open_items : Bool → Reverse F → List Item
   open_items ends s = items_from (length s.buf.now) s.number (take (s.pos + s.end) (bytes s.reader) ++ tail_of ends)
@@ -76,7 +76,7 @@ module _ {F : Type 0} (bytes : F → List ℕ) where
 
   -- a window on the log stays one
   abbrev pub KeepsWindow : Reverse F → Reverse F → Type 0
-  KeepsWindow s t = IsWindow (bytes s.reader) s.buf.now s.pos s.end → IsWindow (bytes s.reader) t.buf.now t.pos t.end
+  KeepsWindow s t = IsLogWindow (bytes s.reader) s.buf.now s.pos s.end → IsLogWindow (bytes s.reader) t.buf.now t.pos t.end
 
 module _ {F : Type 0} (faults : F → ℕ) where
   -- the reader counts a fault that comes; it is never `Memory`
@@ -94,4 +94,4 @@ module _ {F : Type 0} (honest : Type 0) (bytes : F → List ℕ) (faults : F →
     pub done : IsDoneAfter r t.stage
     pub stays_done : s.stage ≡ Done → (r ≡ None) × (t.stage ≡ Done)
     -- for one that reads its bytes: the next item
-    pub gives : honest → IsTied bytes s → Gives (items_left bytes s) r (items_left bytes t) × IsTied bytes t
+    pub gives : honest → IsTied bytes s → GivesLine (items_left bytes s) r (items_left bytes t) × IsTied bytes t

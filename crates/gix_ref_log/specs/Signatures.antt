@@ -74,8 +74,8 @@ pub record IsStamp (text : List ℕ) (seconds offset : ℤ) : Type 0 where
   pub offset_is : IsZone zone offset
 
 -- no `<`, no `>` and no LF
-abbrev pub IsPlain : List ℕ → Type 0
-IsPlain text = NoByte 60 text × NoByte 62 text × NoByte 10 text
+abbrev pub IsPlainText : List ℕ → Type 0
+IsPlainText text = NoByte 60 text × NoByte 62 text × NoByte 10 text
 
 -- whole minutes, and not past 99:59 either way
 abbrev pub IsWritableOffset : ℤ → Type 0
@@ -84,8 +84,8 @@ IsWritableOffset (negsuc n) = ((n + 1) % 60 ≡ 0) × (n + 1 < 360000)
 
 -- a signature that can be written
 pub record CanWrite (who : Who) : Type 0 where
-  pub name : IsPlain who.name
-  pub email : IsPlain who.email
+  pub name : IsPlainText who.name
+  pub email : IsPlainText who.email
   pub offset : IsWritableOffset who.offset
 
 abbrev pub two_digits : ℕ → List ℕ

@@ -1,7 +1,7 @@
 //! Who made a change, and when: the signatures in reflogs, as `git commit-tree` writes them.
 ghost use Rattle.std.specs.Prelude.{◌≡◌, ◌+◌, ◌-◌, ◌*◌, ◌↔◌, IsTrue, ℕ, ℤ, pos, List, MatchOption, IfSome, FitsSigned};
 ghost use Rattle.std.specs.Int.{w64};
-ghost use Rattle.gix_ref_log.specs.Signatures.{Who, IsSeconds, IsZone, IsDigit, IsPlain, IsSignature, IsWritableOffset, CanWrite, offset_text, signature_text, trimmed, without_space};
+ghost use Rattle.gix_ref_log.specs.Signatures.{Who, IsSeconds, IsZone, IsDigit, IsPlainText, IsSignature, IsWritableOffset, CanWrite, offset_text, signature_text, trimmed, without_space};
 
 use bstr::ByteSlice;
 use gix_ref_hash::bytes::{cut, cut_last};
@@ -125,7 +125,7 @@ fn before_space(name: &[u8]) -> &[u8]
 
 /// Whether a name or an email can be written: it holds no `<`, no `>` and no LF.
 fn is_plain(text: &[u8]) -> bool
-    ensures { IsTrue result ↔ IsPlain text.now }
+    ensures { IsTrue result ↔ IsPlainText text.now }
 {
     text.find_byte(b'<').is_none()
         && text.find_byte(b'>').is_none()

@@ -1,5 +1,5 @@
 -- What a loose file and a record say as a result of a lookup.
-use Rattle.std.proofs.Common.{◌≡◌, ◌≢◌, ℕ, ◌*◌, ◌==◌, ◌&&◌, List, [], ◌∷◌, ◌++◌, append_assoc, Option, Some, None, Bool, true, false, if◌then◌else◌, length, refl, sym, ◌∙◌, ap, subst, arith}
+use Rattle.std.proofs.Common.{◌≡◌, ◌≢◌, ℕ, ◌*◌, ◌==◌, ◌&&◌, List, [], ◌∷◌, ◌++◌, append_assoc, Option, Some, None, Bool, true, false, if◌then◌else◌, length, refl, sym, ◌∙◌, ap, arith}
 use Rattle.std.specs.List.{list_any}
 use Rattle.hex.specs.Hex.{decode_of}
 use Rattle.hex.proofs.HexLemmas.{decode_of-ok}
@@ -7,7 +7,7 @@ use Rattle.gix_ref_hash.specs.Ids.{ReadsId, id_bytes, id_kind, kind_len}
 use Rattle.gix_ref_hash.specs.declared.hash.ObjectId.{ObjectId}
 use Rattle.gix_ref_hash.specs.declared.hash.ObjectId.TheVariants as ids
 use Rattle.gix_ref_hash.specs.declared.hash.Kind.{Kind}
-use Rattle.gix_ref_base.specs.PackedRecords.{Record, record_named, id_read, id_in, id_with}
+use Rattle.gix_ref_base.specs.PackedRecords.{Record, id_read, id_in, id_with}
 use Rattle.gix_ref_base.specs.Targets.{TargetValue, stripped_target, target_value}
 use Rattle.gix_ref_base.specs.Targets.TargetValue.{object_id, symbolic_name}
 use Rattle.gix_ref_theory.specs.Readings.{Store, as_read, reading_among, reading_by, reading_of_loose, reading_of_record, reading_of_id}
@@ -20,7 +20,7 @@ use Rattle.gix_ref_name.specs.declared.name.FullName.{FullName}
 use Rattle.gix_ref_base.specs.declared.target.Target.{Target}
 use Rattle.gix_ref_grammar.specs.DeviceNames.{is_device}
 use Rattle.gix_ref_lookup.specs.Lookups.{IsLooseTarget, IsCandidate, IsByRecord}
-use Rattle.gix_ref_records.specs.Windows.{AreFound, IsFound, ReadsOption}
+use Rattle.gix_ref_records.specs.Windows.{AreFound, ReadsOption}
 use Rattle.gix_ref_records.specs.declared.packed.window.Found.{Found}
 use Rattle.gix_ref_base.specs.Layout.{Layout, LiesIn, below}
 use Rattle.gix_ref_lookup.specs.StoreLayout.{git_options}

@@ -26,40 +26,40 @@ use Rattle.gix_ref_hash.proofs.IdLemmas.{reads_whole, written_reads}
 use Rattle.gix_ref_grammar.proofs.PartialNames.{rules_of}
 use Rattle.gix_ref_lookup.specs.declared.loose.error.Error.{Error}
 use Rattle.gix_ref_lookup.specs.declared.loose.error.Error.TheVariants.{Parse, RefnameValidation, Memory}
-use Rattle.gix_ref_lookup.specs.LooseText.{HoldsPath, HoldsId, HoldsTarget, CannotDecode, front_of, behind, stops, id_of, object_of, object_in, symbolic_in, target_in}
+use Rattle.gix_ref_lookup.specs.LooseText.{HoldsPath, HoldsId, HoldsTarget, CannotDecode, front_while, behind, stops, id_of, object_of, object_in, symbolic_in, target_in}
 use Rattle.gix_ref_theory.specs.ConcreteStore.{loose_text}
 
 -- the longest front, and what follows it, are what is computed
-computed_span : (p : ℕ → Bool) (text : List ℕ) → Spans p text (front_of p text) (behind p text)
+computed_span : (p : ℕ → Bool) (text : List ℕ) → Spans p text (front_while p text) (behind p text)
 computed_span p [] = record { whole = refl; front_passes = All-nil (λ b. p b ≡ true); stops = tt }
 computed_span p (b ∷ text) = go (p b) refl (computed_span p text)
   where
-    go : (passes : Bool) → p b ≡ passes → Spans p text (front_of p text) (behind p text) →
-        Spans p (b ∷ text) (if passes then b ∷ front_of p text else []) (if passes then behind p text else b ∷ text)
+    go : (passes : Bool) → p b ≡ passes → Spans p text (front_while p text) (behind p text) →
+        Spans p (b ∷ text) (if passes then b ∷ front_while p text else []) (if passes then behind p text else b ∷ text)
     go true is rest = record {
       whole = ap (λ l. b ∷ l) rest.whole;
-      front_passes = All-cons (λ c. p c ≡ true) b (front_of p text) is rest.front_passes;
+      front_passes = All-cons (λ c. p c ≡ true) b (front_while p text) is rest.front_passes;
       stops = rest.stops;
     }
     go false is rest = record { whole = refl; front_passes = All-nil (λ c. p c ≡ true); stops = is }
 
-spans_is : (p : ℕ → Bool) (text front rest : List ℕ) → Spans p text front rest → (front_of p text ≡ front) × (behind p text ≡ rest)
-spans_is p text front rest spans = same_span p text (front_of p text) front (behind p text) rest (computed_span p text) spans
+spans_is : (p : ℕ → Bool) (text front rest : List ℕ) → Spans p text front rest → (front_while p text ≡ front) × (behind p text ≡ rest)
+spans_is p text front rest spans = same_span p text (front_while p text) front (behind p text) rest (computed_span p text) spans
 
 -- Symbolic texts.
 
-path_is : (text path : List ℕ) → HoldsPath text path → front_of in_line (behind is_space (drop 5 text)) ≡ path
+path_is : (text path : List ℕ) → HoldsPath text path → front_while in_line (behind is_space (drop 5 text)) ≡ path
 path_is text path h =
-    ap (λ t. front_of in_line (behind is_space t)) (ap (drop 5) h.word ∙ drop_at (codes "ref: ") h.after_word 5 refl)
-    ∙ (ap (front_of in_line) (spans_is is_space h.after_word h.spaces.0 h.after_spaces h.spaces.1).1
+    ap (λ t. front_while in_line (behind is_space t)) (ap (drop 5) h.word ∙ drop_at (codes "ref: ") h.after_word 5 refl)
+    ∙ (ap (front_while in_line) (spans_is is_space h.after_word h.spaces.0 h.after_spaces h.spaces.1).1
     ∙ (spans_is in_line h.after_spaces path h.line.0 h.line.1).0)
 
-holds_path : (text : List ℕ) → starts_with nat_eq text (codes "ref: ") ≡ true → HoldsPath text (front_of in_line (behind is_space (drop 5 text)))
+holds_path : (text : List ℕ) → starts_with nat_eq text (codes "ref: ") ≡ true → HoldsPath text (front_while in_line (behind is_space (drop 5 text)))
 holds_path text begins = record {
   after_word = drop 5 text;
   after_spaces = behind is_space (drop 5 text);
   word = (starts_is Decides-eqb text (codes "ref: ") (starts_with nat_eq text (codes "ref: ")) refl).0 begins;
-  spaces = (front_of is_space (drop 5 text), computed_span is_space (drop 5 text));
+  spaces = (front_while is_space (drop 5 text), computed_span is_space (drop 5 text));
   line = (behind in_line (behind is_space (drop 5 text)), computed_span in_line (behind is_space (drop 5 text)));
 }
 
@@ -175,10 +175,10 @@ pub held_is : (kind : Kind) (text : List ℕ) (target : TargetValue) → HoldsTa
 unfolding target_in
 held_is kind text (object_id id) h =
     let apart : starts_with nat_eq text (codes "ref: ") ≡ false = begins_false (codes "ref: ") text (λ r e. no_word h.digits h.rest _ (id_bytes id) (some_digits id h.digits h.reads) h.reads.digits (sym h.whole ∙ e)) in
-    ap (λ b. if b then symbolic_in (front_of in_line (behind is_space (drop 5 text))) else object_in kind (take (2 * kind_len kind) text) (drop (2 * kind_len kind) text)) apart
+    ap (λ b. if b then symbolic_in (front_while in_line (behind is_space (drop 5 text))) else object_in kind (take (2 * kind_len kind) text) (drop (2 * kind_len kind) text)) apart
     ∙ object_is kind text id h
 held_is kind text (symbolic_name name) h =
-    ap (λ b. if b then symbolic_in (front_of in_line (behind is_space (drop 5 text))) else object_in kind (take (2 * kind_len kind) text) (drop (2 * kind_len kind) text)) (begins_true (codes "ref: ") text h.0.after_word h.0.word)
+    ap (λ b. if b then symbolic_in (front_while in_line (behind is_space (drop 5 text))) else object_in kind (take (2 * kind_len kind) text) (drop (2 * kind_len kind) text)) (begins_true (codes "ref: ") text h.0.after_word h.0.word)
     ∙ (ap symbolic_in (path_is text name h.0) ∙ symbolic_is name h.1)
 
 pub is_held : (kind : Kind) (text : List ℕ) (target : TargetValue) → target_in kind text ≡ Some target → HoldsTarget kind text target
@@ -186,10 +186,10 @@ unfolding target_in
 is_held kind text target is = go (starts_with nat_eq text (codes "ref: ")) refl is
   where
     go : (begins : Bool) → starts_with nat_eq text (codes "ref: ") ≡ begins →
-        (if begins then symbolic_in (front_of in_line (behind is_space (drop 5 text))) else object_in kind (take (2 * kind_len kind) text) (drop (2 * kind_len kind) text)) ≡ Some target →
+        (if begins then symbolic_in (front_while in_line (behind is_space (drop 5 text))) else object_in kind (take (2 * kind_len kind) text) (drop (2 * kind_len kind) text)) ≡ Some target →
         HoldsTarget kind text target
     go true begins some =
-        let path = front_of in_line (behind is_space (drop 5 text)) in
+        let path = front_while in_line (behind is_space (drop 5 text)) in
         let has = symbolic_has path target some in
         subst (HoldsTarget kind text) (sym has.0) (holds_path text begins, has.1)
     go false apart some = object_has kind text target some

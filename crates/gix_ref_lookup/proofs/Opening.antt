@@ -16,7 +16,7 @@ use Rattle.gix_ref_packed.specs.declared.packed.sorted_file.FindError.TheVariant
 use Rattle.gix_ref_packed.specs.declared.packed.sorted_file.ReadError.TheVariants as reading
 use Rattle.std.proofs.lemmas.Bool.{ltb-false}
 use Rattle.gix_ref_packed.proofs.WellFormedLemmas.{opened_file_holds}
-use Rattle.gix_ref_lookup.specs.Lookups.{ArePackedRecords, AreAsked, IsSearched, IsReady, OfSearched, IsHitOfKey, IsRecordIn, IsNotPacked, IsFaultOrMemory, of_opening, of_search, as_found}
+use Rattle.gix_ref_lookup.specs.Lookups.{ArePackedRecords, AreAsked, IsSearched, IsReady, OfSearched, IsHitOfKey, IsRecordIn, IsNotPacked, IsFaultOrMemory, of_opening, as_found}
 use Rattle.gix_ref_lookup.specs.declared.find.records.Records.{Records as Asked}
 use Rattle.gix_ref_lookup.specs.declared.find.records.Records.TheVariants as sources
 use Rattle.gix_ref_records.specs.declared.raw.Reference.{Reference}

@@ -1,5 +1,5 @@
 -- What the calls of this crate return: candidates, the records that they ask, and lookups (`gitrevisions`).
-use Rattle.std.specs.Prelude.{◌≡◌, ◌≢◌, ◌⊎◌, ◌&&◌, ℕ, List, [], ◌∷◌, ◌++◌, Bool, true, false, Option, Some, None, Result, Ok, Err, if◌then◌else◌, nat_eq}
+use Rattle.std.specs.Prelude.{◌≡◌, ◌≢◌, ◌⊎◌, ◌&&◌, ℕ, List, [], ◌∷◌, ◌++◌, Bool, true, Option, Some, None, Result, Ok, Err, if◌then◌else◌, nat_eq}
 use Rattle.std.specs.Option.{option_map}
 use Rattle.std.specs.Cmp.Lexicographic.{pointwise}
 use Rattle.gix_ref_hash.specs.declared.hash.Kind.{Kind}
@@ -25,7 +25,6 @@ use Rattle.gix_ref_theory.specs.Lookups.{Hit, hit_name, hit_peeled, peeled_of, l
 use Rattle.gix_ref_theory.specs.ConcreteStore.{store_of}
 use Rattle.gix_ref_records.specs.declared.packed.decode.options.Header.{Header}
 use Rattle.gix_ref_records.specs.declared.packed.window.Found.{Found}
-use Rattle.gix_ref_packed.specs.declared.packed.buffer.Buffer.{Buffer}
 use Rattle.gix_ref_packed.specs.declared.packed.buffer.open.Error.{Error as OpenError}
 use Rattle.gix_ref_packed.specs.declared.packed.buffer.open.Error.TheVariants.{Iter, HeaderParsing, Io, Memory as open_memory}
 use Rattle.gix_ref_packed.specs.declared.packed.sorted_file.FindError.{FindError}
@@ -45,7 +44,7 @@ use Rattle.gix_ref_lookup.specs.declared.find.records.Records.{Records}
 use Rattle.gix_ref_lookup.specs.declared.find.records.Records.TheVariants as sources
 use Rattle.gix_ref_lookup.specs.declared.find.error.Error.{Error}
 use Rattle.gix_ref_lookup.specs.declared.find.error.ReadError.TheVariants.{File, DeviceName}
-use Rattle.gix_ref_lookup.specs.declared.find.error.Error.TheVariants.{RefnameValidation, ReadFileContents, ReferenceCreation, PackedRef, PackedOpen, Memory}
+use Rattle.gix_ref_lookup.specs.declared.find.error.Error.TheVariants.{ReadFileContents, ReferenceCreation, PackedRef, PackedOpen, Memory}
 
 -- where a store with these settings keeps names, and what it reads
 abbrev pub meaning_in : Settings → Store
@@ -243,10 +242,10 @@ abbrev pub FailsAt : (Passed Fails : List ℕ → Type 0) → List (List ℕ) �
 FailsAt Passed Fails [] = ⊥
 FailsAt Passed Fails (name ∷ names) = Fails name ⊎ (Passed name × FailsAt Passed Fails names)
 
--- some of these names has this
-abbrev pub Among : (List ℕ → Type 0) → List (List ℕ) → Type 0
+-- one of these has it
+abbrev pub Among : {A : Type 0} → (A → Type 0) → List A → Type 0
 Among P [] = ⊥
-Among P (name ∷ names) = P name ⊎ Among P names
+Among P (x ∷ xs) = P x ⊎ Among P xs
 
 -- a candidate that a lookup passes reads nothing, where the records are well formed
 abbrev pub IsPassed : {R : Type 0} {G : Ghosts R} → (honest : Type 0) → Settings → Tree → Records R G → List ℕ → Type 0

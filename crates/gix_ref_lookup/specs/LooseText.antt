@@ -51,9 +51,9 @@ IsWritable kind (symbolic_name name) = IsFullName name
 -- The same as it is computed; `loose_texts_are_read` shows that the two agree.
 
 -- the longest front whose bytes pass
-abbrev pub front_of : (ℕ → Bool) → List ℕ → List ℕ
-front_of passes [] = []
-front_of passes (b ∷ rest) = if passes b then b ∷ front_of passes rest else []
+abbrev pub front_while : (ℕ → Bool) → List ℕ → List ℕ
+front_while passes [] = []
+front_while passes (b ∷ rest) = if passes b then b ∷ front_while passes rest else []
 
 -- what follows that front
 abbrev pub behind : (ℕ → Bool) → List ℕ → List ℕ
@@ -86,5 +86,5 @@ symbolic_in path = if is_none (full_error path) then Some (symbolic_name path) e
 -- the target of a text, if it holds one
 unfoldable pub target_in : Kind → List ℕ → Option TargetValue
 target_in kind text =
-    if starts_with nat_eq text (codes "ref: ") then symbolic_in (front_of in_line (behind is_space (drop 5 text)))
+    if starts_with nat_eq text (codes "ref: ") then symbolic_in (front_while in_line (behind is_space (drop 5 text)))
     else object_in kind (take (2 * kind_len kind) text) (drop (2 * kind_len kind) text)

@@ -1,5 +1,5 @@
 -- The layout of a store: its folders and its namespace; and what it reads.
-use Rattle.std.specs.Prelude.{ℕ, List, [], Bool, false, ◌&&◌, Option, Some, None}
+use Rattle.std.specs.Prelude.{ℕ, List, [], Bool, ◌&&◌, Option, Some, None}
 use Rattle.gix_ref_name.specs.Namespaces.{namespace_bytes}
 use Rattle.gix_ref_name.specs.declared.namespace.Namespace.{Namespace}
 use Rattle.gix_ref_hash.specs.declared.hash.Kind.{Kind}

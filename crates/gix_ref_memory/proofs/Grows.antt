@@ -5,7 +5,7 @@ use Rattle.std.proofs.Math.Seq.{take-append-add, take-length}
 use Rattle.std.specs.declared.alloc.Global.{Global}
 use Rattle.gix_ref_files.specs.Tree.{Tree, Path, Content, put, more, is_file, no_tree, bytes_of}
 use Rattle.gix_ref_files.specs.Tree.Content.{File}
-use Rattle.gix_ref_files.specs.Disk.{Disk, Item, no_disk, nothing, with_tree, with_item, appended_on, moved_on, file_synced, folder_synced}
+use Rattle.gix_ref_files.specs.Disk.{Disk, DiskItem, no_disk, nothing, with_tree, with_item, appended_on, moved_on, file_synced, folder_synced}
 use Rattle.gix_ref_files.specs.Files.{disk_of, Passes, AddsDisks}
 use Rattle.gix_ref_files.specs.DiskCalls.{BeforeOrAfterOn, AppendingOn, SyncingOn}
 use Rattle.gix_ref_files.proofs.Moments.{passes_starts, passes_weaken}
@@ -123,7 +123,7 @@ append_more old_changes now path whole had p old bytes at is size stood grown =
 pub put_more : (old now : List Change) (Allowed : Type 0) (path : Vec ℕ Global) (stored : Option Stored) (synced : Bool) (p : Path) (content : Option Content) → Allowed → path.items ≡ p → content_of stored ≡ content → now ≡ old ++ Put path stored synced ∷ [] → Grew old now (BeforeOrAfterOn (disk old) Allowed (with_item_as synced (disk old) p (record { content = content; synced = if synced then length (bytes_of content) else 0 }))) (with_item_as synced (disk old) p (record { content = content; synced = if synced then length (bytes_of content) else 0 }))
 put_more old now Allowed path stored synced p content allowed at is grown =
     let D = disk old in
-    let item : Option Content → Item = λ c. record { content = c; synced = if synced then length (bytes_of c) else 0 } in
+    let item : Option Content → DiskItem = λ c. record { content = c; synced = if synced then length (bytes_of c) else 0 } in
     grew old now (Put path stored synced) (BeforeOrAfterOn D Allowed (with_item_as synced D p (item content))) (with_item_as synced D p (item content)) grown
     (λ F none. inl none)
     (ap (λ (q : Path). with_item_as synced D q (item (content_of stored))) at ∙ ap (λ (n : Option Content). with_item_as synced D p (item n)) is)
@@ -133,8 +133,8 @@ put_more old now Allowed path stored synced p content allowed at is grown =
 pub move_more : (old now : List Change) (Allowed : Type 0) (from to bytes : Vec ℕ Global) (n : ℕ) (p q : Path) (stood : List ℕ) → Allowed → from.items ≡ p → to.items ≡ q → bytes.items ≡ stood → Some (File stood) ≡ after old no_tree p → n ≡ (disk old).unsynced.synced p → now ≡ old ++ Move from to bytes n ∷ [] → Grew old now (BeforeOrAfterOn (disk old) Allowed (moved_on (disk old) p q)) (moved_on (disk old) p q)
 move_more old now Allowed from to bytes n p q stood allowed at_from at_to is there count grown =
     let D = disk old in
-    let two : Path → Path → Item → Disk = λ x y item. with_item (with_item D x nothing) y item in
-    let item : Option Content → ℕ → Item = λ c k. record { content = c; synced = k } in
+    let two : Path → Path → DiskItem → Disk = λ x y item. with_item (with_item D x nothing) y item in
+    let item : Option Content → ℕ → DiskItem = λ c k. record { content = c; synced = k } in
     grew old now (Move from to bytes n) (BeforeOrAfterOn D Allowed (moved_on D p q)) (moved_on D p q) grown
     (λ F none. inl none)
     (ap (λ (x : Path). two x to.items (item (Some (File bytes.items)) n)) at_from

@@ -4,17 +4,17 @@ use Rattle.std.specs.Prelude.{bytes_eq, if◌then◌else◌}
 use Rattle.std.proofs.lemmas.Slice.Eq.{bytes_eq-Decides}
 use Rattle.gix_ref_files.specs.Tree.{Path, Content, bytes_of}
 use Rattle.gix_ref_files.specs.Tree.Content.{File}
-use Rattle.gix_ref_files.specs.Disk.{Disk, Item, no_disk, nothing, item_at}
+use Rattle.gix_ref_files.specs.Disk.{Disk, DiskItem, no_disk, nothing, item_at}
 use Rattle.gix_ref_memory.specs.Changes.{changed_on, replayed, item_after, items, put_item}
 use Rattle.gix_ref_memory.specs.declared.memory.changes.Change.{Change}
 use Rattle.gix_ref_memory.specs.declared.memory.changes.Change.TheVariants.{Put, Append, Move, SyncFile, SyncFolder}
 
 -- an item, part by part
-abbrev item : Option Content → ℕ → Item
+abbrev item : Option Content → ℕ → DiskItem
 item content synced = record { content = content; synced = synced }
 
 -- an item whose two parts are chosen by one test
-both : (b : Bool) (x y : Item) → item (if b then x.content else y.content) (if b then x.synced else y.synced) ≡ (if b then x else y)
+both : (b : Bool) (x y : DiskItem) → item (if b then x.content else y.content) (if b then x.synced else y.synced) ≡ (if b then x else y)
 both true x y = refl
 both false x y = refl
 
@@ -33,7 +33,7 @@ one (Append path whole had) D q = first (bytes_eq path.items q) (Some (File whol
 one (Move from to bytes synced) D q =
     both (bytes_eq to.items q) (item (Some (File bytes.items)) synced)
     (item (if bytes_eq from.items q then None else D.tree q) (if bytes_eq from.items q then 0 else D.unsynced.synced q))
-    ∙ ap (λ (x : Item). if bytes_eq to.items q then item (Some (File bytes.items)) synced else x) (both (bytes_eq from.items q) nothing (item_at D q))
+    ∙ ap (λ (x : DiskItem). if bytes_eq to.items q then item (Some (File bytes.items)) synced else x) (both (bytes_eq from.items q) nothing (item_at D q))
 one (SyncFile path) D q =
     second (bytes_eq path.items q) (D.tree q) (length (bytes_of (D.tree path.items))) (length (bytes_of (D.tree q))) (D.unsynced.synced q)
     (λ e. ap (λ (x : Path). length (bytes_of (D.tree x))) ((bytes_eq-Decides path.items q).0 e))
@@ -45,4 +45,4 @@ items_are [] D q = refl
 items_are (change ∷ changes) D q = items_are changes (changed_on change D) q ∙ ap (items changes q) (one change D q)
 
 pub items_synced : (changes : List Change) (q : Path) → (items changes q nothing).synced ≡ (replayed changes no_disk).unsynced.synced q
-items_synced changes q = ap (λ (i : Item). i.synced) (sym (items_are changes no_disk q))
+items_synced changes q = ap (λ (i : DiskItem). i.synced) (sym (items_are changes no_disk q))

@@ -5,50 +5,50 @@ use Rattle.std.proofs.lemmas.Bool.{true≢false}
 use Rattle.std.proofs.lemmas.Slice.Eq.{bytes_eq-Decides}
 use Rattle.gix_ref_files.specs.Tree.{Tree, Path, Content, put, bytes_of, no_tree, has_folders}
 use Rattle.gix_ref_files.specs.Tree.Content.{File}
-use Rattle.gix_ref_files.specs.Disk.{Item, Disk, no_disk, item_at, nothing, with_item, folder_of, reachable, Lost}
+use Rattle.gix_ref_files.specs.Disk.{DiskItem, Disk, no_disk, item_at, nothing, with_item, folder_of, reachable, Lost}
 use Rattle.gix_ref_files.specs.Losing.{last_synced, kept, chosen, lost_by, all_synced}
 use Rattle.gix_ref_files.proofs.Losing.{choices}
 use Rattle.gix_ref_files.proofs.Puts.{same_tree, put_at, put_other}
-use Rattle.gix_ref_memory.specs.Changes.{after, changed_on, replayed, disk_is, put_item, with_item_as, content_of, IsPlaced, place_of}
-use Rattle.gix_ref_memory.specs.internal.Power.{Entry, no_entry, entered, settled, with_now, entry_after, entries, choice, IsChoice, Names, IsNamed, AreSynced, Fills, IsReachable}
+use Rattle.gix_ref_memory.specs.Changes.{after, changed_on, replayed, disk_is, put_item, with_item_as, content_of, IsChangedPath, place_of}
+use Rattle.gix_ref_memory.specs.internal.Power.{DiskEntry, no_entry, entered, settled, with_now, entry_after, disk_entry, choice, IsChoice, Names, IsNamedByChange, AreSynced, Fills, IsReachable}
 use Rattle.gix_ref_memory.specs.declared.memory.changes.Change.{Change}
 use Rattle.gix_ref_memory.specs.declared.memory.changes.Change.TheVariants.{Put, Append, Move, SyncFile, SyncFolder}
 use Rattle.gix_ref_memory.proofs.Grows.{disk}
 use Rattle.gix_ref_memory.proofs.Placed.{placed}
 
-abbrev some_past : List Item → Bool
+abbrev some_past : List DiskItem → Bool
 some_past [] = false
 some_past (item ∷ past) = true
 
 -- the entry at q, as it is now and was since its folder's last sync
-record Knows (item : Item) (past : List Item) (e : Entry) : Type 0 where
+record Knows (item : DiskItem) (past : List DiskItem) (e : DiskEntry) : Type 0 where
   pub now : item ≡ e.now
   pub last : last_synced item past ≡ (if e.is_new then e.last else e.now)
   pub new : some_past past ≡ e.is_new
 
-abbrev KnowsAt : Disk → Path → Entry → Type 0
+abbrev KnowsAt : Disk → Path → DiskEntry → Type 0
 KnowsAt D q e = Knows (item_at D q) (D.unsynced.past q) e
 
 -- it becomes another
-becomes : (item old : Item) (past : List Item) (e : Entry) → Knows old past e → Knows item (old ∷ past) (entered item e)
+becomes : (item old : DiskItem) (past : List DiskItem) (e : DiskEntry) → Knows old past e → Knows item (old ∷ past) (entered item e)
 becomes item old past e k = record { now = refl; last = k.last; new = refl }
 
 -- it is the same with another item
-still : (item old : Item) (past : List Item) (e : Entry) → Knows old past e → Knows item past (with_now item e)
+still : (item old : DiskItem) (past : List DiskItem) (e : DiskEntry) → Knows old past e → Knows item past (with_now item e)
 still item old past e k = by past (e.is_new) k.last k.new
   where
-    by : (past : List Item) (b : Bool) → last_synced old past ≡ (if b then e.last else e.now) → some_past past ≡ b → Knows item past (record { now = item; last = e.last; is_new = b })
+    by : (past : List DiskItem) (b : Bool) → last_synced old past ≡ (if b then e.last else e.now) → some_past past ≡ b → Knows item past (record { now = item; last = e.last; is_new = b })
     by [] true last new = absurd (true≢false (sym new))
     by [] false last new = record { now = refl; last = refl; new = refl }
     by (x ∷ past) true last new = record { now = refl; last = last; new = refl }
     by (x ∷ past) false last new = absurd (true≢false new)
 
-rests : (item : Item) → Knows item [] (settled item)
+rests : (item : DiskItem) → Knows item [] (settled item)
 rests item = record { now = refl; last = refl; new = refl }
 
 -- One change.
 
-stepped : (D : Disk) (p q : Path) (item : Item) (e : Entry) → KnowsAt D q e → KnowsAt (with_item D p item) q (if bytes_eq p q then entered item e else e)
+stepped : (D : Disk) (p q : Path) (item : DiskItem) (e : DiskEntry) → KnowsAt D q e → KnowsAt (with_item D p item) q (if bytes_eq p q then entered item e else e)
 stepped D p q item e k = by (bytes_eq p q) refl
   where
     by : (b : Bool) → bytes_eq p q ≡ b →
@@ -56,7 +56,7 @@ stepped D p q item e k = by (bytes_eq p q) refl
     by true eq = becomes item (item_at D p) (D.unsynced.past p) e (subst (λ (x : Path). KnowsAt D x e) (sym ((bytes_eq-Decides p q).0 eq)) k)
     by false ne = k
 
-placed_synced : (D : Disk) (p q : Path) (item : Item) (e : Entry) → KnowsAt D q e → KnowsAt (with_item_as true D p item) q (if bytes_eq p q then settled item else e)
+placed_synced : (D : Disk) (p q : Path) (item : DiskItem) (e : DiskEntry) → KnowsAt D q e → KnowsAt (with_item_as true D p item) q (if bytes_eq p q then settled item else e)
 placed_synced D p q item e k = by (bytes_eq p q)
   where
     by : (b : Bool) →
@@ -64,14 +64,14 @@ placed_synced D p q item e k = by (bytes_eq p q)
     by true = rests item
     by false = k
 
-one : (change : Change) (D : Disk) (q : Path) (e : Entry) → KnowsAt D q e → KnowsAt (changed_on change D) q (entry_after change q e)
+one : (change : Change) (D : Disk) (q : Path) (e : DiskEntry) → KnowsAt D q e → KnowsAt (changed_on change D) q (entry_after change q e)
 one (Put path stored true) D q e k = placed_synced D path.items q (put_item stored true) e k
 one (Put path stored false) D q e k = stepped D path.items q (put_item stored false) e k
 one (Append path whole had) D q e k = by (bytes_eq path.items q)
   where
     by : (b : Bool) → Knows (record { content = if b then Some (File whole.items) else D.tree q; synced = D.unsynced.synced q }) (D.unsynced.past q)
         (if b then with_now (record { content = Some (File whole.items); synced = e.now.synced }) e else e)
-    by true = subst (λ (n : ℕ). Knows (record { content = Some (File whole.items); synced = D.unsynced.synced q }) (D.unsynced.past q) (with_now (record { content = Some (File whole.items); synced = n }) e)) (ap (λ (i : Item). i.synced) k.now)
+    by true = subst (λ (n : ℕ). Knows (record { content = Some (File whole.items); synced = D.unsynced.synced q }) (D.unsynced.past q) (with_now (record { content = Some (File whole.items); synced = n }) e)) (ap (λ (i : DiskItem). i.synced) k.now)
         (still (record { content = Some (File whole.items); synced = D.unsynced.synced q }) (item_at D q) (D.unsynced.past q) e k)
     by false = k
 one (Move from to bytes n) D q e k =
@@ -83,28 +83,28 @@ one (SyncFile path) D q e k = by (bytes_eq path.items q) refl
     by true eq =
         let same : path.items ≡ q = (bytes_eq-Decides path.items q).0 eq in
         subst (λ (x : Path). Knows (record { content = D.tree q; synced = length (bytes_of (D.tree x)) }) (D.unsynced.past q) (with_now (record { content = e.now.content; synced = length (bytes_of e.now.content) }) e)) (sym same)
-        (subst (λ (c : Option Content). Knows (record { content = D.tree q; synced = length (bytes_of (D.tree q)) }) (D.unsynced.past q) (with_now (record { content = c; synced = length (bytes_of c) }) e)) (ap (λ (i : Item). i.content) k.now)
+        (subst (λ (c : Option Content). Knows (record { content = D.tree q; synced = length (bytes_of (D.tree q)) }) (D.unsynced.past q) (with_now (record { content = c; synced = length (bytes_of c) }) e)) (ap (λ (i : DiskItem). i.content) k.now)
         (still (record { content = D.tree q; synced = length (bytes_of (D.tree q)) }) (item_at D q) (D.unsynced.past q) e k))
     by false ne = k
 one (SyncFolder path) D q e k = by (bytes_eq path.items (folder_of q))
   where
     by : (b : Bool) → Knows (item_at D q) (if b then [] else D.unsynced.past q) (if b then settled e.now else e)
-    by true = subst (λ (i : Item). Knows (item_at D q) [] (settled i)) k.now (rests (item_at D q))
+    by true = subst (λ (i : DiskItem). Knows (item_at D q) [] (settled i)) k.now (rests (item_at D q))
     by false = k
 
-known : (changes : List Change) (D : Disk) (q : Path) (e : Entry) → KnowsAt D q e → KnowsAt (replayed changes D) q (entries changes q e)
+known : (changes : List Change) (D : Disk) (q : Path) (e : DiskEntry) → KnowsAt D q e → KnowsAt (replayed changes D) q (disk_entry changes q e)
 known [] D q e k = k
 known (change ∷ changes) D q e k = known changes (changed_on change D) q (entry_after change q e) (one change D q e k)
 
-known_now : (changes : List Change) (q : Path) → KnowsAt (disk changes) q (entries changes q no_entry)
-known_now changes q = subst (λ (D : Disk). KnowsAt D q (entries changes q no_entry)) (sym (disk_is changes)) (known changes no_disk q no_entry (rests nothing))
+known_now : (changes : List Change) (q : Path) → KnowsAt (disk changes) q (disk_entry changes q no_entry)
+known_now changes q = subst (λ (D : Disk). KnowsAt D q (disk_entry changes q no_entry)) (sym (disk_is changes)) (known changes no_disk q no_entry (rests nothing))
 
 -- so a choice of an entry is one of the disk
-choice_is : (changes : List Change) (q : Path) (entry end : Bool) → choice (entries changes q no_entry) entry end ≡ kept end (if entry then item_at (disk changes) q else last_synced (item_at (disk changes) q) ((disk changes).unsynced.past q))
+choice_is : (changes : List Change) (q : Path) (entry end : Bool) → choice (disk_entry changes q no_entry) entry end ≡ kept end (if entry then item_at (disk changes) q else last_synced (item_at (disk changes) q) ((disk changes).unsynced.past q))
 choice_is changes q entry end =
     let k = known_now changes q in
-    ap (λ (i : Item). kept end (if entry then i else (if (entries changes q no_entry).is_new then (entries changes q no_entry).last else (entries changes q no_entry).now))) (sym k.now)
-    ∙ ap (λ (i : Item). kept end (if entry then item_at (disk changes) q else i)) (sym k.last)
+    ap (λ (i : DiskItem). kept end (if entry then i else (if (disk_entry changes q no_entry).is_new then (disk_entry changes q no_entry).last else (disk_entry changes q no_entry).now))) (sym k.now)
+    ∙ ap (λ (i : DiskItem). kept end (if entry then item_at (disk changes) q else i)) (sym k.last)
 
 -- The tree that is left.
 
@@ -127,13 +127,13 @@ none_kept changes pick T left zero all is =
 
 -- Paths that no change names.
 
-quiet : Entry → Type 0
+quiet : DiskEntry → Type 0
 quiet e = (e.now ≡ nothing) × (e.is_new ≡ false)
 
-abbrev QuietOr : Type 0 → Entry → Type 0
+abbrev QuietOr : Type 0 → DiskEntry → Type 0
 QuietOr Named e = Named ⊎ ((e.now ≡ nothing) × (e.is_new ≡ false))
 
-named_one : (change : Change) (q : Path) (e : Entry) → (e.now ≡ nothing) × (e.is_new ≡ false) → QuietOr (Names change q) (entry_after change q e)
+named_one : (change : Change) (q : Path) (e : DiskEntry) → (e.now ≡ nothing) × (e.is_new ≡ false) → QuietOr (Names change q) (entry_after change q e)
 named_one (Put path stored synced) q e calm = by (bytes_eq path.items q) refl
   where
     by : (b : Bool) → bytes_eq path.items q ≡ b → QuietOr (path.items ≡ q) (if b then (if synced then settled (put_item stored synced) else entered (put_item stored synced) e) else e)
@@ -162,15 +162,15 @@ named_one (SyncFolder path) q e calm = by (bytes_eq path.items (folder_of q))
     by true = inr (calm.0, refl)
     by false = inr calm
 
-named : (changes : List Change) (q : Path) (e : Entry) → (e.now ≡ nothing) × (e.is_new ≡ false) → QuietOr (IsNamed changes q) (entries changes q e)
+named : (changes : List Change) (q : Path) (e : DiskEntry) → (e.now ≡ nothing) × (e.is_new ≡ false) → QuietOr (IsNamedByChange changes q) (disk_entry changes q e)
 named [] q e calm = inr calm
 named (change ∷ changes) q e calm =
     ⊎_elim (λ here. inl (inl here)) (λ still_calm. ⊎_elim (λ later. inl (inr later)) (λ end. inr end) (named changes q (entry_after change q e) still_calm)) (named_one change q e calm)
 
 -- of nothing nothing is left
-nothing_left : (e : Entry) → (e.now ≡ nothing) × (e.is_new ≡ false) → None ≡ choice e false false
+nothing_left : (e : DiskEntry) → (e.now ≡ nothing) × (e.is_new ≡ false) → None ≡ choice e false false
 nothing_left e calm =
-    ap (λ (i : Item). kept false i) (sym calm.0) ∙ ap (λ (b : Bool). kept false (if b then e.last else e.now)) (sym calm.1)
+    ap (λ (i : DiskItem). kept false i) (sym calm.0) ∙ ap (λ (b : Bool). kept false (if b then e.last else e.now)) (sym calm.1)
 
 -- Filling.
 
@@ -199,26 +199,26 @@ fills_one Good old new p content is synced good = record {
     by q false ne = inl (ap (λ (T : Tree). T q) is ∙ put_other (after old no_tree) p q content (λ same. true≢false (sym ((bytes_eq-Decides p q).1 same) ∙ ne)))
 
 -- one change behind others
-pub named_snoc : (changes : List Change) (change : Change) (q : Path) → IsNamed (changes ++ change ∷ []) q → IsNamed changes q ⊎ Names change q
+pub named_snoc : (changes : List Change) (change : Change) (q : Path) → IsNamedByChange (changes ++ change ∷ []) q → IsNamedByChange changes q ⊎ Names change q
 named_snoc [] change q (inl here) = inr here
 named_snoc [] change q (inr none) = absurd none
 named_snoc (first ∷ changes) change q (inl here) = inl (inl here)
 named_snoc (first ∷ changes) change q (inr later) = ⊎_elim (λ old. inl (inr old)) (λ here. inr here) (named_snoc changes change q later)
 
-pub placed_snoc : (changes : List Change) (change : Change) (q : Path) → IsPlaced (changes ++ change ∷ []) q → IsPlaced changes q ⊎ (place_of change ≡ q)
+pub placed_snoc : (changes : List Change) (change : Change) (q : Path) → IsChangedPath (changes ++ change ∷ []) q → IsChangedPath changes q ⊎ (place_of change ≡ q)
 placed_snoc [] change q (inl here) = inr here
 placed_snoc [] change q (inr none) = absurd none
 placed_snoc (first ∷ changes) change q (inl here) = inl (inl here)
 placed_snoc (first ∷ changes) change q (inr later) = ⊎_elim (λ old. inl (inr old)) (λ here. inr here) (placed_snoc changes change q later)
 
 -- once all paths that changes name are filled, all are
-pub all_chosen : (changes left : List Change) (pick : ℕ) → Fills (IsChoice changes pick) (IsNamed changes) [] left → AllChosen changes pick (after left no_tree)
+pub all_chosen : (changes left : List Change) (pick : ℕ) → Fills (IsChoice changes pick) (IsNamedByChange changes) [] left → AllChosen changes pick (after left no_tree)
 all_chosen changes left pick fills q =
     ⊎_elim (λ named_q. fills.choice q named_q)
-    (λ calm. ⊎_elim (λ same. record { entry = false; end = false; none = λ zero. (refl, refl); is = same ∙ nothing_left (entries changes q no_entry) calm }) (λ good. good) (fills.other q))
+    (λ calm. ⊎_elim (λ same. record { entry = false; end = false; none = λ zero. (refl, refl); is = same ∙ nothing_left (disk_entry changes q no_entry) calm }) (λ good. good) (fills.other q))
     (named changes q no_entry (refl, refl))
 
-pub all_reached : (entries_ left : List Change) → Fills (IsReachable (after entries_ no_tree)) (IsPlaced entries_) [] left → after left no_tree ≡ reachable (after entries_ no_tree)
+pub all_reached : (entries_ left : List Change) → Fills (IsReachable (after entries_ no_tree)) (IsChangedPath entries_) [] left → after left no_tree ≡ reachable (after entries_ no_tree)
 all_reached entries_ left fills = same_tree (λ q. by q (after entries_ no_tree q) refl)
   where
     unreached : (q : Path) → after entries_ no_tree q ≡ None → None ≡ reachable (after entries_ no_tree) q
@@ -245,25 +245,25 @@ synced_push (SyncFolder path ∷ changes) change s t = absurd s
 pub put_pushed : (old now : List Change) (change : Change) → now ≡ old ++ change ∷ [] → AreSynced (change ∷ []) → AreSynced old → AreSynced now
 put_pushed old now change is t s = subst AreSynced (sym is) (synced_push old change s t)
 
-abbrev no_items : List Item
+abbrev no_items : List DiskItem
 no_items = []
 
 -- functions that agree at each path are one
 same_sizes : (f g : Path → ℕ) → ((q : Path) → f q ≡ g q) → f ≡ g
 same_sizes f g agree = λ i q. agree q i
 
-same_pasts : (f g : Path → List Item) → ((q : Path) → f q ≡ g q) → f ≡ g
+same_pasts : (f g : Path → List DiskItem) → ((q : Path) → f q ≡ g q) → f ≡ g
 same_pasts f g agree = λ i q. agree q i
 
 -- putting as synced on a disk that is all synced
 synced_put : (T : Tree) (p : Path) (content : Option Content) → with_item_as true (all_synced T) p (record { content = content; synced = length (bytes_of content) }) ≡ all_synced (put T p content)
 synced_put T p content =
-    let before : Path → List Item = λ q. if bytes_eq p q then [] else [] in
+    let before : Path → List DiskItem = λ q. if bytes_eq p q then [] else [] in
     let old : Path → ℕ = λ q. if bytes_eq p q then length (bytes_of content) else length (bytes_of (T q)) in
     let new : Path → ℕ = λ q. length (bytes_of (put T p content q)) in
     let sizes : (q : Path) → old q ≡ new q = λ q. lengths q (bytes_eq p q) in
     let pasts : (q : Path) → before q ≡ [] = λ q. none q (bytes_eq p q) in
-    ap (λ (f : Path → ℕ). of f before) (same_sizes old new sizes) ∙ ap (λ (f : Path → List Item). of new f) (same_pasts before (λ q. []) pasts)
+    ap (λ (f : Path → ℕ). of f before) (same_sizes old new sizes) ∙ ap (λ (f : Path → List DiskItem). of new f) (same_pasts before (λ q. []) pasts)
   where
     lengths : (q : Path) (b : Bool) → (if b then length (bytes_of content) else length (bytes_of (T q))) ≡ length (bytes_of (if b then content else T q))
     lengths q true = refl
@@ -273,7 +273,7 @@ synced_put T p content =
     none q true = refl
     none q false = refl
 
-    of : (Path → ℕ) → (Path → List Item) → Disk
+    of : (Path → ℕ) → (Path → List DiskItem) → Disk
     of synced past = record { tree = put T p content; unsynced = record { synced = synced; past = past } }
 
 all_puts : (changes : List Change) (T : Tree) → AreSynced changes → replayed changes (all_synced T) ≡ all_synced (after changes T)

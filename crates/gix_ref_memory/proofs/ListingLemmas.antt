@@ -10,8 +10,8 @@ use Rattle.std.proofs.lemmas.List.Elements.{All-push}
 use Rattle.std.proofs.lemmas.List.Quantifiers.{Any-push, all_pairs_push}
 use Rattle.std.proofs.lemmas.List.Folds.{Any-from_list_any}
 use Rattle.gix_ref_files.specs.Tree.{Tree, Path, is_folder}
-use Rattle.gix_ref_files.specs.Calls.{IsName, IsListing, IsEntryOf, entry_name}
-use Rattle.gix_ref_memory.specs.Changes.{IsPlaced, place_of, found_content}
+use Rattle.gix_ref_files.specs.Calls.{IsEntryName, ListsFolder, IsEntryOf, entry_name}
+use Rattle.gix_ref_memory.specs.Changes.{IsChangedPath, place_of, found_content}
 use Rattle.gix_ref_memory.specs.internal.Listing.{IsListed, ListsSome, AddsEntries}
 use Rattle.gix_ref_files.specs.declared.files.Entry.{Entry}
 use Rattle.gix_ref_memory.specs.declared.memory.changes.Change.{Change}
@@ -99,11 +99,11 @@ pub lists_same : (T : Tree) (p : Path) (name : List ℕ) (entries : List Entry) 
 lists_same T p name entries here = record { good = λ good. good; here = here; others = λ other there. there }
 
 -- one entry more
-pub lists_more : (T : Tree) (p : Path) (name : List ℕ) (old new : List Entry) (entry : Entry) → new ≡ old ++ entry ∷ [] → entry_name entry ≡ name → IsName name → IsSome (T (p ++ 47 ∷ name)) → entry.is_folder ≡ is_folder (T (p ++ 47 ∷ name)) → list_any (λ e. bytes_eq (entry_name e) name) old ≡ false → AddsEntries T p name old new
+pub lists_more : (T : Tree) (p : Path) (name : List ℕ) (old new : List Entry) (entry : Entry) → new ≡ old ++ entry ∷ [] → entry_name entry ≡ name → IsEntryName name → IsSome (T (p ++ 47 ∷ name)) → entry.is_folder ≡ is_folder (T (p ++ 47 ∷ name)) → list_any (λ e. bytes_eq (entry_name e) name) old ≡ false → AddsEntries T p name old new
 lists_more T p name old new entry grown named good there folder none =
     subst (λ (l : List Entry). AddsEntries T p name old l) (sym grown) (record {
       good = λ so_far. record {
-        names = All-push (λ e. IsName (entry_name e)) old entry so_far.names (subst IsName (sym named) good);
+        names = All-push (λ e. IsEntryName (entry_name e)) old entry so_far.names (subst IsEntryName (sym named) good);
         tells = All-push (IsEntryOf T p) old entry so_far.tells (subst (λ (n : List ℕ). IsSome (T (p ++ 47 ∷ n)) × (entry.is_folder ≡ is_folder (T (p ++ 47 ∷ n)))) (sym named) (there, folder));
         once = all_pairs_push (λ e later. entry_name e ≢ entry_name later) old entry so_far.once (λ k d lt is. unlisted old name none k d lt (is ∙ named));
       };
@@ -120,7 +120,7 @@ lists_none T p = record {
 
 -- what is listed, or put there by the changes from one on
 abbrev pub Remains : List Change → ℕ → Tree → Path → List Entry → Type 0
-Remains changes i T p entries = (name : List ℕ) → IsName name → IsSome (T (p ++ 47 ∷ name)) → IsListed entries name ⊎ IsPlaced (drop i changes) (p ++ 47 ∷ name)
+Remains changes i T p entries = (name : List ℕ) → IsEntryName name → IsSome (T (p ++ 47 ∷ name)) → IsListed entries name ⊎ IsChangedPath (drop i changes) (p ++ 47 ∷ name)
 
 -- past a change that puts something into the folder
 pub remains_named : (changes : List Change) (i : ℕ) (T : Tree) (p : Path) (old new : List Entry) (change : Change) (name : List ℕ) → i < length changes → change ≡ get_or changes i change → place_of change ≡ p ++ 47 ∷ name → AddsEntries T p name old new → Remains changes i T p old → Remains changes (i + 1) T p new
@@ -133,17 +133,17 @@ remains_named changes i T p old new change name lt is at lists so_far other good
     (so_far other good there)
 
 -- past a change that does not
-pub remains_else : (changes : List Change) (i : ℕ) (T : Tree) (p : Path) (entries : List Entry) (change : Change) → i < length changes → change ≡ get_or changes i change → ((name : List ℕ) → IsName name → place_of change ≡ p ++ 47 ∷ name → ⊥) → Remains changes i T p entries → Remains changes (i + 1) T p entries
+pub remains_else : (changes : List Change) (i : ℕ) (T : Tree) (p : Path) (entries : List Entry) (change : Change) → i < length changes → change ≡ get_or changes i change → ((name : List ℕ) → IsEntryName name → place_of change ≡ p ++ 47 ∷ name → ⊥) → Remains changes i T p entries → Remains changes (i + 1) T p entries
 remains_else changes i T p entries change lt is none so_far other good there =
     ⊎_elim (λ before. inl before)
     (λ later. ⊎_elim (λ here. absurd (none other good here)) (λ rest. inr rest) (placed_next changes i change (p ++ 47 ∷ other) lt is later))
     (so_far other good there)
 
 -- past the last change all is listed
-pub all_listed : (changes : List Change) (i : ℕ) (T : Tree) (p : Path) (entries : List Entry) → length changes ≤ i → ListsSome T p entries → Remains changes i T p entries → IsListing T p entries
+pub all_listed : (changes : List Change) (i : ℕ) (T : Tree) (p : Path) (entries : List Entry) → length changes ≤ i → ListsSome T p entries → Remains changes i T p entries → ListsFolder T p entries
 all_listed changes i T p entries le some so_far = record {
   names = some.names;
   tells = some.tells;
-  each = λ name good there. ⊎_elim (λ here. here) (λ later. absurd (subst (λ (l : List Change). IsPlaced l (p ++ 47 ∷ name)) (drop_all i changes le) later)) (so_far name good there);
+  each = λ name good there. ⊎_elim (λ here. here) (λ later. absurd (subst (λ (l : List Change). IsChangedPath l (p ++ 47 ∷ name)) (drop_all i changes le) later)) (so_far name good there);
   once = some.once;
 }

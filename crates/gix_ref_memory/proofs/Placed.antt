@@ -5,7 +5,7 @@ use Rattle.std.proofs.lemmas.Slice.Eq.{bytes_eq-Decides}
 use Rattle.std.proofs.lemmas.List.{drop_more}
 use Rattle.gix_ref_files.specs.Tree.{Tree, Path, Content, no_tree}
 use Rattle.gix_ref_files.specs.Tree.Content.{File}
-use Rattle.gix_ref_memory.specs.Changes.{after, changed, stands_after, content_of, place_of, IsPlaced}
+use Rattle.gix_ref_memory.specs.Changes.{after, changed, stands_after, content_of, place_of, IsChangedPath}
 use Rattle.gix_ref_memory.specs.declared.memory.changes.Change.{Change}
 use Rattle.gix_ref_memory.specs.declared.memory.changes.Change.TheVariants.{Put, Append, Move, SyncFile, SyncFolder}
 
@@ -29,20 +29,20 @@ put_or_stood (Move from to bytes synced) q content some =
 put_or_stood (SyncFile path) q content some = inr some
 put_or_stood (SyncFolder path) q content some = inr some
 
-placed_or_stood : (changes : List Change) (T : Tree) (q : Path) → IsSome (after changes T q) → IsPlaced changes q ⊎ IsSome (T q)
+placed_or_stood : (changes : List Change) (T : Tree) (q : Path) → IsSome (after changes T q) → IsChangedPath changes q ⊎ IsSome (T q)
 placed_or_stood [] T q some = inr some
 placed_or_stood (change ∷ changes) T q some =
     ⊎_elim (λ later. inl (inr later)) (λ stood. ⊎_elim (λ here. inl (inl here)) (λ before. inr before) (put_or_stood change q (T q) stood)) (placed_or_stood changes (changed change T) q some)
 
 -- what is there, a change put there
-pub placed : (changes : List Change) (q : Path) → IsSome (after changes no_tree q) → IsPlaced changes q
+pub placed : (changes : List Change) (q : Path) → IsSome (after changes no_tree q) → IsChangedPath changes q
 placed changes q some = ⊎_elim (λ here. here) (λ stood. absurd (nothing stood)) (placed_or_stood changes no_tree q some)
   where
     nothing : IsSome (no_tree q) → ⊥
     nothing stood = cc
 
 -- it is the next of the changes, or a later one
-pub placed_next : (changes : List Change) (i : ℕ) (change : Change) (q : Path) → i < length changes → change ≡ get_or changes i change → IsPlaced (drop i changes) q → (place_of change ≡ q) ⊎ IsPlaced (drop (i + 1) changes) q
+pub placed_next : (changes : List Change) (i : ℕ) (change : Change) (q : Path) → i < length changes → change ≡ get_or changes i change → IsChangedPath (drop i changes) q → (place_of change ≡ q) ⊎ IsChangedPath (drop (i + 1) changes) q
 placed_next changes i change q lt is there =
     let split : drop i changes ≡ change ∷ drop (i + 1) changes = drop_more changes i change lt ∙ ap (λ (c : Change). c ∷ drop (i + 1) changes) (sym is) in
-    subst (λ (l : List Change). IsPlaced l q) split there
+    subst (λ (l : List Change). IsChangedPath l q) split there

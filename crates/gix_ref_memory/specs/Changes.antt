@@ -4,7 +4,7 @@ use Rattle.std.specs.declared.alloc.Global.{Global}
 use Rattle.std.proofs.Common.{inr, refl, sym, ap, ◌∙◌}
 use Rattle.gix_ref_files.specs.Tree.{Tree, Path, Content, put, no_tree, bytes_of, is_folder, is_blocked, fronts, with_folders}
 use Rattle.gix_ref_files.specs.Tree.Content.{File, Folder}
-use Rattle.gix_ref_files.specs.Disk.{Disk, Item, no_disk, with_item, with_tree, nothing, a_folder, item_at, file_synced, folder_synced}
+use Rattle.gix_ref_files.specs.Disk.{Disk, DiskItem, no_disk, with_item, with_tree, nothing, a_folder, item_at, file_synced, folder_synced}
 use Rattle.gix_ref_files.specs.Files.{Meaning, disk_of}
 use Rattle.gix_ref_memory.specs.declared.memory.changes.Change.{Change}
 use Rattle.gix_ref_memory.specs.declared.memory.changes.Change.TheVariants.{Put, Append, Move, SyncFile, SyncFolder}
@@ -27,7 +27,7 @@ found_content (Some (FileOf bytes)) = Some (File bytes.now)
 found_content (Some FolderOf) = Some Folder
 
 -- the same with the number of bytes that are synced
-abbrev pub found_item : Known → Item
+abbrev pub found_item : Known → DiskItem
 found_item known = record { content = found_content known.stands; synced = known.synced }
 
 -- the path at which a change puts something, or that it syncs
@@ -65,11 +65,11 @@ abbrev pub tree_after : Vec Change Global → Tree
 tree_after changes = after changes.items no_tree
 
 -- the item of what a change puts at a path
-abbrev pub put_item : Option Stored → Bool → Item
+abbrev pub put_item : Option Stored → Bool → DiskItem
 put_item stored synced = record { content = content_of stored; synced = if synced then length (bytes_of (content_of stored)) else 0 }
 
 -- the entry at p becomes this, and counts as synced or not
-abbrev pub with_item_as : Bool → Disk → Path → Item → Disk
+abbrev pub with_item_as : Bool → Disk → Path → DiskItem → Disk
 with_item_as synced D p item = record {
   tree = put D.tree p item.content;
   unsynced = record {
@@ -158,9 +158,9 @@ abbrev pub MakingFrontsOn : Bool → Disk → List Path → Disk → Type 0
 MakingFrontsOn synced before folders D = (n : ℕ) × (D ≡ with_folders_as synced before (take n folders))
 
 -- some of these changes puts something at q
-abbrev pub IsPlaced : List Change → Path → Type 0
-IsPlaced [] q = ⊥
-IsPlaced (change ∷ changes) q = (place_of change ≡ q) ⊎ IsPlaced changes q
+abbrev pub IsChangedPath : List Change → Path → Type 0
+IsChangedPath [] q = ⊥
+IsChangedPath (change ∷ changes) q = (place_of change ≡ q) ⊎ IsChangedPath changes q
 
 -- the results of `put`, and the tree T that each leaves
 abbrev pub Puts : Tree → Path → List ℕ → Tree → Bool → Type 0
@@ -172,7 +172,7 @@ abbrev pub placed_on : Disk → Path → List ℕ → Disk
 placed_on D p bytes = with_item_as true (with_folders_as true D (fronts p)) p (record { content = Some (File bytes); synced = length bytes })
 
 -- the item at a path after a change
-abbrev pub item_after : Change → Path → Item → Item
+abbrev pub item_after : Change → Path → DiskItem → DiskItem
 item_after (Put path stored synced) q item = if bytes_eq path.items q then put_item stored synced else item
 item_after (Append path whole had) q item = if bytes_eq path.items q then record { content = Some (File whole.items); synced = item.synced } else item
 item_after (Move from to bytes synced) q item =
@@ -181,6 +181,6 @@ item_after (SyncFile path) q item = if bytes_eq path.items q then record { conte
 item_after (SyncFolder path) q item = item
 
 -- the same of several changes
-abbrev pub items : List Change → Path → Item → Item
+abbrev pub items : List Change → Path → DiskItem → DiskItem
 items [] q item = item
 items (change ∷ changes) q item = items changes q (item_after change q item)

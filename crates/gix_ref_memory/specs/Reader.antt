@@ -7,8 +7,8 @@ use Rattle.gix_ref_memory.specs.declared.memory.turns.Plan.{Plan}
 use Rattle.gix_ref_memory.specs.declared.memory.turns.Turn.{Turn}
 
 -- the bytes that it reads
-abbrev pub bytes_in : MemoryReader → List ℕ
-bytes_in reader = reader.bytes.items
+abbrev pub reader_bytes : MemoryReader → List ℕ
+reader_bytes reader = reader.bytes.items
 
 -- the number of its last call, counted on from the files that it was opened in
 abbrev pub reader_calls : MemoryReader → ℕ

@@ -211,7 +211,7 @@ impl Files for Memory {
     ghost use Rattle.gix_ref_memory.specs.Laws.{tree_is_left, only_tree, disk_is_found, only_disk};
     ghost use Rattle.gix_ref_memory.specs.Turns.{KeepsTurn, NeverFails, LacksMemory, CannotGrow, CannotCreate, CannotRename, AsBefore, InOneStep, IsDone};
     ghost use Rattle.gix_ref_memory.specs.Memory.{meaning, tree_of, faults_of, next_turn, Counts};
-    ghost use Rattle.gix_ref_memory.specs.Reader.{bytes_in, reader_calls, reader_faults, reader_plan};
+    ghost use Rattle.gix_ref_memory.specs.Reader.{reader_bytes, reader_calls, reader_faults, reader_plan};
     ghost use Rattle.gix_ref_memory.specs.Memory.{calls_of, plan_of};
 
     type Reader = MemoryReader;
@@ -285,7 +285,7 @@ impl Files for Memory {
     }
 
     fn open(&mut self, alloc: Global, path: &[u8]) -> Result<Option<MemoryReader>, FileError>
-        ensures answer { IfOk result (λ reader. Opens (Unit {0}) bytes_in (tree_of self.old)
+        ensures answer { IfOk result (λ reader. Opens (Unit {0}) reader_bytes (tree_of self.old)
             path.now reader) }
         ensures leaves { Leaves (meaning self.old) (meaning self.new)
             (Unchanged (tree_of self.old)) }

@@ -13,7 +13,7 @@ use Rattle.gix_ref_base.specs.PackedRecords.{Record}
 use Rattle.gix_ref_records.specs.RecordGrammar.{Takes, Records}
 use Rattle.gix_ref_records.specs.Views.{record_of}
 use Rattle.gix_ref_packed.specs.Items.{Unread, AreItems, AreRecords, ItemStep, unread, has_prefix}
-use Rattle.gix_ref_packed.specs.YetToGive.{asked_of}
+use Rattle.gix_ref_packed.specs.YetToGive.{asked_records}
 use Rattle.gix_ref_records.proofs.OneReading.{same_record}
 use Rattle.gix_ref_records.proofs.RecordPlaces.{shorter_record as shorter}
 
@@ -36,14 +36,14 @@ none_taken k t r rest none takes =
     let less = shorter k t r rest takes in
     let len : length t ≡ 0 = ap length none in omega arith
 
-pub asked_more : (prefix : Option (List ℕ)) (r : Record) (rs : List Record) → has_prefix prefix r.name ≡ true → asked_of prefix (r ∷ rs) ≡ r ∷ asked_of prefix rs
+pub asked_more : (prefix : Option (List ℕ)) (r : Record) (rs : List Record) → has_prefix prefix r.name ≡ true → asked_records prefix (r ∷ rs) ≡ r ∷ asked_records prefix rs
 asked_more prefix r rs has = take_while-cons (λ x. has_prefix prefix x.name) r rs ∙ cond-true (has_prefix prefix r.name) _ _ has
 
-pub asked_end : (prefix : Option (List ℕ)) (r : Record) (rs : List Record) → has_prefix prefix r.name ≡ false → asked_of prefix (r ∷ rs) ≡ []
+pub asked_end : (prefix : Option (List ℕ)) (r : Record) (rs : List Record) → has_prefix prefix r.name ≡ false → asked_records prefix (r ∷ rs) ≡ []
 asked_end prefix r rs no_prefix = take_while-cons (λ x. has_prefix prefix x.name) r rs ∙ cond-false (has_prefix prefix r.name) _ _ no_prefix
 
 -- where the text is records, the items are those that are asked for
-pub records_law : (Ended : Type 0) (xs : List (Result Reference Error)) (s : Unread) (rs : List Record) → AreItems Ended s xs → Records s.kind s.text rs → AreRecords Ended (asked_of s.prefix rs) xs
+pub records_law : (Ended : Type 0) (xs : List (Result Reference Error)) (s : Unread) (rs : List Record) → AreItems Ended s xs → Records s.kind s.text rs → AreRecords Ended (asked_records s.prefix rs) xs
 records_law Ended [] s [] items h = λ end. refl
 records_law Ended [] s (r ∷ rs) items h = λ end.
     ⊎_elim (λ (none : s.text ≡ []). absurd (none_taken s.kind s.text r h.0 none h.1))
@@ -59,17 +59,17 @@ records_law Ended (Ok x ∷ xs) s (r ∷ rs) items h =
     let has : has_prefix s.prefix r.name ≡ true = ap (λ (y : Record). has_prefix s.prefix y.name) (sym same.0) ∙ step.1 in
     let rest : Records t.kind t.text rs = subst (λ (k : Kind). Records k t.text rs) (sym step.3.0) (subst (λ (u : List ℕ). Records s.kind u rs) (sym same.1) h.2) in
     let more = records_law Ended xs t rs items.2 rest in (
-      asked_of s.prefix rs,
-      asked_more s.prefix r rs has ∙ ap (λ y. y ∷ asked_of s.prefix rs) (sym same.0),
-      subst (λ (p : Option (List ℕ)). AreRecords Ended (asked_of p rs) xs) step.3.1 more,
+      asked_records s.prefix rs,
+      asked_more s.prefix r rs has ∙ ap (λ y. y ∷ asked_records s.prefix rs) (sym same.0),
+      subst (λ (p : Option (List ℕ)). AreRecords Ended (asked_records p rs) xs) step.3.1 more,
     )
 records_law Ended (Err (bad_line line number) ∷ xs) s [] items h = items.1.0 h
 records_law Ended (Err (bad_line line number) ∷ xs) s (r ∷ rs) items h = items.1.1 r h.0 h.1
 records_law Ended (Err (bad_header line) ∷ xs) s rs items h = items.1
 
-pub all_asked : (rs : List Record) → asked_of None rs ≡ rs
+pub all_asked : (rs : List Record) → asked_records None rs ≡ rs
 all_asked [] = refl
 all_asked (r ∷ rs) = asked_more None r rs refl ∙ ap (λ xs. r ∷ xs) (all_asked rs)
 
-pub each_records : (s : Iter) (from : Unread) (rs : List Record) → unread s ≡ from → Records from.kind from.text rs → EachRunFrom ItemStep s (λ p. AreRecords (p.whole ≡ true) (asked_of from.prefix rs) p.items)
+pub each_records : (s : Iter) (from : Unread) (rs : List Record) → unread s ≡ from → Records from.kind from.text rs → EachRunFrom ItemStep s (λ p. AreRecords (p.whole ≡ true) (asked_records from.prefix rs) p.items)
 each_records s from rs is h p seen begins = records_law (p.whole ≡ true) p.items from rs (each_run s from is p seen begins) h

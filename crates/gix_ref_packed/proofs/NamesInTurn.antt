@@ -17,14 +17,15 @@ use Rattle.gix_ref_base.specs.PackedRecords.{Record, record_named}
 use Rattle.gix_ref_records.specs.RecordGrammar.{Forms, Ascending}
 use Rattle.gix_ref_records.specs.Positions.{IsNotMalformed}
 use Rattle.gix_ref_records.specs.Views.{record_of}
-use Rattle.gix_ref_packed.specs.AskedNames.{is_rooted, key_alone, four_names, asked_names, or_else, first_named}
+use Rattle.gix_ref_packed.specs.AskedNames.{key_alone, four_names, asked_keys, or_else, first_named}
 use Rattle.gix_ref_packed.specs.Searches.{Finds, FindsOne, FindsPartial}
 use Rattle.gix_ref_records.proofs.RecordPlaces.{forms_of}
+use Rattle.gix_ref_name.specs.Candidates.{is_rooted}
 
-pub asks_four : (p : List ℕ) → is_rooted p ≡ false → asked_names p ≡ four_names p
+pub asks_four : (p : List ℕ) → is_rooted p ≡ false → asked_keys p ≡ four_names p
 asks_four p partial = ap (λ b. cond b (key_alone (key_outside p)) (four_names p)) partial
 
-pub asks_key : (p : List ℕ) (key : Option (List ℕ)) → is_rooted p ≡ true → key ≡ key_outside p → asked_names p ≡ key_alone key
+pub asks_key : (p : List ℕ) (key : Option (List ℕ)) → is_rooted p ≡ true → key ≡ key_outside p → asked_keys p ≡ key_alone key
 asks_key p key rooted is = ap (λ b. cond b (key_alone (key_outside p)) (four_names p)) rooted ∙ ap key_alone (sym is)
 
 -- an error that is this one
@@ -47,8 +48,8 @@ skip : (k : Kind) (t : List ℕ) (rs : List Record) → Forms k t rs → Ascendi
 skip k t rs h up [] names m = refl
 skip k t rs h up (n ∷ pre) names m = ap (λ o. or_else o (first_named (pre ++ names) rs)) (m.0 rs h up) ∙ skip k t rs h up pre names m.1
 
-module _ (k : Kind) (t p : List ℕ) (pre post : List (List ℕ)) (n : List ℕ) (wanted : asked_names p ≡ pre ++ n ∷ post) (before : MissesAll k t pre) (has : Contains (pre ++ n ∷ post) n) where
-  first_is : (rs : List Record) → Forms k t rs → Ascending rs → (r : Record) → Some r ≡ record_named n rs → Some r ≡ first_named (asked_names p) rs
+module _ (k : Kind) (t p : List ℕ) (pre post : List (List ℕ)) (n : List ℕ) (wanted : asked_keys p ≡ pre ++ n ∷ post) (before : MissesAll k t pre) (has : Contains (pre ++ n ∷ post) n) where
+  first_is : (rs : List Record) → Forms k t rs → Ascending rs → (r : Record) → Some r ≡ record_named n rs → Some r ≡ first_named (asked_keys p) rs
   first_is rs h up r here =
       ap (λ o. or_else o (first_named post rs)) here ∙ sym (skip k t rs h up pre (n ∷ post) before) ∙ ap (λ names. first_named names rs) (sym wanted)
 
@@ -78,21 +79,21 @@ module _ (k : Kind) (t p : List ℕ) (pre post : List (List ℕ)) (n : List ℕ)
   fails_for Memory partial finds = record { hit = tt; none = tt; refused = partial; records = λ rs h up. refl; forms = λ rs h up. tt }
   fails_for (RefnameValidation x) partial finds = absurd finds
 
-pub none_left : (k : Kind) (t p : List ℕ) (names : List (List ℕ)) → asked_names p ≡ names → MissesAll k t names → (names ≢ [] → IsNotMalformed k t) → FindsPartial k t p (Ok None)
+pub none_left : (k : Kind) (t p : List ℕ) (names : List (List ℕ)) → asked_keys p ≡ names → MissesAll k t names → (names ≢ [] → IsNotMalformed k t) → FindsPartial k t p (Ok None)
 none_left k t p names wanted before line = record { hit = tt; none = λ some. line (λ empty. some (wanted ∙ empty)); refused = tt; records = λ rs h up. none rs (forms_of k t rs h) up; forms = none }
   where
-    none : (rs : List Record) → Forms k t rs → Ascending rs → None ≡ first_named (asked_names p) rs
+    none : (rs : List Record) → Forms k t rs → Ascending rs → None ≡ first_named (asked_keys p) rs
     none rs h up = sym (ap (λ xs. first_named xs rs) (wanted ∙ sym (append-nil names)) ∙ skip k t rs h up names [] before)
 
 add_last : (k : Kind) (t : List ℕ) (pre : List (List ℕ)) (n : List ℕ) → MissesAll k t pre → Misses k t n → MissesAll k t (pre ++ n ∷ [])
 add_last k t [] n before last = (last, tt)
 add_last k t (m ∷ pre) n before last = (before.0, add_last k t pre n before.1 last)
 
-pub last_for : (k : Kind) (t p : List ℕ) (pre : List (List ℕ)) (n : List ℕ) → asked_names p ≡ pre ++ n ∷ [] → MissesAll k t pre → Contains (pre ++ n ∷ []) n → (o : Option Reference) → Finds {E = ParseError} k t n (Ok o) → FindsPartial k t p (Ok o)
+pub last_for : (k : Kind) (t p : List ℕ) (pre : List (List ℕ)) (n : List ℕ) → asked_keys p ≡ pre ++ n ∷ [] → MissesAll k t pre → Contains (pre ++ n ∷ []) n → (o : Option Reference) → Finds {E = ParseError} k t n (Ok o) → FindsPartial k t p (Ok o)
 last_for k t p pre n wanted before has (Some r) finds = found_for k t p pre [] n wanted before has (Some r) r refl finds
 last_for k t p pre n wanted before has None finds = none_left k t p (pre ++ n ∷ []) wanted (add_last k t pre n before (missed k t n None refl finds)) (λ some. finds.none)
 
-pub last_answer : (k : Kind) (t p : List ℕ) (pre : List (List ℕ)) (n : List ℕ) → asked_names p ≡ pre ++ n ∷ [] → MissesAll k t pre → Contains (pre ++ n ∷ []) n → is_rooted p ≡ false → (r : Result (Option Reference) Error) → FindsOne k t n r → FindsPartial k t p r
+pub last_answer : (k : Kind) (t p : List ℕ) (pre : List (List ℕ)) (n : List ℕ) → asked_keys p ≡ pre ++ n ∷ [] → MissesAll k t pre → Contains (pre ++ n ∷ []) n → is_rooted p ≡ false → (r : Result (Option Reference) Error) → FindsOne k t n r → FindsPartial k t p r
 last_answer k t p pre n wanted before has partial (Ok o) finds = last_for k t p pre n wanted before has o finds
 last_answer k t p pre n wanted before has partial (Err e) finds = fails_for k t p pre [] n wanted before has e partial finds
 

@@ -8,8 +8,8 @@ use Rattle.gix_ref_packed.specs.declared.packed.iter.error.Error.TheVariants.{He
 use Rattle.gix_ref_base.specs.PackedRecords.{Record}
 use Rattle.gix_ref_records.specs.RecordGrammar.{Takes, Records}
 use Rattle.gix_ref_records.specs.Views.{record_of}
-use Rattle.gix_ref_packed.specs.Items.{Unread, Gives, unread, has_prefix}
-use Rattle.gix_ref_packed.specs.YetToGive.{IsYet, asked_of, NextGivesTheFirst, FaultsAreLines, EndedStaysEnded}
+use Rattle.gix_ref_packed.specs.Items.{Unread, GivesItem, unread, has_prefix}
+use Rattle.gix_ref_packed.specs.YetToGive.{IsYet, asked_records, NextGivesTheFirst, FaultsAreLines, EndedStaysEnded}
 use Rattle.gix_ref_records.proofs.OneReading.{same_record}
 use Rattle.gix_ref_packed.proofs.ItemRuns.{none_taken, asked_more, asked_end, all_asked}
 
@@ -18,7 +18,7 @@ abbrev Left : Unread → List Record → Type 0
 Left s left = Records s.kind s.text left
 
 -- where it gave nothing, none is asked for
-none_asked : (s : Unread) (left : List Record) → Left s left → (t : Unread) → Gives s None t → asked_of s.prefix left ≡ []
+none_asked : (s : Unread) (left : List Record) → Left s left → (t : Unread) → GivesItem s None t → asked_records s.prefix left ≡ []
 none_asked s [] h t gave = refl
 none_asked s (r ∷ rs) h t gave =
     ⊎_elim (λ (none : s.text ≡ []). absurd (none_taken s.kind s.text r h.0 none h.1))
@@ -31,9 +31,9 @@ none_asked s (r ∷ rs) h t gave =
 record GaveFirst (s : Unread) (x : Reference) (left : List Record) (t : Unread) : Type 0 where
   others : List Record
   still : Left t others
-  asked : asked_of s.prefix left ≡ record_of x ∷ asked_of t.prefix others
+  asked : asked_records s.prefix left ≡ record_of x ∷ asked_records t.prefix others
 
-gave_first : (s : Unread) (x : Reference) (left : List Record) → Left s left → (t : Unread) → Gives s (Some (Ok x)) t → GaveFirst s x left t
+gave_first : (s : Unread) (x : Reference) (left : List Record) → Left s left → (t : Unread) → GivesItem s (Some (Ok x)) t → GaveFirst s x left t
 gave_first s x [] h t gave = absurd (none_taken s.kind s.text (record_of x) t.text h gave.0)
 gave_first s x (r ∷ rs) h t gave =
     let same = same_record s.kind s.text (record_of x) t.text r h.0 gave.0 h.1 in
@@ -41,12 +41,12 @@ gave_first s x (r ∷ rs) h t gave =
     record {
       others = rs;
       still = subst (λ (k : Kind). Records k t.text rs) (sym gave.3.0) (subst (λ (u : List ℕ). Records s.kind u rs) (sym same.1) h.2);
-      asked = asked_more s.prefix r rs has ∙ ap (λ y. y ∷ asked_of s.prefix rs) (sym same.0)
-          ∙ ap (λ (p : Option (List ℕ)). record_of x ∷ asked_of p rs) (sym gave.3.1);
+      asked = asked_more s.prefix r rs has ∙ ap (λ y. y ∷ asked_records s.prefix rs) (sym same.0)
+          ∙ ap (λ (p : Option (List ℕ)). record_of x ∷ asked_records p rs) (sym gave.3.1);
     }
 
 -- records have no fault
-no_fault : (s : Unread) (e : Error) (left : List Record) → Left s left → (t : Unread) → Gives s (Some (Err e)) t → ⊥
+no_fault : (s : Unread) (e : Error) (left : List Record) → Left s left → (t : Unread) → GivesItem s (Some (Err e)) t → ⊥
 no_fault s (bad_line line number) [] h t gave = gave.0 h
 no_fault s (bad_line line number) (r ∷ rs) h t gave = gave.1 r h.0 h.1
 no_fault s (bad_header line) left h t gave = gave
@@ -58,7 +58,7 @@ next_gives_first s t None rs step yet = (
 )
 next_gives_first s t (Some (Ok x)) rs step yet =
     let first = gave_first (unread s) x yet.left yet.records (unread t) step in (
-      asked_of (unread t).prefix first.others,
+      asked_records (unread t).prefix first.others,
       yet.asked ∙ first.asked,
       record { left = first.others; records = first.still; asked = refl },
     )
@@ -69,7 +69,7 @@ faults_are_lines s t (bad_line line number) step = tt
 faults_are_lines s t (bad_header line) step = step
 
 -- nothing is given of an empty text
-nothing_more : (t : Unread) (item : Option (Result Reference Error)) (u : Unread) → t.text ≡ [] → Gives t item u → item ≡ None
+nothing_more : (t : Unread) (item : Option (Result Reference Error)) (u : Unread) → t.text ≡ [] → GivesItem t item u → item ≡ None
 nothing_more t None u none gave = refl
 nothing_more t (Some (Ok x)) u none gave = absurd (none_taken t.kind t.text (record_of x) u.text none gave.0)
 nothing_more t (Some (Err (bad_line line number))) u none gave = absurd (gave.0 none)
@@ -79,14 +79,14 @@ pub ended_stays_ended : EndedStaysEnded
 ended_stays_ended s t u item ended step = nothing_more (unread t) item (unread u) ended.1 step
 
 -- an iterator whose unread text is records is yet to give those that are asked for
-pub yet_asked : (s : Iter) (from : Unread) (rs : List Record) → unread s ≡ from → Records from.kind from.text rs → IsYet s (asked_of from.prefix rs)
+pub yet_asked : (s : Iter) (from : Unread) (rs : List Record) → unread s ≡ from → Records from.kind from.text rs → IsYet s (asked_records from.prefix rs)
 yet_asked s from rs is h = record {
   left = rs;
   records = subst (λ (u : Unread). Records u.kind u.text rs) (sym is) h;
-  asked = ap (λ (u : Unread). asked_of u.prefix rs) (sym is);
+  asked = ap (λ (u : Unread). asked_records u.prefix rs) (sym is);
 }
 
 -- and all of them, where names of any kind are
 pub yet_all : (s : Iter) (from : Unread) (rs : List Record) → unread s ≡ from → from.prefix ≡ None → Records from.kind from.text rs → IsYet s rs
 yet_all s from rs is any h =
-    subst (λ (xs : List Record). IsYet s xs) (ap (λ (p : Option (List ℕ)). asked_of p rs) any ∙ all_asked rs) (yet_asked s from rs is h)
+    subst (λ (xs : List Record). IsYet s xs) (ap (λ (p : Option (List ℕ)). asked_records p rs) any ∙ all_asked rs) (yet_asked s from rs is h)

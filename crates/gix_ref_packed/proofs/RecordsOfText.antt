@@ -19,7 +19,7 @@ use Rattle.gix_ref_records.specs.declared.packed.decode.options.Header.{Header}
 use Rattle.gix_ref_records.specs.RecordGrammar.{Newline, Line, Peeled, Takes, Records, in_line}
 use Rattle.gix_ref_records.specs.OpenedText.{Heads, PackedText}
 use Rattle.gix_ref_records.specs.Positions.{IsReadable, IsObject}
-use Rattle.gix_ref_packed.specs.RecordsOfText.{begins_lf, begins_hash, longer, text_lines, behind_header, is_hex_of, is_line_of, digits_in, name_in, behind_caret, first_object, add_line, add_lines, line_records, read_records, RecordsAreComputed}
+use Rattle.gix_ref_packed.specs.RecordsOfText.{begins_lf, begins_hash, longer, text_lines, behind_header, is_hex_of, is_line_of, digits_in, line_name, behind_caret, first_object, add_line, add_lines, line_records, read_records, RecordsAreComputed}
 use Rattle.gix_ref_records.proofs.RecordBytes.{two_digits}
 use Rattle.gix_ref_packed.proofs.FileSearchLemmas.{readable}
 
@@ -146,13 +146,13 @@ module _ (k : Kind) (r : Record) (h : IsReadable k r) where
   digits_are : digits_in k (record_line r) ≡ r.target
   digits_are = take_at r.target (32 ∷ r.name) (2 * kind_len k) h.target.len
 
-  name_is : name_in k (record_line r) ≡ r.name
+  name_is : line_name k (record_line r) ≡ r.name
   name_is =
       let len = h.target.len in
       let sum = length-append r.target (32 ∷ []) in
       ap (drop (2 * kind_len k + 1)) (sym (append_assoc r.target (32 ∷ []) r.name)) ∙ drop_at (r.target ++ 32 ∷ []) r.name (2 * kind_len k + 1) (omega arith)
 
-  is_line : is_line_of k (record_line r) (digits_in k (record_line r)) (name_in k (record_line r)) ≡ true
+  is_line : is_line_of k (record_line r) (digits_in k (record_line r)) (line_name k (record_line r)) ≡ true
   is_line =
       (λ i. is_line_of k (record_line r) (digits_are i) (name_is i))
       ∙ ap (λ x. x && is_hex_of k r.target && is_none (full_error r.name)) ((bytes_decides (record_line r) (record_line r)).1 refl)
@@ -162,7 +162,7 @@ module _ (k : Kind) (r : Record) (h : IsReadable k r) where
   line_added : (object : Option (List ℕ)) (rs : List Record) → add_line k (record_line r) object (behind_caret (record_line r)) rs ≡ Some (record { name = r.name; target = r.target; object = object } ∷ rs)
   line_added object rs =
       ap (λ o. add_line k (record_line r) object o rs) (no_object k r.target r.name h.target)
-      ∙ ap (λ x. cond x (Some (record { name = name_in k (record_line r); target = digits_in k (record_line r); object = object } ∷ rs)) None) is_line
+      ∙ ap (λ x. cond x (Some (record { name = line_name k (record_line r); target = digits_in k (record_line r); object = object } ∷ rs)) None) is_line
       ∙ (λ i. Some (record { name = name_is i; target = digits_are i; object = object } ∷ rs))
 
 object_added : (k : Kind) (o : List ℕ) (more : List (List ℕ)) (rs : List Record) → IsHexOf k o → first_object more ≡ None → add_lines k more ≡ Some rs → add_lines k ((94 ∷ o) ∷ more) ≡ Some rs

@@ -18,7 +18,7 @@ use Rattle.gix_ref_records.specs.declared.packed.decode.options.Header.{Header}
 use Rattle.gix_ref_records.specs.RecordGrammar.{Newline, Line, Peeled, Records, in_line, is_caret}
 use Rattle.gix_ref_records.specs.HeaderGrammar.{said, silent, words}
 use Rattle.gix_ref_records.specs.OpenedText.{PackedText, is_hash}
-use Rattle.gix_ref_packed.specs.RecordsOfText.{begins_lf, begins_hash, longer, text_lines, behind_header, is_hex_of, is_line_of, digits_in, name_in, behind_caret, first_object, add_line, add_lines, line_records, read_records, TextsAreRead}
+use Rattle.gix_ref_packed.specs.RecordsOfText.{begins_lf, begins_hash, longer, text_lines, behind_header, is_hex_of, is_line_of, digits_in, line_name, behind_caret, first_object, add_line, add_lines, line_records, read_records, TextsAreRead}
 use Rattle.gix_ref_records.proofs.ReadBack.{name_in_line}
 use Rattle.gix_ref_packed.proofs.RecordsOfText.{in_front, wider, empty_line, records_read}
 
@@ -171,7 +171,7 @@ lines_read k (line ∷ more) t rs cut h =
   where
     go : (o : Option (List ℕ)) → behind_caret line ≡ o → (ss : List Record) → Follows k cut.0 (first_object more) ss → add_line k line (first_object more) o ss ≡ Some rs → Follows k t o rs
     go (Some digits) is ss rest valid = object_read k t line cut.0 digits (first_object more) ss rs cut.1 rest (caret_line line digits is) valid
-    go None is ss rest valid = record_read k t line cut.0 (digits_in k line) (name_in k line) (first_object more) ss rs cut.1 rest is valid
+    go None is ss rest valid = record_read k t line cut.0 (digits_in k line) (line_name k line) (first_object more) ss rs cut.1 rest is valid
 
 -- ---- the header
 

@@ -14,7 +14,7 @@ use Rattle.std.specs.Bool.{MatchBool}
 use Rattle.gix_ref_base.specs.PackedRecords.{Record}
 use Rattle.gix_ref_records.specs.RecordGrammar.{Takes, Records, Below, Rising}
 use Rattle.gix_ref_records.specs.OpenedText.{Piece, IsPiece, SortsByName, SortsText, is_lower, records_in, bytes_in, Fronts, lines_of, line_count}
-use Rattle.gix_ref_packed.specs.internal.Entries.{entry_record, entry_piece, entry_name, entry_bytes}
+use Rattle.gix_ref_packed.specs.internal.Entries.{entry_record, entry_piece, entry_ref_name, entry_bytes}
 use Rattle.gix_ref_records.proofs.RecordBytes.{lines_taken, front_is, records_stop, fronts_more, fronts_all, lines_more}
 use Rattle.gix_ref_records.proofs.ReadBack.{same_records}
 use Rattle.gix_ref_records.proofs.LowerBounds.{below_or}
@@ -54,21 +54,21 @@ some_entry [] some = absurd (omega arith)
 some_entry (e ∷ es) some = e
 
 -- adjacent names that do not descend
-rise : (es : List Entry) → IsSortedByKey entry_name (slice_cmp nat_cmp) es → Rising (records_in (map entry_piece es))
+rise : (es : List Entry) → IsSortedByKey entry_ref_name (slice_cmp nat_cmp) es → Rising (records_in (map entry_piece es))
 rise [] up = tt
-rise (e ∷ []) up = (All-nil (λ s. Below s.name (entry_name e) → ⊥), tt)
+rise (e ∷ []) up = (All-nil (λ s. Below s.name (entry_ref_name e) → ⊥), tt)
 rise (e ∷ f ∷ es) up =
     let more : Rising (records_in (map entry_piece (f ∷ es))) = rise (f ∷ es) (λ k d low high.
     let next : suc k + 1 ≡ suc (k + 1) = omega arith in
-    subst (λ (i : ℕ). is_lt (slice_cmp nat_cmp (entry_name (get_or (e ∷ f ∷ es) i d)) (entry_name (get_or (f ∷ es) k d))) ≡ false) next (up (suc k) d (omega arith) (omega arith))) in
-    let here : Below (entry_name f) (entry_name e) → ⊥ = λ below.
+    subst (λ (i : ℕ). is_lt (slice_cmp nat_cmp (entry_ref_name (get_or (e ∷ f ∷ es) i d)) (entry_ref_name (get_or (f ∷ es) k d))) ≡ false) next (up (suc k) d (omega arith) (omega arith))) in
+    let here : Below (entry_ref_name f) (entry_ref_name e) → ⊥ = λ below.
     let no = up 0 e (omega arith) (omega arith) in let bad : false ≡ true = sym no ∙ ap is_lt below in cc in (
-      All-cons (λ s. Below s.name (entry_name e) → ⊥) (entry_record f) (records_in (map entry_piece es)) here
-          (All-weaker (λ (s : Record). Below s.name (entry_name f) → ⊥) (λ (s : Record). Below s.name (entry_name e) → ⊥) (λ s not_below below. not_below (below_or s.name (entry_name e) (entry_name f) below here)) (records_in (map entry_piece es)) more.0),
+      All-cons (λ s. Below s.name (entry_ref_name e) → ⊥) (entry_record f) (records_in (map entry_piece es)) here
+          (All-weaker (λ (s : Record). Below s.name (entry_ref_name f) → ⊥) (λ (s : Record). Below s.name (entry_ref_name e) → ⊥) (λ s not_below below. not_below (below_or s.name (entry_ref_name e) (entry_ref_name f) below here)) (records_in (map entry_piece es)) more.0),
       more,
     )
 
-pub sorts : (es fs : List Entry) → IsPermutation es fs → IsSortedByKey entry_name (slice_cmp nat_cmp) fs → IsStableByKey entry_name (slice_cmp nat_cmp) es fs → SortsByName (map entry_piece es) (map entry_piece fs)
+pub sorts : (es fs : List Entry) → IsPermutation es fs → IsSortedByKey entry_ref_name (slice_cmp nat_cmp) fs → IsStableByKey entry_ref_name (slice_cmp nat_cmp) es fs → SortsByName (map entry_piece es) (map entry_piece fs)
 sorts es fs moved up stable = record {
   moved = IsPermutation-map entry_piece es fs moved;
   rises = rise fs up;
@@ -134,7 +134,7 @@ keeps_text k t rs h up =
     }
 
 -- the sorted records are kept
-pub keeps_sorted : (k : Kind) (t kept : List ℕ) (rs : List Record) (es fs ds : List Entry) → ds ≡ fs → Records k t rs → (Rising rs → ⊥) → Records k t (map entry_record es) → All (IsPiece k) (map entry_piece es) → t ≡ flat_map entry_bytes es → IsPermutation es fs → IsSortedByKey entry_name (slice_cmp nat_cmp) fs → IsStableByKey entry_name (slice_cmp nat_cmp) es fs → kept ≡ flat_map entry_bytes ds → SortsText k t kept
+pub keeps_sorted : (k : Kind) (t kept : List ℕ) (rs : List Record) (es fs ds : List Entry) → ds ≡ fs → Records k t rs → (Rising rs → ⊥) → Records k t (map entry_record es) → All (IsPiece k) (map entry_piece es) → t ≡ flat_map entry_bytes es → IsPermutation es fs → IsSortedByKey entry_ref_name (slice_cmp nat_cmp) fs → IsStableByKey entry_ref_name (slice_cmp nat_cmp) es fs → kept ≡ flat_map entry_bytes ds → SortsText k t kept
 keeps_sorted k t kept rs es fs ds same all falls records pieces cut moved up stable is =
     let whole : kept ≡ bytes_in (map entry_piece fs) = is ∙ ap (flat_map entry_bytes) same ∙ sym (same_bytes_in fs) in
     let order = sorts es fs moved up stable in

@@ -1,14 +1,9 @@
 -- By which names a reference is asked for in packed references: the key of a name (`git worktree`), or the four full
 -- names of a partial one (`gitrevisions`).
-use Rattle.std.specs.Prelude.{ℕ, List, [], ◌∷◌, ◌++◌, Option, Some, None, Bool, ◌||◌, if◌then◌else◌, codes, nat_eq}
-use Rattle.std.specs.List.{starts_with}
+use Rattle.std.specs.Prelude.{ℕ, List, [], ◌∷◌, ◌++◌, Option, Some, None, ◌||◌, if◌then◌else◌, codes}
 use Rattle.gix_ref_base.specs.Locations.{key_outside}
 use Rattle.gix_ref_base.specs.PackedRecords.{Record, record_named}
-
--- the partial name is a full name already
-abbrev pub is_rooted : List ℕ → Bool
-is_rooted p =
-    starts_with nat_eq p (codes "refs/") || starts_with nat_eq p (codes "main-worktree/") || starts_with nat_eq p (codes "worktrees/")
+use Rattle.gix_ref_name.specs.Candidates.{is_rooted}
 
 -- the key alone, if there is one
 abbrev pub key_alone : Option (List ℕ) → List (List ℕ)
@@ -21,8 +16,8 @@ four_names p =
     (codes "refs/" ++ p) ∷ (codes "refs/tags/" ++ p) ∷ (codes "refs/heads/" ++ p) ∷ (codes "refs/remotes/" ++ p) ∷ []
 
 -- the full names that a partial name asks for, in this order
-abbrev pub asked_names : List ℕ → List (List ℕ)
-asked_names p = if is_rooted p then key_alone (key_outside p) else four_names p
+abbrev pub asked_keys : List ℕ → List (List ℕ)
+asked_keys p = if is_rooted p then key_alone (key_outside p) else four_names p
 
 -- one, or else another
 abbrev pub or_else : Option Record → Option Record → Option Record

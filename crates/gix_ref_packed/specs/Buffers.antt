@@ -30,11 +30,11 @@ pub record Opened (kind : Kind) (text : List ℕ) (b : Buffer) : Type 0 where
   pub opens : OpensTo kind text (buffer_text b) (buffer_line b)
 
 -- why this text is not opened
-abbrev pub IsRefused : Kind → List ℕ → Error → Type 0
-IsRefused kind text HeaderParsing = NoHeader text
-IsRefused kind text (Iter line) = HasBadLine kind text line
-IsRefused kind text Memory = Unit {0}
-IsRefused kind text (Io error) = ⊥
+abbrev pub IsRefusedText : Kind → List ℕ → Error → Type 0
+IsRefusedText kind text HeaderParsing = NoHeader text
+IsRefusedText kind text (Iter line) = HasBadLine kind text line
+IsRefusedText kind text Memory = Unit {0}
+IsRefusedText kind text (Io error) = ⊥
 
 -- why these records cannot be sorted
 abbrev pub IsStuck : Kind → ℕ → List ℕ → Error → Type 0
@@ -46,8 +46,8 @@ IsStuck kind first text (Io error) = ⊥
 -- why a file with these bytes is not opened
 abbrev pub IsRefusedBytes : Kind → List ℕ → Error → Type 0
 IsRefusedBytes kind bytes (Io error) = error ≢ NoMemory
-IsRefusedBytes kind bytes HeaderParsing = IsRefused kind bytes HeaderParsing
-IsRefusedBytes kind bytes (Iter line) = IsRefused kind bytes (Iter line)
+IsRefusedBytes kind bytes HeaderParsing = IsRefusedText kind bytes HeaderParsing
+IsRefusedBytes kind bytes (Iter line) = IsRefusedText kind bytes (Iter line)
 IsRefusedBytes kind bytes Memory = Unit {0}
 
 -- why the file at a path is not opened

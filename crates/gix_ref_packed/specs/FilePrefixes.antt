@@ -33,7 +33,7 @@ pub record Encloses (kind : Kind) (text prefix : List ℕ) (start end : ℕ) : T
   pub records : (rs : List Record) → Records kind text rs → Rising rs → HoldsPrefixed kind prefix rs (take (end - start) (drop start text))
 
 -- these are such lines
-pub record IsPartOf (kind : Kind) (text prefix part : List ℕ) : Type 0 where
+pub record IsPrefixPart (kind : Kind) (text prefix part : List ℕ) : Type 0 where
   pub start : ℕ
   pub end : ℕ
   pub encloses : Encloses kind text prefix start end
@@ -47,7 +47,7 @@ IsNumbered kind text line b =
 -- The buffer has all records of the prefix, for `iter_prefixed` of that prefix; lines are numbered as in the file.
 pub record HoldsPrefix (kind : Kind) (text : List ℕ) (line : ℕ) (prefix : List ℕ) (b : Buffer) : Type 0 where
   pub kind_is : buffer_kind b ≡ kind
-  pub part : IsPartOf kind text prefix (buffer_text b)
+  pub part : IsPrefixPart kind text prefix (buffer_text b)
   pub numbered : IsNumbered kind text line b
 
 -- such a buffer holds the records of the prefix

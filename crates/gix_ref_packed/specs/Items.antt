@@ -16,17 +16,17 @@ use Rattle.gix_ref_records.specs.OpenedText.{NoHeader, lines_of}
 use Rattle.gix_ref_records.specs.Views.{record_of}
 
 -- a line up to its LF, which it may lack at the end of the text, and what follows; a CR belongs to the line
-abbrev pub CutsLine : List ℕ → List ℕ → List ℕ → Type 0
-CutsLine text line rest = Cuts 10 text line rest ⊎ (NoByte 10 text × (line ≡ text) × (rest ≡ []))
+abbrev pub CutsAtFeed : List ℕ → List ℕ → List ℕ → Type 0
+CutsAtFeed text line rest = Cuts 10 text line rest ⊎ (NoByte 10 text × (line ≡ text) × (rest ≡ []))
 
 -- a line without the CR of a CRLF
-abbrev pub without_cr : List ℕ → List ℕ
-without_cr line = if ends_with nat_eq line (13 ∷ []) then take (length line - 1) line else line
+abbrev pub line_without_cr : List ℕ → List ℕ
+line_without_cr line = if ends_with nat_eq line (13 ∷ []) then take (length line - 1) line else line
 
 -- the first line without its LF or CRLF
 abbrev pub FirstLine : List ℕ → List ℕ → Type 0
 FirstLine text line =
-    ((before : List ℕ) × (after : List ℕ) × Cuts 10 text before after × (line ≡ without_cr before)) ⊎ (NoByte 10 text × (line ≡ text))
+    ((before : List ℕ) × (after : List ℕ) × Cuts 10 text before after × (line ≡ line_without_cr before)) ⊎ (NoByte 10 text × (line ≡ text))
 
 -- where only some names are asked for, the name begins with that prefix
 abbrev pub has_prefix : Option (List ℕ) → List ℕ → Bool
@@ -41,26 +41,26 @@ pub record Unread : Type 0 where
   pub text : List ℕ
 
 -- nothing is left, or a record of another name is there
-abbrev pub Ends : Unread → Type 0
-Ends s = (s.text ≡ []) ⊎ ((r : Record) × (rest : List ℕ) × Takes s.kind s.text r rest × (has_prefix s.prefix r.name ≡ false))
+abbrev pub HasNoMore : Unread → Type 0
+HasNoMore s = (s.text ≡ []) ⊎ ((r : Record) × (rest : List ℕ) × Takes s.kind s.text r rest × (has_prefix s.prefix r.name ≡ false))
 
 -- of the same kind, for the same names
 abbrev pub IsAlike : Unread → Unread → Type 0
 IsAlike s t = (t.kind ≡ s.kind) × (t.prefix ≡ s.prefix)
 
 -- One item, by what is to be read before it and after it: the record there, or the line, where it is no record.
-abbrev pub Gives : Unread → Option (Result Reference Error) → Unread → Type 0
-Gives s None t = Ends s × (t.text ≡ [])
-Gives s (Some (Ok r)) t =
+abbrev pub GivesItem : Unread → Option (Result Reference Error) → Unread → Type 0
+GivesItem s None t = HasNoMore s × (t.text ≡ [])
+GivesItem s (Some (Ok r)) t =
     Takes s.kind s.text (record_of r) t.text × (has_prefix s.prefix (record_of r).name ≡ true) × (t.number ≡ s.number + lines_of (record_of r)) × IsAlike s t
-Gives s (Some (Err (bad_line line number))) t =
-    (s.text ≢ []) × NoRecord s.kind s.text × CutsLine s.text line.now t.text × (number ≡ s.number) × (t.number ≡ s.number + 1) × IsAlike s t
-Gives s (Some (Err (bad_header line))) t = ⊥
+GivesItem s (Some (Err (bad_line line number))) t =
+    (s.text ≢ []) × NoRecord s.kind s.text × CutsAtFeed s.text line.now t.text × (number ≡ s.number) × (t.number ≡ s.number + 1) × IsAlike s t
+GivesItem s (Some (Err (bad_header line))) t = ⊥
 
 -- the items of a run; `Ended` holds where it went on to the end
 abbrev pub AreItems : Type 0 → Unread → List (Result Reference Error) → Type 0
-AreItems Ended s [] = Ended → Ends s
-AreItems Ended s (x ∷ items) = (t : Unread) × Gives s (Some x) t × AreItems Ended t items
+AreItems Ended s [] = Ended → HasNoMore s
+AreItems Ended s (x ∷ items) = (t : Unread) × GivesItem s (Some x) t × AreItems Ended t items
 
 -- the items of a run are these records, without a fault
 abbrev pub AreRecords : Type 0 → List Record → List (Result Reference Error) → Type 0
@@ -90,7 +90,7 @@ unread_from b prefix start =
 
 -- one call of `next`
 abbrev pub ItemStep : Iter → Option (Result Reference Error) → Iter → Type 0
-ItemStep s r t = Gives (unread s) r (unread t)
+ItemStep s r t = GivesItem (unread s) r (unread t)
 
 -- why a text has no items
 abbrev pub IsHeaderError : List ℕ → Error → Type 0

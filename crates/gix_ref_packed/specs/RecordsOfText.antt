@@ -54,8 +54,8 @@ is_line_of kind line digits name =
 abbrev pub digits_in : Kind → List ℕ → List ℕ
 digits_in kind line = take (2 * kind_len kind) line
 
-abbrev pub name_in : Kind → List ℕ → List ℕ
-name_in kind line = drop (2 * kind_len kind + 1) line
+abbrev pub line_name : Kind → List ℕ → List ℕ
+line_name kind line = drop (2 * kind_len kind + 1) line
 
 -- what follows the `^` at the front of a line
 abbrev pub behind_caret : List ℕ → Option (List ℕ)
@@ -71,8 +71,8 @@ first_object (line ∷ more) = behind_caret line
 abbrev pub add_line : Kind → List ℕ → Option (List ℕ) → Option (List ℕ) → List Record → Option (List Record)
 add_line kind line object (Some digits) rs = if is_hex_of kind digits && is_none object then Some rs else None
 add_line kind line object None rs =
-    if is_line_of kind line (digits_in kind line) (name_in kind line)
-    then Some (record { name = name_in kind line; target = digits_in kind line; object = object } ∷ rs)
+    if is_line_of kind line (digits_in kind line) (line_name kind line)
+    then Some (record { name = line_name kind line; target = digits_in kind line; object = object } ∷ rs)
     else None
 
 abbrev pub add_lines : Kind → List (List ℕ) → Option (List Record)

@@ -13,7 +13,8 @@ use Rattle.gix_ref_base.specs.PackedRecords.{Record, record_named}
 use Rattle.gix_ref_records.specs.RecordGrammar.{Records, Forms, Ascending}
 use Rattle.gix_ref_records.specs.Positions.{StandsIn, IsNotMalformed, CannotRead, IsUnreadable}
 use Rattle.gix_ref_records.specs.Views.{record_of}
-use Rattle.gix_ref_packed.specs.AskedNames.{asked_names, first_named, is_rooted}
+use Rattle.gix_ref_packed.specs.AskedNames.{asked_keys, first_named}
+use Rattle.gix_ref_name.specs.Candidates.{is_rooted}
 
 -- What a search for one full name returns.
 pub record Finds {E : Type 0} (kind : Kind) (text name : List ℕ) (result : Result (Option Reference) E) : Type 0 where
@@ -39,19 +40,19 @@ FindsOne kind text name (Err (RefnameValidation error)) = ⊥
 
 -- what is found for a partial name on any text: a record of a name that is asked for, at the start of a line
 pub record HitsPartial (kind : Kind) (text p : List ℕ) (r : Record) : Type 0 where
-  pub wanted : Contains (asked_names p) r.name
+  pub wanted : Contains (asked_keys p) r.name
   pub stands : StandsIn kind text r
 
 -- why a search for a partial name fails on any text: a name that is asked for meets a malformed line or a record that
 -- cannot be read, or, where names are to be made, there was no memory
 abbrev pub PartialFails : Kind → List ℕ → List ℕ → Error → Type 0
-PartialFails kind text p Parse = (n : List ℕ) × Contains (asked_names p) n × CannotRead kind text n
+PartialFails kind text p Parse = (n : List ℕ) × Contains (asked_keys p) n × CannotRead kind text n
 PartialFails kind text p Memory = is_rooted p ≡ false
 PartialFails kind text p (RefnameValidation error) = ⊥
 
 -- why it fails where each line has its form
 abbrev pub PartialUnreadable : Kind → List Record → List ℕ → Error → Type 0
-PartialUnreadable kind rs p Parse = (n : List ℕ) × Contains (asked_names p) n × IsUnreadable kind (record_named n rs)
+PartialUnreadable kind rs p Parse = (n : List ℕ) × Contains (asked_keys p) n × IsUnreadable kind (record_named n rs)
 PartialUnreadable kind rs p Memory = Unit {0}
 PartialUnreadable kind rs p (RefnameValidation error) = ⊥
 
@@ -59,14 +60,14 @@ PartialUnreadable kind rs p (RefnameValidation error) = ⊥
 pub record FindsPartial (kind : Kind) (text p : List ℕ) (result : Result (Option Reference) Error) : Type 0 where
   pub hit : IfOk result (λ found. IfSome found (λ r. HitsPartial kind text p (record_of r)))
   -- where a name is asked for, a text of malformed lines alone is never taken for one without it
-  pub none : IfOk result (λ found. IfNone found (asked_names p ≢ [] → IsNotMalformed kind text))
+  pub none : IfOk result (λ found. IfNone found (asked_keys p ≢ [] → IsNotMalformed kind text))
   pub refused : IfErr result (PartialFails kind text p)
   -- among ascending records it is the record of the first name that has one
   pub records : (rs : List Record) → Records kind text rs → Ascending rs →
-      MatchResult result (λ found. option_map record_of found ≡ first_named (asked_names p) rs) (λ e. e ≡ Memory)
+      MatchResult result (λ found. option_map record_of found ≡ first_named (asked_keys p) rs) (λ e. e ≡ Memory)
   -- so it is where ids and names are not checked
   pub forms : (rs : List Record) → Forms kind text rs → Ascending rs →
-      MatchResult result (λ found. option_map record_of found ≡ first_named (asked_names p) rs) (PartialUnreadable kind rs p)
+      MatchResult result (λ found. option_map record_of found ≡ first_named (asked_keys p) rs) (PartialUnreadable kind rs p)
 
 -- the result of `try_find` that a result of `find` says
 abbrev pub as_try_find : Result Reference ExistingError → Result (Option Reference) Error

@@ -11,14 +11,14 @@ use Rattle.gix_ref_packed.specs.Items.{ItemStep, has_prefix, unread}
 use Rattle.gix_ref_records.specs.Views.{record_of}
 
 -- the records up to the first other name, where only some names are asked for
-abbrev pub asked_of : Option (List ℕ) → List Record → List Record
-asked_of prefix rs = take_while (λ r. has_prefix prefix r.name) rs
+abbrev pub asked_records : Option (List ℕ) → List Record → List Record
+asked_records prefix rs = take_while (λ r. has_prefix prefix r.name) rs
 
 -- what is unread is records, and these are those that the iterator is yet to give
 pub record IsYet (it : Iter) (rs : List Record) : Type 0 where
   pub left : List Record
   pub records : Records (unread it).kind (unread it).text left
-  pub asked : rs ≡ asked_of (unread it).prefix left
+  pub asked : rs ≡ asked_records (unread it).prefix left
 
 -- one item of an iterator that is yet to give these records, and what it is yet to give then
 abbrev pub TakesOne : List Record → Option (Result Reference Error) → Iter → Type 0

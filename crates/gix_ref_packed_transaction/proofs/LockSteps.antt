@@ -16,7 +16,7 @@ use Rattle.gix_ref_repack.specs.declared.error.Error.TheVariants.{Commit, Iterat
 use Rattle.gix_ref_rewrite.specs.declared.outcome.Rewrite.{Rewrite}
 use Rattle.gix_ref_rewrite.specs.declared.outcome.Rewrite.TheVariants.{Unchanged, Removed, Text}
 use Rattle.gix_ref_transaction.specs.PrepareSteps.{FillsLock}
-use Rattle.gix_ref_packed_transaction.specs.PackedTransactions.{AreDistinct, IsMadeOf, IsOldOrRewritten, IsRewritten, IsUnbegun, OnlyAt, OnlyLockChanges, OnlyLockGoes, HoldsRewrite, IsLeft, SaysWhy}
+use Rattle.gix_ref_packed_transaction.specs.PackedTransactions.{AreDistinct, IsMadeOf, IsOldOrRewritten, IsRewritten, IsUnbegun, OnlyAt, OnlyLockChanges, OnlyLockGoes, HoldsRewrite, IsLeft, SaysWhyPacked}
 use Rattle.gix_ref_packed_transaction.specs.internal.LockSteps.{IsUnlocked, IsWhyNotPut}
 
 pub lock_elsewhere : (place : Path) → place ≢ lock_of place
@@ -111,7 +111,7 @@ risen_later before mid now later (inr most) = inr (omega (arith, later, most))
 
 -- why it has failed, once the lock is gone
 pub why_after : (honest : Type 0) (kind : Kind) (records : Option Buffer) (place : Path) (before mid now : ℕ) (S T : Tree) (error : Error) →
-    mid ≤ now → (honest → OnlyLockGoes place S T) → IsWhyNotPut honest place before mid S error → SaysWhy honest kind records place before now T error
+    mid ≤ now → (honest → OnlyLockGoes place S T) → IsWhyNotPut honest place before mid S error → SaysWhyPacked honest kind records place before now T error
 why_after honest kind records place before mid now S T (Commit error) later goes (inl risen, not_memory) = (inl (risen_later before mid now later risen), not_memory)
 why_after honest kind records place before mid now S T (Commit error) later goes (inr there, not_memory) =
     (inr (λ is. ap is_folder ((goes is).0 place (lock_elsewhere place)) ∙ there is), not_memory)

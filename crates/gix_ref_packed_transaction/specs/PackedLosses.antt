@@ -3,7 +3,7 @@ use Rattle.std.specs.Prelude.{◌≡◌, ◌≢◌, ◌⊎◌, ℕ, List, Option
 use Rattle.gix_ref_hash.specs.declared.hash.Kind.{Kind}
 use Rattle.gix_ref_files.specs.Disk.{Disk, folder_of}
 use Rattle.gix_ref_files.specs.Lock.{lock_of}
-use Rattle.gix_ref_files.specs.Settled.{AllStay, IsSettledAt, IsWhole}
+use Rattle.gix_ref_files.specs.Settled.{AllStay, IsSettledAt, IsWholeAt}
 use Rattle.gix_ref_files.specs.Tree.{Tree, Path, file_of, fronts}
 use Rattle.gix_ref_packed.specs.declared.packed.buffer.Buffer.{Buffer}
 use Rattle.gix_ref_rewrite.specs.declared.outcome.Rewrite.{Rewrite}
@@ -17,14 +17,14 @@ BecomesFile Removed before now = now ≡ None
 BecomesFile (Text text) before now = now ≡ Some text.items
 
 -- the folder of the place, and those that lead to it
-abbrev pub folders_of : Path → List Path
-folders_of place = folder_of place ∷ fronts place
+abbrev pub folders_at : Path → List Path
+folders_at place = folder_of place ∷ fronts place
 
 -- Before a commit: the lock is there and empty, as it was taken; and a loss of power leaves `packed-refs` and its folders as they are.
-pub record IsReady (place : Path) (D : Disk) : Type 0 where
-  pub lock : IsWhole D (lock_of place) []
+pub record IsReadyOn (place : Path) (D : Disk) : Type 0 where
+  pub lock : IsWholeAt D (lock_of place) []
   pub file : IsSettledAt D (file_of (D.tree place)) place
-  pub folders : AllStay D (folders_of place)
+  pub folders : AllStay D (folders_at place)
 
 -- the other files that were settled are as before
 abbrev pub OthersStay : (place : Path) → Disk → Tree → Type 0

@@ -28,11 +28,11 @@ abbrev pub records_of : Transaction → Option Buffer
 records_of t = t.buffer
 
 -- the path of `packed-refs`, whose lock it holds
-abbrev pub place_of : Transaction → Path
-place_of t = t.lock
+abbrev pub transaction_place : Transaction → Path
+transaction_place t = t.lock
 
-abbrev pub kind_of : Transaction → Kind
-kind_of t = t.kind
+abbrev pub transaction_kind : Transaction → Kind
+transaction_kind t = t.kind
 
 -- the keys of the records that it removes
 abbrev pub removed_keys : Transaction → List (List ℕ)
@@ -113,8 +113,8 @@ IsUnbegun (Io error) = ⊥
 
 -- Why a commit failed: the rename failed, or a folder is at the place; another call of files failed; a line of the records is no record; or
 -- there was no memory.
-abbrev pub SaysWhy : (honest : Type 0) → Kind → Option Buffer → (place : Path) → (before now : ℕ) → Tree → Error → Type 0
-SaysWhy honest kind records place before now T (Commit error) = (HasRisen before now ⊎ (honest → is_folder (T place) ≡ true)) × (error ≢ no_memory)
-SaysWhy honest kind records place before now T (Io error) = HasRisen before now × (error ≢ no_memory)
-SaysWhy honest kind records place before now T (Iteration line) = IsStuckBuffer kind records (Iteration line)
-SaysWhy honest kind records place before now T Memory = Unit {0}
+abbrev pub SaysWhyPacked : (honest : Type 0) → Kind → Option Buffer → (place : Path) → (before now : ℕ) → Tree → Error → Type 0
+SaysWhyPacked honest kind records place before now T (Commit error) = (HasRisen before now ⊎ (honest → is_folder (T place) ≡ true)) × (error ≢ no_memory)
+SaysWhyPacked honest kind records place before now T (Io error) = HasRisen before now × (error ≢ no_memory)
+SaysWhyPacked honest kind records place before now T (Iteration line) = IsStuckBuffer kind records (Iteration line)
+SaysWhyPacked honest kind records place before now T Memory = Unit {0}

@@ -82,8 +82,8 @@ pub struct Failed {
 
 impl Transaction {
     ghost use Rattle.gix_ref_packed_transaction.specs.declared.transaction.prepare.Error.TheVariants.{Memory as no_memory};
-    ghost use Rattle.gix_ref_packed_transaction.specs.PackedLosses.{IsLostOf, IsReady, OnlyLockIsLost, SettlesFrom};
-    ghost use Rattle.gix_ref_packed_transaction.specs.PackedTransactions.{records_of, place_of, kind_of, removed_keys, deleted_names, Commits, IsLeft, IsLockEmpty, IsUnbegun, SaysWhy};
+    ghost use Rattle.gix_ref_packed_transaction.specs.PackedLosses.{IsLostOf, IsReadyOn, OnlyLockIsLost, SettlesFrom};
+    ghost use Rattle.gix_ref_packed_transaction.specs.PackedTransactions.{records_of, transaction_place, transaction_kind, removed_keys, deleted_names, Commits, IsLeft, IsLockEmpty, IsUnbegun, SaysWhyPacked};
 
     /// A transaction of the file whose lock is held, and whose records these are: `None` where there is no such file. The ids of the file
     /// are of the kind. Not public in gix-ref.
@@ -98,8 +98,8 @@ impl Transaction {
     /// ```
     pub fn new(alloc: Global, buffer: Option<Buffer>, lock: Lock, kind: Kind) -> Transaction
         ensures records { records_of result ≡ buffer }
-        ensures place { place_of result ≡ lock }
-        ensures kind { kind_of result ≡ kind }
+        ensures place { transaction_place result ≡ lock }
+        ensures kind { transaction_kind result ≡ kind }
         ensures keys { removed_keys result ≡ [] }
     {
         Transaction {
@@ -127,8 +127,8 @@ impl Transaction {
             (removed_keys self.new)) }
         ensures sorted { OnOk result (IsSorted (slice_cmp nat_cmp) (removed_keys self.new)) }
         ensures records { records_of self.new ≡ records_of self.old }
-        ensures place { place_of self.new ≡ place_of self.old }
-        ensures kind { kind_of self.new ≡ kind_of self.old }
+        ensures place { transaction_place self.new ≡ transaction_place self.old }
+        ensures kind { transaction_kind self.new ≡ transaction_kind self.old }
         ensures kept { OnErr result (self.new ≡ self.old) }
         ensures error { IfErr result (λ error. error ≡ no_memory) }
     {
@@ -145,27 +145,34 @@ impl Transaction {
     /// stop, and after every loss of power, the file is the old one or the new one; a commit that succeeded is not lost. As gix-ref's
     /// `packed::Transaction::commit`.
     pub fn commit<F: Files>(self, alloc: Global, files: &mut F) -> Result<(), Failed>
-        ensures committed { F.honest → IsLockEmpty (place_of self) (F.means files.old).tree →
-            OnOk result (Commits (kind_of self) (records_of self) (removed_keys self)
-            (place_of self) (F.means files.old).tree (F.means files.new).tree) }
-        ensures leaves { F.honest → IsLockEmpty (place_of self) (F.means files.old).tree →
-            Leaves (F.means files.old) (F.means files.new) (IsLeft (kind_of self)
-            (records_of self) (removed_keys self) (place_of self) (F.means files.old).tree) }
-        ensures lost { F.honest → IsReady (place_of self) (disk_of (F.means files.old)) →
-            Loses (F.means files.old) (F.means files.new) (IsLostOf (kind_of self)
-            (records_of self) (removed_keys self) (place_of self)
+        ensures committed { F.honest → IsLockEmpty (transaction_place self) (F.means
+            files.old).tree →
+            OnOk result (Commits (transaction_kind self) (records_of self) (removed_keys self)
+            (transaction_place self) (F.means files.old).tree (F.means files.new).tree) }
+        ensures leaves { F.honest → IsLockEmpty (transaction_place self) (F.means files.old).tree →
+            Leaves (F.means files.old) (F.means files.new) (IsLeft (transaction_kind self)
+            (records_of self) (removed_keys self) (transaction_place self) (F.means
+            files.old).tree) }
+        ensures lost { F.honest → IsReadyOn (transaction_place self) (disk_of (F.means files.old)) →
+            Loses (F.means files.old) (F.means files.new) (IsLostOf (transaction_kind self)
+            (records_of self) (removed_keys self) (transaction_place self)
             (disk_of (F.means files.old))) }
-        ensures settled { F.honest → IsReady (place_of self) (disk_of (F.means files.old)) →
-            OnOk result (SettlesFrom (place_of self) (disk_of (F.means files.old))
+        ensures settled { F.honest → IsReadyOn (transaction_place self) (disk_of (F.means
+            files.old)) →
+            OnOk result (SettlesFrom (transaction_place self) (disk_of (F.means files.old))
             (disk_of (F.means files.new))) }
-        ensures why { IfErr result (λ f. SaysWhy F.honest (kind_of self) (records_of self)
-            (place_of self) (F.faults files.old) (F.faults files.new) (F.means files.new).tree
+        ensures why { IfErr result (λ f. SaysWhyPacked F.honest (transaction_kind self)
+            (records_of self)
+            (transaction_place self) (F.faults files.old) (F.faults files.new) (F.means
+            files.new).tree
             f.error) }
         ensures kept { F.honest → IfErr result (λ f. IsUnbegun f.error →
-            OnlyLockGoes (place_of self) (F.means files.old).tree (F.means files.new).tree) }
+            OnlyLockGoes (transaction_place self) (F.means files.old).tree (F.means
+            files.new).tree) }
         ensures named { IfErr result (λ f. MatchOption f.lock_left
-            (F.honest → is_file ((F.means files.new).tree (lock_of (place_of self))) ≡ false)
-            (λ path. (path.items ≡ lock_of (place_of self))
+            (F.honest → is_file ((F.means files.new).tree (lock_of (transaction_place self))) ≡
+            false)
+            (λ path. (path.items ≡ lock_of (transaction_place self))
             × HasRisen (F.faults files.old) (F.faults files.new))) }
     {
         let Transaction {
@@ -188,12 +195,13 @@ impl Transaction {
     /// `packed::Transaction`.
     pub fn rollback<F: Files>(self, files: &mut F) -> Option<Vec<u8>>
         ensures leaves { F.honest → Leaves (F.means files.old) (F.means files.new)
-            (OnlyLockGoes (place_of self) (F.means files.old).tree) }
+            (OnlyLockGoes (transaction_place self) (F.means files.old).tree) }
         ensures lost { F.honest → Loses (F.means files.old) (F.means files.new)
-            (OnlyLockIsLost (place_of self) (disk_of (F.means files.old))) }
+            (OnlyLockIsLost (transaction_place self) (disk_of (F.means files.old))) }
         ensures named { MatchOption result
-            (F.honest → is_file ((F.means files.new).tree (lock_of (place_of self))) ≡ false)
-            (λ path. (path.items ≡ lock_of (place_of self))
+            (F.honest → is_file ((F.means files.new).tree (lock_of (transaction_place self))) ≡
+            false)
+            (λ path. (path.items ≡ lock_of (transaction_place self))
             × HasRisen (F.faults files.old) (F.faults files.new)) }
     {
         let Transaction {

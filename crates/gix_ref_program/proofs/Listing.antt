@@ -13,7 +13,7 @@ use Rattle.gix_ref_packed.specs.declared.packed.buffer.Buffer.{Buffer}
 use Rattle.gix_ref_records.specs.declared.raw.Reference.{Reference}
 use Rattle.gix_ref_lookup.specs.declared.settings.Settings.{Settings}
 use Rattle.gix_ref_lookup.specs.declared.find.error.ReadError.TheVariants.{File as file_error, DeviceName}
-use Rattle.gix_ref_listing.specs.CleanPrefixes.{IsTaken, IsRefused}
+use Rattle.gix_ref_listing.specs.CleanPrefixes.{IsAcceptedPrefix, IsRefusedPrefix}
 use Rattle.gix_ref_listing.specs.Items.{IsItem}
 use Rattle.gix_ref_listing.specs.Listings.{Listed as ListedName}
 use Rattle.gix_ref_listing.specs.Listings.Listed.{Walked, InPacked}
@@ -74,7 +74,7 @@ module _ {F : Type 0} (honest : Type 0) (means : F → Meaning) (faults : F → 
 
   -- the items of a listing are printed
   pub printed_all : {E : Type 0} (old new : Store F) (prefix : List ℕ) (Are : List Record → Type 0) (it t : LooseThenPacked F Remaining) (out now : Option (List ℕ)) (status : Result ℕ E) →
-      IsTaken old.namespace prefix → (honest → (records : List Record) → Are records → Lists honest means faults old records prefix it) →
+      IsAcceptedPrefix old.namespace prefix → (honest → (records : List Record) → Are records → Lists honest means faults old records prefix it) →
       count_in honest means faults it ≤ count_in honest means faults t → store_of t ≡ new →
       IfOk status (PrintsAll honest means faults it t out now) → Prints (ListRanAmong honest means faults old new prefix Are) out now status
   printed_all old new prefix Are it t out now (Ok s) taken lists rises is all = record {
@@ -118,7 +118,7 @@ module _ {F : Type 0} (honest : Type 0) (means : F → Meaning) (faults : F → 
   }
 
   -- a prefix without a listing
-  no_listing : {R : Type 0} (G : Ghosts R) (old new : Store F) (prefix : List ℕ) (error : PrefixError) → (error ≡ no_list.Memory) ⊎ IsRefused old.namespace prefix error →
+  no_listing : {R : Type 0} (G : Ghosts R) (old new : Store F) (prefix : List ℕ) (error : PrefixError) → (error ≡ no_list.Memory) ⊎ IsRefusedPrefix old.namespace prefix error →
       IsNoListing honest means faults G old new prefix error
   no_listing G old new prefix no_list.Memory why = _
   no_listing G old new prefix no_list.EmptyPrefix (inl none) = cc
@@ -133,9 +133,9 @@ module _ {F : Type 0} (honest : Type 0) (means : F → Meaning) (faults : F → 
       (honest → (records : List Record) → AreRecordsIn means old records → Are records) → (ran : Ran) →
       ListRanAmong honest means faults mid new prefix Are ran → ListRan honest means faults G old new prefix ran
   listed_from G old mid new prefix Are looks counts read (Said (outcomes.Refused (refusals.List error) locks)) (why, none) =
-      (no_listing G old new prefix error (subst (λ (n : _). (error ≡ no_list.Memory) ⊎ IsRefused n prefix error) looks.same.namespace why), none)
+      (no_listing G old new prefix error (subst (λ (n : _). (error ≡ no_list.Memory) ⊎ IsRefusedPrefix n prefix error) looks.same.namespace why), none)
   listed_from G old mid new prefix Are looks counts read (Listed whole items) (taken, among) = (
-    subst (λ (n : _). IsTaken n prefix) looks.same.namespace taken,
+    subst (λ (n : _). IsAcceptedPrefix n prefix) looks.same.namespace taken,
     λ h records are.
         subst (λ (n : ℕ). AreListed honest means faults (settings_of old) (view_in means old) n (faults (files_of new)) records prefix whole items) counts
         (subst (λ (v : View). AreListed honest means faults (settings_of old) v (faults (files_of mid)) (faults (files_of new)) records prefix whole items) (ap view_of (looks.leaves h).tree)

@@ -12,7 +12,7 @@ use Rattle.gix_ref_store.specs.declared.file.store.Store.{Store}
 use Rattle.gix_ref_edits.specs.declared.transaction.RefEdit.{RefEdit}
 use Rattle.gix_ref_log.specs.declared.actor.SignatureRef.{SignatureRef}
 use Rattle.gix_ref_program.specs.Updates.{IsStopOf}
-use Rattle.gix_ref_program.specs.Words.{Asked, Update, Delete, Line}
+use Rattle.gix_ref_program.specs.Words.{Asked, Update, Delete, LineAsked}
 use Rattle.gix_ref_files.specs.declared.files.ReadAt.{Ghosts}
 use Rattle.gix_ref_program.specs.Runs.{IsExpected, IsEditOf, IsDeletionEdit, IsAskedFor, IsNoName, NoEdit, IsCommitterOf, IsOpened, EditOutcome, UpdateOutcome, IsUpdateStop, Ran, CommandRan, LineRan, IsStop, IsStopIn}
 use Rattle.gix_ref_program.specs.declared.outcome.Outcome.{Outcome}
@@ -40,11 +40,11 @@ module _ {F : Type 0} (honest : Type 0) (means : F → Meaning) (faults : F → 
       Leaves (means (files_of old)) (means (files_of new)) (IsUpdateStop honest means faults old committer kind message asked)
   update_stops old new committer kind message asked edit is leaves = weaken leaves (λ T stop. ⊎_elim (λ same. inl same) (λ s. inr (edit, is, s)) stop)
 
-  pub line_comes : {R : Type 0} (G : Ghosts R) (files after : F) (line : Line) (old new : Store F) (committer : Option SignatureRef) (ran : Ran) → IsCommitterOf line committer → IsOpened files line old → files_of new ≡ after →
+  pub line_comes : {R : Type 0} (G : Ghosts R) (files after : F) (line : LineAsked) (old new : Store F) (committer : Option SignatureRef) (ran : Ran) → IsCommitterOf line committer → IsOpened files line old → files_of new ≡ after →
       CommandRan honest means faults G old new committer line.kind line.message line.asked ran → LineRan honest means faults G files after line ran
   line_comes G files after line old new committer ran is opened same comes = inl (old, new, committer, is, opened, same, comes)
 
-  pub line_stops : (files after : F) (line : Line) (old new : Store F) (committer : Option SignatureRef) → IsCommitterOf line committer → IsOpened files line old → files_of new ≡ after →
+  pub line_stops : (files after : F) (line : LineAsked) (old new : Store F) (committer : Option SignatureRef) → IsCommitterOf line committer → IsOpened files line old → files_of new ≡ after →
       Leaves (means (files_of old)) (means (files_of new)) (IsStop honest means faults old committer line.kind line.message line.asked) → Leaves (means files) (means after) (IsStopIn honest means faults files line)
   line_stops files after line old new committer is opened same leaves =
       subst (λ f. Leaves (means f) (means after) (IsStopIn honest means faults files line)) opened.files_are

@@ -8,7 +8,7 @@ use Rattle.gix_ref_hash.specs.declared.hash.ObjectId.{ObjectId}
 use Rattle.gix_ref_hash.specs.declared.hash.Kind.{Kind}
 use Rattle.gix_ref_hash.specs.declared.hash.Kind.TheVariants as kinds
 use Rattle.gix_ref_hash.proofs.IdLemmas.{reads_whole}
-use Rattle.gix_ref_program.specs.Words.{Asked, Update, Symbolic, Delete, Show, Listing, Log, Line, first_is, IsOld, IsUpdate, IsDeletion, IsCommand, IsOption, IsSigned, IsLine, deref_words, kind_words, option_words, asked_of}
+use Rattle.gix_ref_program.specs.Words.{Asked, Update, Symbolic, Delete, Show, Listing, Log, LineAsked, first_is, IsOldWord, IsUpdate, IsDeletion, IsCommand, IsOption, IsSigned, AreWordsOf, deref_words, kind_words, option_words, command_asked}
 use Rattle.gix_ref_log.specs.Signatures.{Who}
 use Rattle.gix_ref_program.specs.declared.words.Command.{Command}
 
@@ -29,7 +29,7 @@ is_hex digits id reads = by (id_kind id) (reads_whole digits id reads).0
     by kinds.Sha1 h = inl h
     by kinds.Sha256 h = inr h
 
-pub no_old : (words : List (List ℕ)) (digits : List ℕ) → words ≡ digits ∷ [] → (IsHex digits → ⊥) → (old : Option ObjectId) → IsOld words old → ⊥
+pub no_old : (words : List (List ℕ)) (digits : List ℕ) → words ≡ digits ∷ [] → (IsHex digits → ⊥) → (old : Option ObjectId) → IsOldWord words old → ⊥
 no_old words digits are no_hex None none = cc
 no_old words digits are no_hex (Some id) (d, reads, same) = no_hex (subst IsHex (heads (sym same ∙ are)) (is_hex d id reads))
 
@@ -52,9 +52,9 @@ no_deref words name rest are no_option is = no_option (same_bytes name (codes "-
 -- a command that begins with `update`
 pub updates : (words after rest : List (List ℕ)) (deref : Bool) (r : Option Command) → words ≡ codes "update" ∷ after → after ≡ deref_words deref ++ rest →
     (deref ≡ false → first_is after (codes "--deref") ≡ false) →
-    MatchOption r ((name : List ℕ) (id : ObjectId) (old : Option ObjectId) → IsUpdate rest name id old → ⊥) (λ command. IsCommand (codes "update" ∷ (deref_words deref ++ rest)) (asked_of command)) →
-    MatchOption r ((asked : Asked) → IsCommand words asked → ⊥) (λ command. IsCommand words (asked_of command))
-updates words after rest deref (Some command) are option_are not_first holds = subst (λ ws. IsCommand ws (asked_of command)) (sym (are ∙ ap (λ ws. codes "update" ∷ ws) option_are)) holds
+    MatchOption r ((name : List ℕ) (id : ObjectId) (old : Option ObjectId) → IsUpdate rest name id old → ⊥) (λ command. IsCommand (codes "update" ∷ (deref_words deref ++ rest)) (command_asked command)) →
+    MatchOption r ((asked : Asked) → IsCommand words asked → ⊥) (λ command. IsCommand words (command_asked command))
+updates words after rest deref (Some command) are option_are not_first holds = subst (λ ws. IsCommand ws (command_asked command)) (sym (are ∙ ap (λ ws. codes "update" ∷ ws) option_are)) holds
 updates words after rest deref None are option_are not_first none = by
   where
     by : (asked : Asked) → IsCommand words asked → ⊥
@@ -71,9 +71,9 @@ updates words after rest deref None are option_are not_first none = by
 -- and one that begins with `delete`
 pub deletions : (words after rest : List (List ℕ)) (deref : Bool) (r : Option Command) → words ≡ codes "delete" ∷ after → after ≡ deref_words deref ++ rest →
     (deref ≡ false → first_is after (codes "--deref") ≡ false) →
-    MatchOption r ((name : List ℕ) (old : Option ObjectId) → IsDeletion rest name old → ⊥) (λ command. IsCommand (codes "delete" ∷ (deref_words deref ++ rest)) (asked_of command)) →
-    MatchOption r ((asked : Asked) → IsCommand words asked → ⊥) (λ command. IsCommand words (asked_of command))
-deletions words after rest deref (Some command) are option_are not_first holds = subst (λ ws. IsCommand ws (asked_of command)) (sym (are ∙ ap (λ ws. codes "delete" ∷ ws) option_are)) holds
+    MatchOption r ((name : List ℕ) (old : Option ObjectId) → IsDeletion rest name old → ⊥) (λ command. IsCommand (codes "delete" ∷ (deref_words deref ++ rest)) (command_asked command)) →
+    MatchOption r ((asked : Asked) → IsCommand words asked → ⊥) (λ command. IsCommand words (command_asked command))
+deletions words after rest deref (Some command) are option_are not_first holds = subst (λ ws. IsCommand ws (command_asked command)) (sym (are ∙ ap (λ ws. codes "delete" ∷ ws) option_are)) holds
 deletions words after rest deref None are option_are not_first none = by
   where
     by : (asked : Asked) → IsCommand words asked → ⊥
@@ -116,7 +116,7 @@ no_value option words (Some given) after is alone are none = cc
 no_value option words None after is alone are none = no_way (sym is ∙ (sym (ap (λ ws. first_is ws option) (sym are ∙ alone)) ∙ none))
 
 -- the words of a line, read from the first on
-module _ (words : List (List ℕ)) (line : Line) (l : IsLine words line) where
+module _ (words : List (List ℕ)) (line : LineAsked) (l : AreWordsOf words line) where
   abbrev behind_as : List (List ℕ)
   behind_as = option_words (codes "--message") line.message ++ l.command
 
@@ -157,30 +157,30 @@ module _ (words : List (List ℕ)) (line : Line) (l : IsLine words line) where
 
 -- Words that are read one part after the other: where one of them is none, no line has these words; else a line has them.
 module _ (words : List (List ℕ)) (dir : List ℕ) (first behind : List (List ℕ)) (kind : Kind) (are : words ≡ dir ∷ first) (option_are : first ≡ kind_words kind ++ behind) (not_first : kind ≡ kinds.Sha1 → first_is first (codes "--sha256") ≡ false) (namespace : Option (List ℕ)) (behind2 : List (List ℕ)) (n : IsOption (codes "--namespace") behind namespace behind2) where
-  at_namespace : (line : Line) (l : IsLine words line) → (line.namespace ≡ namespace) × (behind_namespace words line l ≡ behind2)
+  at_namespace : (line : LineAsked) (l : AreWordsOf words line) → (line.namespace ≡ namespace) × (behind_namespace words line l ≡ behind2)
   at_namespace line l = same_option (codes "--namespace") behind namespace line.namespace behind2 (behind_namespace words line l) refl n (at_kind words line l dir first behind kind are option_are not_first) (no_namespace words line l)
 
-  pub no_signature : behind2 ≡ codes "--as" ∷ [] → (line : Line) → IsLine words line → ⊥
+  pub no_signature : behind2 ≡ codes "--as" ∷ [] → (line : LineAsked) → AreWordsOf words line → ⊥
   no_signature alone line l = no_value (codes "--as") behind2 l.signature (behind_as words line l) refl alone (sym (at_namespace line l).1) (no_as words line l)
 
   module _ (signature : Option (List ℕ)) (behind3 : List (List ℕ)) (s : IsOption (codes "--as") behind2 signature behind3) where
-    at_signature : (line : Line) (l : IsLine words line) → (l.signature ≡ signature) × (behind_as words line l ≡ behind3)
+    at_signature : (line : LineAsked) (l : AreWordsOf words line) → (l.signature ≡ signature) × (behind_as words line l ≡ behind3)
     at_signature line l = same_option (codes "--as") behind2 signature l.signature behind3 (behind_as words line l) refl s (sym (at_namespace line l).1) (no_as words line l)
 
-    pub no_text : behind3 ≡ codes "--message" ∷ [] → (line : Line) → IsLine words line → ⊥
+    pub no_text : behind3 ≡ codes "--message" ∷ [] → (line : LineAsked) → AreWordsOf words line → ⊥
     no_text alone line l = no_value (codes "--message") behind3 line.message l.command refl alone (sym (at_signature line l).1) (no_message words line l)
 
-    pub no_committer : ((committer : Option Who) → IsSigned signature committer → ⊥) → (line : Line) → IsLine words line → ⊥
+    pub no_committer : ((committer : Option Who) → IsSigned signature committer → ⊥) → (line : LineAsked) → AreWordsOf words line → ⊥
     no_committer none line l = none line.committer (subst (λ text. IsSigned text line.committer) (at_signature line l).0 l.is_signed)
 
     module _ (message : Option (List ℕ)) (behind4 : List (List ℕ)) (m : IsOption (codes "--message") behind3 message behind4) where
-      pub no_command : ((asked : Asked) → IsCommand behind4 asked → ⊥) → (line : Line) → IsLine words line → ⊥
+      pub no_command : ((asked : Asked) → IsCommand behind4 asked → ⊥) → (line : LineAsked) → AreWordsOf words line → ⊥
       no_command none line l =
           none line.asked (subst (λ ws. IsCommand ws line.asked)
           (same_option (codes "--message") behind3 message line.message behind4 l.command refl m (sym (at_signature line l).1) (no_message words line l)).1 l.is_command)
 
       pub is_line : (committer : Option Who) (asked : Asked) → IsSigned signature committer → IsCommand behind4 asked →
-          IsLine words (record { dir = dir; kind = kind; namespace = namespace; committer = committer; message = message; asked = asked })
+          AreWordsOf words (record { dir = dir; kind = kind; namespace = namespace; committer = committer; message = message; asked = asked })
       is_line committer asked signed command = record {
         signature = signature;
         command = behind4;

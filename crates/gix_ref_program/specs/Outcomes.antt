@@ -112,16 +112,16 @@ list_word list.PrefixNotClean = codes "PrefixNotClean"
 list_word (list.PackedOpen error) = open_word error
 list_word list.Memory = codes "Memory"
 
-abbrev pub word_of : Refusal → List ℕ
-word_of refusals.PathNotClean = codes "PathNotClean"
-word_of (refusals.Name error) = name_word error
-word_of (refusals.Update (error.Prepare error)) = prepare_word error
-word_of (refusals.Update (error.Commit error)) = commit_word error
-word_of (refusals.Find error) = find_word error
-word_of (refusals.List error) = list_word error
-word_of (refusals.Log error) = log_word error
-word_of refusals.NotFound = codes "NotFound"
-word_of refusals.Memory = codes "Memory"
+abbrev pub refusal_word : Refusal → List ℕ
+refusal_word refusals.PathNotClean = codes "PathNotClean"
+refusal_word (refusals.Name error) = name_word error
+refusal_word (refusals.Update (error.Prepare error)) = prepare_word error
+refusal_word (refusals.Update (error.Commit error)) = commit_word error
+refusal_word (refusals.Find error) = find_word error
+refusal_word (refusals.List error) = list_word error
+refusal_word (refusals.Log error) = log_word error
+refusal_word refusals.NotFound = codes "NotFound"
+refusal_word refusals.Memory = codes "Memory"
 
 -- What is printed.
 
@@ -142,7 +142,7 @@ abbrev pub printed : Outcome → List ℕ
 printed outcomes.WrongWords = codes "wrong words\n"
 printed (outcomes.Updated locks) = lock_lines locks.items
 printed (outcomes.Shown reference) = reference_line reference
-printed (outcomes.Refused refusal locks) = codes "refused: " ++ (word_of refusal ++ (codes "\n" ++ lock_lines locks.items))
+printed (outcomes.Refused refusal locks) = codes "refused: " ++ (refusal_word refusal ++ (codes "\n" ++ lock_lines locks.items))
 
 -- the status: 0 for what is done, 1 for a refusal, 2 for wrong words
 abbrev pub status_of : Outcome → ℕ

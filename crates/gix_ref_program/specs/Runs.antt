@@ -30,9 +30,9 @@ use Rattle.gix_ref_store.specs.Reflogs.{reflog_at, IsNoReflog}
 use Rattle.gix_ref_store.specs.Listings.{prefix_of_all, AreFirst}
 use Rattle.gix_ref_packed.specs.OpenFiles.{CountsRefusal, HasReadFault}
 use Rattle.gix_ref_records.specs.declared.raw.Reference.{Reference}
-use Rattle.gix_ref_listing.specs.CleanPrefixes.{IsTaken, IsRefused}
+use Rattle.gix_ref_listing.specs.CleanPrefixes.{IsAcceptedPrefix, IsRefusedPrefix}
 use Rattle.gix_ref_listing.specs.Listings.{Listed as ListedName}
-use Rattle.gix_ref_listing.specs.WholeListings.{IsListing, IsName}
+use Rattle.gix_ref_listing.specs.WholeListings.{IsListing, IsNameItem}
 use Rattle.gix_ref_listing.specs.declared.error.Error.{Error as ListError}
 use Rattle.gix_ref_listing.specs.declared.prefix.Error.{Error as PrefixError}
 use Rattle.gix_ref_listing.specs.declared.prefix.Error.TheVariants as no_list
@@ -51,9 +51,9 @@ use Rattle.gix_ref_edits.specs.declared.transaction.RefLog.TheVariants.{AndRefer
 use Rattle.gix_ref_program.specs.Outcomes.{printed, status_of}
 use Rattle.gix_ref_program.specs.Updates.{IsMade, IsUpdateError, IsStopOf}
 use Rattle.gix_ref_program.specs.ListPrinting.{list_text}
-use Rattle.gix_ref_program.specs.LogPrinting.{log_text, AreItemsOf}
+use Rattle.gix_ref_program.specs.LogPrinting.{log_text, AreLogItems}
 use Rattle.gix_ref_program.specs.Printed.{items_status}
-use Rattle.gix_ref_program.specs.Words.{Asked, Update, Symbolic, Delete, Show, Listing as AskedListing, Log, Line, IsLine}
+use Rattle.gix_ref_program.specs.Words.{Asked, Update, Symbolic, Delete, Show, Listing as AskedListing, Log, LineAsked, AreWordsOf}
 use Rattle.gix_ref_program.specs.declared.outcome.Outcome.{Outcome}
 use Rattle.gix_ref_program.specs.declared.outcome.Outcome.TheVariants as outcomes
 use Rattle.gix_ref_program.specs.declared.refusal.Refusal.{Refusal}
@@ -139,7 +139,7 @@ write_reflog_of None = Disable
 write_reflog_of (Some who) = Normal
 
 -- this is the committer of a line
-abbrev pub IsCommitterOf : Line → Option SignatureRef → Type 0
+abbrev pub IsCommitterOf : LineAsked → Option SignatureRef → Type 0
 IsCommitterOf line committer = option_map signature_ref_who committer ≡ line.committer
 
 -- What becomes of a line: an outcome, which is printed as a whole; or the items of a listing or of a reflog, each printed as it
@@ -150,10 +150,10 @@ pub data Ran : Type 0 where
   Logged : (whole : Bool) (items : List (Result LogLine ReverseError)) → Ran
 
 -- what is printed of it, and the status
-abbrev pub text_of : Ran → List ℕ
-text_of (Said outcome) = printed outcome
-text_of (Listed whole items) = list_text items
-text_of (Logged whole items) = log_text items
+abbrev pub ran_text : Ran → List ℕ
+ran_text (Said outcome) = printed outcome
+ran_text (Listed whole items) = list_text items
+ran_text (Logged whole items) = log_text items
 
 abbrev pub status_after : Ran → ℕ
 status_after (Said outcome) = status_of outcome
@@ -161,16 +161,16 @@ status_after (Listed whole items) = items_status items
 status_after (Logged whole items) = items_status items
 
 -- it went on to the end
-abbrev pub IsWhole : Ran → Type 0
-IsWhole (Said outcome) = Unit {0}
-IsWhole (Listed whole items) = whole ≡ true
-IsWhole (Logged whole items) = whole ≡ true
+abbrev pub IsShownWhole : Ran → Type 0
+IsShownWhole (Said outcome) = Unit {0}
+IsShownWhole (Listed whole items) = whole ≡ true
+IsShownWhole (Logged whole items) = whole ≡ true
 
 -- What was done, and what is printed of it unless the writer fails: all of it, and its status.
 pub record Prints {E : Type 0} (Does : Ran → Type 0) (out now : Option (List ℕ)) (status : Result ℕ E) : Type 0 where
   pub ran : Ran
   pub does : Does ran
-  pub prints : IfOk status (λ s. IsWhole ran × (s ≡ status_after ran) × Appends out now (text_of ran))
+  pub prints : IfOk status (λ s. IsShownWhole ran × (s ≡ status_after ran) × Appends out now (ran_text ran))
 
 -- why a word gives no full name
 abbrev pub IsNoName : List ℕ → Refusal → Type 0
@@ -185,14 +185,14 @@ NoEdit asked refusals.Memory = Unit {0}
 NoEdit asked refusal = ⊥
 
 -- why there is no store in a folder
-abbrev pub IsNoFolder : List ℕ → Refusal → Type 0
-IsNoFolder dir refusals.PathNotClean = is_clean dir ≡ false
-IsNoFolder dir refusals.Memory = Unit {0}
-IsNoFolder dir refusal = ⊥
+abbrev pub IsBadFolder : List ℕ → Refusal → Type 0
+IsBadFolder dir refusals.PathNotClean = is_clean dir ≡ false
+IsBadFolder dir refusals.Memory = Unit {0}
+IsBadFolder dir refusal = ⊥
 
 -- why a line is not begun: its folder; or its namespace, in a folder that is clean
-abbrev pub IsUnopened : Line → Refusal → Type 0
-IsUnopened line refusal = IsNoFolder line.dir refusal ⊎ ((is_clean line.dir ≡ true) × NoNamespace line.namespace refusal)
+abbrev pub IsUnopened : LineAsked → Refusal → Type 0
+IsUnopened line refusal = IsBadFolder line.dir refusal ⊎ ((is_clean line.dir ≡ true) × NoNamespace line.namespace refusal)
 
 module _ {F : Type 0} where
   -- names are used as they are written, and no component is prohibited
@@ -211,7 +211,7 @@ module _ {F : Type 0} where
     pub plain : IsPlain store
 
   -- the store of a line, which writes log lines where there is a committer
-  pub record IsOpened (files : F) (line : Line) (store : Store F) : Type 0 where
+  pub record IsOpened (files : F) (line : LineAsked) (store : Store F) : Type 0 where
     pub files_are : files_of store ≡ files
     pub clean : is_clean line.dir ≡ true
     pub git : (folders store).git ≡ line.dir
@@ -237,7 +237,7 @@ module _ {F : Type 0} where
   LogRan honest means old new name (Said outcome) = LogOutcome old new name outcome
   LogRan honest means old new name (Listed whole items) = ⊥
   LogRan honest means old new name (Logged whole items) =
-      (full_error name ≡ None) × (honest → AreItemsOf (reflog_at means old name) whole items) × EndsAtError items
+      (full_error name ≡ None) × (honest → AreLogItems (reflog_at means old name) whole items) × EndsAtError items
 
   module _ (honest : Type 0) (means : F → Meaning) (faults : F → ℕ) where
     -- An edit: it is committed, but for locks that stay; or it was not made, and locks may stay; or there was no memory for it.
@@ -283,7 +283,7 @@ module _ {F : Type 0} where
     pub record AreListed (settings : Settings) (view : View) (before now : ℕ) (records : List Record) (prefix : List ℕ) (whole : Bool) (items : List (Result Reference ListError)) : Type 0 where
       pub listed : List ListedName
       pub is : IsListing settings view records prefix listed
-      pub names : AllByRecursion IsName listed ⊎ HasRisen before now
+      pub names : AllByRecursion IsNameItem listed ⊎ HasRisen before now
       pub rest : List ListedName
       pub first : AreFirst honest means faults settings view before now listed rest items
       pub ends : whole ≡ true → rest ≡ []
@@ -291,9 +291,9 @@ module _ {F : Type 0} where
     -- A listing among these records: the prefix has none, or no memory; or its items are printed, by ascending names.
     abbrev pub ListRanAmong : (old new : Store F) → (prefix : List ℕ) → (Are : List Record → Type 0) → Ran → Type 0
     ListRanAmong old new prefix Are (Said (outcomes.Refused (refusals.List error) locks)) =
-        ((error ≡ no_list.Memory) ⊎ IsRefused old.namespace prefix error) × (locks.items ≡ [])
+        ((error ≡ no_list.Memory) ⊎ IsRefusedPrefix old.namespace prefix error) × (locks.items ≡ [])
     ListRanAmong old new prefix Are (Listed whole items) =
-        IsTaken old.namespace prefix
+        IsAcceptedPrefix old.namespace prefix
         × (honest → (records : List Record) → Are records → AreListed (settings_of old) (view_in means old) (faults (files_of old)) (faults (files_of new)) records prefix whole items)
     ListRanAmong old new prefix Are ran = ⊥
 
@@ -302,13 +302,13 @@ module _ {F : Type 0} where
     IsNoListing G old new prefix (no_list.PackedOpen error) =
         honest → RefusesBuffer means old error × CountsRefusal G.faults (faults (files_of old)) (faults (files_of new)) error
     IsNoListing G old new prefix no_list.Memory = Unit {0}
-    IsNoListing G old new prefix error = IsRefused old.namespace prefix error
+    IsNoListing G old new prefix error = IsRefusedPrefix old.namespace prefix error
 
     -- A listing: it is refused; or its items are printed.
     abbrev pub ListRan : {R : Type 0} (G : Ghosts R) → (old new : Store F) → (prefix : List ℕ) → Ran → Type 0
     ListRan G old new prefix (Said (outcomes.Refused (refusals.List error) locks)) = IsNoListing G old new prefix error × (locks.items ≡ [])
     ListRan G old new prefix (Listed whole items) =
-        IsTaken old.namespace prefix
+        IsAcceptedPrefix old.namespace prefix
         × (honest → (records : List Record) → AreRecordsIn means old records → AreListed (settings_of old) (view_in means old) (faults (files_of old)) (faults (files_of new)) records prefix whole items)
     ListRan G old new prefix ran = ⊥
 
@@ -331,30 +331,30 @@ module _ {F : Type 0} where
     IsStop old committer kind message (Log name) T = T ≡ tree_of means old
 
     -- a line that is not begun
-    abbrev pub NotBegun : Line → Ran → Type 0
+    abbrev pub NotBegun : LineAsked → Ran → Type 0
     NotBegun line (Said (outcomes.Refused refusal locks)) = IsUnopened line refusal × (locks.items ≡ [])
     NotBegun line ran = ⊥
 
     -- what becomes of a line: it is begun in its store, or it is not, and the files are as before
-    abbrev pub LineRan : {R : Type 0} (G : Ghosts R) → (files after : F) → Line → Ran → Type 0
+    abbrev pub LineRan : {R : Type 0} (G : Ghosts R) → (files after : F) → LineAsked → Ran → Type 0
     LineRan G files after line ran =
         ((old : Store F) × (new : Store F) × (committer : Option SignatureRef) × IsCommitterOf line committer × IsOpened files line old × (files_of new ≡ after) × CommandRan G old new committer line.kind line.message line.asked ran)
         ⊎ ((after ≡ files) × NotBegun line ran)
 
     -- a stop in a line leaves this tree: as before, or what a stop in its command leaves
-    abbrev pub IsStopIn : F → Line → Tree → Type 0
+    abbrev pub IsStopIn : F → LineAsked → Tree → Type 0
     IsStopIn files line T =
         (T ≡ (means files).tree) ⊎ ((old : Store F) × (committer : Option SignatureRef) × IsCommitterOf line committer × IsOpened files line old × IsStop old committer line.kind line.message line.asked T)
 
     -- A run of a line: what becomes of it is printed, and gives the status; and each stop leaves what a stop in the line leaves.
     pub record RunsLine {R : Type 0} (G : Ghosts R) {E : Type 0} (files after : F) (words : List (List ℕ)) (out now : Option (List ℕ)) (status : Result ℕ E) : Type 0 where
-      pub line : Line
-      pub is_line : IsLine words line
+      pub line : LineAsked
+      pub is_line : AreWordsOf words line
       pub prints : Prints (LineRan G files after line) out now status
       pub leaves : honest → Leaves (means files) (means after) (IsStopIn files line)
 
 -- A run of words that are no line: nothing changes, and it says so.
 pub record RunsWrong {F E : Type 0} (files after : F) (words : List (List ℕ)) (out now : Option (List ℕ)) (status : Result ℕ E) : Type 0 where
-  pub no_line : (line : Line) → IsLine words line → ⊥
+  pub no_line : (line : LineAsked) → AreWordsOf words line → ⊥
   pub same : after ≡ files
   pub printed : IfOk status (λ s. (s ≡ 2) × Appends out now (codes "wrong words\n"))

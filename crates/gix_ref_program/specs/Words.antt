@@ -22,7 +22,7 @@ pub data Asked : Type 0 where
   Log : (name : List ℕ) → Asked
 
 -- What a line asks for, and where.
-pub record Line : Type 0 where
+pub record LineAsked : Type 0 where
   pub dir : List ℕ
   pub kind : Kind
   pub namespace : Option (List ℕ)
@@ -40,9 +40,9 @@ first_is [] word = false
 first_is (first ∷ rest) word = bytes_eq first word
 
 -- `[OLD]`
-abbrev pub IsOld : List (List ℕ) → Option ObjectId → Type 0
-IsOld words None = words ≡ []
-IsOld words (Some id) = (digits : List ℕ) × ReadsId digits id × (words ≡ digits ∷ [])
+abbrev pub IsOldWord : List (List ℕ) → Option ObjectId → Type 0
+IsOldWord words None = words ≡ []
+IsOldWord words (Some id) = (digits : List ℕ) × ReadsId digits id × (words ≡ digits ∷ [])
 
 -- `NAME ID [OLD]`, where NAME is not the option `--deref`
 pub record IsUpdate (words : List (List ℕ)) (name : List ℕ) (id : ObjectId) (old : Option ObjectId) : Type 0 where
@@ -50,14 +50,14 @@ pub record IsUpdate (words : List (List ℕ)) (name : List ℕ) (id : ObjectId) 
   pub rest : List (List ℕ)
   pub no_option : name ≢ codes "--deref"
   pub reads : ReadsId digits id
-  pub expected : IsOld rest old
+  pub expected : IsOldWord rest old
   pub words_are : words ≡ name ∷ (digits ∷ rest)
 
 -- `NAME [OLD]`, where NAME is not the option `--deref`
 pub record IsDeletion (words : List (List ℕ)) (name : List ℕ) (old : Option ObjectId) : Type 0 where
   pub rest : List (List ℕ)
   pub no_option : name ≢ codes "--deref"
-  pub expected : IsOld rest old
+  pub expected : IsOldWord rest old
   pub words_are : words ≡ name ∷ rest
 
 -- `[--deref]`
@@ -104,7 +104,7 @@ IsSigned (Some text) (Some who) = IsSignature text who
 IsSigned signature committer = ⊥
 
 -- the words of a line
-pub record IsLine (words : List (List ℕ)) (line : Line) : Type 0 where
+pub record AreWordsOf (words : List (List ℕ)) (line : LineAsked) : Type 0 where
   pub signature : Option (List ℕ)
   pub command : List (List ℕ)
   pub is_signed : IsSigned signature line.committer
@@ -114,20 +114,20 @@ pub record IsLine (words : List (List ℕ)) (line : Line) : Type 0 where
 
 -- what the values of the code mean
 
-abbrev pub asked_of : Command → Asked
-asked_of (commands.Update deref name id old) = Update deref name.now id old
-asked_of (commands.Symbolic name target) = Symbolic name.now target.now
-asked_of (commands.Delete deref name old) = Delete deref name.now old
-asked_of (commands.Show name) = Show name.now
-asked_of (commands.List prefix) = Listing (option_map (λ text. text.now) prefix)
-asked_of (commands.Log name) = Log name.now
+abbrev pub command_asked : Command → Asked
+command_asked (commands.Update deref name id old) = Update deref name.now id old
+command_asked (commands.Symbolic name target) = Symbolic name.now target.now
+command_asked (commands.Delete deref name old) = Delete deref name.now old
+command_asked (commands.Show name) = Show name.now
+command_asked (commands.List prefix) = Listing (option_map (λ text. text.now) prefix)
+command_asked (commands.Log name) = Log name.now
 
-abbrev pub line_of : Parsed → Line
-line_of line = record {
+abbrev pub line_asked : Parsed → LineAsked
+line_asked line = record {
   dir = line.dir.now;
   kind = line.object_hash;
   namespace = option_map (λ name. name.now) line.namespace;
   committer = option_map signature_ref_who line.committer;
   message = option_map (λ text. text.now) line.message;
-  asked = asked_of line.command;
+  asked = command_asked line.command;
 }

@@ -3,7 +3,7 @@ ghost use Rattle.std.specs.Prelude.{◌≡◌, ◌++◌, Ok, IfOk, OnOk};
 ghost use Rattle.std.specs.Io.KnownBytes.{Appends};
 ghost use Rattle.std.specs.Iterator.Runs.{WholeRun};
 ghost use Rattle.gix_ref_log.specs.LogWindows.{NextStep};
-ghost use Rattle.gix_ref_program.specs.LogPrinting.{fault_word, item_text, log_text};
+ghost use Rattle.gix_ref_program.specs.LogPrinting.{log_fault_word, log_item_text, log_text};
 ghost use Rattle.gix_ref_program.specs.Printed.{items_status};
 
 use crate::block::{push_fault, write_block};
@@ -16,7 +16,7 @@ use std::io::Write;
 
 /// The variant of the error of a line.
 fn fault_variant(error: &ReverseError) -> &'static str
-    ensures { result.now ≡ fault_word error.now }
+    ensures { result.now ≡ log_fault_word error.now }
 {
     match error {
         ReverseError::Io(_) => "Io",
@@ -28,7 +28,7 @@ fn fault_variant(error: &ReverseError) -> &'static str
 
 /// Adds a line of a log: its ids and its message.
 fn push_line(text: &mut Vec<u8>, line: &Line) -> Result<(), AllocError>
-    ensures { OnOk result (text.new.items ≡ text.old.items ++ item_text (Ok line.now)) }
+    ensures { OnOk result (text.new.items ≡ text.old.items ++ log_item_text (Ok line.now)) }
 {
     line.previous_oid.push_hex(text)?;
     text.extend_from_slice(b" ")?;
@@ -41,7 +41,7 @@ fn push_line(text: &mut Vec<u8>, line: &Line) -> Result<(), AllocError>
 
 /// Adds an item of a log: a line, or the variant of a fault.
 fn push_item(text: &mut Vec<u8>, item: &Result<Line, ReverseError>) -> Result<(), AllocError>
-    ensures { OnOk result (text.new.items ≡ text.old.items ++ item_text item.now) }
+    ensures { OnOk result (text.new.items ≡ text.old.items ++ log_item_text item.now) }
 {
     match item {
         Ok(line) => push_line(text, line),

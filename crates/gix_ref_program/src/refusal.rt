@@ -1,6 +1,6 @@
 //! Why a command is refused, and the name that is printed of it: the variant of the error.
 ghost use Rattle.std.specs.Prelude.{◌≡◌};
-ghost use Rattle.gix_ref_program.specs.Outcomes.{name_word, prepare_word, line_word, commit_word, find_word, open_word, list_word, log_word, word_of};
+ghost use Rattle.gix_ref_program.specs.Outcomes.{name_word, prepare_word, line_word, commit_word, find_word, open_word, list_word, log_word, refusal_word};
 
 use crate::update::UpdateError;
 use gix_ref_lines::create_or_update;
@@ -161,7 +161,7 @@ fn log_variant(error: &log::Error) -> &'static str
 impl Refusal {
     /// The variant of the error, as the program prints it.
     pub fn variant(&self) -> &'static str
-        ensures { result.now ≡ word_of self.now }
+        ensures { result.now ≡ refusal_word self.now }
     {
         match self {
             Refusal::PathNotClean => "PathNotClean",

@@ -15,9 +15,9 @@ ghost use Rattle.gix_ref_store.specs.Prepared.{tree_of};
 ghost use Rattle.gix_ref_files.specs.Calls.{Unchanged};
 ghost use Rattle.gix_ref_files.specs.Files.{Leaves};
 ghost use Rattle.gix_ref_packed.specs.OpenFiles.{HasReadFault};
-ghost use Rattle.gix_ref_program.specs.Runs.{IsExpected, IsLogChange, IsEditOf, IsDeletionEdit, IsAskedFor, NoNamespace, IsNoName, NoEdit, UpdateRan, IsUpdateStop, IsNoFolder, IsAt, namespace_of, write_reflog_of, IsOpened, EditOutcome, ShowOutcome, Prints, CommandRan, LogRan, ListRan, ListRanAmong, prefix_asked, IsStop, IsUnopened, LineRan, IsStopIn, RunsWrong, RunsLine};
+ghost use Rattle.gix_ref_program.specs.Runs.{IsExpected, IsLogChange, IsEditOf, IsDeletionEdit, IsAskedFor, NoNamespace, IsNoName, NoEdit, UpdateRan, IsUpdateStop, IsBadFolder, IsAt, namespace_of, write_reflog_of, IsOpened, EditOutcome, ShowOutcome, Prints, CommandRan, LogRan, ListRan, ListRanAmong, prefix_asked, IsStop, IsUnopened, LineRan, IsStopIn, RunsWrong, RunsLine};
 ghost use Rattle.gix_ref_program.specs.Updates.{IsStopOf};
-ghost use Rattle.gix_ref_program.specs.Words.{Asked, Symbolic, texts, line_of, asked_of};
+ghost use Rattle.gix_ref_program.specs.Words.{Asked, Symbolic, texts, line_asked, command_asked};
 
 use crate::list;
 use crate::log::print_items;
@@ -89,7 +89,7 @@ fn store_at<F>(
     write_reflog: WriteReflog,
 ) -> Result<Store<F>, (F, Refusal)>
     ensures { MatchResult result (IsAt files dir.now kind write_reflog) (λ r. (r.0 ≡ files)
-        × IsNoFolder dir.now r.1) }
+        × IsBadFolder dir.now r.1) }
 {
     let Ok(git_dir) = dir.to_vec(alloc) else {
         return Err((files, Refusal::Memory));
@@ -109,8 +109,8 @@ fn store_at<F>(
 
 /// The store of a line, in its namespace. A refusal hands the files back.
 fn store_in<F>(alloc: Global, files: F, line: &Line<'_>) -> Result<Store<F>, (F, Refusal)>
-    ensures { MatchResult result (IsOpened files (line_of line.now)) (λ r. (r.0 ≡ files)
-        × IsUnopened (line_of line.now) r.1) }
+    ensures { MatchResult result (IsOpened files (line_asked line.now)) (λ r. (r.0 ≡ files)
+        × IsUnopened (line_asked line.now) r.1) }
 {
     let write_reflog = write_reflog_for(line.committer);
     let mut store = store_at(alloc, files, line.dir, line.object_hash, write_reflog)?;
@@ -433,11 +433,11 @@ fn execute<F: Files, W: Write>(
 ) -> (PackedRefs, io::Result<u8>)
     ensures packed_refs { result.0 ≡ packed_refs }
     ensures prints { Prints (CommandRan F.honest F.means F.faults F.Reader.ReadAt store.old
-        store.new line.now.committer line.now.object_hash (line_of line.now).message
-        (line_of line.now).asked) (W.contents out.old) (W.contents out.new) result.1 }
+        store.new line.now.committer line.now.object_hash (line_asked line.now).message
+        (line_asked line.now).asked) (W.contents out.old) (W.contents out.new) result.1 }
     ensures leaves { F.honest → Leaves (F.means (files_of store.old)) (F.means (files_of store.new))
         (IsStop F.honest F.means F.faults store.old line.now.committer line.now.object_hash
-        (line_of line.now).message (line_of line.now).asked) }
+        (line_asked line.now).message (line_asked line.now).asked) }
 {
     let kind = line.object_hash;
     match &line.command {
@@ -475,9 +475,9 @@ fn run_line<F: Files, W: Write>(
 ) -> RunResult<F>
     ensures packed_refs { result.packed_refs ≡ packed_refs }
     ensures prints { Prints (LineRan F.honest F.means F.faults F.Reader.ReadAt files result.files
-        (line_of line.now)) (W.contents out.old) (W.contents out.new) result.status }
+        (line_asked line.now)) (W.contents out.old) (W.contents out.new) result.status }
     ensures leaves { F.honest → Leaves (F.means files) (F.means result.files)
-        (IsStopIn F.honest F.means F.faults files (line_of line.now)) }
+        (IsStopIn F.honest F.means F.faults files (line_asked line.now)) }
 {
     match store_in(alloc, files, line) {
         Ok(mut store) => {

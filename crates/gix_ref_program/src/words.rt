@@ -1,11 +1,11 @@
 //! The words of the program: `DIR [--sha256] [--namespace NAME] [--as SIGNATURE] [--message TEXT] COMMAND`, where a command
 //! is `update [--deref] NAME ID [OLD]`, `symbolic NAME TARGET`, `delete [--deref] NAME [OLD]`, `show NAME`, `list [PREFIX]`
 //! or `log NAME`.
-ghost use Rattle.std.specs.Prelude.{◌≡◌, ◌++◌, ℕ, List, MatchOption, Option, codes, ◌∷◌, [], false};
+ghost use Rattle.std.specs.Prelude.{◌≡◌, ◌++◌, ℕ, List, MatchOption, MatchResult, Option, codes, ◌∷◌, [], false};
 ghost use Rattle.gix_ref_log.specs.Signatures.{Who, signature_ref_who};
 ghost use Rattle.std.specs.Option.{option_map};
 ghost use Rattle.gix_ref_hash.specs.declared.hash.ObjectId.{ObjectId};
-ghost use Rattle.gix_ref_program.specs.Words.{Asked, Line as AskedLine, texts, first_is, IsOld, IsUpdate, IsDeletion, IsCommand, prefix_words, deref_words, IsOption, IsSigned, IsLine, kind_words, asked_of, line_of};
+ghost use Rattle.gix_ref_program.specs.Words.{Asked, LineAsked as AskedLine, texts, first_is, IsOldWord, IsUpdate, IsDeletion, IsCommand, prefix_words, deref_words, IsOption, IsSigned, AreWordsOf, kind_words, command_asked, line_asked};
 
 use gix_ref_hash::hash::{Kind, ObjectId};
 use gix_ref_log::actor::SignatureRef;
@@ -61,6 +61,10 @@ pub struct Line<'w> {
     pub command: Command<'w>,
 }
 
+/// Words that are none of those that were asked for.
+#[derive(Drop)]
+struct WrongWords;
+
 /// The words behind the first, if that is this one.
 fn strip_word<'w>(words: &'w [String], word: &[u8]) -> Option<&'w [String]>
     ensures { MatchOption result (first_is (texts words.now) word.now ≡ false)
@@ -72,19 +76,21 @@ fn strip_word<'w>(words: &'w [String], word: &[u8]) -> Option<&'w [String]>
     }
 }
 
-/// `[OLD]`: the first `None` is for other words.
-fn old_of(words: &[String]) -> Option<Option<ObjectId>>
-    ensures { MatchOption result ((old : Option ObjectId) → IsOld (texts words.now) old → ⊥)
-        (IsOld (texts words.now)) }
+/// `[OLD]`, and an error for other words.
+fn old_of(words: &[String]) -> Result<Option<ObjectId>, WrongWords>
+    ensures { MatchResult result (IsOldWord (texts words.now))
+        (λ _. (old : Option ObjectId) → IsOldWord (texts words.now) old → ⊥) }
 {
     let Some((digits, rest)) = words.split_first() else {
-        return Some(None);
+        return Ok(None);
     };
     if !rest.is_empty() {
-        return None;
+        return Err(WrongWords);
     }
-    let id = ObjectId::from_hex(digits.as_bytes())?;
-    Some(Some(id))
+    match ObjectId::from_hex(digits.as_bytes()) {
+        Some(id) => Ok(Some(id)),
+        None => Err(WrongWords),
+    }
 }
 
 /// `[--deref]`, and the words behind it.
@@ -103,7 +109,7 @@ fn update_of(deref: bool, words: &[String]) -> Option<Command<'_>>
     ensures { MatchOption result ((name : List ℕ) (id : ObjectId) (old : Option ObjectId) →
         IsUpdate (texts words.now) name id old → ⊥)
         (λ command. IsCommand (codes "update" ∷ (deref_words deref ++ texts words.now))
-        (asked_of command)) }
+        (command_asked command)) }
 {
     let (name, rest) = words.split_first()?;
     if name.as_bytes() == b"--deref".as_slice() {
@@ -111,7 +117,7 @@ fn update_of(deref: bool, words: &[String]) -> Option<Command<'_>>
     }
     let (digits, rest) = rest.split_first()?;
     let id = ObjectId::from_hex(digits.as_bytes())?;
-    let old = old_of(rest)?;
+    let old = old_of(rest).ok()?;
     Some(Command::Update {
         deref,
         name: name.as_bytes(),
@@ -125,13 +131,13 @@ fn deletion_of(deref: bool, words: &[String]) -> Option<Command<'_>>
     ensures { MatchOption result ((name : List ℕ) (old : Option ObjectId) →
         IsDeletion (texts words.now) name old → ⊥)
         (λ command. IsCommand (codes "delete" ∷ (deref_words deref ++ texts words.now))
-        (asked_of command)) }
+        (command_asked command)) }
 {
     let (name, rest) = words.split_first()?;
     if name.as_bytes() == b"--deref".as_slice() {
         return None;
     }
-    let old = old_of(rest)?;
+    let old = old_of(rest).ok()?;
     Some(Command::Delete {
         deref,
         name: name.as_bytes(),
@@ -162,25 +168,25 @@ fn names_of(words: &[String]) -> Option<(&[u8], &[u8])>
     Some((name.as_bytes(), target))
 }
 
-/// `[PREFIX]`: the first `None` is for other words.
-fn prefix_of(words: &[String]) -> Option<Option<&[u8]>>
-    ensures { MatchOption result
-        ((prefix : Option (List ℕ)) → texts words.now ≡ prefix_words prefix → ⊥)
-        (λ prefix. texts words.now ≡ prefix_words (option_map (λ text. text.now) prefix)) }
+/// `[PREFIX]`, and an error for other words.
+fn prefix_of(words: &[String]) -> Result<Option<&[u8]>, WrongWords>
+    ensures { MatchResult result
+        (λ prefix. texts words.now ≡ prefix_words (option_map (λ text. text.now) prefix))
+        (λ _. (prefix : Option (List ℕ)) → texts words.now ≡ prefix_words prefix → ⊥) }
 {
     let Some((prefix, rest)) = words.split_first() else {
-        return Some(None);
+        return Ok(None);
     };
     if !rest.is_empty() {
-        return None;
+        return Err(WrongWords);
     }
-    Some(Some(prefix.as_bytes()))
+    Ok(Some(prefix.as_bytes()))
 }
 
 /// The command of these words.
 fn command_of(words: &[String]) -> Option<Command<'_>>
     ensures { MatchOption result ((asked : Asked) → IsCommand (texts words.now) asked → ⊥)
-        (λ command. IsCommand (texts words.now) (asked_of command)) }
+        (λ command. IsCommand (texts words.now) (command_asked command)) }
 {
     if let Some(rest) = strip_word(words, b"update") {
         let (deref, rest) = deref_of(rest);
@@ -201,7 +207,7 @@ fn command_of(words: &[String]) -> Option<Command<'_>>
     }
     if let Some(rest) = strip_word(words, b"list") {
         return Some(Command::List {
-            prefix: prefix_of(rest)?,
+            prefix: prefix_of(rest).ok()?,
         });
     }
     let rest = strip_word(words, b"show")?;
@@ -223,16 +229,20 @@ fn value_of<'w>(words: &'w [String], option: &[u8]) -> Option<(Option<&'w [u8]>,
     Some((Some(value.as_bytes()), rest))
 }
 
-/// The committer whose signature this text is; the outer `None` is for a text that is no signature.
-fn committer_of(signature: Option<&[u8]>) -> Option<Option<SignatureRef<'_>>>
-    ensures { MatchOption result ((committer : Option Who) →
-        IsSigned (option_map (λ text. text.now) signature.entry) committer → ⊥)
+/// The committer whose signature this text is, and an error for a text that is no signature.
+fn committer_of(signature: Option<&[u8]>) -> Result<Option<SignatureRef<'_>>, WrongWords>
+    ensures { MatchResult result
         (λ committer. IsSigned (option_map (λ text. text.now) signature.entry)
-        (option_map signature_ref_who committer)) }
+        (option_map signature_ref_who committer))
+        (λ _. (committer : Option Who) →
+        IsSigned (option_map (λ text. text.now) signature.entry) committer → ⊥) }
 {
-    match signature {
-        Some(text) => Some(Some(SignatureRef::decode(text)?)),
-        None => Some(None),
+    let Some(text) = signature else {
+        return Ok(None);
+    };
+    match SignatureRef::decode(text) {
+        Some(committer) => Ok(Some(committer)),
+        None => Err(WrongWords),
     }
 }
 
@@ -250,15 +260,17 @@ fn kind_of(words: &[String]) -> (Kind, &[String])
 /// The line of these words; `None` where they are wrong. An ID and an OLD have 40 or 64 hex digits, and a SIGNATURE is
 /// one; the names are not looked at. Takes no memory, and looks at each word a few times.
 pub fn parse(words: &[String]) -> Option<Line<'_>>
-    ensures { MatchOption result ((line : AskedLine) → IsLine (texts words.now) line → ⊥)
-        (λ line. IsLine (texts words.now) (line_of line)) }
+    ensures { MatchOption result ((line : AskedLine) → AreWordsOf (texts words.now) line → ⊥)
+        (λ line. AreWordsOf (texts words.now) (line_asked line)) }
 {
     let (dir, rest) = words.split_first()?;
     let (object_hash, rest) = kind_of(rest);
     let (namespace, rest) = value_of(rest, b"--namespace")?;
     let (signature, rest) = value_of(rest, b"--as")?;
     let (message, rest) = value_of(rest, b"--message")?;
-    let committer = committer_of(signature)?;
+    let Ok(committer) = committer_of(signature) else {
+        return None;
+    };
     let command = command_of(rest)?;
     Some(Line {
         dir: dir.as_bytes(),

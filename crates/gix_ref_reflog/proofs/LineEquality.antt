@@ -6,7 +6,7 @@ use Rattle.std.proofs.lemmas.Bool.Decides.{Decides-and, Decides-int_eq}
 use Rattle.gix_ref_hash.proofs.IdEquality.{id_eq, id_eq-decides}
 use Rattle.gix_ref_log.specs.Signatures.{Who, signature_who, signature_ref_who}
 use Rattle.gix_ref_log.specs.LogLines.{LogLine, line_ref_parts}
-use Rattle.gix_ref_reflog.specs.Orders.{SameLine}
+use Rattle.gix_ref_reflog.specs.Orders.{IsSameLine}
 use Rattle.gix_ref_log.specs.declared.log.line.Line.{Line}
 use Rattle.gix_ref_log.specs.declared.log.line.LineRef.{LineRef}
 
@@ -31,7 +31,7 @@ line_parts a b = Decides-and _ _ (id_eq-decides a.previous_oid b.previous_oid)
 
 pub same_line : (a b : Line) (r : Bool)
     → r ≡ (id_eq a.previous_oid b.previous_oid && (id_eq a.new_oid b.new_oid && (who_eq (signature_who a.signature) (signature_who b.signature) && pointwise nat_eq a.message.items b.message.items)))
-    → (IsTrue r → SameLine a b) × (SameLine a b → IsTrue r)
+    → (IsTrue r → IsSameLine a b) × (IsSameLine a b → IsTrue r)
 same_line a b r is = rw is (
   λ h. let p = (line_parts a b).0 h in record { previous = p.0; new = p.1.0; who = p.1.1.0; message = p.1.1.1 },
   λ s. (line_parts a b).1 (s.previous, (s.new, (s.who, s.message))),

@@ -33,7 +33,7 @@ line_ref_cmp a b = ordering_then
     (text_cmp a.message.now b.message.now)
 
 -- the same ids, signature and message
-pub record SameLine (a b : Line) : Type 0 where
+pub record IsSameLine (a b : Line) : Type 0 where
   pub previous : a.previous_oid ≡ b.previous_oid
   pub new : a.new_oid ≡ b.new_oid
   pub who : signature_who a.signature ≡ signature_who b.signature

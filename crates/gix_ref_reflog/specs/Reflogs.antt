@@ -7,7 +7,7 @@ use Rattle.gix_ref_files.specs.declared.files.FileError.TheVariants as faulty
 use Rattle.gix_ref_lookup.specs.Lookups.{meaning_in}
 use Rattle.gix_ref_lookup.specs.declared.settings.Settings.{Settings}
 use Rattle.gix_ref_reflog.specs.declared.error.Error.{Error}
-use Rattle.gix_ref_reflog.specs.declared.error.Error.TheVariants.{RefnameValidation, Io, DeviceName, EmptyBuffer, Memory}
+use Rattle.gix_ref_reflog.specs.declared.error.Error.TheVariants.{Io, DeviceName, Memory}
 
 -- the path of the log of a name
 abbrev pub log_path : Settings → List ℕ → List ℕ
@@ -18,8 +18,8 @@ abbrev pub is_prohibited : Settings → List ℕ → Bool
 is_prohibited settings name = (meaning_in settings).is_prohibited (log_path settings name)
 
 -- what is there; the name has a log where that is a file
-abbrev pub log_at : Settings → Tree → List ℕ → Option Content
-log_at settings T name = T (log_path settings name)
+abbrev pub log_content : Settings → Tree → List ℕ → Option Content
+log_content settings T name = T (log_path settings name)
 
 -- the error for one of files
 abbrev pub of_files : FileError → Error

@@ -3,7 +3,7 @@
 ghost use Rattle.std.specs.Prelude.{◌≡◌, ◌↔◌, IsTrue};
 ghost use Rattle.gix_ref_log.specs.Signatures.{signature_who, signature_ref_who};
 ghost use Rattle.gix_ref_log.specs.LogLines.{line_ref_parts};
-ghost use Rattle.gix_ref_reflog.specs.Orders.{time_cmp, who_cmp, line_cmp, line_ref_cmp, SameLine};
+ghost use Rattle.gix_ref_reflog.specs.Orders.{time_cmp, who_cmp, line_cmp, line_ref_cmp, IsSameLine};
 
 use gix_ref_log::actor::{Signature, SignatureRef, Time};
 use gix_ref_log::log::{Line, LineRef};
@@ -53,7 +53,7 @@ pub fn order_signature_views(a: SignatureRef<'_>, b: SignatureRef<'_>) -> Orderi
 
 /// Lines are equal where ids, signature and message are.
 pub fn same_lines(a: &Line, b: &Line) -> bool
-    ensures { IsTrue result ↔ SameLine a.now b.now }
+    ensures { IsTrue result ↔ IsSameLine a.now b.now }
 {
     a == b
 }

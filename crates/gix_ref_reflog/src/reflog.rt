@@ -4,7 +4,7 @@ ghost use Rattle.gix_ref_name.specs.Names.{full_ref_bytes};
 ghost use Rattle.gix_ref_files.specs.Files.{Leaves};
 ghost use Rattle.gix_ref_files.specs.Calls.{Unchanged, Opens};
 ghost use Rattle.gix_ref_files.specs.Tree.{is_file, bytes_of};
-ghost use Rattle.gix_ref_reflog.specs.Reflogs.{log_path, is_prohibited, log_at, count_log, IsNoPath, IsNoLog, HoldsLog};
+ghost use Rattle.gix_ref_reflog.specs.Reflogs.{log_path, is_prohibited, log_content, count_log, IsNoPath, IsNoLog, HoldsLog};
 
 use crate::error::Error;
 use gix_ref_files::files::{Files, Node};
@@ -39,7 +39,7 @@ pub fn log_exists<F: Files>(
     name: FullNameRef<'_>,
 ) -> Result<bool, Error>
     ensures exists { F.honest → IfOk result (λ exists.
-        exists ≡ is_file (log_at settings.entry (F.means files.old).tree (full_ref_bytes
+        exists ≡ is_file (log_content settings.entry (F.means files.old).tree (full_ref_bytes
         name.entry))) }
     ensures allowed { OnOk result (is_prohibited settings.entry (full_ref_bytes name.entry) ≡
         false) }
@@ -64,7 +64,7 @@ pub fn read_log<F: Files>(
     name: FullNameRef<'_>,
     buf: &mut Vec<u8>,
 ) -> Result<bool, Error>
-    ensures read { F.honest → IfOk result (HoldsLog (log_at settings.entry (F.means
+    ensures read { F.honest → IfOk result (HoldsLog (log_content settings.entry (F.means
         files.old).tree (full_ref_bytes name.entry)) buf.new.items) }
     ensures allowed { OnOk result (is_prohibited settings.entry (full_ref_bytes name.entry) ≡
         false) }

@@ -25,7 +25,7 @@ use Rattle.gix_ref_base.specs.Targets.TargetValue.{object_id, symbolic_name}
 use Rattle.gix_ref_records.specs.RecordGrammar.{Records}
 use Rattle.gix_ref_theory.specs.Between.{AreEdits, IsEdit}
 use Rattle.gix_ref_theory.specs.Edits as plan
-use Rattle.gix_ref_theory.specs.Edits.{alters_change, alters_packed, merged_record, record_after}
+use Rattle.gix_ref_theory.specs.Edits.{alters_change, alters_packed, merged_record, edited_record}
 use Rattle.gix_ref_theory.specs.Edits.Mode.{DeletionsOnly}
 use Rattle.gix_ref_theory.specs.Readings.{HasLaws, Store}
 use Rattle.gix_ref_theory.proofs.Plans.{is_reference_at, merged_cases, place_apart}
@@ -44,8 +44,9 @@ use Rattle.gix_ref_transaction.specs.declared.edit.Edit.{Edit}
 use Rattle.gix_ref_transaction.proofs.Held.{heads}
 use Rattle.gix_ref_transaction.specs.PackedCauses.{deletes_reference}
 use Rattle.gix_ref_repack.specs.Repacks.{removes_record}
-use Rattle.gix_ref_repack.specs.internal.RemovedKeys.{removed_key, removed_keys}
-use Rattle.gix_ref_repack.specs.Removals.{finds_some, is_among, record_without}
+use Rattle.gix_ref_repack.specs.internal.RemovedKeys.{removed_key, keys_to_remove}
+use Rattle.gix_ref_repack.specs.Removals.{finds_some, record_without}
+use Rattle.gix_ref_transaction.specs.OwnLocks.{is_in}
 
 -- ---- the ids of records
 
@@ -147,17 +148,17 @@ module _ (s : Store) where
     pub keyed : s.key edit.name ≡ Some k
     pub deletes : edit.change ≡ plan.Change.Delete
 
-  one_among : (o : Option (List ℕ)) (k : List ℕ) → is_among (cons_option o []) k ≡ true → o ≡ Some k
+  one_among : (o : Option (List ℕ)) (k : List ℕ) → is_in (cons_option o []) k ≡ true → o ≡ Some k
   one_among None k is = absurd (false≢true is)
   one_among (Some j) k is = ap Some (same j k (sym (or_false (bytes_eq j k)) ∙ is))
 
-  pub deletion_of : (edits : List Edit) (k : List ℕ) → is_among (removed_keys s edits) k ≡ true → IsDeletionOf edits k
+  pub deletion_of : (edits : List Edit) (k : List ℕ) → is_in (keys_to_remove s edits) k ≡ true → IsDeletionOf edits k
   deletion_of [] k is = absurd (false≢true is)
   deletion_of (e ∷ edits) k is =
       ⊎_elim here (λ found. later (deletion_of edits k found))
-      (or_cases (is_among (cons_option (removed_key s e) []) k) (is_among (removed_keys s edits) k) (sym (any_in_front (λ j. bytes_eq j k) (removed_key s e) (removed_keys s edits)) ∙ is))
+      (or_cases (is_in (cons_option (removed_key s e) []) k) (is_in (keys_to_remove s edits) k) (sym (any_in_front (λ j. bytes_eq j k) (removed_key s e) (keys_to_remove s edits)) ∙ is))
     where
-      here : is_among (cons_option (removed_key s e) []) k ≡ true → IsDeletionOf (e ∷ edits) k
+      here : is_in (cons_option (removed_key s e) []) k ≡ true → IsDeletionOf (e ∷ edits) k
       here found =
           let says = key_is e.update.change e.packed (s.key (name_of e.update)) k (one_among (removed_key s e) k found) in
           record { edit = edit_of e.update; within = inl refl; refers = says.0; keyed = says.1; deletes = says.2 }
@@ -167,25 +168,25 @@ module _ (s : Store) where
 
   module _ (rs : List Record) (have : HaveIds rs) where
     -- the keys that are removed find a record where the edits alter `packed-refs`
-    pub found_is : (edits : List Edit) → ids_in edits ≡ ids_among s rs (updates edits) → finds_some (removed_keys s edits) rs ≡ alters_packed s DeletionsOnly rs (planned (updates edits))
+    pub found_is : (edits : List Edit) → ids_in edits ≡ ids_among s rs (updates edits) → finds_some (keys_to_remove s edits) rs ≡ alters_packed s DeletionsOnly rs (planned (updates edits))
     found_is [] are = refl
     found_is (e ∷ edits) are =
         let parts = heads are in
-        any_in_front (λ j. is_some (record_named j rs)) (removed_key s e) (removed_keys s edits)
-        ∙ (ap (λ b. b || finds_some (removed_keys s edits) rs) (one_found rs have e.update.change e.packed (s.key (name_of e.update)) parts.0)
+        any_in_front (λ j. is_some (record_named j rs)) (removed_key s e) (keys_to_remove s edits)
+        ∙ (ap (λ b. b || finds_some (keys_to_remove s edits) rs) (one_found rs have e.update.change e.packed (s.key (name_of e.update)) parts.0)
         ∙ ap (λ b. (is_of_reference (mode_of e.update.change) && alters_change DeletionsOnly (s.key (name_of e.update)) (change_of e.update.change) rs) || b) (found_is edits parts.1))
 
     -- the key of a deletion of a reference is removed, where it has a record
     among : (edits : List Edit) → ids_in edits ≡ ids_among s rs (updates edits) → (x : plan.Edit) (k : List ℕ) → IsEdit x (planned (updates edits)) → x.and_reference ≡ true →
-        s.key x.name ≡ Some k → x.change ≡ plan.Change.Delete → is_some (record_named k rs) ≡ true → is_among (removed_keys s edits) k ≡ true
+        s.key x.name ≡ Some k → x.change ≡ plan.Change.Delete → is_some (record_named k rs) ≡ true → is_in (keys_to_remove s edits) k ≡ true
     among [] are x k within refers keyed deletes found = absurd within
     among (e ∷ edits) are x k (inl here) refers keyed deletes found =
         let removed : removed_key s e ≡ Some k = one_removed rs have e.update.change e.packed (s.key (name_of e.update)) k (heads are).0
         (ap (λ (y : plan.Edit). y.and_reference) here ∙ refers) (ap (λ (y : plan.Edit). y.change) here ∙ deletes) (ap (λ (y : plan.Edit). s.key y.name) here ∙ keyed) found in
-        ap (λ o. is_among (cons_option o (removed_keys s edits)) k) removed ∙ or_left (bytes_eq k k) (is_among (removed_keys s edits) k) (same_true k k refl)
+        ap (λ o. is_in (cons_option o (keys_to_remove s edits)) k) removed ∙ or_left (bytes_eq k k) (is_in (keys_to_remove s edits) k) (same_true k k refl)
     among (e ∷ edits) are x k (inr later) refers keyed deletes found =
-        any_in_front (λ j. bytes_eq j k) (removed_key s e) (removed_keys s edits)
-        ∙ or_right (is_among (cons_option (removed_key s e) []) k) (is_among (removed_keys s edits) k) (among edits (heads are).1 x k later refers keyed deletes found)
+        any_in_front (λ j. bytes_eq j k) (removed_key s e) (keys_to_remove s edits)
+        ∙ or_right (is_in (cons_option (removed_key s e) []) k) (is_in (keys_to_remove s edits) k) (among edits (heads are).1 x k later refers keyed deletes found)
 
   module _ (laws : HasLaws s) where
     -- no other edit has the key of a deletion
@@ -195,7 +196,7 @@ module _ (s : Store) where
         let place = laws.one_place x.name of.edit.name k (is_reference_at s xs apart x within) (is_reference_at s xs apart of.edit of.within) keyed of.keyed in
         ap (λ (y : plan.Edit). y.change) (place_apart s xs apart x of.edit within of.within place) ∙ of.deletes
 
-    update_keeps : (k : List ℕ) (x : plan.Edit) (t : TargetValue) (old : Option Record) → record_after DeletionsOnly k x (plan.Change.Update t) old ≡ old
+    update_keeps : (k : List ℕ) (x : plan.Edit) (t : TargetValue) (old : Option Record) → edited_record DeletionsOnly k x (plan.Change.Update t) old ≡ old
     update_keeps k x (object_id id) old = refl
     update_keeps k x (symbolic_name name) old = refl
 
@@ -205,9 +206,9 @@ module _ (s : Store) where
 
     -- the record of a key after the edits is the old one, but where the key is removed
     pub merged_is : (rs : List Record) → HaveIds rs → (edits : List Edit) → ids_in edits ≡ ids_among s rs (updates edits) → AreEdits s (planned (updates edits)) →
-        (k : List ℕ) → merged_record s DeletionsOnly (planned (updates edits)) k (record_named k rs) ≡ record_without (removed_keys s edits) k (record_named k rs)
+        (k : List ℕ) → merged_record s DeletionsOnly (planned (updates edits)) k (record_named k rs) ≡ record_without (keys_to_remove s edits) k (record_named k rs)
     merged_is rs have edits are apart k = ⊎_elim
-        (λ (x : (e : plan.Edit) × IsEdit e xs × (e.and_reference ≡ true) × (s.key e.name ≡ Some k) × (merged_record s DeletionsOnly xs k old ≡ record_after DeletionsOnly k e e.change old)).
+        (λ (x : (e : plan.Edit) × IsEdit e xs × (e.and_reference ≡ true) × (s.key e.name ≡ Some k) × (merged_record s DeletionsOnly xs k old ≡ edited_record DeletionsOnly k e e.change old)).
         x.4 ∙ edited x.0 x.1 x.2 x.3 x.0.change refl)
         (λ (x : (merged_record s DeletionsOnly xs k old ≡ old) × ((e : plan.Edit) → IsEdit e xs → e.and_reference ≡ true → s.key e.name ≢ Some k)).
         x.0 ∙ stays (λ within. let of = deletion_of edits k within in x.1 of.edit of.within of.refers of.keyed))
@@ -219,38 +220,38 @@ module _ (s : Store) where
         old : Option Record
         old = record_named k rs
 
-        stays : (is_among (removed_keys s edits) k ≡ true → ⊥) → old ≡ record_without (removed_keys s edits) k old
-        stays none = ap (λ b. if b then None else old) (sym (false_from_ne_true (is_among (removed_keys s edits) k) none))
+        stays : (is_in (keys_to_remove s edits) k ≡ true → ⊥) → old ≡ record_without (keys_to_remove s edits) k old
+        stays none = ap (λ b. if b then None else old) (sym (false_from_ne_true (is_in (keys_to_remove s edits) k) none))
 
         gone : (o : Option Record) → old ≡ o → (x : plan.Edit) → IsEdit x xs → x.and_reference ≡ true → s.key x.name ≡ Some k → x.change ≡ plan.Change.Delete →
-            None ≡ (if is_among (removed_keys s edits) k then None else o)
-        gone None is x within refers keyed deletes = either_way None (is_among (removed_keys s edits) k)
+            None ≡ (if is_in (keys_to_remove s edits) k then None else o)
+        gone None is x within refers keyed deletes = either_way None (is_in (keys_to_remove s edits) k)
         gone (Some r) is x within refers keyed deletes =
             ap (λ b. if b then None else Some r) (sym (among rs have edits are x k within refers keyed deletes (ap is_some is)))
 
         edited : (x : plan.Edit) → IsEdit x xs → x.and_reference ≡ true → s.key x.name ≡ Some k → (c : plan.Change) → x.change ≡ c →
-            record_after DeletionsOnly k x c old ≡ record_without (removed_keys s edits) k old
+            edited_record DeletionsOnly k x c old ≡ record_without (keys_to_remove s edits) k old
         edited x within refers keyed plan.Change.Delete is = gone old refl x within refers keyed is
         edited x within refers keyed (plan.Change.Update t) is =
             update_keeps k x t old ∙ stays (λ removed. let bad = sym is ∙ alone edits apart x k within keyed (deletion_of edits k removed) in absurd (cc))
 
     -- no two keys that are removed are one
-    differ : (k : List ℕ) (keys : List (List ℕ)) → (is_among keys k ≡ true → ⊥) → AllByRecursion (λ j. bytes_eq k j ≡ false) keys
+    differ : (k : List ℕ) (keys : List (List ℕ)) → (is_in keys k ≡ true → ⊥) → AllByRecursion (λ j. bytes_eq k j ≡ false) keys
     differ k [] none = tt
     differ k (j ∷ keys) none = (
-      false_from_ne_true (bytes_eq k j) (λ is. none (or_left (bytes_eq j k) (is_among keys k) (nat_list_eq_equiv.symm j k ∙ is))),
-      differ k keys (λ is. none (or_right (bytes_eq j k) (is_among keys k) is)),
+      false_from_ne_true (bytes_eq k j) (λ is. none (or_left (bytes_eq j k) (is_in keys k) (nat_list_eq_equiv.symm j k ∙ is))),
+      differ k keys (λ is. none (or_right (bytes_eq j k) (is_in keys k) is)),
     )
 
-    pub distinct : (edits : List Edit) → AreEdits s (planned (updates edits)) → IsDistinct bytes_eq (removed_keys s edits)
+    pub distinct : (edits : List Edit) → AreEdits s (planned (updates edits)) → IsDistinct bytes_eq (keys_to_remove s edits)
     unfolding IsDistinct
     distinct [] apart = tt
     distinct (e ∷ edits) apart = by (removed_key s e) refl (distinct edits apart.2)
       where
-        by : (o : Option (List ℕ)) → removed_key s e ≡ o → IsDistinct bytes_eq (removed_keys s edits) → IsDistinct bytes_eq (cons_option o (removed_keys s edits))
+        by : (o : Option (List ℕ)) → removed_key s e ≡ o → IsDistinct bytes_eq (keys_to_remove s edits) → IsDistinct bytes_eq (cons_option o (keys_to_remove s edits))
         by None is later = later
         by (Some k) is later = (
-          differ k (removed_keys s edits) (λ within.
+          differ k (keys_to_remove s edits) (λ within.
               let of = deletion_of edits k within in
               let keyed = (key_is e.update.change e.packed (s.key (name_of e.update)) k is).1 in
               apart.1 of.edit of.within (laws.one_place (name_of e.update) of.edit.name k apart.0 (is_reference_at s (planned (updates edits)) apart.2 of.edit of.within) keyed of.keyed)),
@@ -258,20 +259,20 @@ module _ (s : Store) where
         )
 
   -- one more edit
-  pub keys_more : (edits : List Edit) (i : ℕ) (e : Edit) → i < length edits → e ≡ get_or edits i e → (keys more : List (List ℕ)) → keys ≡ removed_keys s (take i edits) → more ≡ keys ++ cons_option (removed_key s e) [] →
-      more ≡ removed_keys s (take (i + 1) edits)
+  pub keys_more : (edits : List Edit) (i : ℕ) (e : Edit) → i < length edits → e ≡ get_or edits i e → (keys more : List (List ℕ)) → keys ≡ keys_to_remove s (take i edits) → more ≡ keys ++ cons_option (removed_key s e) [] →
+      more ≡ keys_to_remove s (take (i + 1) edits)
   keys_more edits i e lt is keys more before after =
       after
       ∙ (ap (λ l. l ++ cons_option (removed_key s e) []) before
       ∙ (sym (filter_map-append (removed_key s) (take i edits) (e ∷ []))
-      ∙ ap (removed_keys s) (sym (take_more edits i e lt ∙ ap (λ x. take i edits ++ x ∷ []) (sym is)))))
+      ∙ ap (keys_to_remove s) (sym (take_more edits i e lt ∙ ap (λ x. take i edits ++ x ∷ []) (sym is)))))
 
   -- no edit removes one
-  pub no_keys : (edits : List Edit) → list_any removes_record edits ≡ false → removed_keys s edits ≡ []
+  pub no_keys : (edits : List Edit) → list_any removes_record edits ≡ false → keys_to_remove s edits ≡ []
   no_keys [] none = refl
   no_keys (e ∷ edits) none = by (removes_record e) none (no_keys edits)
     where
-      by : (b : Bool) → (b || list_any removes_record edits) ≡ false → (list_any removes_record edits ≡ false → removed_keys s edits ≡ []) → cons_option (if b then s.key (name_of e.update) else None) (removed_keys s edits) ≡ []
+      by : (b : Bool) → (b || list_any removes_record edits) ≡ false → (list_any removes_record edits ≡ false → keys_to_remove s edits ≡ []) → cons_option (if b then s.key (name_of e.update) else None) (keys_to_remove s edits) ≡ []
       by true is later = absurd (true≢false is)
       by false is later = later is
 

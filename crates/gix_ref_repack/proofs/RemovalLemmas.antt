@@ -21,7 +21,8 @@ use Rattle.gix_ref_rewrite.specs.declared.outcome.Rewrite.TheVariants.{Unchanged
 use Rattle.gix_ref_rewrite.specs.MergedRecords.{IsMerged}
 use Rattle.gix_ref_rewrite.specs.RecordEdits.{KeysAscend, new_record, record_after, record_put}
 use Rattle.gix_ref_rewrite.specs.Rewrites.{IsReadableIfAny, IsRewrite, are_altered}
-use Rattle.gix_ref_repack.specs.Removals.{AreRemovals, AreWithout, IsWithout, edit_keys, finds_some, is_among, record_without}
+use Rattle.gix_ref_repack.specs.Removals.{AreRemovals, AreWithout, IsWithout, edit_keys, finds_some, record_without}
+use Rattle.gix_ref_transaction.specs.OwnLocks.{is_in}
 
 abbrev pub AreBare : List RecordEdit → Type 0
 AreBare edits = All (λ (e : RecordEdit). e.put ≡ None) edits
@@ -45,7 +46,7 @@ after_is (e ∷ edits) bare key old =
     by (bytes_eq e.key.now key) (All-head (λ (x : RecordEdit). x.put ≡ None) e edits bare) (after_is edits (All-tail (λ (x : RecordEdit). x.put ≡ None) e edits bare) key old)
   where
     by : (b : Bool) → e.put ≡ None → record_after edits key old ≡ record_without (edit_keys edits) key old →
-        (if b then record_put e else record_after edits key old) ≡ (if b || is_among (edit_keys edits) key then None else old)
+        (if b then record_put e else record_after edits key old) ≡ (if b || is_in (edit_keys edits) key then None else old)
     by true none later = put_none e.key.now e.put none
     by false none later = later
 

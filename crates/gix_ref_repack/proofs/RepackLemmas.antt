@@ -14,7 +14,7 @@ use Rattle.gix_ref_packed.proofs.RecordsOfText.{records_computed}
 use Rattle.gix_ref_rewrite.specs.declared.outcome.Rewrite.{Rewrite}
 use Rattle.gix_ref_rewrite.specs.declared.outcome.Rewrite.TheVariants.{Unchanged, Removed, Text}
 use Rattle.gix_ref_rewrite.proofs.OutcomeLemmas.{ascending_pairs}
-use Rattle.gix_ref_theory.specs.Between.{AreEdits, IsMerged}
+use Rattle.gix_ref_theory.specs.Between.{AreEdits, MergesRecords}
 use Rattle.gix_ref_theory.specs.ConcreteStore.{store_of}
 use Rattle.gix_ref_theory.specs.Edits.{alters_packed, file_of_records}
 use Rattle.gix_ref_theory.specs.Edits.Mode.{DeletionsOnly}
@@ -27,7 +27,7 @@ use Rattle.gix_ref_transaction.specs.PackedCauses.{ids_among}
 use Rattle.gix_ref_transaction.specs.PrepareSteps.{ids_in, updates}
 use Rattle.gix_ref_transaction.specs.declared.edit.Edit.{Edit}
 use Rattle.gix_ref_repack.specs.Repacks.{IsRepack, removes_record}
-use Rattle.gix_ref_repack.specs.internal.RemovedKeys.{removed_keys}
+use Rattle.gix_ref_repack.specs.internal.RemovedKeys.{keys_to_remove}
 use Rattle.gix_ref_repack.specs.Removals.{AreWithout, IsWithout, finds_some}
 use Rattle.gix_ref_repack.proofs.KeyLemmas.{distinct, found_is, merged_is, no_keys, packed_have_ids, strictly_sorted}
 
@@ -44,25 +44,25 @@ module _ (f : Layout) (laid : IsLayout f) (kind : Kind) (prohibits : Bool) where
   laws = laws_hold f (git_options kind prohibits) laid
 
   -- the keys in order, as no two edits have one
-  pub sorted_keys : (edits : List Edit) (sorted : List (List ℕ)) → AreEdits git (planned (updates edits)) → IsPermutation (removed_keys git edits) sorted → IsSorted (slice_cmp nat_cmp) sorted → IsStrictlySortedBy (slice_cmp nat_cmp) sorted
-  sorted_keys edits sorted apart moved in_order = strictly_sorted (removed_keys git edits) sorted moved in_order (distinct git laws edits apart)
+  pub sorted_keys : (edits : List Edit) (sorted : List (List ℕ)) → AreEdits git (planned (updates edits)) → IsPermutation (keys_to_remove git edits) sorted → IsSorted (slice_cmp nat_cmp) sorted → IsStrictlySortedBy (slice_cmp nat_cmp) sorted
+  sorted_keys edits sorted apart moved in_order = strictly_sorted (keys_to_remove git edits) sorted moved in_order (distinct git laws edits apart)
 
   module _ (packed : Option (List ℕ)) (rs : List Record) (are : ArePackedRecords kind packed rs) (edits : List Edit) (found : ids_in edits ≡ ids_among git rs (updates edits)) where
     -- where no edit removes a record, nothing alters `packed-refs`
     pub unaltered : list_any removes_record edits ≡ false → alters_packed git DeletionsOnly rs (planned (updates edits)) ≡ false
     unaltered none = sym (found_is git rs (packed_have_ids kind packed rs are) edits found) ∙ ap (λ keys. finds_some keys rs) (no_keys git edits none)
 
-    module _ (apart : AreEdits git (planned (updates edits))) (sorted : List (List ℕ)) (moved : IsPermutation (removed_keys git edits) sorted) where
+    module _ (apart : AreEdits git (planned (updates edits))) (sorted : List (List ℕ)) (moved : IsPermutation (keys_to_remove git edits) sorted) where
       altered : (b : Bool) → finds_some sorted rs ≡ b → alters_packed git DeletionsOnly rs (planned (updates edits)) ≡ b
       altered b is =
           sym (found_is git rs (packed_have_ids kind packed rs are) edits found)
-          ∙ (list_any-IsPermutation (λ (k : List ℕ). is_some (record_named k rs)) (removed_keys git edits) sorted moved ∙ is)
+          ∙ (list_any-IsPermutation (λ (k : List ℕ). is_some (record_named k rs)) (keys_to_remove git edits) sorted moved ∙ is)
 
-      merged : (new : List Record) → AreWithout sorted rs new → IsMerged git DeletionsOnly (planned (updates edits)) rs new
+      merged : (new : List Record) → AreWithout sorted rs new → MergesRecords git DeletionsOnly (planned (updates edits)) rs new
       merged new without = record {
         each = λ key.
             without.each key
-            ∙ (ap (λ b. if b then None else record_named key rs) (sym (list_any-IsPermutation (λ (k : List ℕ). bytes_eq k key) (removed_keys git edits) sorted moved))
+            ∙ (ap (λ b. if b then None else record_named key rs) (sym (list_any-IsPermutation (λ (k : List ℕ). bytes_eq k key) (keys_to_remove git edits) sorted moved))
             ∙ sym (merged_is git laws rs (packed_have_ids kind packed rs are) edits found apart key));
         ascending = ascending_pairs new without.ascending;
       }

@@ -32,11 +32,11 @@ IsIoOrMemory Memory = Unit {0}
 IsIoOrMemory other = ⊥
 
 -- `Io` is returned only where the count of faults rose, and never for want of memory; `Commit` is not returned
-abbrev pub IsCounted : ℕ → ℕ → Error → Type 0
-IsCounted before now (Io error) = HasRisen before now × (error ≡ out_of_memory → ⊥)
-IsCounted before now (Commit error) = ⊥
-IsCounted before now (Iteration line) = Unit {0}
-IsCounted before now Memory = Unit {0}
+abbrev pub IsCountedRefusal : ℕ → ℕ → Error → Type 0
+IsCountedRefusal before now (Io error) = HasRisen before now × (error ≡ out_of_memory → ⊥)
+IsCountedRefusal before now (Commit error) = ⊥
+IsCountedRefusal before now (Iteration line) = Unit {0}
+IsCountedRefusal before now Memory = Unit {0}
 
 -- the file is opened, and in the line of that number no record begins
 abbrev pub IsStuckFile : Kind → Option Content → ℕ → Type 0
@@ -49,8 +49,8 @@ IsBadLine kind packed line =
     ((line ≡ 1) × IsRefusedFile kind packed HeaderParsing) ⊎ (IsRefusedFile kind packed (Iter line) ⊎ IsStuckFile kind packed line)
 
 -- `Iteration` reports a bad line of `packed-refs`
-abbrev pub IsRefused : Kind → Option Content → Error → Type 0
-IsRefused kind packed (Iteration line) = IsBadLine kind packed line
-IsRefused kind packed (Commit error) = ⊥
-IsRefused kind packed (Io error) = Unit {0}
-IsRefused kind packed Memory = Unit {0}
+abbrev pub IsRefusedRewrite : Kind → Option Content → Error → Type 0
+IsRefusedRewrite kind packed (Iteration line) = IsBadLine kind packed line
+IsRefusedRewrite kind packed (Commit error) = ⊥
+IsRefusedRewrite kind packed (Io error) = Unit {0}
+IsRefusedRewrite kind packed Memory = Unit {0}

@@ -1,5 +1,5 @@
 -- `packed-refs` without the records of some keys.
-use Rattle.std.specs.Prelude.{◌≡◌, ◌≢◌, ℕ, Bool, true, false, List, [], Option, Some, None, is_some, map, bytes_eq, if◌then◌else◌}
+use Rattle.std.specs.Prelude.{◌≡◌, ◌≢◌, ℕ, Bool, true, false, List, [], Option, Some, None, is_some, map, if◌then◌else◌}
 use Rattle.std.specs.List.{All, list_any}
 use Rattle.gix_ref_hash.specs.declared.hash.Kind.{Kind}
 use Rattle.gix_ref_base.specs.PackedRecords.{Record, record_named, written_text}
@@ -11,6 +11,7 @@ use Rattle.gix_ref_rewrite.specs.declared.outcome.Rewrite.{Rewrite}
 use Rattle.gix_ref_rewrite.specs.declared.outcome.Rewrite.TheVariants.{Unchanged, Removed, Text}
 use Rattle.gix_ref_repack.specs.declared.error.Error.{Error}
 use Rattle.gix_ref_repack.specs.declared.error.Error.TheVariants.{Iteration, Memory}
+use Rattle.gix_ref_transaction.specs.OwnLocks.{is_in}
 
 -- the keys of edits of records
 abbrev pub edit_keys : List RecordEdit → List (List ℕ)
@@ -21,17 +22,13 @@ pub record AreRemovals (keys : List (List ℕ)) (edits : List RecordEdit) : Type
   pub keys_are : edit_keys edits ≡ keys
   pub remove : All (λ (e : RecordEdit). e.put ≡ None) edits
 
--- one of the keys is this one
-abbrev pub is_among : List (List ℕ) → List ℕ → Bool
-is_among keys key = list_any (λ (k : List ℕ). bytes_eq k key) keys
-
 -- one of the keys has a record
 abbrev pub finds_some : List (List ℕ) → List Record → Bool
 finds_some keys rs = list_any (λ (k : List ℕ). is_some (record_named k rs)) keys
 
 -- the record of a key where those of the keys are removed
 abbrev pub record_without : List (List ℕ) → List ℕ → Option Record → Option Record
-record_without keys key old = if is_among keys key then None else old
+record_without keys key old = if is_in keys key then None else old
 
 -- the records without those of the keys, in the order of their names
 pub record AreWithout (keys : List (List ℕ)) (old new : List Record) : Type 0 where

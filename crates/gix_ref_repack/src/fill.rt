@@ -3,7 +3,7 @@ ghost use Rattle.std.specs.Prelude.{◌≡◌, ◌≤◌, [], Some, OnOk, IfErr}
 ghost use Rattle.gix_ref_files.specs.DiskCalls.{Untouched};
 ghost use Rattle.gix_ref_files.specs.Files.{disk_of, Leaves, Passes, HasRisen};
 ghost use Rattle.gix_ref_files.specs.Lock.{lock_of};
-ghost use Rattle.gix_ref_files.specs.Settled.{IsWhole};
+ghost use Rattle.gix_ref_files.specs.Settled.{IsWholeAt};
 ghost use Rattle.gix_ref_files.specs.Tree.{put};
 ghost use Rattle.gix_ref_files.specs.Tree.Content.{File};
 ghost use Rattle.gix_ref_transaction.specs.PrepareSteps.{FillsLock, FillingOn};
@@ -12,15 +12,15 @@ use gix_ref_files::files::{FileError, Files};
 use gix_ref_files::lock::LockFile;
 
 /// Puts the text into the lock, which is empty, and syncs it.
-pub fn fill<F: Files>(files: &mut F, lock: &LockFile, text: &[u8]) -> Result<(), FileError>
+pub fn write_text<F: Files>(files: &mut F, lock: &LockFile, text: &[u8]) -> Result<(), FileError>
     ensures filled { F.honest → (F.means files.old).tree (lock_of lock.now) ≡ Some (File []) →
         OnOk result ((F.means files.new).tree ≡ put (F.means files.old).tree (lock_of lock.now)
         (Some (File text.now))) }
     ensures leaves { F.honest → (F.means files.old).tree (lock_of lock.now) ≡ Some (File []) →
         Leaves (F.means files.old) (F.means files.new) (FillsLock (F.means files.old).tree
         (lock_of lock.now)) }
-    ensures whole { F.honest → IsWhole (disk_of (F.means files.old)) (lock_of lock.now) [] →
-        OnOk result (IsWhole (disk_of (F.means files.new)) (lock_of lock.now) text.now) }
+    ensures whole { F.honest → IsWholeAt (disk_of (F.means files.old)) (lock_of lock.now) [] →
+        OnOk result (IsWholeAt (disk_of (F.means files.new)) (lock_of lock.now) text.now) }
     ensures passes { F.honest → Passes (F.means files.old) (F.means files.new)
         (FillingOn (disk_of (F.means files.old)) (lock_of lock.now)) }
     ensures no_fewer { F.faults files.old ≤ F.faults files.new }

@@ -7,7 +7,7 @@ ghost use Rattle.std.specs.Option.{option_map};
 ghost use Rattle.std.specs.Ordering.{nat_cmp};
 ghost use Rattle.gix_ref_transaction.specs.PrepareSteps.{setting_of};
 ghost use Rattle.gix_ref_repack.specs.Repacks.{removes_record};
-ghost use Rattle.gix_ref_repack.specs.internal.RemovedKeys.{removed_key, removed_keys};
+ghost use Rattle.gix_ref_repack.specs.internal.RemovedKeys.{removed_key, keys_to_remove};
 
 use gix_ref_lookup::settings::Settings;
 use gix_ref_transaction::edit::{Edit, deletes_reference};
@@ -48,7 +48,7 @@ fn keys_of(
     settings: &Settings<'_>,
     edits: &[Edit],
 ) -> Result<Vec<Vec<u8>>, AllocError>
-    ensures { IfOk result (λ keys. map vec_items keys.items ≡ removed_keys
+    ensures { IfOk result (λ keys. map vec_items keys.items ≡ keys_to_remove
         (setting_of settings.now) edits.now) }
 {
     let mut keys = Vec::new(alloc);
@@ -66,7 +66,7 @@ pub fn sorted_keys(
     settings: &Settings<'_>,
     edits: &[Edit],
 ) -> Result<Vec<Vec<u8>>, AllocError>
-    ensures moved { IfOk result (λ keys. IsPermutation (removed_keys
+    ensures moved { IfOk result (λ keys. IsPermutation (keys_to_remove
         (setting_of settings.now) edits.now) (map vec_items keys.items)) }
     ensures sorted { IfOk result
         (λ keys. IsSorted (slice_cmp nat_cmp) (map vec_items keys.items)) }

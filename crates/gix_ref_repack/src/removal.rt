@@ -9,7 +9,7 @@ ghost use Rattle.gix_ref_files.specs.DiskCalls.{Untouched};
 ghost use Rattle.gix_ref_files.specs.Files.{disk_of, Leaves, Passes};
 ghost use Rattle.gix_ref_packed.specs.Buffers.{buffer_text, buffer_line, HoldsRecords};
 ghost use Rattle.gix_ref_lookup.specs.Lookups.{meaning_in, packed_refs_in, ArePackedRecords};
-ghost use Rattle.gix_ref_repack.specs.Refusals.{of_opening, of_rewrite, IsCounted, IsIoOrMemory, IsRefused};
+ghost use Rattle.gix_ref_repack.specs.Refusals.{of_opening, of_rewrite, IsCountedRefusal, IsIoOrMemory, IsRefusedRewrite};
 ghost use Rattle.gix_ref_repack.specs.Removals.{AreRemovals, IsStuckIn, IsWithout};
 
 use crate::error::Error;
@@ -90,14 +90,14 @@ pub fn file_without<F: Files>(
         IsStrictlySortedBy (slice_cmp nat_cmp) (map vec_items keys.now) →
         MatchResult result (IsWithout settings.now.kind (map vec_items keys.now) rs)
         IsIoOrMemory }
-    ensures refused { F.honest → IfErr result (IsRefused settings.now.kind
+    ensures refused { F.honest → IfErr result (IsRefusedRewrite settings.now.kind
         ((F.means files.old).tree (meaning_in settings.now).packed_path)) }
     ensures leaves { F.honest → Leaves (F.means files.old) (F.means files.new)
         (Unchanged (F.means files.old).tree) }
     ensures passes { F.honest → Passes (F.means files.old) (F.means files.new)
         (Untouched (disk_of (F.means files.old))) }
     ensures no_fewer { F.faults files.old ≤ F.faults files.new }
-    ensures counted { IfErr result (IsCounted (F.faults files.old) (F.faults files.new)) }
+    ensures counted { IfErr result (IsCountedRefusal (F.faults files.old) (F.faults files.new)) }
 {
     let path = settings.packed_refs_path(alloc)?;
     match Buffer::open(alloc, files, &path, u64::MAX, settings.kind) {

@@ -10,7 +10,7 @@ ghost use Rattle.gix_ref_theory.specs.Between.{AreEdits};
 ghost use Rattle.gix_ref_transaction.specs.CommittedEdits.{planned};
 ghost use Rattle.gix_ref_transaction.specs.PackedCauses.{ids_among};
 ghost use Rattle.gix_ref_transaction.specs.PrepareSteps.{setting_of, updates, ids_in};
-ghost use Rattle.gix_ref_repack.specs.Refusals.{IsCounted, IsIoOrMemory, IsRefused};
+ghost use Rattle.gix_ref_repack.specs.Refusals.{IsCountedRefusal, IsIoOrMemory, IsRefusedRewrite};
 ghost use Rattle.gix_ref_repack.specs.Repacks.{removes_record, IsRepack};
 
 use crate::error::Error;
@@ -55,7 +55,7 @@ pub fn repack<F: Files>(
         IfErr result IsIoOrMemory }
 
     // Of any file, a line that is reported is no record. Where no edit removes a record, no file is looked at.
-    ensures refused { F.honest → IfErr result (IsRefused settings.now.kind
+    ensures refused { F.honest → IfErr result (IsRefusedRewrite settings.now.kind
         ((F.means files.old).tree (setting_of settings.now).packed_path)) }
     ensures idle { list_any removes_record edits.now ≡ false →
         (files.new ≡ files.old) × (result ≡ Ok Rewrite.Unchanged) }
@@ -64,7 +64,7 @@ pub fn repack<F: Files>(
     ensures passes { F.honest → Passes (F.means files.old) (F.means files.new)
         (Untouched (disk_of (F.means files.old))) }
     ensures no_fewer { F.faults files.old ≤ F.faults files.new }
-    ensures counted { IfErr result (IsCounted (F.faults files.old) (F.faults files.new)) }
+    ensures counted { IfErr result (IsCountedRefusal (F.faults files.old) (F.faults files.new)) }
 {
     if !remove_some(edits) {
         return Ok(Rewrite::Unchanged);

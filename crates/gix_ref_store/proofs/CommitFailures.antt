@@ -46,7 +46,7 @@ use Rattle.gix_ref_theory.specs.Between.{AreEdits}
 use Rattle.gix_ref_theory.specs.OnRealTrees.{view_of}
 use Rattle.gix_ref_transaction.specs.CommittedEdits.{planned}
 use Rattle.gix_ref_transaction.specs.PackedCauses.{ids_among}
-use Rattle.gix_ref_repack.specs.Refusals.{IsCounted, IsIoOrMemory, IsRefused}
+use Rattle.gix_ref_repack.specs.Refusals.{IsCountedRefusal, IsIoOrMemory, IsRefusedRewrite}
 use Rattle.gix_ref_repack.specs.Repacks.{IsRepack}
 use Rattle.gix_ref_commit.specs.Failures.{AllOfEdits, IsNameAt, IsOfListing, SaysFault, SaysFile, SaysInWay, SaysLogFault, SaysWhy, of_repack}
 use Rattle.gix_ref_commit.specs.LogEffects.{AreLogsOf, IsLogOf}
@@ -77,7 +77,7 @@ risen_wider a b c d lower upper (inl more) = inl (omega (arith, lower, upper, mo
 risen_wider a b c d lower upper (inr full) = inr (omega (arith, upper, full))
 
 -- and so of a fault at `packed-refs`
-pub counted_from : (a b c : ℕ) (error : RepackError) → a ≤ b → IsCounted b c error → IsCounted a c error
+pub counted_from : (a b c : ℕ) (error : RepackError) → a ≤ b → IsCountedRefusal b c error → IsCountedRefusal a c error
 counted_from a b c (repack.Io fault) le is = (risen_wider a b c c le (omega arith) is.0, is.1)
 counted_from a b c (repack.Iteration line) le is = tt
 counted_from a b c repack.Memory le is = tt
@@ -91,7 +91,7 @@ only_after locks old mid new passes only locked staying first own here =
 
 -- An error that a decision returned, by what is said of that of `packed-refs`.
 pub undecided_by : {F : Type 0} (honest : Type 0) (means : F → Meaning) (faults : F → ℕ) (start new : Store F) (committer : Option SignatureRef) (held ran : List Edit) (error : RepackError) → all_but_logs ran ≡ all_but_logs held →
-    IsCounted (faults (files_of start)) (faults (files_of new)) error → (honest → IsRefused (kind_of start) (tree_of means start (meaning_of start).packed_path) error) →
+    IsCountedRefusal (faults (files_of start)) (faults (files_of new)) error → (honest → IsRefusedRewrite (kind_of start) (tree_of means start (meaning_of start).packed_path) error) →
     (honest → AreEdits (meaning_of start) (planned (updates ran)) → (rs : List Record) → ArePackedRecords (kind_of start) (view_of (tree_of means start) (meaning_of start).packed_path) rs → IsIoOrMemory error) → LinesPass honest means start committer held →
     IsUndecided honest means faults start new committer held (of_repack error)
 undecided_by honest means faults start new committer held ran (repack.Io error) alike counted refused sound passes = counted

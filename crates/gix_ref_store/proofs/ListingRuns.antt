@@ -15,11 +15,12 @@ use Rattle.gix_ref_listing.specs.Items.{IsItem}
 use Rattle.gix_ref_listing.specs.Steps.{AreYet, GivesItem}
 use Rattle.gix_ref_listing.specs.declared.error.Error.{Error}
 use Rattle.gix_ref_store.specs.Store as stores
-use Rattle.gix_ref_store.specs.Lookup.{lent, settings_of, view_in}
+use Rattle.gix_ref_store.specs.Lookup.{settings_of, view_in}
 use Rattle.gix_ref_store.specs.Listings.{NextItem, AreFirst, GivesFirst, count_in}
 use Rattle.gix_ref_store.specs.declared.file.store.Store.{Store}
 use Rattle.gix_ref_store.specs.declared.file.iter.LooseThenPacked.{LooseThenPacked}
 use Rattle.gix_ref_store.specs.declared.file.iter.Remaining.{Remaining}
+use Rattle.gix_ref_listing.specs.PlainSettings.{lent}
 
 abbrev made : Dirs → Option Namespace → Kind → (prohibits composes : Bool) → Settings
 made dirs namespace kind prohibits composes = record { dirs = lent dirs; namespace = lent namespace; kind = kind; prohibit_windows_device_names = prohibits; precompose_unicode = composes }

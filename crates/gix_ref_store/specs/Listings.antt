@@ -15,7 +15,7 @@ use Rattle.gix_ref_listing.specs.OwnRecords.{own_of}
 use Rattle.gix_ref_listing.specs.PrefixedRecords.{IsHeldFor}
 use Rattle.gix_ref_listing.specs.PseudoListings.{IsPseudoListing}
 use Rattle.gix_ref_listing.specs.Steps.{AreYet, GivesNext, GivesRecord}
-use Rattle.gix_ref_listing.specs.WholeListings.{AreHeld, IsListing, IsName, key_in}
+use Rattle.gix_ref_listing.specs.WholeListings.{AreHeldOf, IsListing, IsNameItem, key_in}
 use Rattle.gix_ref_listing.specs.declared.error.Error.{Error}
 use Rattle.gix_ref_listing.specs.declared.own_records.OwnRecord.{OwnRecord}
 use Rattle.gix_ref_lookup.specs.declared.settings.Settings.{Settings}
@@ -58,7 +58,7 @@ module _ {F : Type 0} where
 
   -- the buffer has the records of the prefix of these; or there is none, and there are none
   abbrev pub AreHeldFor : Store F → (prefix : List ℕ) → Option (Bor Buffer) → List Record → Type 0
-  AreHeldFor store prefix packed records = AreHeld (key_in (settings_of store) prefix) packed records
+  AreHeldFor store prefix packed records = AreHeldOf (key_in (settings_of store) prefix) packed records
 
   -- these are yet to come of an iterator
   abbrev pub AreYetIn : LooseThenPacked F Remaining → List Listed → Type 0
@@ -120,7 +120,7 @@ module _ {F : Type 0} where
       pub listed : List Listed
       pub is : IsListing (settings_of store) (view_in means store) records prefix listed
       pub counts : faults (stores.files_of store) ≤ count_in it
-      pub names : AllByRecursion IsName listed ⊎ HasRisen (faults (stores.files_of store)) (count_in it)
+      pub names : AllByRecursion IsNameItem listed ⊎ HasRisen (faults (stores.files_of store)) (count_in it)
       pub runs : (items : List (Result Reference Error)) (t : LooseThenPacked F Remaining) → Yields (NextItem) it items t → GivesFirst store listed it t items
 
     -- and so over the listing of its pseudo references
@@ -128,5 +128,5 @@ module _ {F : Type 0} where
       pub listed : List Listed
       pub is : IsPseudoListing (settings_of store) (view_in means store) listed
       pub counts : faults (stores.files_of store) ≤ count_in it
-      pub names : AllByRecursion IsName listed ⊎ HasRisen (faults (stores.files_of store)) (count_in it)
+      pub names : AllByRecursion IsNameItem listed ⊎ HasRisen (faults (stores.files_of store)) (count_in it)
       pub runs : (items : List (Result Reference Error)) (t : LooseThenPacked F Remaining) → Yields (NextItem) it items t → GivesFirst store listed it t items

@@ -28,10 +28,7 @@ use Rattle.gix_ref_lookup.specs.declared.find.existing.Error.{Error as Missing}
 use Rattle.gix_ref_lookup.specs.declared.find.existing.Error.TheVariants.{Find, NotFound}
 use Rattle.gix_ref_store.specs.Store as stores
 use Rattle.gix_ref_store.specs.declared.file.store.Store.{Store as StoreValue}
-
--- a value as it is lent; where it lies does not matter
-abbrev pub lent : {A : Type 0} → A → Bor A
-lent value = record { ref_ptr = (0, 0); now = value }
+use Rattle.gix_ref_listing.specs.PlainSettings.{lent}
 
 -- a store without its files
 abbrev pub settings_of : {F : Type 0} → StoreValue F → Settings

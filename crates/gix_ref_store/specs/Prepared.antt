@@ -18,7 +18,7 @@ use Rattle.gix_ref_store.specs.Store.{files_of, kind_of, folders, meaning_of, Is
 use Rattle.gix_ref_transaction.specs.PrepareSteps.{AreEmpty, AreLockable, AreWholeLocks, effects_of, effects_on, HoldTexts, ids_in, packed_ids, IsPackedPlace, old_targets, own_locks, own_places, packed_places, place_paths, places_of, possible_locks, targets_of, updates, files_at, seen_files}
 use Rattle.gix_ref_transaction.specs.CarriedEdits.{AreCarried}
 use Rattle.gix_ref_transaction.specs.Parents.{parents_in, split_parents}
-use Rattle.gix_ref_transaction.specs.Splits.{all_rounds, AreDirect, AreSplit, CanFollow, leads_to, Refuses, values_of}
+use Rattle.gix_ref_transaction.specs.Splits.{all_rounds, AreDirect, AreSplit, CanFollow, name_led_to, Refuses, values_of}
 use Rattle.gix_ref_edits.specs.DoubledNames.{NoneDoubled}
 use Rattle.gix_ref_edits.specs.RefEdits.{AreUpdates}
 use Rattle.gix_ref_edits.specs.declared.transaction.RefEdit.{RefEdit}
@@ -179,7 +179,7 @@ module _ {F : Type 0} (honest : Type 0) (means : F → Meaning) (faults : F → 
 
   -- each edit has the place of the one that it was split from
   abbrev pub HaveParents : Store F → (asked : List RefEdit) → List Edit → Type 0
-  HaveParents old asked edits = parents_in edits ≡ split_parents (leads_to (meaning_of old) (view_of (tree_of means old))) (values_of asked)
+  HaveParents old asked edits = parents_in edits ≡ split_parents (name_led_to (meaning_of old) (view_of (tree_of means old))) (values_of asked)
 
   -- The edits of a split list as they are held: each with what was found of it, its place, its parent, what becomes of its loose file, and
   -- the id of its record.

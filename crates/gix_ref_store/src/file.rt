@@ -4,6 +4,7 @@ pub mod iter;
 pub mod log;
 pub mod packed;
 pub mod pristine;
+mod settings;
 pub mod store;
 pub mod transaction;
 

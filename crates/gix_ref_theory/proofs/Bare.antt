@@ -4,7 +4,7 @@ use Rattle.std.proofs.lemmas.Bool.{cases_Bool, cond-true, cond-false, true≢fal
 use Rattle.gix_ref_files.specs.Tree.{Path}
 use Rattle.gix_ref_theory.specs.Views.{View, Write, after_write, changed_at, file_bytes, LostIn, IsLostBy}
 use Rattle.gix_ref_theory.specs.Views.Write.{Append, Put, Remove}
-use Rattle.gix_ref_theory.specs.Views.{IsLeftBy}
+use Rattle.gix_ref_theory.specs.Views.{IsLeftByWrites}
 use Rattle.gix_ref_theory.specs.Views.Ending.{Loss}
 use Rattle.gix_ref_theory.proofs.Writes.{path_of, same, same_true}
 
@@ -16,10 +16,10 @@ module _ (Counts : Path → Type 0) where
 
   pub record Bare (writes : List Write) (view left : View) : Type 0 where
     pub bare : View
-    pub ended : IsLeftBy Loss writes view bare
+    pub ended : IsLeftByWrites Loss writes view bare
     pub alike : (q : Path) → Counts q → left q ≡ bare q
 
-  here : (writes : List Write) (view : View) → IsLeftBy Loss writes view view
+  here : (writes : List Write) (view : View) → IsLeftByWrites Loss writes view view
   here [] view = λ q. refl
   here (Append p bytes ∷ writes) view = inl (inl (λ q. refl))
   here (Put p bytes ∷ writes) view = inl (λ q. refl)

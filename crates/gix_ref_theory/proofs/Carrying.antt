@@ -11,7 +11,7 @@ use Rattle.gix_ref_files.specs.Steps.Step.{Create, Append as AppendStep, Line as
 use Rattle.gix_ref_theory.proofs.Writes.{same, same_true, same_false}
 use Rattle.std.proofs.lemmas.List.{take-append-drop}
 use Rattle.gix_ref_theory.specs.OnRealTrees.{CarryOut, after_step, file_of, view_of}
-use Rattle.gix_ref_theory.specs.Views.{IsLeft, IsLeftBy, IsOwnLock, IsSameButLocks, IsSameView, View, Write, after, after_write, changed_at, file_bytes}
+use Rattle.gix_ref_theory.specs.Views.{IsLeft, IsLeftByWrites, IsOwnLock, IsSameButLocks, IsSameView, View, Write, after, after_write, changed_at, file_bytes}
 use Rattle.gix_ref_theory.specs.Views.Write.{Append, Put, Remove}
 use Rattle.gix_ref_theory.specs.Views.Ending.{Stop}
 use Rattle.gix_ref_files.proofs.Puts.{put_at}
@@ -178,7 +178,7 @@ begun_removal path T left view views (inr b) = along b.1 (removed_folder T view 
 
 -- The plan's files beside the real ones.
 
-stop_here : (writes : List Write) (view left : View) → IsSameView left view → IsLeftBy Stop writes view left
+stop_here : (writes : List Write) (view left : View) → IsSameView left view → IsLeftByWrites Stop writes view left
 stop_here [] view left h = h
 stop_here (Append path bytes ∷ writes) view left h = inl (inl h)
 stop_here (Put path bytes ∷ writes) view left h = inl h
@@ -250,11 +250,11 @@ begun_own_append locked path bytes T left real view views h own (k, e) = by (cas
 
 -- A log that is made empty and then appended to: a stop after it is made leaves a beginning of the append.
 pub append_in_two : (path : Path) (bytes : List ℕ) (writes : List Write) (view left : View) →
-    IsLeftBy Stop (Append path bytes ∷ writes) (after_write (Append path []) view) left → IsLeftBy Stop (Append path bytes ∷ writes) view left
+    IsLeftByWrites Stop (Append path bytes ∷ writes) (after_write (Append path []) view) left → IsLeftByWrites Stop (Append path bytes ∷ writes) view left
 append_in_two path bytes writes view left (inl (inl same)) = inl (inr ([], (bytes, refl), same))
 append_in_two path bytes writes view left (inl (inr (front, part, same))) =
     inl (inr (front, part, λ q. same q ∙ made view path front q))
-append_in_two path bytes writes view left (inr h) = inr (subst (λ v. IsLeftBy Stop writes v left) (λ i q. made view path bytes q i) h)
+append_in_two path bytes writes view left (inr h) = inr (subst (λ v. IsLeftByWrites Stop writes v left) (λ i q. made view path bytes q i) h)
 
 append_after : (path : Path) (bytes : List ℕ) (writes : List Write) (view : View) → after (Append path bytes ∷ writes) (after_write (Append path []) view) ≡ after (Append path bytes ∷ writes) view
 append_after path bytes writes view = ap (after writes) (λ i q. made view path bytes q i)
@@ -270,7 +270,7 @@ create_alike locked T real view path views none n h =
 with_made : (locked : List Path) (path : Path) (line : List ℕ) (rest writes : List Write) (view left : View) → writes ≡ Append path line ∷ rest → IsLeft locked writes (after_write (Append path []) view) left → IsLeft locked writes view left
 with_made locked path line rest writes view left e l = in_writes locked view left e (record {
   without_locks = l.without_locks;
-  stopped = append_in_two path line rest view l.without_locks (subst (λ x. IsLeftBy Stop x (after_write (Append path []) view) l.without_locks) e l.stopped);
+  stopped = append_in_two path line rest view l.without_locks (subst (λ x. IsLeftByWrites Stop x (after_write (Append path []) view) l.without_locks) e l.stopped);
   same = l.same;
 })
 

@@ -9,9 +9,9 @@ use Rattle.gix_ref_files.specs.Tree.{Path, Content, bytes_of, put, more, is_file
 use Rattle.gix_ref_files.specs.Tree.Content.{File}
 use Rattle.gix_ref_files.specs.Disk.{Disk, empty_file, created_on, appended_on, removed_on, with_folders_on, file_synced}
 use Rattle.gix_ref_files.specs.Calls.{Appends}
-use Rattle.gix_ref_files.specs.DiskCalls.{after_write, RemovingFileOn, WritingOn}
+use Rattle.gix_ref_files.specs.DiskCalls.{after_synced_append, RemovingFileOn, WritingOn}
 use Rattle.gix_ref_files.specs.Lock.{lock_of, readied_on, ReadyingOn, LockingOn}
-use Rattle.gix_ref_files.specs.Settled.{IsWhole, AllStay}
+use Rattle.gix_ref_files.specs.Settled.{IsWholeAt, AllStay}
 use Rattle.gix_ref_files.specs.Settled.Sync.{OfFile}
 use Rattle.gix_ref_files.proofs.Folders.{any_take, settled_with_folders, stay_with_folders}
 use Rattle.gix_ref_files.proofs.Changes.{Gone, removes, stay_changed}
@@ -55,11 +55,11 @@ module _ (Counts : Path → Type 0) (staying : List Path) where
       (rests_append Counts staying texts view D (appended_on D p text) p text none rests (inr (file, (length text, ap (appended_on D p) (sym (take-length text)))))))
 
 -- a lock that is made is whole
-pub made_whole : (D : Disk) (p : Path) → IsWhole (created_on D p) p []
+pub made_whole : (D : Disk) (p : Path) → IsWholeAt (created_on D p) p []
 made_whole D p = (put_at D.tree p (Some (File [])), cond-true (bytes_eq p p) 0 (D.unsynced.synced p) ((bytes_eq-Decides p p).1 refl))
 
 -- and so is one that gets its text
-pub written_whole : (D : Disk) (p : Path) (text : List ℕ) → IsWhole D p [] → IsWhole (file_synced (appended_on D p text) p) p text
+pub written_whole : (D : Disk) (p : Path) (text : List ℕ) → IsWholeAt D p [] → IsWholeAt (file_synced (appended_on D p text) p) p text
 written_whole D p text whole = (
   grown,
   cond-true (bytes_eq p p) (length (bytes_of ((appended_on D p text).tree p))) (D.unsynced.synced p) ((bytes_eq-Decides p p).1 refl) ∙ ap (λ (c : Option Content). length (bytes_of c)) grown,
@@ -68,27 +68,27 @@ written_whole D p text whole = (
     grown : put D.tree p (more (D.tree p) text) p ≡ Some (File text)
     grown = put_at D.tree p (more (D.tree p) text) ∙ ap (λ (c : Option Content). more c text) whole.0
 
-pub filled_whole : (D E : Disk) (p : Path) (text : List ℕ) (there : Bool) → IsWhole D p [] → Appends D.tree p text E.tree there → E ≡ after_write D p text there → IsWhole E p text
-filled_whole D E p text true whole appends is = subst (λ (X : Disk). IsWhole X p text) (sym is) (written_whole D p text whole)
+pub filled_whole : (D E : Disk) (p : Path) (text : List ℕ) (there : Bool) → IsWholeAt D p [] → Appends D.tree p text E.tree there → E ≡ after_synced_append D p text there → IsWholeAt E p text
+filled_whole D E p text true whole appends is = subst (λ (X : Disk). IsWholeAt X p text) (sym is) (written_whole D p text whole)
 filled_whole D E p text false whole appends is = absurd (true≢false (sym (ap is_file whole.0) ∙ appends.0))
 
 -- A lock elsewhere stays whole.
-pub whole_readying : (D E : Disk) (p q : Path) (bytes : List ℕ) → IsWhole D q bytes → ReadyingOn D p E → IsWhole E q bytes
-whole_readying D E p q bytes whole (inl e) = subst (λ (X : Disk). IsWhole X q bytes) (sym e) whole
+pub whole_readying : (D E : Disk) (p q : Path) (bytes : List ℕ) → IsWholeAt D q bytes → ReadyingOn D p E → IsWholeAt E q bytes
+whole_readying D E p q bytes whole (inl e) = subst (λ (X : Disk). IsWholeAt X q bytes) (sym e) whole
 whole_readying D E p q bytes whole (inr (free, (n, e))) =
-    subst (λ (X : Disk). IsWhole X q bytes) (sym e) (whole_with_folders (take n (fronts p)) D q bytes (any_take (λ f. is_file (D.tree f)) n (fronts p) free) whole)
+    subst (λ (X : Disk). IsWholeAt X q bytes) (sym e) (whole_with_folders (take n (fronts p)) D q bytes (any_take (λ f. is_file (D.tree f)) n (fronts p) free) whole)
 
-pub whole_locking : (D E : Disk) (p q : Path) (bytes : List ℕ) → lock_of p ≢ q → IsWhole D q bytes → LockingOn D p E → IsWhole E q bytes
+pub whole_locking : (D E : Disk) (p q : Path) (bytes : List ℕ) → lock_of p ≢ q → IsWholeAt D q bytes → LockingOn D p E → IsWholeAt E q bytes
 whole_locking D E p q bytes apart whole (inl readying) = whole_readying D E p q bytes whole readying
-whole_locking D E p q bytes apart whole (inr (free, inl e)) = subst (λ (X : Disk). IsWhole X q bytes) (sym e) (whole_with_folders (fronts p) D q bytes free whole)
+whole_locking D E p q bytes apart whole (inr (free, inl e)) = subst (λ (X : Disk). IsWholeAt X q bytes) (sym e) (whole_with_folders (fronts p) D q bytes free whole)
 whole_locking D E p q bytes apart whole (inr (free, inr (at, e))) =
-    subst (λ (X : Disk). IsWhole X q bytes) (sym e) (whole_entered (readied_on D p) (lock_of p) q empty_file bytes apart (whole_with_folders (fronts p) D q bytes free whole))
+    subst (λ (X : Disk). IsWholeAt X q bytes) (sym e) (whole_entered (readied_on D p) (lock_of p) q empty_file bytes apart (whole_with_folders (fronts p) D q bytes free whole))
 
-pub whole_writing : (D E : Disk) (p q : Path) (text bytes : List ℕ) → p ≢ q → IsWhole D q bytes → WritingOn D p text E → IsWhole E q bytes
-whole_writing D E p q text bytes apart whole (inl (inl e)) = subst (λ (X : Disk). IsWhole X q bytes) (sym e) whole
-whole_writing D E p q text bytes apart whole (inl (inr (file, (n, e)))) = subst (λ (X : Disk). IsWhole X q bytes) (sym e) (whole_appended D p q (take n text) bytes apart whole)
+pub whole_writing : (D E : Disk) (p q : Path) (text bytes : List ℕ) → p ≢ q → IsWholeAt D q bytes → WritingOn D p text E → IsWholeAt E q bytes
+whole_writing D E p q text bytes apart whole (inl (inl e)) = subst (λ (X : Disk). IsWholeAt X q bytes) (sym e) whole
+whole_writing D E p q text bytes apart whole (inl (inr (file, (n, e)))) = subst (λ (X : Disk). IsWholeAt X q bytes) (sym e) (whole_appended D p q (take n text) bytes apart whole)
 whole_writing D E p q text bytes apart whole (inr e) =
-    subst (λ (X : Disk). IsWhole X q bytes) (sym e) (whole_synced (OfFile p ∷ []) (appended_on D p text) q bytes (whole_appended D p q text bytes apart whole))
+    subst (λ (X : Disk). IsWholeAt X q bytes) (sym e) (whole_synced (OfFile p ∷ []) (appended_on D p text) q bytes (whole_appended D p q text bytes apart whole))
 
 -- And all but own locks stays as before.
 module _ (locked staying : List Path) (first : Disk) where

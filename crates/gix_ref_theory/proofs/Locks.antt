@@ -4,12 +4,12 @@ use Rattle.std.proofs.lemmas.Bool.{cases_Bool, false≢true}
 use Rattle.gix_ref_theory.proofs.Writes.{same, same_true}
 use Rattle.gix_ref_theory.proofs.ReadingLemmas.{reading-same}
 use Rattle.gix_ref_theory.proofs.Plans.{is_reference_at, edit_behind, edit_in_front}
-use Rattle.gix_ref_theory.specs.Between.{AreEdits, InOrder, IsBetween, IsCommitted, IsCommittedFile, IsEdit, IsLogBetween, IsMerged, IsNewFile, IsPackedFile, IsPrepared, NoDeletionFirst, committed_log}
+use Rattle.gix_ref_theory.specs.Between.{AreEdits, InOrder, IsBetween, IsCommitted, IsCommittedFile, IsEdit, IsLogBetween, MergesRecords, IsNewFile, IsPackedFile, IsPrepared, NoDeletionFirst, committed_log}
 use Rattle.gix_ref_theory.specs.Edits.{Edit, Mode, alters_packed, edited_reading, effect, effect_of_change, file_of_records}
 use Rattle.gix_ref_theory.specs.Edits.Effect.{Keeps}
-use Rattle.gix_ref_theory.specs.Plan.{file_writes, line_writes, log_removals, loose_removals, packed_writes, place_removal, place_writes, plan, updates}
+use Rattle.gix_ref_theory.specs.Plan.{file_writes, line_writes, log_removals, loose_removals, packed_writes, place_removal, place_writes, plan, writes_of_updates}
 use Rattle.gix_ref_base.specs.PackedRecords.{Record}
-use Rattle.gix_ref_theory.specs.Readings.{HasLaws, Store, reading, records_in}
+use Rattle.gix_ref_theory.specs.Readings.{HasLaws, Store, reading, records_of_file}
 use Rattle.gix_ref_theory.specs.Views.{IsOwnLock, IsSameButLocks, View}
 use Rattle.gix_ref_files.specs.Lock.{lock_of}
 
@@ -142,10 +142,10 @@ committed_before s laws mode locked named edits apart view before left alike gon
 -- The plan sees no locks.
 
 updates_alike : (s : Store) (mode : Mode) (left view : View) (edits : List Edit) → ((e : Edit) → IsEdit e edits → effect s mode left e ≡ effect s mode view e) →
-    updates s mode left edits ≡ updates s mode view edits
+    writes_of_updates s mode left edits ≡ writes_of_updates s mode view edits
 updates_alike s mode left view [] alike = refl
 updates_alike s mode left view (e ∷ edits) alike =
-    ap (λ f. line_writes (s.log e.name) e.change e.line ++ (place_writes (s.place e.name) f ++ updates s mode left edits)) (alike e (inl refl))
+    ap (λ f. line_writes (s.log e.name) e.change e.line ++ (place_writes (s.place e.name) f ++ writes_of_updates s mode left edits)) (alike e (inl refl))
     ∙ ap (λ rest. line_writes (s.log e.name) e.change e.line ++ (place_writes (s.place e.name) (effect s mode view e) ++ rest)) (updates_alike s mode left view edits (λ f h. alike f (inr h)))
 
 removals_alike : (s : Store) (mode : Mode) (left view : View) (edits : List Edit) → ((e : Edit) → IsEdit e edits → effect s mode left e ≡ effect s mode view e) →
@@ -159,15 +159,15 @@ pub plan_alike : (s : Store) → HasLaws s → (mode : Mode) (locked : List (Lis
     IsSameButLocks locked left view → plan s mode left edits merged ≡ plan s mode view edits merged
 plan_alike s laws mode locked edits merged apart left view alike =
     ap (λ x. x ++ (log_removals s edits ++ (packed_writes s mode left edits merged ++ loose_removals s mode left edits))) (updates_alike s mode left view edits effects)
-    ∙ (ap (λ x. updates s mode view edits ++ (log_removals s edits ++ (x ++ loose_removals s mode left edits))) packed
-    ∙ ap (λ x. updates s mode view edits ++ (log_removals s edits ++ (packed_writes s mode view edits merged ++ x))) (removals_alike s mode left view edits effects))
+    ∙ (ap (λ x. writes_of_updates s mode view edits ++ (log_removals s edits ++ (x ++ loose_removals s mode left edits))) packed
+    ∙ ap (λ x. writes_of_updates s mode view edits ++ (log_removals s edits ++ (packed_writes s mode view edits merged ++ x))) (removals_alike s mode left view edits effects))
   where
     effects : (e : Edit) → IsEdit e edits → effect s mode left e ≡ effect s mode view e
     effects e he = effect_alike s laws mode locked edits apart left view alike e he
 
     packed : packed_writes s mode left edits merged ≡ packed_writes s mode view edits merged
     packed =
-        ap (λ file. if alters_packed s mode (records_in s file) edits then file_writes s.packed_path (file_of_records s merged) else [])
+        ap (λ file. if alters_packed s mode (records_of_file s file) edits then file_writes s.packed_path (file_of_records s merged) else [])
         (packed_alike s laws mode locked view edits apart view left alike)
 
 pub prepared_alike : (s : Store) → HasLaws s → (mode : Mode) (locked : List (List ℕ)) (edits : List Edit) (merged : List Record) (left view : View) →
@@ -179,6 +179,6 @@ prepared_alike s laws mode locked edits merged left view alike p =
       allowed = p.allowed;
       targets_read_back = p.targets_read_back;
       ids_read_back = p.ids_read_back;
-      records_are_merged = subst (λ file. alters_packed s mode (records_in s file) edits ≡ true → IsMerged s mode edits (records_in s file) merged) packed p.records_are_merged;
-      records_read_back = subst (λ file. alters_packed s mode (records_in s file) edits ≡ true → records_in s (file_of_records s merged) ≡ merged) packed p.records_read_back;
+      records_are_merged = subst (λ file. alters_packed s mode (records_of_file s file) edits ≡ true → MergesRecords s mode edits (records_of_file s file) merged) packed p.records_are_merged;
+      records_read_back = subst (λ file. alters_packed s mode (records_of_file s file) edits ≡ true → records_of_file s (file_of_records s merged) ≡ merged) packed p.records_read_back;
     }

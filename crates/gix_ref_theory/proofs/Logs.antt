@@ -8,7 +8,7 @@ use Rattle.gix_ref_theory.specs.Between.{IsEdit, IsLogLeft, IsPrepared}
 use Rattle.gix_ref_theory.specs.Edits.{Change, Edit, Effect, Mode, due, effect, is_deletion, is_due, line_due, removes_log}
 use Rattle.gix_ref_theory.specs.Edits.Change.{Delete, Update}
 use Rattle.gix_ref_theory.specs.Edits.Effect.{Keeps, Removes, Writes}
-use Rattle.gix_ref_theory.specs.Plan.{line_writes, log_removal, log_removals, loose_removals, packed_writes, place_writes, plan, updates}
+use Rattle.gix_ref_theory.specs.Plan.{line_writes, log_removal, log_removals, loose_removals, packed_writes, place_writes, plan, writes_of_updates}
 use Rattle.gix_ref_base.specs.PackedRecords.{Record}
 use Rattle.gix_ref_theory.specs.Readings.{HasLaws, Store}
 use Rattle.gix_ref_theory.specs.Views.{Ending, IsPartOf, View, Write, after, after_write, file_bytes}
@@ -106,12 +106,12 @@ place_steps_append path place Removes n = tt
 place_steps_append path place Keeps n = tt
 
 updates_append : (s : Store) (mode : Mode) (view : View) (path : List ℕ) (edits : List Edit) → ((e : Edit) → IsEdit e edits → s.place e.name ≢ path) →
-    AllAppend path (updates s mode view edits)
+    AllAppend path (writes_of_updates s mode view edits)
 updates_append s mode view path [] h = tt
 updates_append s mode view path (e ∷ edits) h =
-    AllAppend-append path (line_writes (s.log e.name) e.change e.line) (place_writes (s.place e.name) (effect s mode view e) ++ updates s mode view edits)
+    AllAppend-append path (line_writes (s.log e.name) e.change e.line) (place_writes (s.place e.name) (effect s mode view e) ++ writes_of_updates s mode view edits)
     (log_steps_append path (s.log e.name) e.change e.line)
-    (AllAppend-append path (place_writes (s.place e.name) (effect s mode view e)) (updates s mode view edits)
+    (AllAppend-append path (place_writes (s.place e.name) (effect s mode view e)) (writes_of_updates s mode view edits)
     (place_steps_append path (s.place e.name) (effect s mode view e) (h e (inl refl)))
     (updates_append s mode view path edits (λ f k. h f (inr k))))
 
@@ -131,16 +131,16 @@ place_appended path place Removes = refl
 place_appended path place Keeps = refl
 
 appended_due : (s : Store) (mode : Mode) (view : View) (path : List ℕ) (edits : List Edit) →
-    appended path (updates s mode view edits) ≡ due s edits path
+    appended path (writes_of_updates s mode view edits) ≡ due s edits path
 appended_due s mode view path [] = refl
 appended_due s mode view path (e ∷ edits) =
     let logs = line_writes (s.log e.name) e.change e.line in
     let places = place_writes (s.place e.name) (effect s mode view e) in
-    appended-append path logs (places ++ updates s mode view edits)
-    ∙ (ap (λ x. x ++ appended path (places ++ updates s mode view edits)) (line_appended path (s.log e.name) e.change e.line)
+    appended-append path logs (places ++ writes_of_updates s mode view edits)
+    ∙ (ap (λ x. x ++ appended path (places ++ writes_of_updates s mode view edits)) (line_appended path (s.log e.name) e.change e.line)
     ∙ ap (λ x. (if bytes_eq (s.log e.name) path then due_line e.change e.line else []) ++ x)
-    (appended-append path places (updates s mode view edits)
-    ∙ (ap (λ x. x ++ appended path (updates s mode view edits)) (place_appended path (s.place e.name) (effect s mode view e))
+    (appended-append path places (writes_of_updates s mode view edits)
+    ∙ (ap (λ x. x ++ appended path (writes_of_updates s mode view edits)) (place_appended path (s.place e.name) (effect s mode view e))
     ∙ appended_due s mode view path edits)))
 
 or_false : (b : Bool) → (b || false) ≡ b
@@ -158,16 +158,16 @@ place_untouched path place Removes n = refl
 place_untouched path place Keeps n = refl
 
 touched_due : (s : Store) (mode : Mode) (view : View) (path : List ℕ) (edits : List Edit) → ((e : Edit) → IsEdit e edits → s.place e.name ≢ path) →
-    is_touched path (updates s mode view edits) ≡ is_due s edits path
+    is_touched path (writes_of_updates s mode view edits) ≡ is_due s edits path
 touched_due s mode view path [] h = refl
 touched_due s mode view path (e ∷ edits) h =
     let logs = line_writes (s.log e.name) e.change e.line in
     let places = place_writes (s.place e.name) (effect s mode view e) in
-    touched_append path logs (places ++ updates s mode view edits)
-    ∙ (ap (λ x. x || is_touched path (places ++ updates s mode view edits)) (line_touched path (s.log e.name) e.change e.line)
+    touched_append path logs (places ++ writes_of_updates s mode view edits)
+    ∙ (ap (λ x. x || is_touched path (places ++ writes_of_updates s mode view edits)) (line_touched path (s.log e.name) e.change e.line)
     ∙ ap (λ x. (has_line e.change e.line && bytes_eq (s.log e.name) path) || x)
-    (touched_append path places (updates s mode view edits)
-    ∙ (ap (λ x. x || is_touched path (updates s mode view edits)) (place_untouched path (s.place e.name) (effect s mode view e) (h e (inl refl)))
+    (touched_append path places (writes_of_updates s mode view edits)
+    ∙ (ap (λ x. x || is_touched path (writes_of_updates s mode view edits)) (place_untouched path (s.place e.name) (effect s mode view e) (h e (inl refl)))
     ∙ touched_due s mode view path edits (λ f k. h f (inr k)))))
 
 -- and what follows removes it, or leaves it alone
@@ -296,7 +296,7 @@ module _ (s : Store) (laws : HasLaws s) (mode : Mode) (view : View) (edits : Lis
   not_packed : s.packed_path ≢ s.log e.name
   not_packed same = laws.log_is_not_packed e.name (is_reference_at s edits p.apart e he) (sym same)
 
-  updates_only : AllAppend (s.log e.name) (updates s mode view edits)
+  updates_only : AllAppend (s.log e.name) (writes_of_updates s mode view edits)
   updates_only = updates_append s mode view (s.log e.name) edits no_place
 
   pub behind_makes : AllMake (s.log e.name) None (log_removals s edits ++ (packed_writes s mode view edits merged ++ loose_removals s mode view edits))
@@ -317,27 +317,27 @@ module _ (s : Store) (laws : HasLaws s) (mode : Mode) (view : View) (edits : Lis
       ∙ (or_false (is_touched (s.log e.name) (log_removals s edits)) ∙ touched_removed s (s.log e.name) edits))
 
   -- the log as all updates leave it
-  pub updated : after (updates s mode view edits) view (s.log e.name) ≡ grown (is_due s edits (s.log e.name)) (view (s.log e.name)) (due s edits (s.log e.name))
+  pub updated : after (writes_of_updates s mode view edits) view (s.log e.name) ≡ grown (is_due s edits (s.log e.name)) (view (s.log e.name)) (due s edits (s.log e.name))
   updated =
-      log_content (updates s mode view edits) view (s.log e.name) updates_only
-      ∙ (ap (λ b. grown b (view (s.log e.name)) (appended (s.log e.name) (updates s mode view edits))) (touched_due s mode view (s.log e.name) edits no_place)
+      log_content (writes_of_updates s mode view edits) view (s.log e.name) updates_only
+      ∙ (ap (λ b. grown b (view (s.log e.name)) (appended (s.log e.name) (writes_of_updates s mode view edits))) (touched_due s mode view (s.log e.name) edits no_place)
       ∙ ap (grown (is_due s edits (s.log e.name)) (view (s.log e.name))) (appended_due s mode view (s.log e.name) edits))
 
   -- behind the updates: the log is removed, or as they leave it
-  left_behind : (more : List Write) → l.done ≡ updates s mode view edits ++ more →
+  left_behind : (more : List Write) → l.done ≡ writes_of_updates s mode view edits ++ more →
       more ++ l.rest ≡ log_removals s edits ++ (packed_writes s mode view edits merged ++ loose_removals s mode view edits) →
       left (s.log e.name) ≡ cond (is_touched (s.log e.name) more) None (grown (is_due s edits (s.log e.name)) (view (s.log e.name)) (due s edits (s.log e.name)))
   left_behind more d whole =
-      left_content ending (log_removals s edits ++ (packed_writes s mode view edits merged ++ loose_removals s mode view edits)) (after (updates s mode view edits) view) left (s.log e.name) None behind_makes
+      left_content ending (log_removals s edits ++ (packed_writes s mode view edits merged ++ loose_removals s mode view edits)) (after (writes_of_updates s mode view edits) view) left (s.log e.name) None behind_makes
       (record {
         done = more;
         rest = l.rest;
         whole = whole;
-        stopped = subst (λ t. IsStoppedAt ending l.rest t left) (ap (λ x. after x view) d ∙ after-append (updates s mode view edits) more view) l.stopped;
+        stopped = subst (λ t. IsStoppedAt ending l.rest t left) (ap (λ x. after x view) d ∙ after-append (writes_of_updates s mode view edits) more view) l.stopped;
       })
       ∙ ap (cond (is_touched (s.log e.name) more) None) updated
 
-  by_cut : Cut (updates s mode view edits) (log_removals s edits ++ (packed_writes s mode view edits merged ++ loose_removals s mode view edits)) l.done l.rest →
+  by_cut : Cut (writes_of_updates s mode view edits) (log_removals s edits ++ (packed_writes s mode view edits merged ++ loose_removals s mode view edits)) l.done l.rest →
       IsLogLeft ending s edits (s.log e.name) (view (s.log e.name)) (left (s.log e.name))
   by_cut (inl c) = cases (cases_Bool (is_touched (s.log e.name) c.0)) (cases_Bool (is_due s edits (s.log e.name)))
     where
@@ -381,4 +381,4 @@ module _ (s : Store) (laws : HasLaws s) (mode : Mode) (view : View) (edits : Lis
 
   -- a log is as before, or has grown by a beginning of the due lines, or is removed
   pub logs : IsLogLeft ending s edits (s.log e.name) (view (s.log e.name)) (left (s.log e.name))
-  logs = by_cut (cut (updates s mode view edits) (log_removals s edits ++ (packed_writes s mode view edits merged ++ loose_removals s mode view edits)) l.done l.rest l.whole)
+  logs = by_cut (cut (writes_of_updates s mode view edits) (log_removals s edits ++ (packed_writes s mode view edits merged ++ loose_removals s mode view edits)) l.done l.rest l.whole)

@@ -22,8 +22,8 @@ use Rattle.gix_ref_theory.specs.Edits.Mode.{DeletionsOnly}
 use Rattle.gix_ref_theory.specs.OnDisks as disk
 use Rattle.gix_ref_theory.specs.OnRealTrees as tree
 use Rattle.gix_ref_theory.specs.OnRealTrees.{after_step}
-use Rattle.gix_ref_theory.specs.Plan.{plan, updates, line_writes, place_writes, log_removal, log_removals, packed_writes, file_writes, place_removal, loose_removals}
-use Rattle.gix_ref_theory.specs.Readings.{HasLaws, Store, reading, records_in}
+use Rattle.gix_ref_theory.specs.Plan.{plan, writes_of_updates, line_writes, place_writes, log_removal, log_removals, packed_writes, file_writes, place_removal, loose_removals}
+use Rattle.gix_ref_theory.specs.Readings.{HasLaws, Store, reading, records_of_file}
 use Rattle.gix_ref_theory.specs.Views.{View, Write, changed_at, file_bytes, IsOwnLock}
 use Rattle.gix_ref_theory.specs.Views.Write.{Put}
 use Rattle.gix_ref_theory.proofs.Writes.{same_false}
@@ -97,12 +97,12 @@ module _ (s : Store) (view : View) where
       none false rest = refl
 
   -- the plan
-  updates_are : (edits : List Edit) → AreLone edits → updates s DeletionsOnly view edits ≡ puts_for edits
+  updates_are : (edits : List Edit) → AreLone edits → writes_of_updates s DeletionsOnly view edits ≡ puts_for edits
   updates_are [] lone = refl
   updates_are (e ∷ edits) lone =
       let one = lone e (inl refl) in
-      ap (λ c. line_writes (s.log e.name) c e.line ++ (place_writes (s.place e.name) (does e) ++ updates s DeletionsOnly view edits)) one.1
-      ∙ (ap (λ l. line_writes (s.log e.name) (Update one.0) l ++ (place_writes (s.place e.name) (does e) ++ updates s DeletionsOnly view edits)) one.2
+      ap (λ c. line_writes (s.log e.name) c e.line ++ (place_writes (s.place e.name) (does e) ++ writes_of_updates s DeletionsOnly view edits)) one.1
+      ∙ (ap (λ l. line_writes (s.log e.name) (Update one.0) l ++ (place_writes (s.place e.name) (does e) ++ writes_of_updates s DeletionsOnly view edits)) one.2
       ∙ ap (λ ws. place_writes (s.place e.name) (does e) ++ ws) (updates_are edits (λ f h. lone f (inr h))))
 
   no_log_removals : (edits : List Edit) → AreLone edits → log_removals s edits ≡ []
@@ -119,7 +119,7 @@ module _ (s : Store) (view : View) where
       ∙ no_loose_removals edits (λ f h. lone f (inr h))
 
   no_packed_writes : (edits : List Edit) (merged : List Record) → AreLone edits → packed_writes s DeletionsOnly view edits merged ≡ []
-  no_packed_writes edits merged lone = ap (λ b. if b then file_writes s.packed_path (file_of_records s merged) else []) (alters_no (records_in s (view s.packed_path)) edits lone)
+  no_packed_writes edits merged lone = ap (λ b. if b then file_writes s.packed_path (file_of_records s merged) else []) (alters_no (records_of_file s (view s.packed_path)) edits lone)
 
   pub plan_is : (edits : List Edit) (merged : List Record) → AreLone edits → plan s DeletionsOnly view edits merged ≡ puts_for edits
   plan_is edits merged lone =
@@ -141,8 +141,8 @@ module _ (s : Store) (view : View) where
     records_read_back = λ alters. never alters;
   }
     where
-      never : {X : Type 0} → alters_packed s DeletionsOnly (records_in s (view s.packed_path)) edits ≡ true → X
-      never alters = absurd (true≢false (sym alters ∙ alters_no (records_in s (view s.packed_path)) edits lone))
+      never : {X : Type 0} → alters_packed s DeletionsOnly (records_of_file s (view s.packed_path)) edits ≡ true → X
+      never alters = absurd (true≢false (sym alters ∙ alters_no (records_of_file s (view s.packed_path)) edits lone))
 
   -- The renames carry the plan out, where each lock has its text.
   module _ (laws : HasLaws s) where

@@ -9,11 +9,11 @@ use Rattle.gix_ref_theory.specs.OnDisks.{IsSpokenOf}
 use Rattle.gix_ref_theory.specs.OnRealTrees.{view_of}
 use Rattle.gix_ref_theory.specs.Views.{View, Write, after, IsSameButLocks}
 use Rattle.gix_ref_theory.specs.Views.Ending.{Loss}
-use Rattle.gix_ref_theory.specs.Readings.{Store, HasLaws, reading, records_in}
+use Rattle.gix_ref_theory.specs.Readings.{Store, HasLaws, reading, records_of_file}
 use Rattle.gix_ref_theory.specs.Edits.{Edit, Change, Effect, Mode, removes_packed, alters_packed, effect, file_of_records, edited_reading}
 use Rattle.gix_ref_theory.specs.Edits.Change.{Update, Delete}
 use Rattle.gix_ref_theory.specs.Edits.Effect.{Writes, Removes, Keeps}
-use Rattle.gix_ref_theory.specs.Plan.{plan, updates, line_writes, place_writes, log_removal, log_removals, file_writes, packed_writes, place_removal, loose_removals}
+use Rattle.gix_ref_theory.specs.Plan.{plan, writes_of_updates, line_writes, place_writes, log_removal, log_removals, file_writes, packed_writes, place_removal, loose_removals}
 use Rattle.gix_ref_theory.specs.Between.{IsEdit, IsNewFile, IsPackedFile, IsPrepared, IsLogLeft, NoDeletionFirst, InOrder, ReadsAsBefore, ReadsAsEdited}
 use Rattle.gix_ref_theory.specs.Losses.{IsLostBetween, EveryLossAmongIsBetween, EveryLossIsBetween, EveryWholeRunIsKept}
 use Rattle.gix_ref_theory.proofs.Bare.{AllCount, Bare, bare_of}
@@ -50,12 +50,12 @@ module _ (Counts : Path → Type 0) (s : Store) (mode : Mode) (view : View) (pac
   log_counts path Delete h = (h, tt)
   log_counts path (Update t) h = tt
 
-  updates_count : (edits : List Edit) → ((e : Edit) → IsEdit e edits → Counts (s.place e.name) × Counts (s.log e.name)) → AllCount Counts (updates s mode view edits)
+  updates_count : (edits : List Edit) → ((e : Edit) → IsEdit e edits → Counts (s.place e.name) × Counts (s.log e.name)) → AllCount Counts (writes_of_updates s mode view edits)
   updates_count [] h = tt
   updates_count (e ∷ edits) h =
-      count_append (line_writes (s.log e.name) e.change e.line) (place_writes (s.place e.name) (effect s mode view e) ++ updates s mode view edits)
+      count_append (line_writes (s.log e.name) e.change e.line) (place_writes (s.place e.name) (effect s mode view e) ++ writes_of_updates s mode view edits)
       (line_counts (s.log e.name) e.change e.line (h e (inl refl)).1)
-      (count_append (place_writes (s.place e.name) (effect s mode view e)) (updates s mode view edits)
+      (count_append (place_writes (s.place e.name) (effect s mode view e)) (writes_of_updates s mode view edits)
       (place_counts (s.place e.name) (effect s mode view e) (h e (inl refl)).0)
       (updates_count edits (λ f k. h f (inr k))))
 
@@ -75,7 +75,7 @@ module _ (Counts : Path → Type 0) (s : Store) (mode : Mode) (view : View) (pac
   file_counts (Some bytes) = (packed, tt)
 
   packed_count : (edits : List Edit) (merged : List Record) → AllCount Counts (packed_writes s mode view edits merged)
-  packed_count edits merged = by (alters_packed s mode (records_in s (view s.packed_path)) edits)
+  packed_count edits merged = by (alters_packed s mode (records_of_file s (view s.packed_path)) edits)
     where
       by : (b : Bool) → AllCount Counts (if b then file_writes s.packed_path (file_of_records s merged) else [])
       by true = file_counts (file_of_records s merged)
@@ -83,7 +83,7 @@ module _ (Counts : Path → Type 0) (s : Store) (mode : Mode) (view : View) (pac
 
   plan_counts : (edits : List Edit) (merged : List Record) → ((e : Edit) → IsEdit e edits → Counts (s.place e.name) × Counts (s.log e.name)) → AllCount Counts (plan s mode view edits merged)
   plan_counts edits merged h =
-      count_append (updates s mode view edits) (log_removals s edits ++ (packed_writes s mode view edits merged ++ loose_removals s mode view edits)) (updates_count edits h)
+      count_append (writes_of_updates s mode view edits) (log_removals s edits ++ (packed_writes s mode view edits merged ++ loose_removals s mode view edits)) (updates_count edits h)
       (count_append (log_removals s edits) (packed_writes s mode view edits merged ++ loose_removals s mode view edits) (logs_count edits h)
       (count_append (packed_writes s mode view edits merged) (loose_removals s mode view edits) (packed_count edits merged) (removals_count edits h)))
 

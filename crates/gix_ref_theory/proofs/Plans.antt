@@ -3,13 +3,13 @@ use Rattle.std.proofs.Common.{◌≡◌, ◌≢◌, ℕ, List, [], ◌∷◌, �
 use Rattle.std.proofs.lemmas.Bool.{cond-true, cond-false, false≢true, cases_Bool, and_parts, and_from, or_left, or_right, or_from}
 use Rattle.gix_ref_theory.proofs.Writes.{is_touched, same, same_true, same_false, AllMake, AllMake-append, touched_append}
 use Rattle.gix_ref_theory.specs.Between.{AreEdits, IsEdit}
-use Rattle.gix_ref_theory.specs.Edits.{Change, Edit, Effect, Mode, alters_change, alters_packed, edited_reading, effect, file_of_records, is_key, merged_record, new_reading, record_after}
+use Rattle.gix_ref_theory.specs.Edits.{Change, Edit, Effect, Mode, alters_change, alters_packed, edited_reading, effect, file_of_records, is_key, merged_record, new_reading, edited_record}
 use Rattle.gix_ref_theory.specs.Edits.Change.{Delete, Update}
 use Rattle.gix_ref_theory.specs.Edits.Effect.{Keeps, Removes, Writes}
 use Rattle.gix_ref_base.specs.Layout.{below}
-use Rattle.gix_ref_theory.specs.Plan.{file_writes, line_writes, log_removal, log_removals, loose_removals, packed_writes, place_removal, place_writes, plan, updates}
+use Rattle.gix_ref_theory.specs.Plan.{file_writes, line_writes, log_removal, log_removals, loose_removals, packed_writes, place_removal, place_writes, plan, writes_of_updates}
 use Rattle.gix_ref_base.specs.PackedRecords.{Record}
-use Rattle.gix_ref_theory.specs.Readings.{Reading, Store, records_in}
+use Rattle.gix_ref_theory.specs.Readings.{Reading, Store, records_of_file}
 use Rattle.gix_ref_theory.specs.Views.{View, Write}
 
 pub place_apart : (s : Store) (edits : List Edit) → AreEdits s edits → (e f : Edit) → IsEdit e edits → IsEdit f edits →
@@ -59,13 +59,13 @@ makes_place_steps path file place Removes h = tt
 makes_place_steps path file place Keeps h = tt
 
 makes_updates : (s : Store) (mode : Mode) (view : View) (path : List ℕ) (file : Option (List ℕ)) (edits : List Edit) →
-    AllLead s mode view path file edits → AllMake path file (updates s mode view edits)
+    AllLead s mode view path file edits → AllMake path file (writes_of_updates s mode view edits)
 makes_updates s mode view path file [] h = tt
 makes_updates s mode view path file (e ∷ edits) h =
     let here = h e (inl refl) in
-    AllMake-append path file (line_writes (s.log e.name) e.change e.line) (place_writes (s.place e.name) (effect s mode view e) ++ updates s mode view edits)
+    AllMake-append path file (line_writes (s.log e.name) e.change e.line) (place_writes (s.place e.name) (effect s mode view e) ++ writes_of_updates s mode view edits)
     (makes_log_steps path file (s.log e.name) e.change e.line here.0)
-    (AllMake-append path file (place_writes (s.place e.name) (effect s mode view e)) (updates s mode view edits)
+    (AllMake-append path file (place_writes (s.place e.name) (effect s mode view e)) (writes_of_updates s mode view edits)
     (makes_place_steps path file (s.place e.name) (effect s mode view e) here.1)
     (makes_updates s mode view path file edits (λ f k. h f (inr k))))
 
@@ -88,7 +88,7 @@ makes_steps_to path file to (Some bytes) h = (h, tt)
 pub makes_packed : (s : Store) (mode : Mode) (view : View) (path : List ℕ) (file : Option (List ℕ)) (edits : List Edit) (merged : List Record) →
     (s.packed_path ≡ path → file_of_records s merged ≡ file) → AllMake path file (packed_writes s mode view edits merged)
 makes_packed s mode view path file edits merged h =
-    cases (alters_packed s mode (records_in s (view s.packed_path)) edits)
+    cases (alters_packed s mode (records_of_file s (view s.packed_path)) edits)
   where
     cases : (b : Bool) → AllMake path file (if b then file_writes s.packed_path (file_of_records s merged) else [])
     cases true = makes_steps_to path file s.packed_path (file_of_records s merged) h
@@ -111,7 +111,7 @@ makes_place_removals s mode view path file (e ∷ edits) h =
 pub plan_makes : (s : Store) (mode : Mode) (view : View) (path : List ℕ) (file : Option (List ℕ)) (edits : List Edit) (merged : List Record) →
     AllLead s mode view path file edits → (s.packed_path ≡ path → file_of_records s merged ≡ file) → AllMake path file (plan s mode view edits merged)
 plan_makes s mode view path file edits merged h p =
-    AllMake-append path file (updates s mode view edits) (log_removals s edits ++ (packed_writes s mode view edits merged ++ loose_removals s mode view edits))
+    AllMake-append path file (writes_of_updates s mode view edits) (log_removals s edits ++ (packed_writes s mode view edits merged ++ loose_removals s mode view edits))
     (makes_updates s mode view path file edits h)
     (AllMake-append path file (log_removals s edits) (packed_writes s mode view edits merged ++ loose_removals s mode view edits)
     (makes_log_removals s path file edits (λ e k. (h e k).0))
@@ -145,13 +145,13 @@ place_steps_avoid path place Keeps h = refl
 
 pub updates_avoid : (s : Store) (mode : Mode) (view : View) (path : List ℕ) (edits : List Edit) →
     ((e : Edit) → IsEdit e edits → (s.log e.name ≢ path) × (s.place e.name ≡ path → DoesNotWrite (effect s mode view e))) →
-    is_touched path (updates s mode view edits) ≡ false
+    is_touched path (writes_of_updates s mode view edits) ≡ false
 updates_avoid s mode view path [] h = refl
 updates_avoid s mode view path (e ∷ edits) h =
     let here = h e (inl refl) in
-    untouched_append path (line_writes (s.log e.name) e.change e.line) (place_writes (s.place e.name) (effect s mode view e) ++ updates s mode view edits)
+    untouched_append path (line_writes (s.log e.name) e.change e.line) (place_writes (s.place e.name) (effect s mode view e) ++ writes_of_updates s mode view edits)
     (log_steps_avoid path (s.log e.name) e.change e.line here.0)
-    (untouched_append path (place_writes (s.place e.name) (effect s mode view e)) (updates s mode view edits)
+    (untouched_append path (place_writes (s.place e.name) (effect s mode view e)) (writes_of_updates s mode view edits)
     (place_steps_avoid path (s.place e.name) (effect s mode view e) here.1)
     (updates_avoid s mode view path edits (λ f k. h f (inr k))))
 
@@ -168,7 +168,7 @@ log_removals_avoid s path (e ∷ edits) h =
 
 pub packed_avoids : (s : Store) (mode : Mode) (view : View) (path : List ℕ) (edits : List Edit) (merged : List Record) → s.packed_path ≢ path →
     is_touched path (packed_writes s mode view edits merged) ≡ false
-packed_avoids s mode view path edits merged n = cases (alters_packed s mode (records_in s (view s.packed_path)) edits) (file_of_records s merged)
+packed_avoids s mode view path edits merged n = cases (alters_packed s mode (records_of_file s (view s.packed_path)) edits) (file_of_records s merged)
   where
     cases : (b : Bool) (file : Option (List ℕ)) → is_touched path (if b then file_writes s.packed_path file else []) ≡ false
     cases true None = one_step s.packed_path path n
@@ -193,16 +193,16 @@ at_itself : (path : List ℕ) (b : Bool) → (bytes_eq path path || b) ≡ true
 at_itself path b = or_left (bytes_eq path path) b (same_true path path refl)
 
 pub updates_touch : (s : Store) (mode : Mode) (view : View) (edits : List Edit) (e : Edit) (bytes : List ℕ) → IsEdit e edits →
-    effect s mode view e ≡ Writes bytes → is_touched (s.place e.name) (updates s mode view edits) ≡ true
+    effect s mode view e ≡ Writes bytes → is_touched (s.place e.name) (writes_of_updates s mode view edits) ≡ true
 updates_touch s mode view [] e bytes h w = absurd h
 updates_touch s mode view (f ∷ edits) e bytes (inl h) w =
-    touched_right (s.place e.name) (line_writes (s.log f.name) f.change f.line) (place_writes (s.place f.name) (effect s mode view f) ++ updates s mode view edits)
-    (touched_left (s.place e.name) (place_writes (s.place f.name) (effect s mode view f)) (updates s mode view edits)
+    touched_right (s.place e.name) (line_writes (s.log f.name) f.change f.line) (place_writes (s.place f.name) (effect s mode view f) ++ writes_of_updates s mode view edits)
+    (touched_left (s.place e.name) (place_writes (s.place f.name) (effect s mode view f)) (writes_of_updates s mode view edits)
     (subst (λ (x : Edit). is_touched (s.place e.name) (place_writes (s.place x.name) (effect s mode view x)) ≡ true) (sym h)
     (subst (λ x. is_touched (s.place e.name) (place_writes (s.place e.name) x) ≡ true) (sym w) (at_itself (s.place e.name) false))))
 updates_touch s mode view (f ∷ edits) e bytes (inr h) w =
-    touched_right (s.place e.name) (line_writes (s.log f.name) f.change f.line) (place_writes (s.place f.name) (effect s mode view f) ++ updates s mode view edits)
-    (touched_right (s.place e.name) (place_writes (s.place f.name) (effect s mode view f)) (updates s mode view edits)
+    touched_right (s.place e.name) (line_writes (s.log f.name) f.change f.line) (place_writes (s.place f.name) (effect s mode view f) ++ writes_of_updates s mode view edits)
+    (touched_right (s.place e.name) (place_writes (s.place f.name) (effect s mode view f)) (writes_of_updates s mode view edits)
     (updates_touch s mode view edits e bytes h w))
 
 pub removals_touch : (s : Store) (mode : Mode) (view : View) (edits : List Edit) (e : Edit) → IsEdit e edits →
@@ -217,7 +217,7 @@ removals_touch s mode view (f ∷ edits) e (inr h) w =
     (removals_touch s mode view edits e h w)
 
 pub packed_touches : (s : Store) (mode : Mode) (view : View) (edits : List Edit) (merged : List Record) →
-    alters_packed s mode (records_in s (view s.packed_path)) edits ≡ true → is_touched s.packed_path (packed_writes s mode view edits merged) ≡ true
+    alters_packed s mode (records_of_file s (view s.packed_path)) edits ≡ true → is_touched s.packed_path (packed_writes s mode view edits merged) ≡ true
 packed_touches s mode view edits merged h =
     subst (λ b. is_touched s.packed_path (if b then file_writes s.packed_path (file_of_records s merged) else []) ≡ true) (sym h) (to (file_of_records s merged))
   where
@@ -226,7 +226,7 @@ packed_touches s mode view edits merged h =
     to (Some bytes) = at_itself s.packed_path false
 
 pub packed_is_kept : (s : Store) (mode : Mode) (view : View) (edits : List Edit) (merged : List Record) (path : List ℕ) →
-    alters_packed s mode (records_in s (view s.packed_path)) edits ≡ false → is_touched path (packed_writes s mode view edits merged) ≡ false
+    alters_packed s mode (records_of_file s (view s.packed_path)) edits ≡ false → is_touched path (packed_writes s mode view edits merged) ≡ false
 packed_is_kept s mode view edits merged path h =
     subst (λ b. is_touched path (if b then file_writes s.packed_path (file_of_records s merged) else []) ≡ false) (sym h) refl
 
@@ -252,7 +252,7 @@ is_key_true (Some j) k h = let e : j ≡ k = cc in same_true j k e
 
 -- the one edit that has a key, or none has it
 pub merged_cases : (s : Store) (mode : Mode) (edits : List Edit) (k : List ℕ) (old : Option Record) →
-    ((e : Edit) × IsEdit e edits × (e.and_reference ≡ true) × (s.key e.name ≡ Some k) × (merged_record s mode edits k old ≡ record_after mode k e e.change old))
+    ((e : Edit) × IsEdit e edits × (e.and_reference ≡ true) × (s.key e.name ≡ Some k) × (merged_record s mode edits k old ≡ edited_record mode k e e.change old))
     ⊎ ((merged_record s mode edits k old ≡ old) × ((e : Edit) → IsEdit e edits → e.and_reference ≡ true → s.key e.name ≢ Some k))
 merged_cases s mode [] k old = inr (refl, λ e h a x. absurd h)
 merged_cases s mode (f ∷ edits) k old =
@@ -264,10 +264,10 @@ merged_cases s mode (f ∷ edits) k old =
             inl refl,
             parts.0,
             is_key_some (s.key f.name) k parts.1,
-            cond-true (f.and_reference && is_key (s.key f.name) k) (record_after mode k f f.change old) (merged_record s mode edits k old) h,
+            cond-true (f.and_reference && is_key (s.key f.name) k) (edited_record mode k f f.change old) (merged_record s mode edits k old) h,
           )
       | inr h ↦
-          let step = cond-false (f.and_reference && is_key (s.key f.name) k) (record_after mode k f f.change old) (merged_record s mode edits k old) h in
+          let step = cond-false (f.and_reference && is_key (s.key f.name) k) (edited_record mode k f f.change old) (merged_record s mode edits k old) h in
           elim (merged_cases s mode edits k old) [
             | inl x ↦ inl (x.0, inr x.1, x.2, x.3, step ∙ x.4)
             | inr x ↦ inr (
@@ -316,14 +316,14 @@ edited_cases s (f ∷ edits) name old =
     ]
 
 pub updates-append : (s : Store) (mode : Mode) (view : View) (a b : List Edit) →
-    updates s mode view (a ++ b) ≡ updates s mode view a ++ updates s mode view b
+    writes_of_updates s mode view (a ++ b) ≡ writes_of_updates s mode view a ++ writes_of_updates s mode view b
 updates-append s mode view [] b = refl
 updates-append s mode view (e ∷ a) b =
     let logs = line_writes (s.log e.name) e.change e.line in
     let places = place_writes (s.place e.name) (effect s mode view e) in
     ap (λ x. logs ++ (places ++ x)) (updates-append s mode view a b)
-    ∙ (ap (λ x. logs ++ x) (sym (append_assoc places (updates s mode view a) (updates s mode view b)))
-    ∙ sym (append_assoc logs (places ++ updates s mode view a) (updates s mode view b)))
+    ∙ (ap (λ x. logs ++ x) (sym (append_assoc places (writes_of_updates s mode view a) (writes_of_updates s mode view b)))
+    ∙ sym (append_assoc logs (places ++ writes_of_updates s mode view a) (writes_of_updates s mode view b)))
 
 pub edit_in_front : (e : Edit) (a b : List Edit) → IsEdit e a → IsEdit e (a ++ b)
 edit_in_front e [] b h = absurd h

@@ -7,12 +7,12 @@ use Rattle.std.proofs.lemmas.Slice.Eq.{bytes_eq-Decides}
 use Rattle.std.proofs.Math.Seq.{take-length}
 use Rattle.gix_ref_files.specs.Tree.{Tree, Path, Content, put, more, bytes_of, is_file, is_folder, file_of, has_folders, fronts, folders_to}
 use Rattle.gix_ref_files.specs.Tree.Content.{File, Folder}
-use Rattle.gix_ref_files.specs.Disk.{Item, Disk, Remains, item_at, MayBe, Lost, with_item, created_on, appended_on, moved_on, removed_on, with_folder_on, with_folders_on, nothing, a_folder, empty_file, refilled, file_synced}
+use Rattle.gix_ref_files.specs.Disk.{DiskItem, Disk, Remains, item_at, MayBe, Lost, with_item, created_on, appended_on, moved_on, removed_on, with_folder_on, with_folders_on, nothing, a_folder, empty_file, refilled, file_synced}
 use Rattle.gix_ref_files.specs.Calls.{IsMovable}
 use Rattle.gix_ref_files.specs.DiskSteps.{Synced, DoesOn, BeginsOn, needed, IsReachedBy, IsSyncedAfter}
 use Rattle.gix_ref_files.specs.DiskSteps.Synced.{With}
 use Rattle.gix_ref_files.specs.Steps.Step.{Create, Append as AppendStep, Line, Rename, RemoveFile, MakeFolders, RemoveFolder, End}
-use Rattle.gix_ref_files.specs.Settled.{Sync, synced_by, AllStay, MayHold, IsSettledAt, IsWhole, IsIn, SettlesPath}
+use Rattle.gix_ref_files.specs.Settled.{Sync, synced_by, AllStay, MayHold, IsSettledAt, IsWholeAt, IsIn, SettlesPath}
 use Rattle.gix_ref_files.specs.Settled.Sync.{OfFile, OfFolder}
 use Rattle.gix_ref_theory.specs.OnRealTrees.{view_of}
 use Rattle.gix_ref_theory.specs.Views.{View, Write, after, after_write, changed_at, file_bytes, LostIn, IsLostBy}
@@ -47,28 +47,28 @@ pub view_here : (p : Path) (file : Option (List ℕ)) (view : View) → changed_
 view_here p file view = cond-true (bytes_eq p p) file (view p) ((bytes_eq-Decides p p).1 refl)
 
 -- what is whole elsewhere stays whole
-pub whole_entered : (D : Disk) (p q : Path) (h : Item) (bytes : List ℕ) → p ≢ q → IsWhole D q bytes → IsWhole (with_item D p h) q bytes
+pub whole_entered : (D : Disk) (p q : Path) (h : DiskItem) (bytes : List ℕ) → p ≢ q → IsWholeAt D q bytes → IsWholeAt (with_item D p h) q bytes
 whole_entered D p q h bytes apart whole = by (bytes_eq p q) refl
   where
     by : (b : Bool) → bytes_eq p q ≡ b → ((if b then h.content else D.tree q) ≡ Some (File bytes)) × ((if b then h.synced else D.unsynced.synced q) ≡ length bytes)
     by true e = absurd (apart ((bytes_eq-Decides p q).0 e))
     by false e = whole
 
-pub whole_appended : (D : Disk) (p q : Path) (more_bytes bytes : List ℕ) → p ≢ q → IsWhole D q bytes → IsWhole (appended_on D p more_bytes) q bytes
+pub whole_appended : (D : Disk) (p q : Path) (more_bytes bytes : List ℕ) → p ≢ q → IsWholeAt D q bytes → IsWholeAt (appended_on D p more_bytes) q bytes
 whole_appended D p q more_bytes bytes apart whole = (put_other D.tree p q (more (D.tree p) more_bytes) apart ∙ whole.0, whole.1)
 
-file_is_whole : (D : Disk) (p : Path) (bytes : List ℕ) → IsWhole D p bytes → is_file (D.tree p) ≡ true
+file_is_whole : (D : Disk) (p : Path) (bytes : List ℕ) → IsWholeAt D p bytes → is_file (D.tree p) ≡ true
 file_is_whole D p bytes whole = ap is_file whole.0
 
-whole_with_folder : (D : Disk) (f q : Path) (bytes : List ℕ) → f ≢ q → IsWhole D q bytes → IsWhole (with_folder_on D f) q bytes
+whole_with_folder : (D : Disk) (f q : Path) (bytes : List ℕ) → f ≢ q → IsWholeAt D q bytes → IsWholeAt (with_folder_on D f) q bytes
 whole_with_folder D f q bytes apart whole = by (is_folder (D.tree f))
   where
-    by : (b : Bool) → IsWhole (if b then D else with_item D f a_folder) q bytes
+    by : (b : Bool) → IsWholeAt (if b then D else with_item D f a_folder) q bytes
     by true = whole
     by false = whole_entered D f q a_folder bytes apart whole
 
 -- a whole file is no folder that is made
-pub whole_with_folders : (fs : List Path) (D : Disk) (q : Path) (bytes : List ℕ) → list_any (λ f. is_file (D.tree f)) fs ≡ false → IsWhole D q bytes → IsWhole (with_folders_on D fs) q bytes
+pub whole_with_folders : (fs : List Path) (D : Disk) (q : Path) (bytes : List ℕ) → list_any (λ f. is_file (D.tree f)) fs ≡ false → IsWholeAt D q bytes → IsWholeAt (with_folders_on D fs) q bytes
 whole_with_folders [] D q bytes none whole = whole
 whole_with_folders (f ∷ fs) D q bytes none whole =
     let parts = or_parts (is_file (D.tree f)) (list_any (λ g. is_file (D.tree g)) fs) none in
@@ -178,7 +178,7 @@ module _ (Counts : Path → Type 0) (staying : List Path) where
   -- A change at a path that does not count.
   rests_changed : (texts view : View) (D E : Disk) (p : Path) (Changed : Path → Option Content → Type 0) → Changes D E Changed →
       ((q : Path) (c : Option Content) → Counts q → Changed q c → ⊥) →
-      ((q : Path) (bytes : List ℕ) → p ≢ q → IsWhole D q bytes → IsWhole E q bytes) →
+      ((q : Path) (bytes : List ℕ) → p ≢ q → IsWholeAt D q bytes → IsWholeAt E q bytes) →
       Rests Counts staying texts view D → Rests Counts staying (changed_at p None texts) view E
   rests_changed texts view D E p Changed ch never whole rests = record {
     files = λ q counts. holds_changed D E Changed ch (view q) (λ f. f ≡ view q) (λ f. f ≡ view q) q (λ f h. h) (λ c new. absurd (never q c counts new)) (rests.files q counts);
@@ -254,7 +254,7 @@ module _ (Counts : Path → Type 0) (staying : List Path) where
   at_rest : (p : Path) (file : Option (List ℕ)) (view texts : View) (D E : Disk) (Changed : Path → Option Content → Type 0) (ss : List Sync) → Changes D E Changed →
       ((q : Path) (c : Option Content) → Counts q → (p ≢ q) → Changed q c → ⊥) →
       (Counts p → IsSettledAt (synced_by ss E) file p) →
-      ((q : Path) (bytes : List ℕ) → texts q ≡ Some bytes → IsWhole E q bytes) →
+      ((q : Path) (bytes : List ℕ) → texts q ≡ Some bytes → IsWholeAt E q bytes) →
       IsSettled Counts view D → AllStay D staying → Rests Counts staying texts (changed_at p file view) (synced_by ss E)
   at_rest p file view texts D E Changed ss ch never here whole settled stays = record {
     files = λ q counts. by q counts (cases_Bool (bytes_eq p q));
@@ -274,12 +274,12 @@ module _ (Counts : Path → Type 0) (staying : List Path) where
 
   -- Rename of a whole lock.
 
-  now_entered : (D : Disk) (p : Path) (h : Item) (c : Option Content) → Remains (item_at (with_item D p h) p) c → Remains h c
+  now_entered : (D : Disk) (p : Path) (h : DiskItem) (c : Option Content) → Remains (item_at (with_item D p h) p) c → Remains h c
   now_entered D p h c r =
       let same : bytes_eq p p ≡ true = (bytes_eq-Decides p p).1 refl in
       subst (λ (b : Bool). Remains (record { content = if b then h.content else D.tree p; synced = if b then h.synced else D.unsynced.synced p }) c) same r
 
-  whole_remains : (D : Disk) (p : Path) (bytes : List ℕ) (c : Option Content) → IsWhole D p bytes → Remains (item_at D p) c → c ≡ Some (File bytes)
+  whole_remains : (D : Disk) (p : Path) (bytes : List ℕ) (c : Option Content) → IsWholeAt D p bytes → Remains (item_at D p) c → c ≡ Some (File bytes)
   whole_remains D p bytes c whole r =
       synced_remains (Some (File bytes)) c
       (subst (λ (x : Option Content). Remains (record { content = x; synced = length bytes }) c) whole.0
@@ -481,16 +481,16 @@ module _ (Counts : Path → Type 0) (staying : List Path) where
 
   -- The steps in turn.
 
-  more_texts : (texts view : View) (p : Path) (bytes : List ℕ) (D : Disk) → IsWhole D p bytes → Rests Counts staying (changed_at p None texts) view D → Rests Counts staying (changed_at p (Some bytes) texts) view D
+  more_texts : (texts view : View) (p : Path) (bytes : List ℕ) (D : Disk) → IsWholeAt D p bytes → Rests Counts staying (changed_at p None texts) view D → Rests Counts staying (changed_at p (Some bytes) texts) view D
   more_texts texts view p bytes D whole rests = record {
     files = rests.files;
     stays = rests.stays;
     whole = λ q b is. by q b (bytes_eq p q) refl is (λ e. rests.whole q b e);
   }
     where
-      by : (q : Path) (b : List ℕ) (same : Bool) → bytes_eq p q ≡ same → (if same then Some bytes else texts q) ≡ Some b → ((if same then None else texts q) ≡ Some b → IsWhole D q b) → IsWhole D q b
+      by : (q : Path) (b : List ℕ) (same : Bool) → bytes_eq p q ≡ same → (if same then Some bytes else texts q) ≡ Some b → ((if same then None else texts q) ≡ Some b → IsWholeAt D q b) → IsWholeAt D q b
       by q b true e is go =
-          subst (λ (x : Path). IsWhole D x b) ((bytes_eq-Decides p q).0 e) (subst (IsWhole D p) (some_same bytes b is) whole)
+          subst (λ (x : Path). IsWholeAt D x b) ((bytes_eq-Decides p q).0 e) (subst (IsWholeAt D p) (some_same bytes b is) whole)
       by q b false e is go = go is
 
   done_append : (D mid : Disk) (p : Path) (bytes : List ℕ) → DoesOn (AppendStep p bytes) D mid → BeginsOn (AppendStep p bytes) D mid

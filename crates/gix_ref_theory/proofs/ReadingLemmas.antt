@@ -6,13 +6,13 @@ use Rattle.gix_ref_hash.specs.declared.hash.ObjectId.TheVariants.{Sha1, Sha256}
 use Rattle.gix_ref_theory.proofs.Writes.{same}
 use Rattle.gix_ref_base.specs.Targets.{TargetValue}
 use Rattle.gix_ref_base.specs.Targets.TargetValue.{object_id, symbolic_name}
-use Rattle.gix_ref_theory.specs.Edits.{Change, Edit, Effect, Mode, alters_change, effect_of_change, has_already, is_same_id, new_reading, packs, record_after, removes_packed}
+use Rattle.gix_ref_theory.specs.Edits.{Change, Edit, Effect, Mode, alters_change, effect_of_change, has_already, is_same_id, new_reading, packs, edited_record, removes_packed}
 use Rattle.gix_ref_theory.specs.Edits.Change.{Delete, Update}
 use Rattle.gix_ref_theory.specs.Edits.Mode.{DeletionsOnly, Packing, PackingAndRemoving}
 use Rattle.gix_ref_theory.specs.Edits.Effect.{Keeps, Removes, Writes}
 use Rattle.gix_ref_base.specs.PackedRecords.{Record, record_named, id_read}
 use Rattle.gix_ref_theory.specs.ConcreteStore.{written_id}
-use Rattle.gix_ref_theory.specs.Readings.{Reading, Store, as_read, reading, reading_by, reading_of_id, reading_of_loose, reading_of_record, records_in}
+use Rattle.gix_ref_theory.specs.Readings.{Reading, Store, as_read, reading, reading_by, reading_of_id, reading_of_loose, reading_of_record, records_of_file}
 use Rattle.gix_ref_theory.specs.Readings.Reading.{Absent, Fault, Is}
 use Rattle.gix_ref_theory.specs.Views.{View}
 
@@ -67,7 +67,7 @@ update_writes s mode key old t text h = cases (removes_packed mode && packs mode
 -- what the new records say of the edit's key
 abbrev pub IsRecordAfter : Mode → Option (List ℕ) → Edit → Change → List Record → List Record → Type 0
 IsRecordAfter mode key e change old new =
-    (k : List ℕ) → key ≡ Some k → record_named k new ≡ record_after mode k e change (record_named k old)
+    (k : List ℕ) → key ≡ Some k → record_named k new ≡ edited_record mode k e change (record_named k old)
 
 -- the digits of the new id of an update are read as it
 abbrev pub ReadsBack : Change → Type 0
@@ -137,19 +137,19 @@ by_new_records s PackingAndRemoving (Some k) None e (Update (symbolic_name n)) o
 
 -- what a reference reads that is not prohibited
 pub reading-allowed : (s : Store) (view : View) (name : List ℕ) → s.is_prohibited (s.place name) ≡ false →
-    reading s view name ≡ reading_by s (s.key name) (view (s.place name)) (records_in s (view s.packed_path))
+    reading s view name ≡ reading_by s (s.key name) (view (s.place name)) (records_of_file s (view s.packed_path))
 reading-allowed s view name h =
-    cond-false (s.is_prohibited (s.place name)) Fault (reading_by s (s.key name) (view (s.place name)) (records_in s (view s.packed_path))) h
+    cond-false (s.is_prohibited (s.place name)) Fault (reading_by s (s.key name) (view (s.place name)) (records_of_file s (view s.packed_path))) h
 
 -- names with one place and one key read the same
 pub reading-alike : (s : Store) (view : View) (m n : List ℕ) → s.place m ≡ s.place n → s.key m ≡ s.key n → reading s view m ≡ reading s view n
 reading-alike s view m n e f =
-    ap (λ q. if s.is_prohibited q then Fault else reading_by s (s.key m) (view q) (records_in s (view s.packed_path))) e
-    ∙ ap (λ k. if s.is_prohibited (s.place n) then Fault else reading_by s k (view (s.place n)) (records_in s (view s.packed_path))) f
+    ap (λ q. if s.is_prohibited q then Fault else reading_by s (s.key m) (view q) (records_of_file s (view s.packed_path))) e
+    ∙ ap (λ k. if s.is_prohibited (s.place n) then Fault else reading_by s k (view (s.place n)) (records_of_file s (view s.packed_path))) f
 
 -- views that agree at the place and at `packed-refs` read the same
 pub reading-same : (s : Store) (view left : View) (name : List ℕ) → left (s.place name) ≡ view (s.place name) → left s.packed_path ≡ view s.packed_path →
     reading s left name ≡ reading s view name
 reading-same s view left name e f =
-    ap (λ x. if s.is_prohibited (s.place name) then Fault else reading_by s (s.key name) x (records_in s (left s.packed_path))) e
-    ∙ ap (λ x. if s.is_prohibited (s.place name) then Fault else reading_by s (s.key name) (view (s.place name)) (records_in s x)) f
+    ap (λ x. if s.is_prohibited (s.place name) then Fault else reading_by s (s.key name) x (records_of_file s (left s.packed_path))) e
+    ∙ ap (λ x. if s.is_prohibited (s.place name) then Fault else reading_by s (s.key name) (view (s.place name)) (records_of_file s x)) f

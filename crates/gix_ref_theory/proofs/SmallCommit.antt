@@ -6,7 +6,7 @@ use Rattle.std.proofs.lemmas.Bool.{false≢true, true≢false}
 use Rattle.gix_ref_files.specs.Tree.{Path, has_folders, IsShaped}
 use Rattle.gix_ref_files.specs.Tree.Content.{File, Folder}
 use Rattle.gix_ref_files.specs.Losing.{all_synced}
-use Rattle.gix_ref_files.specs.Settled.{IsWhole}
+use Rattle.gix_ref_files.specs.Settled.{IsWholeAt}
 use Rattle.gix_ref_files.proofs.Losing.{left_settled, only_now}
 use Rattle.gix_ref_theory.specs.SmallCommit.{lock_tree, SmallCommitIsCarriedOut}
 
@@ -32,10 +32,10 @@ small_commit = (
     some_same : (a b : List ℕ) → Some a ≡ Some b → a ≡ b
     some_same a b e = cc
 
-    whole : (p : Path) (bytes : List ℕ) (b : Bool) → bytes_eq (codes "r/a.lock") p ≡ b → (if b then Some (codes "I") else None) ≡ Some bytes → IsWhole (all_synced lock_tree) p bytes
+    whole : (p : Path) (bytes : List ℕ) (b : Bool) → bytes_eq (codes "r/a.lock") p ≡ b → (if b then Some (codes "I") else None) ≡ Some bytes → IsWholeAt (all_synced lock_tree) p bytes
     whole p bytes true e is =
-        subst (λ (x : Path). IsWhole (all_synced lock_tree) x bytes) ((bytes_eq-Decides (codes "r/a.lock") p).0 e)
-        (subst (IsWhole (all_synced lock_tree) (codes "r/a.lock")) (some_same (codes "I") bytes is) (refl, refl))
+        subst (λ (x : Path). IsWholeAt (all_synced lock_tree) x bytes) ((bytes_eq-Decides (codes "r/a.lock") p).0 e)
+        (subst (IsWholeAt (all_synced lock_tree) (codes "r/a.lock")) (some_same (codes "I") bytes is) (refl, refl))
     whole p bytes false e is = absurd (none_some bytes is)
 
     differ : codes "r/a.lock" ≢ codes "r/a"

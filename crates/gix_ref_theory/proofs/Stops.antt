@@ -5,13 +5,13 @@ use Rattle.std.specs.Bool.{MatchBool}
 use Rattle.gix_ref_theory.proofs.Writes.{IsCut, is_touched, left_content, in_order}
 use Rattle.gix_ref_theory.proofs.ReadingLemmas.{reading-allowed, reading-alike, IsRecordAfter, removed, removed_unaltered, written, left_alone, by_new_records, update_removes, update_writes}
 use Rattle.gix_ref_theory.proofs.Plans.{place_apart, is_reference_at, Leads, DoesNotWrite, plan_makes, untouched_append, touched_left, touched_right, updates_avoid, log_removals_avoid, packed_avoids, place_removals_avoid, updates_touch, packed_touches, packed_is_kept, alters_at, merged_cases, edited_cases, updates-append, edit_in_front, edit_behind, apart_in_front}
-use Rattle.gix_ref_theory.specs.Between.{AreEdits, InOrder, IsEdit, IsMerged, IsNewFile, IsOther, IsPackedFile, IsPrepared, NoDeletionFirst, ReadsAsBefore, ReadsAsEdited}
-use Rattle.gix_ref_theory.specs.Edits.{Change, Edit, Effect, Mode, alters_change, alters_packed, edited_reading, effect, effect_of_change, file_of_records, is_deletion, merged_record, new_reading, record_after, removes_packed}
+use Rattle.gix_ref_theory.specs.Between.{AreEdits, InOrder, IsEdit, MergesRecords, IsNewFile, IsOther, IsPackedFile, IsPrepared, NoDeletionFirst, ReadsAsBefore, ReadsAsEdited}
+use Rattle.gix_ref_theory.specs.Edits.{Change, Edit, Effect, Mode, alters_change, alters_packed, edited_reading, effect, effect_of_change, file_of_records, is_deletion, merged_record, new_reading, edited_record, removes_packed}
 use Rattle.gix_ref_theory.specs.Edits.Change.{Delete, Update}
 use Rattle.gix_ref_theory.specs.Edits.Effect.{Keeps, Removes, Writes}
-use Rattle.gix_ref_theory.specs.Plan.{log_removals, loose_removals, packed_writes, plan, updates}
+use Rattle.gix_ref_theory.specs.Plan.{log_removals, loose_removals, packed_writes, plan, writes_of_updates}
 use Rattle.gix_ref_base.specs.PackedRecords.{Record, record_named}
-use Rattle.gix_ref_theory.specs.Readings.{HasLaws, Reading, Store, reading, reading_by, reading_of_record, records_in}
+use Rattle.gix_ref_theory.specs.Readings.{HasLaws, Reading, Store, reading, reading_by, reading_of_record, records_of_file}
 use Rattle.gix_ref_theory.specs.Readings.Reading.{Fault}
 use Rattle.gix_ref_theory.specs.Views.{Ending, View, Write}
 
@@ -61,20 +61,20 @@ module _ (s : Store) (laws : HasLaws s) (mode : Mode) (view : View) (edits : Lis
       leads f (inr a) never =
           subst (λ x. Leads x (view path)) (sym (cond-false f.and_reference (effect_of_change s mode (s.key f.name) (reading s view f.name) f.change) Keeps a)) tt
 
-  packed_not_in_updates : is_touched s.packed_path (updates s mode view edits) ≡ false
+  packed_not_in_updates : is_touched s.packed_path (writes_of_updates s mode view edits) ≡ false
   packed_not_in_updates =
       updates_avoid s mode view s.packed_path edits
       (λ f hf. (laws.log_is_not_packed f.name (is_ref f hf), λ same. absurd (laws.place_is_not_packed f.name (is_ref f hf) same)))
 
-  packed_altered : is_touched s.packed_path l.done ≡ true → alters_packed s mode (records_in s (view s.packed_path)) edits ≡ true
-  packed_altered d = cases (cases_Bool (alters_packed s mode (records_in s (view s.packed_path)) edits))
+  packed_altered : is_touched s.packed_path l.done ≡ true → alters_packed s mode (records_of_file s (view s.packed_path)) edits ≡ true
+  packed_altered d = cases (cases_Bool (alters_packed s mode (records_of_file s (view s.packed_path)) edits))
     where
-      cases : (alters_packed s mode (records_in s (view s.packed_path)) edits ≡ true) ⊎ (alters_packed s mode (records_in s (view s.packed_path)) edits ≡ false) →
-          alters_packed s mode (records_in s (view s.packed_path)) edits ≡ true
+      cases : (alters_packed s mode (records_of_file s (view s.packed_path)) edits ≡ true) ⊎ (alters_packed s mode (records_of_file s (view s.packed_path)) edits ≡ false) →
+          alters_packed s mode (records_of_file s (view s.packed_path)) edits ≡ true
       cases (inl h) = h
       cases (inr h) =
           let none : is_touched s.packed_path (plan s mode view edits merged) ≡ false =
-          untouched_append s.packed_path (updates s mode view edits) (log_removals s edits ++ (packed_writes s mode view edits merged ++ loose_removals s mode view edits))
+          untouched_append s.packed_path (writes_of_updates s mode view edits) (log_removals s edits ++ (packed_writes s mode view edits merged ++ loose_removals s mode view edits))
           packed_not_in_updates
           (untouched_append s.packed_path (log_removals s edits) (packed_writes s mode view edits merged ++ loose_removals s mode view edits)
           (log_removals_avoid s s.packed_path edits (λ f hf. laws.log_is_not_packed f.name (is_ref f hf)))
@@ -85,27 +85,27 @@ module _ (s : Store) (laws : HasLaws s) (mode : Mode) (view : View) (edits : Lis
           subst (λ x. is_touched s.packed_path x ≡ true) l.whole (touched_left s.packed_path l.done l.rest d) in
           absurd (false≢true (sym none ∙ some))
 
-  records_left : (b : Bool) → is_touched s.packed_path l.done ≡ b → records_in s (left s.packed_path) ≡ cond b merged (records_in s (view s.packed_path))
+  records_left : (b : Bool) → is_touched s.packed_path l.done ≡ b → records_of_file s (left s.packed_path) ≡ cond b merged (records_of_file s (view s.packed_path))
   records_left true e =
-      ap (records_in s) (at_packed ∙ cond-true (is_touched s.packed_path l.done) (file_of_records s merged) (view s.packed_path) e) ∙ p.records_read_back (packed_altered e)
+      ap (records_of_file s) (at_packed ∙ cond-true (is_touched s.packed_path l.done) (file_of_records s merged) (view s.packed_path) e) ∙ p.records_read_back (packed_altered e)
   records_left false e =
-      ap (records_in s) (at_packed ∙ cond-false (is_touched s.packed_path l.done) (file_of_records s merged) (view s.packed_path) e)
+      ap (records_of_file s) (at_packed ∙ cond-false (is_touched s.packed_path l.done) (file_of_records s merged) (view s.packed_path) e)
 
-  reading_left : (e : Edit) → IsEdit e edits → (file : Option (List ℕ)) (records : List Record) → left (s.place e.name) ≡ file → records_in s (left s.packed_path) ≡ records →
+  reading_left : (e : Edit) → IsEdit e edits → (file : Option (List ℕ)) (records : List Record) → left (s.place e.name) ≡ file → records_of_file s (left s.packed_path) ≡ records →
       reading s left e.name ≡ reading_by s (s.key e.name) file records
   reading_left e he file records at_file at_records =
       reading-allowed s left e.name (p.allowed e he)
-      ∙ (ap (λ x. reading_by s (s.key e.name) x (records_in s (left s.packed_path))) at_file ∙ ap (λ x. reading_by s (s.key e.name) file x) at_records)
+      ∙ (ap (λ x. reading_by s (s.key e.name) x (records_of_file s (left s.packed_path))) at_file ∙ ap (λ x. reading_by s (s.key e.name) file x) at_records)
 
   -- the record of an edit's key
-  fact : is_touched s.packed_path l.done ≡ true → (e : Edit) → IsEdit e edits → e.and_reference ≡ true → IsRecordAfter mode (s.key e.name) e e.change (records_in s (view s.packed_path)) merged
-  fact d e he a k key = (p.records_are_merged (packed_altered d)).each k ∙ at_key (merged_cases s mode edits k (record_named k (records_in s (view s.packed_path))))
+  fact : is_touched s.packed_path l.done ≡ true → (e : Edit) → IsEdit e edits → e.and_reference ≡ true → IsRecordAfter mode (s.key e.name) e e.change (records_of_file s (view s.packed_path)) merged
+  fact d e he a k key = (p.records_are_merged (packed_altered d)).each k ∙ at_key (merged_cases s mode edits k (record_named k (records_of_file s (view s.packed_path))))
     where
-      at_key : ((f : Edit) × IsEdit f edits × (f.and_reference ≡ true) × (s.key f.name ≡ Some k) × (merged_record s mode edits k (record_named k (records_in s (view s.packed_path))) ≡ record_after mode k f f.change (record_named k (records_in s (view s.packed_path)))))
-          ⊎ ((merged_record s mode edits k (record_named k (records_in s (view s.packed_path))) ≡ record_named k (records_in s (view s.packed_path))) × ((f : Edit) → IsEdit f edits → f.and_reference ≡ true → s.key f.name ≢ Some k)) →
-          merged_record s mode edits k (record_named k (records_in s (view s.packed_path))) ≡ record_after mode k e e.change (record_named k (records_in s (view s.packed_path)))
+      at_key : ((f : Edit) × IsEdit f edits × (f.and_reference ≡ true) × (s.key f.name ≡ Some k) × (merged_record s mode edits k (record_named k (records_of_file s (view s.packed_path))) ≡ edited_record mode k f f.change (record_named k (records_of_file s (view s.packed_path)))))
+          ⊎ ((merged_record s mode edits k (record_named k (records_of_file s (view s.packed_path))) ≡ record_named k (records_of_file s (view s.packed_path))) × ((f : Edit) → IsEdit f edits → f.and_reference ≡ true → s.key f.name ≢ Some k)) →
+          merged_record s mode edits k (record_named k (records_of_file s (view s.packed_path))) ≡ edited_record mode k e e.change (record_named k (records_of_file s (view s.packed_path)))
       at_key (inl x) =
-          x.4 ∙ ap (λ (y : Edit). record_after mode k y y.change (record_named k (records_in s (view s.packed_path))))
+          x.4 ∙ ap (λ (y : Edit). edited_record mode k y y.change (record_named k (records_of_file s (view s.packed_path))))
           (place_apart s edits p.apart x.0 e x.1 he (laws.one_place x.0.name e.name k (is_ref x.0 x.1) (is_ref e he) x.3 key))
       at_key (inr x) = absurd (x.1 e he a key)
 
@@ -123,7 +123,7 @@ module _ (s : Store) (laws : HasLaws s) (mode : Mode) (view : View) (edits : Lis
 
   -- The order of the writes.
 
-  places_in_order : (e : Edit) → IsEdit e edits → DoesNotWrite (effect s mode view e) → is_touched (s.place e.name) (updates s mode view edits) ≡ false
+  places_in_order : (e : Edit) → IsEdit e edits → DoesNotWrite (effect s mode view e) → is_touched (s.place e.name) (writes_of_updates s mode view edits) ≡ false
   places_in_order e he never =
       updates_avoid s mode view (s.place e.name) edits
       (λ f hf. (
@@ -133,27 +133,27 @@ module _ (s : Store) (laws : HasLaws s) (mode : Mode) (view : View) (edits : Lis
 
   -- a loose file is removed after `packed-refs` is replaced
   removed_after_packed : (e : Edit) → IsEdit e edits → effect s mode view e ≡ Removes → is_touched (s.place e.name) l.done ≡ true →
-      alters_packed s mode (records_in s (view s.packed_path)) edits ≡ true → is_touched s.packed_path l.done ≡ true
+      alters_packed s mode (records_of_file s (view s.packed_path)) edits ≡ true → is_touched s.packed_path l.done ≡ true
   removed_after_packed e he w d alters =
-      let front = updates s mode view edits ++ (log_removals s edits ++ packed_writes s mode view edits merged) in
+      let front = writes_of_updates s mode view edits ++ (log_removals s edits ++ packed_writes s mode view edits merged) in
       let whole : l.done ++ l.rest ≡ front ++ loose_removals s mode view edits =
       l.whole
-      ∙ (ap (λ x. updates s mode view edits ++ x) (sym (append_assoc (log_removals s edits) (packed_writes s mode view edits merged) (loose_removals s mode view edits)))
-      ∙ sym (append_assoc (updates s mode view edits) (log_removals s edits ++ packed_writes s mode view edits merged) (loose_removals s mode view edits))) in
+      ∙ (ap (λ x. writes_of_updates s mode view edits ++ x) (sym (append_assoc (log_removals s edits) (packed_writes s mode view edits merged) (loose_removals s mode view edits)))
+      ∙ sym (append_assoc (writes_of_updates s mode view edits) (log_removals s edits ++ packed_writes s mode view edits merged) (loose_removals s mode view edits))) in
       in_order front (loose_removals s mode view edits) l.done l.rest (s.place e.name) s.packed_path whole d
-      (untouched_append (s.place e.name) (updates s mode view edits) (log_removals s edits ++ packed_writes s mode view edits merged)
+      (untouched_append (s.place e.name) (writes_of_updates s mode view edits) (log_removals s edits ++ packed_writes s mode view edits merged)
       (places_in_order e he (subst DoesNotWrite (sym w) tt))
       (untouched_append (s.place e.name) (log_removals s edits) (packed_writes s mode view edits merged)
       (log_removals_avoid s (s.place e.name) edits (λ f hf same. laws.place_is_no_log e.name f.name (is_ref e he) (is_ref f hf) (sym same)))
       (packed_avoids s mode view (s.place e.name) edits merged (λ same. laws.place_is_not_packed e.name (is_ref e he) (sym same)))))
-      (touched_right s.packed_path (updates s mode view edits) (log_removals s edits ++ packed_writes s mode view edits merged)
+      (touched_right s.packed_path (writes_of_updates s mode view edits) (log_removals s edits ++ packed_writes s mode view edits merged)
       (touched_right s.packed_path (log_removals s edits) (packed_writes s mode view edits merged) (packed_touches s mode view edits merged alters)))
 
   -- after a step behind the updates, each update is written
-  updates_done : (later path : List ℕ) → is_touched later l.done ≡ true → is_touched later (updates s mode view edits) ≡ false →
-      is_touched path (updates s mode view edits) ≡ true → is_touched path l.done ≡ true
+  updates_done : (later path : List ℕ) → is_touched later l.done ≡ true → is_touched later (writes_of_updates s mode view edits) ≡ false →
+      is_touched path (writes_of_updates s mode view edits) ≡ true → is_touched path l.done ≡ true
   updates_done later path d n t =
-      in_order (updates s mode view edits) (log_removals s edits ++ (packed_writes s mode view edits merged ++ loose_removals s mode view edits))
+      in_order (writes_of_updates s mode view edits) (log_removals s edits ++ (packed_writes s mode view edits merged ++ loose_removals s mode view edits))
       l.done l.rest later path l.whole d n t
 
   -- What an edited reference reads.
@@ -161,32 +161,32 @@ module _ (s : Store) (laws : HasLaws s) (mode : Mode) (view : View) (edits : Lis
   pub reads_written : (e : Edit) → IsEdit e edits → e.and_reference ≡ true → (text : List ℕ) → effect s mode view e ≡ Writes text → is_touched (s.place e.name) l.done ≡ true →
       reading s left e.name ≡ new_reading s e.change
   reads_written e he a text w d =
-      reading_left e he (Some text) (records_in s (left s.packed_path))
+      reading_left e he (Some text) (records_of_file s (left s.packed_path))
       (at_place e he (Some text) (subst (λ x. Leads x (Some text)) (sym w) refl)
       ∙ cond-true (is_touched (s.place e.name) l.done) (Some text) (view (s.place e.name)) d)
       refl
-      ∙ written s mode (s.key e.name) (reading s view e.name) e.change text (records_in s (left s.packed_path))
+      ∙ written s mode (s.key e.name) (reading s view e.name) e.change text (records_of_file s (left s.packed_path))
       (λ t c. p.targets_read_back e t he c) (sym (effect_is e a) ∙ w)
 
   pub reads_removed : (e : Edit) → IsEdit e edits → e.and_reference ≡ true → effect s mode view e ≡ Removes → is_touched (s.place e.name) l.done ≡ true →
       reading s left e.name ≡ new_reading s e.change
-  reads_removed e he a w d = cases (cases_Bool (is_touched s.packed_path l.done)) (cases_Bool (alters_change mode (s.key e.name) e.change (records_in s (view s.packed_path))))
+  reads_removed e he a w d = cases (cases_Bool (is_touched s.packed_path l.done)) (cases_Bool (alters_change mode (s.key e.name) e.change (records_of_file s (view s.packed_path))))
     where
       gone : left (s.place e.name) ≡ None
       gone = at_place e he None (subst (λ x. Leads x None) (sym w) refl)
           ∙ cond-true (is_touched (s.place e.name) l.done) None (view (s.place e.name)) d
 
       cases : (is_touched s.packed_path l.done ≡ true) ⊎ (is_touched s.packed_path l.done ≡ false) →
-          (alters_change mode (s.key e.name) e.change (records_in s (view s.packed_path)) ≡ true) ⊎ (alters_change mode (s.key e.name) e.change (records_in s (view s.packed_path)) ≡ false) →
+          (alters_change mode (s.key e.name) e.change (records_of_file s (view s.packed_path)) ≡ true) ⊎ (alters_change mode (s.key e.name) e.change (records_of_file s (view s.packed_path)) ≡ false) →
           reading s left e.name ≡ new_reading s e.change
       cases (inl k) alters =
           reading_left e he None merged gone (records_left true k)
-          ∙ removed s mode (s.key e.name) (reading s view e.name) e e.change (records_in s (view s.packed_path)) merged (fact k e he a) (λ id c. p.ids_read_back e id he c) (sym (effect_is e a) ∙ w)
+          ∙ removed s mode (s.key e.name) (reading s view e.name) e e.change (records_of_file s (view s.packed_path)) merged (fact k e he a) (λ id c. p.ids_read_back e id he c) (sym (effect_is e a) ∙ w)
       cases (inr k) (inl alters) =
-          absurd (false≢true (sym k ∙ removed_after_packed e he w d (alters_at s mode (records_in s (view s.packed_path)) edits e he a alters)))
+          absurd (false≢true (sym k ∙ removed_after_packed e he w d (alters_at s mode (records_of_file s (view s.packed_path)) edits e he a alters)))
       cases (inr k) (inr alters) =
-          reading_left e he None (records_in s (view s.packed_path)) gone (records_left false k)
-          ∙ removed_unaltered s mode (s.key e.name) (reading s view e.name) e.change (records_in s (view s.packed_path)) alters (sym (effect_is e a) ∙ w)
+          reading_left e he None (records_of_file s (view s.packed_path)) gone (records_left false k)
+          ∙ removed_unaltered s mode (s.key e.name) (reading s view e.name) e.change (records_of_file s (view s.packed_path)) alters (sym (effect_is e a) ∙ w)
 
   -- where its loose file is as before
   reads_kept : (e : Edit) → IsEdit e edits → e.and_reference ≡ true → left (s.place e.name) ≡ view (s.place e.name) →
@@ -199,12 +199,12 @@ module _ (s : Store) (laws : HasLaws s) (mode : Mode) (view : View) (edits : Lis
           let now = reading_left e he (view (s.place e.name)) merged kept (records_left true k) in
           inl (
             k,
-            elim (by_new_records s mode (s.key e.name) (view (s.place e.name)) e e.change (records_in s (view s.packed_path)) merged (fact k e he a) (λ id c. p.ids_read_back e id he c)) [
+            elim (by_new_records s mode (s.key e.name) (view (s.place e.name)) e e.change (records_of_file s (view s.packed_path)) merged (fact k e he a) (λ id c. p.ids_read_back e id he c)) [
               | inl x ↦ inl (now ∙ (x ∙ sym (reading-allowed s view e.name (p.allowed e he))))
               | inr x ↦ inr (now ∙ x)
             ],
           )
-      cases (inr k) = inr (reading_left e he (view (s.place e.name)) (records_in s (view s.packed_path)) kept (records_left false k) ∙ sym (reading-allowed s view e.name (p.allowed e he)))
+      cases (inr k) = inr (reading_left e he (view (s.place e.name)) (records_of_file s (view s.packed_path)) kept (records_left false k) ∙ sym (reading-allowed s view e.name (p.allowed e he)))
 
   -- an untouched place, whatever the effect
   pub kept_if_untouched : (e : Edit) → IsEdit e edits → (f : Effect) → effect s mode view e ≡ f → is_touched (s.place e.name) l.done ≡ false → left (s.place e.name) ≡ view (s.place e.name)
@@ -238,7 +238,7 @@ module _ (s : Store) (laws : HasLaws s) (mode : Mode) (view : View) (edits : Lis
       ReadsAsBefore s view left name
   reads_elsewhere name is none =
       ap (λ r. if s.is_prohibited (s.place name) then Fault else r)
-      (ap (λ x. reading_by s (s.key name) x (records_in s (left s.packed_path))) kept
+      (ap (λ x. reading_by s (s.key name) x (records_of_file s (left s.packed_path))) kept
       ∙ by_records (view (s.place name)) (s.key name) refl (cases_Bool (is_touched s.packed_path l.done)))
     where
       kept : left (s.place name) ≡ view (s.place name)
@@ -253,12 +253,12 @@ module _ (s : Store) (laws : HasLaws s) (mode : Mode) (view : View) (edits : Lis
       ]
 
       by_records : (file : Option (List ℕ)) (key : Option (List ℕ)) → s.key name ≡ key → (is_touched s.packed_path l.done ≡ true) ⊎ (is_touched s.packed_path l.done ≡ false) →
-          reading_by s key file (records_in s (left s.packed_path)) ≡ reading_by s key file (records_in s (view s.packed_path))
+          reading_by s key file (records_of_file s (left s.packed_path)) ≡ reading_by s key file (records_of_file s (view s.packed_path))
       by_records file key e (inr k) = ap (reading_by s key file) (records_left false k)
       by_records (Some bytes) key e (inl k) = refl
       by_records None None e (inl k) = refl
       by_records None (Some key) e (inl k) =
-          ap reading_of_record (ap (record_named key) (records_left true k) ∙ ((p.records_are_merged (packed_altered k)).each key ∙ at_key key e (record_named key (records_in s (view s.packed_path)))))
+          ap reading_of_record (ap (record_named key) (records_left true k) ∙ ((p.records_are_merged (packed_altered k)).each key ∙ at_key key e (record_named key (records_of_file s (view s.packed_path)))))
 
   pub readings : (name : List ℕ) → s.is_reference name ≡ true → ReadsAsBefore s view left name ⊎ ReadsAsEdited s edits view left name
   readings name is = by_edit (edited_cases s edits name (reading s view name))
@@ -342,14 +342,14 @@ module _ (s : Store) (laws : HasLaws s) (mode : Mode) (view : View) (edits : Lis
       here f h = subst (IsEdit f) whole (edit_in_front f before (u ∷ later) h)
 
       back : List Write
-      back = updates s mode view (u ∷ later) ++ (log_removals s edits ++ (packed_writes s mode view edits merged ++ loose_removals s mode view edits))
+      back = writes_of_updates s mode view (u ∷ later) ++ (log_removals s edits ++ (packed_writes s mode view edits merged ++ loose_removals s mode view edits))
 
-      cut : l.done ++ l.rest ≡ updates s mode view before ++ (updates s mode view (u ∷ later) ++ (log_removals s edits ++ (packed_writes s mode view edits merged ++ loose_removals s mode view edits)))
+      cut : l.done ++ l.rest ≡ writes_of_updates s mode view before ++ (writes_of_updates s mode view (u ∷ later) ++ (log_removals s edits ++ (packed_writes s mode view edits merged ++ loose_removals s mode view edits)))
       cut =
           l.whole
           ∙ (ap (λ x. x ++ (log_removals s edits ++ (packed_writes s mode view edits merged ++ loose_removals s mode view edits)))
-          (ap (updates s mode view) (sym whole) ∙ updates-append s mode view before (u ∷ later))
-          ∙ append_assoc (updates s mode view before) (updates s mode view (u ∷ later)) (log_removals s edits ++ (packed_writes s mode view edits merged ++ loose_removals s mode view edits)))
+          (ap (writes_of_updates s mode view) (sym whole) ∙ updates-append s mode view before (u ∷ later))
+          ∙ append_assoc (writes_of_updates s mode view before) (writes_of_updates s mode view (u ∷ later)) (log_removals s edits ++ (packed_writes s mode view edits merged ++ loose_removals s mode view edits)))
 
       apart_before : (f : Edit) → IsEdit f before → s.place f.name ≢ s.place u.name
       apart_before f h = apart_in_front s before u later (subst (AreEdits s) (sym whole) p.apart) f h
@@ -357,13 +357,13 @@ module _ (s : Store) (laws : HasLaws s) (mode : Mode) (view : View) (edits : Lis
       done : (text : List ℕ) → effect s mode view e ≡ Writes text → (is_touched (s.place u.name) l.done ≡ true) ⊎ (is_touched s.packed_path l.done ≡ true) →
           is_touched (s.place e.name) l.done ≡ true
       done text w (inl t) =
-          in_order (updates s mode view before) (updates s mode view (u ∷ later) ++ (log_removals s edits ++ (packed_writes s mode view edits merged ++ loose_removals s mode view edits)))
+          in_order (writes_of_updates s mode view before) (writes_of_updates s mode view (u ∷ later) ++ (log_removals s edits ++ (packed_writes s mode view edits merged ++ loose_removals s mode view edits)))
           l.done l.rest (s.place u.name) (s.place e.name) cut t
           (updates_avoid s mode view (s.place u.name) before
           (λ f hf. (λ same. laws.place_is_no_log u.name f.name (is_ref u hu) (is_ref f (here f hf)) (sym same), λ same. absurd (apart_before f hf same))))
           (updates_touch s mode view before e text he w)
       done text w (inr t) =
-          in_order (updates s mode view before) (updates s mode view (u ∷ later) ++ (log_removals s edits ++ (packed_writes s mode view edits merged ++ loose_removals s mode view edits)))
+          in_order (writes_of_updates s mode view before) (writes_of_updates s mode view (u ∷ later) ++ (log_removals s edits ++ (packed_writes s mode view edits merged ++ loose_removals s mode view edits)))
           l.done l.rest s.packed_path (s.place e.name) cut t
           (updates_avoid s mode view s.packed_path before
           (λ f hf. (laws.log_is_not_packed f.name (is_ref f (here f hf)), λ same. absurd (laws.place_is_not_packed f.name (is_ref f (here f hf)) same))))
@@ -403,7 +403,7 @@ module _ (s : Store) (laws : HasLaws s) (mode : Mode) (view : View) (edits : Lis
           (left s.packed_path ≡ view s.packed_path) ⊎ IsPackedFile s mode edits (view s.packed_path) (left s.packed_path)
       cases (inr d) = inl (at_packed ∙ cond-false (is_touched s.packed_path l.done) (file_of_records s merged) (view s.packed_path) d)
       cases (inl d) =
-          inr (subst (λ b. MatchBool b ((new : List Record) × IsMerged s mode edits (records_in s (view s.packed_path)) new × (left s.packed_path ≡ file_of_records s new))
+          inr (subst (λ b. MatchBool b ((new : List Record) × MergesRecords s mode edits (records_of_file s (view s.packed_path)) new × (left s.packed_path ≡ file_of_records s new))
           (left s.packed_path ≡ view s.packed_path)) (sym (packed_altered d))
           (merged, p.records_are_merged (packed_altered d), at_packed ∙ cond-true (is_touched s.packed_path l.done) (file_of_records s merged) (view s.packed_path) d))
 

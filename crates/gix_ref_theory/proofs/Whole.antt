@@ -7,12 +7,12 @@ use Rattle.gix_ref_theory.proofs.ReadingLemmas.{reading-alike, left_alone}
 use Rattle.gix_ref_theory.proofs.Plans.{Leads, touched_left, touched_right, updates_touch, removals_touch, packed_touches, edited_cases}
 use Rattle.gix_ref_theory.proofs.Logs.{behind_makes, behind_touched, updated, after-append}
 use Rattle.gix_ref_theory.proofs.Stops as stop
-use Rattle.gix_ref_theory.specs.Between.{IsCommitted, IsCommittedFile, IsEdit, IsMerged, IsPackedFile, IsPrepared, ReadsAsEdited, committed_log}
+use Rattle.gix_ref_theory.specs.Between.{IsCommitted, IsCommittedFile, IsEdit, MergesRecords, IsPackedFile, IsPrepared, ReadsAsEdited, committed_log}
 use Rattle.gix_ref_theory.specs.Edits.{Edit, Effect, Mode, alters_packed, effect, file_of_records, new_reading, removes_log}
 use Rattle.gix_ref_theory.specs.Edits.Effect.{Keeps, Removes, Writes}
-use Rattle.gix_ref_theory.specs.Plan.{log_removals, loose_removals, packed_writes, plan, updates}
+use Rattle.gix_ref_theory.specs.Plan.{log_removals, loose_removals, packed_writes, plan, writes_of_updates}
 use Rattle.gix_ref_base.specs.PackedRecords.{Record}
-use Rattle.gix_ref_theory.specs.Readings.{HasLaws, Store, reading, records_in}
+use Rattle.gix_ref_theory.specs.Readings.{HasLaws, Store, reading, records_of_file}
 use Rattle.gix_ref_theory.specs.Views.{IsSameView, View, after}
 use Rattle.gix_ref_theory.specs.Views.Ending.{Stop}
 
@@ -25,12 +25,12 @@ module _ (s : Store) (laws : HasLaws s) (mode : Mode) (view : View) (edits : Lis
     (left : View) (whole : IsSameView left (after (plan s mode view edits merged) view)) where
   written : (e : Edit) → IsEdit e edits → (text : List ℕ) → effect s mode view e ≡ Writes text → is_touched (s.place e.name) (plan s mode view edits merged) ≡ true
   written e he text w =
-      touched_left (s.place e.name) (updates s mode view edits) (log_removals s edits ++ (packed_writes s mode view edits merged ++ loose_removals s mode view edits))
+      touched_left (s.place e.name) (writes_of_updates s mode view edits) (log_removals s edits ++ (packed_writes s mode view edits merged ++ loose_removals s mode view edits))
       (updates_touch s mode view edits e text he w)
 
   removed : (e : Edit) → IsEdit e edits → effect s mode view e ≡ Removes → is_touched (s.place e.name) (plan s mode view edits merged) ≡ true
   removed e he w =
-      touched_right (s.place e.name) (updates s mode view edits) (log_removals s edits ++ (packed_writes s mode view edits merged ++ loose_removals s mode view edits))
+      touched_right (s.place e.name) (writes_of_updates s mode view edits) (log_removals s edits ++ (packed_writes s mode view edits merged ++ loose_removals s mode view edits))
       (touched_right (s.place e.name) (log_removals s edits) (packed_writes s mode view edits merged ++ loose_removals s mode view edits)
       (touched_right (s.place e.name) (packed_writes s mode view edits merged) (loose_removals s mode view edits)
       (removals_touch s mode view edits e he w)))
@@ -67,27 +67,27 @@ module _ (s : Store) (laws : HasLaws s) (mode : Mode) (view : View) (edits : Lis
   logs e he =
       let behind = log_removals s edits ++ (packed_writes s mode view edits merged ++ loose_removals s mode view edits) in
       whole (s.log e.name)
-      ∙ (ap (λ (t : View). t (s.log e.name)) (after-append (updates s mode view edits) behind view)
-      ∙ (content behind (after (updates s mode view edits) view) (s.log e.name) None (behind_makes s laws mode view edits merged p Stop left (all s mode view edits merged left whole) e he)
-      ∙ (ap (λ b. cond b None (after (updates s mode view edits) view (s.log e.name))) (behind_touched s laws mode view edits merged p Stop left (all s mode view edits merged left whole) e he)
+      ∙ (ap (λ (t : View). t (s.log e.name)) (after-append (writes_of_updates s mode view edits) behind view)
+      ∙ (content behind (after (writes_of_updates s mode view edits) view) (s.log e.name) None (behind_makes s laws mode view edits merged p Stop left (all s mode view edits merged left whole) e he)
+      ∙ (ap (λ b. cond b None (after (writes_of_updates s mode view edits) view (s.log e.name))) (behind_touched s laws mode view edits merged p Stop left (all s mode view edits merged left whole) e he)
       ∙ ap (cond (removes_log s edits (s.log e.name)) None) (updated s laws mode view edits merged p Stop left (all s mode view edits merged left whole) e he))))
 
   packed : IsPackedFile s mode edits (view s.packed_path) (left s.packed_path)
-  packed = cases (cases_Bool (alters_packed s mode (records_in s (view s.packed_path)) edits)) (stop.packed s laws mode view edits merged p Stop left (all s mode view edits merged left whole))
+  packed = cases (cases_Bool (alters_packed s mode (records_of_file s (view s.packed_path)) edits)) (stop.packed s laws mode view edits merged p Stop left (all s mode view edits merged left whole))
     where
-      cases : (alters_packed s mode (records_in s (view s.packed_path)) edits ≡ true) ⊎ (alters_packed s mode (records_in s (view s.packed_path)) edits ≡ false) →
+      cases : (alters_packed s mode (records_of_file s (view s.packed_path)) edits ≡ true) ⊎ (alters_packed s mode (records_of_file s (view s.packed_path)) edits ≡ false) →
           (left s.packed_path ≡ view s.packed_path) ⊎ IsPackedFile s mode edits (view s.packed_path) (left s.packed_path) →
           IsPackedFile s mode edits (view s.packed_path) (left s.packed_path)
       cases k (inr h) = h
       cases (inr k) (inl h) =
-          subst (λ b. MatchBool b ((new : List Record) × IsMerged s mode edits (records_in s (view s.packed_path)) new × (left s.packed_path ≡ file_of_records s new))
+          subst (λ b. MatchBool b ((new : List Record) × MergesRecords s mode edits (records_of_file s (view s.packed_path)) new × (left s.packed_path ≡ file_of_records s new))
           (left s.packed_path ≡ view s.packed_path)) (sym k) h
       cases (inl k) (inl h) =
-          let t = touched_right s.packed_path (updates s mode view edits) (log_removals s edits ++ (packed_writes s mode view edits merged ++ loose_removals s mode view edits))
+          let t = touched_right s.packed_path (writes_of_updates s mode view edits) (log_removals s edits ++ (packed_writes s mode view edits merged ++ loose_removals s mode view edits))
           (touched_right s.packed_path (log_removals s edits) (packed_writes s mode view edits merged ++ loose_removals s mode view edits)
           (touched_left s.packed_path (packed_writes s mode view edits merged) (loose_removals s mode view edits)
           (packed_touches s mode view edits merged k))) in
-          subst (λ b. MatchBool b ((new : List Record) × IsMerged s mode edits (records_in s (view s.packed_path)) new × (left s.packed_path ≡ file_of_records s new))
+          subst (λ b. MatchBool b ((new : List Record) × MergesRecords s mode edits (records_of_file s (view s.packed_path)) new × (left s.packed_path ≡ file_of_records s new))
           (left s.packed_path ≡ view s.packed_path)) (sym k)
           (merged, p.records_are_merged k, stop.at_packed s laws mode view edits merged p Stop left (all s mode view edits merged left whole) ∙ cond-true (is_touched s.packed_path (plan s mode view edits merged)) (file_of_records s merged) (view s.packed_path) t)
 

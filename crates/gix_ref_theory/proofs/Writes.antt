@@ -3,7 +3,7 @@ use Rattle.std.proofs.Common.{◌≡◌, ◌≢◌, ℕ, List, [], ◌∷◌, �
 use Rattle.std.proofs.lemmas.Bool.{or_left, or_right, or_cases, or_parts, false_from_ne_true, cond-true, cond-false, false≢true, cases_Bool}
 use Rattle.std.proofs.lemmas.Slice.Eq.{bytes_eq-Decides}
 use Rattle.gix_ref_base.specs.Layout.{below}
-use Rattle.gix_ref_theory.specs.Views.{Ending, IsPartOf, IsLeftBy, IsSameView, View, Write, after, after_write, file_bytes}
+use Rattle.gix_ref_theory.specs.Views.{Ending, IsPartOf, IsLeftByWrites, IsSameView, View, Write, after, after_write, file_bytes}
 use Rattle.gix_ref_theory.specs.Views.Write.{Append, Put, Remove}
 
 -- what a stop inside this write may leave
@@ -25,7 +25,7 @@ pub record IsCut (k : Ending) (writes : List Write) (view left : View) : Type 0 
   pub stopped : IsStoppedAt k rest (after done view) left
 
 -- every stop has its place
-pub cut_at : (k : Ending) (writes : List Write) (view left : View) → IsLeftBy k writes view left → IsCut k writes view left
+pub cut_at : (k : Ending) (writes : List Write) (view left : View) → IsLeftByWrites k writes view left → IsCut k writes view left
 cut_at k [] view left h = record { done = []; rest = []; whole = refl; stopped = h }
 cut_at k (Append path bytes ∷ writes) view left (inl (inl h)) = record { done = []; rest = Append path bytes ∷ writes; whole = refl; stopped = inl h }
 cut_at k (Append path bytes ∷ writes) view left (inl (inr h)) = record { done = []; rest = Append path bytes ∷ writes; whole = refl; stopped = inr h }

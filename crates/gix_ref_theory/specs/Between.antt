@@ -10,7 +10,7 @@ use Rattle.gix_ref_hash.specs.declared.hash.ObjectId.{ObjectId}
 use Rattle.gix_ref_base.specs.Targets.TargetValue.{object_id}
 use Rattle.gix_ref_base.specs.PackedRecords.{Record, record_named, id_read}
 use Rattle.gix_ref_theory.specs.ConcreteStore.{written_id}
-use Rattle.gix_ref_theory.specs.Readings.{Store, reading, records_in}
+use Rattle.gix_ref_theory.specs.Readings.{Store, reading, records_of_file}
 use Rattle.gix_ref_theory.specs.Edits.{Edit, Change, Effect, Mode, effect, removes_packed, packs, merged_record, alters_packed, file_of_records, is_deletion, due, is_due, removes_log, edited_reading}
 use Rattle.gix_ref_theory.specs.Edits.Change.{Update, Delete}
 use Rattle.gix_ref_theory.specs.Edits.Effect.{Writes, Removes, Keeps}
@@ -28,7 +28,7 @@ AreEdits s (e ∷ edits) =
 
 -- The merged records: the old ones without the keys of deletions and with the packed updates, ascending by name. A
 -- record that no edit alters is the old one, with its ids as they were written.
-pub record IsMerged (s : Store) (mode : Mode) (edits : List Edit) (old new : List Record) : Type 0 where
+pub record MergesRecords (s : Store) (mode : Mode) (edits : List Edit) (old new : List Record) : Type 0 where
   pub each : (key : List ℕ) → record_named key new ≡ merged_record s mode edits key (record_named key old)
   pub ascending : AllPairs (λ (r later : Record). slice_cmp nat_cmp r.name later.name ≡ Less) new
 
@@ -42,9 +42,9 @@ pub record IsPrepared (s : Store) (mode : Mode) (view : View) (edits : List Edit
   -- the digits of a new id are read as it
   pub ids_read_back : (e : Edit) (id : ObjectId) → IsEdit e edits → e.change ≡ Update (object_id id) → id_read (written_id id) ≡ Some id
   -- where `packed-refs` changes, there are merged records
-  pub records_are_merged : alters_packed s mode (records_in s (view s.packed_path)) edits ≡ true → IsMerged s mode edits (records_in s (view s.packed_path)) merged
+  pub records_are_merged : alters_packed s mode (records_of_file s (view s.packed_path)) edits ≡ true → MergesRecords s mode edits (records_of_file s (view s.packed_path)) merged
   -- and they decode to themselves when they are written
-  pub records_read_back : alters_packed s mode (records_in s (view s.packed_path)) edits ≡ true → records_in s (file_of_records s merged) ≡ merged
+  pub records_read_back : alters_packed s mode (records_of_file s (view s.packed_path)) edits ≡ true → records_of_file s (file_of_records s merged) ≡ merged
 
 -- the reference reads as edited
 abbrev pub ReadsAsEdited : Store → List Edit → View → View → List ℕ → Type 0
@@ -78,8 +78,8 @@ IsLogBetween s edits log old new =
 -- the new `packed-refs`: the text of the merged records, or none where none is left; the old one where nothing alters it
 abbrev pub IsPackedFile : Store → Mode → List Edit → Option (List ℕ) → Option (List ℕ) → Type 0
 IsPackedFile s mode edits old new =
-    MatchBool (alters_packed s mode (records_in s old) edits)
-    ((merged : List Record) × IsMerged s mode edits (records_in s old) merged × (new ≡ file_of_records s merged))
+    MatchBool (alters_packed s mode (records_of_file s old) edits)
+    ((merged : List Record) × MergesRecords s mode edits (records_of_file s old) merged × (new ≡ file_of_records s merged))
     (new ≡ old)
 
 -- A path that is no edited place, no log of an edit, not `packed-refs` and no lock of the transaction.

@@ -87,10 +87,10 @@ effect s mode view e =
     if e.and_reference then effect_of_change s mode (s.key e.name) (reading s view e.name) e.change else Keeps
 
 -- the record of an edit's key after the edit, where `old` was there
-abbrev pub record_after : Mode → List ℕ → Edit → Change → Option Record → Option Record
-record_after mode key e Delete old = None
-record_after mode key e (Update (symbolic_name name)) old = old
-record_after mode key e (Update (object_id id)) old =
+abbrev pub edited_record : Mode → List ℕ → Edit → Change → Option Record → Option Record
+edited_record mode key e Delete old = None
+edited_record mode key e (Update (symbolic_name name)) old = old
+edited_record mode key e (Update (object_id id)) old =
     if packs_updates mode then Some (record { name = key; target = written_id id; object = option_map written_id e.peeled }) else old
 
 -- the key is there, and it is this one
@@ -102,7 +102,7 @@ is_key (Some key) name = bytes_eq key name
 abbrev pub merged_record : Store → Mode → List Edit → List ℕ → Option Record → Option Record
 merged_record s mode [] key old = old
 merged_record s mode (e ∷ edits) key old =
-    if e.and_reference && is_key (s.key e.name) key then record_after mode key e e.change old
+    if e.and_reference && is_key (s.key e.name) key then edited_record mode key e e.change old
     else merged_record s mode edits key old
 
 -- `packed-refs` changes for a deletion that finds a record, and for an update that is packed

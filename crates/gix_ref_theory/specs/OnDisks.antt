@@ -5,7 +5,7 @@ use Rattle.gix_ref_files.specs.Tree.{Tree, Path}
 use Rattle.gix_ref_files.specs.Disk.{Disk, Lost}
 use Rattle.gix_ref_files.specs.Files.{Meaning, disk_of, Loses}
 use Rattle.gix_ref_files.specs.Lock.{lock_of}
-use Rattle.gix_ref_files.specs.Settled.{Sync, AllStay, MayHold, IsSettledAt, IsAllSettled, IsWhole, IsIn, SettlesPath, SettlesFile}
+use Rattle.gix_ref_files.specs.Settled.{Sync, AllStay, MayHold, IsSettledAt, IsAllSettled, IsWholeAt, IsIn, SettlesPath, SettlesFile}
 use Rattle.gix_ref_files.specs.Settled.Sync.{OfFile}
 use Rattle.gix_ref_files.specs.Steps.{Step}
 use Rattle.gix_ref_files.specs.Steps.Step.{Create, Append as AppendStep, Line, Rename, RemoveFile, MakeFolders, RemoveFolder, End}
@@ -44,7 +44,7 @@ module _ (Counts : Path → Type 0) (staying : List Path) where
   pub record Rests (texts view : View) (D : Disk) : Type 0 where
     pub files : IsSettled Counts view D
     pub stays : AllStay D staying
-    pub whole : (p : Path) (bytes : List ℕ) → texts p ≡ Some bytes → IsWhole D p bytes
+    pub whole : (p : Path) (bytes : List ℕ) → texts p ≡ Some bytes → IsWholeAt D p bytes
 
 -- The disk is among the writes: some of them are done and settled, and the next one is perhaps begun. So each loss of power
 -- finds them.
@@ -59,7 +59,7 @@ IsSpokenOf locked D q = (IsOwnLock locked q → ⊥) × IsSettledAt D (view_of D
 
 -- these locks hold these texts, all of them synced
 abbrev pub AreWhole : View → Disk → Type 0
-AreWhole texts D = (p : Path) (bytes : List ℕ) → texts p ≡ Some bytes → IsWhole D p bytes
+AreWhole texts D = (p : Path) (bytes : List ℕ) → texts p ≡ Some bytes → IsWholeAt D p bytes
 
 -- Among the steps every stop, fault or loss of power finds a disk that is within the writes.
 abbrev pub EveryDiskIsWithin : Type 0

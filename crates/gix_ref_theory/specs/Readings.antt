@@ -62,9 +62,9 @@ reading_of_record None = Absent
 reading_of_record (Some r) = reading_of_id (id_read r.target)
 
 -- the records of a file that may be missing
-abbrev pub records_in : Store → Option (List ℕ) → List Record
-records_in s None = []
-records_in s (Some bytes) = s.records_of bytes
+abbrev pub records_of_file : Store → Option (List ℕ) → List Record
+records_of_file s None = []
+records_of_file s (Some bytes) = s.records_of bytes
 
 -- the reading by the file at the place, else by the record of the key, where there is a key
 abbrev pub reading_by : Store → Option (List ℕ) → Option (List ℕ) → List Record → Reading
@@ -80,4 +80,4 @@ reading_among s view records name =
 
 -- and among these files, with the records of their `packed-refs`
 abbrev pub reading : Store → View → List ℕ → Reading
-reading s view name = reading_among s view (records_in s (view s.packed_path)) name
+reading s view name = reading_among s view (records_of_file s (view s.packed_path)) name

@@ -11,7 +11,7 @@ use Rattle.gix_ref_base.specs.Locations.{paths_at, is_safe}
 use Rattle.gix_ref_theory.specs.ConcreteStore.{Options, store_of}
 use Rattle.gix_ref_theory.specs.Edits.{Edit, Mode, removes_packed}
 use Rattle.gix_ref_theory.specs.Plan.{plan}
-use Rattle.gix_ref_theory.specs.Between.{IsMerged, IsPrepared, IsBetween, NoDeletionFirst, InOrder, IsCommitted}
+use Rattle.gix_ref_theory.specs.Between.{MergesRecords, IsPrepared, IsBetween, NoDeletionFirst, InOrder, IsCommitted}
 
 -- every stop leaves each reference old or new
 abbrev pub EveryStopIsBetween : Type 0
@@ -52,7 +52,7 @@ PlanSeesNoLocks =
 -- what is said of merged records leaves one list, and so one text of `packed-refs`
 abbrev pub MergedRecordsAreOne : Type 0
 MergedRecordsAreOne =
-    (s : Store) (mode : Mode) (edits : List Edit) (old new other : List Record) → IsMerged s mode edits old new → IsMerged s mode edits old other → new ≡ other
+    (s : Store) (mode : Mode) (edits : List Edit) (old new other : List Record) → MergesRecords s mode edits old new → MergesRecords s mode edits old other → new ≡ other
 
 -- the table gives each name paths, those that are computed, and no other
 abbrev pub PathsAreTheTable : Type 0

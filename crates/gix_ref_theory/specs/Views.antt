@@ -49,16 +49,16 @@ IsPartOf Stop left bytes = (rest : List ℕ) × (left ++ rest ≡ bytes)
 IsPartOf Loss left bytes = length left ≤ length bytes
 
 -- an end inside a write leaves all as it was, or of an append a part of its bytes
-abbrev pub Begins : Ending → Write → View → View → Type 0
-Begins ending (Append path bytes) view left =
+abbrev pub BeginsWrite : Ending → Write → View → View → Type 0
+BeginsWrite ending (Append path bytes) view left =
     IsSameView left view ⊎ ((part : List ℕ) × IsPartOf ending part bytes × IsSameView left (after_write (Append path part) view))
-Begins ending (Put path bytes) view left = IsSameView left view
-Begins ending (Remove path) view left = IsSameView left view
+BeginsWrite ending (Put path bytes) view left = IsSameView left view
+BeginsWrite ending (Remove path) view left = IsSameView left view
 
 -- an end among the writes: some of them are done, and the next one is perhaps begun
-abbrev pub IsLeftBy : Ending → List Write → View → View → Type 0
-IsLeftBy ending [] view left = IsSameView left view
-IsLeftBy ending (write ∷ writes) view left = Begins ending write view left ⊎ IsLeftBy ending writes (after_write write view) left
+abbrev pub IsLeftByWrites : Ending → List Write → View → View → Type 0
+IsLeftByWrites ending [] view left = IsSameView left view
+IsLeftByWrites ending (write ∷ writes) view left = BeginsWrite ending write view left ⊎ IsLeftByWrites ending writes (after_write write view) left
 
 -- the lock of one of these paths
 abbrev pub IsOwnLock : List Path → Path → Type 0
@@ -72,7 +72,7 @@ IsSameButLocks locked left right = (path : Path) → (IsOwnLock locked path → 
 -- A stop among the writes leaves these files, whatever it leaves of the locks of these paths.
 pub record IsLeft (locked : List Path) (writes : List Write) (view left : View) : Type 0 where
   pub without_locks : View
-  pub stopped : IsLeftBy Stop writes view without_locks
+  pub stopped : IsLeftByWrites Stop writes view without_locks
   pub same : IsSameButLocks locked left without_locks
 
 -- A loss of power inside a write may leave this file at a path: the one before; at the write's own path also the new one, or,

@@ -4,7 +4,7 @@ use Rattle.std.specs.Prelude.{bytes_eq}
 use Rattle.gix_ref_files.specs.Tree.{Path}
 use Rattle.gix_ref_files.specs.Disk.{Disk}
 use Rattle.gix_ref_files.specs.Lock.{lock_of}
-use Rattle.gix_ref_files.specs.Settled.{AllStay, IsAllSettled, IsSettledAt, IsWhole}
+use Rattle.gix_ref_files.specs.Settled.{AllStay, IsAllSettled, IsSettledAt, IsWholeAt}
 use Rattle.gix_ref_files.proofs.Settling.{stands_settled}
 use Rattle.gix_ref_theory.specs.OnDisks.{IsAsBefore, AreWhole}
 use Rattle.gix_ref_theory.specs.OnRealTrees.{view_of, file_of}
@@ -35,16 +35,16 @@ are_whole D locks whole q bytes is = by (is_in locks q) refl is
     inner : {x y : List ℕ} → Some x ≡ Some y → x ≡ y
     inner h = cc
 
-    at : (some : List Path) → AreWholeLocks D some → is_in some q ≡ true → view_of D.tree q ≡ Some bytes → IsWhole D q bytes
+    at : (some : List Path) → AreWholeLocks D some → is_in some q ≡ true → view_of D.tree q ≡ Some bytes → IsWholeAt D q bytes
     at [] whole' within told = false_is_true within
     at (l ∷ some) whole' within told = ⊎_elim
         (λ here. let e = in_one l q here in
-        let w = subst (λ (p : Path). IsWhole D p whole'.0.0) e whole'.0.1 in
-        subst (λ (b : List ℕ). IsWhole D q b) (inner (sym (ap file_of w.0) ∙ told)) w)
+        let w = subst (λ (p : Path). IsWholeAt D p whole'.0.0) e whole'.0.1 in
+        subst (λ (b : List ℕ). IsWholeAt D q b) (inner (sym (ap file_of w.0) ∙ told)) w)
         (λ there. at some whole'.1 there told)
         (any_cases (λ p. bytes_eq p q) (l ∷ []) some within)
 
-    by : (b : Bool) → is_in locks q ≡ b → (if b then view_of D.tree q else None) ≡ Some bytes → IsWhole D q bytes
+    by : (b : Bool) → is_in locks q ≡ b → (if b then view_of D.tree q else None) ≡ Some bytes → IsWholeAt D q bytes
     by true within told = at locks whole within told
     by false out told = cc
 

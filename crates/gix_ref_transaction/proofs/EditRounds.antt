@@ -9,7 +9,7 @@ use Rattle.gix_ref_files.specs.Tree.{Tree, Path, IsShaped, has_folders, is_file}
 use Rattle.gix_ref_hash.specs.declared.hash.ObjectId.{ObjectId}
 use Rattle.gix_ref_files.specs.Files.{Meaning, disk_of, Leaves, Passes}
 use Rattle.gix_ref_files.specs.Lock.{lock_of, LockingOn}
-use Rattle.gix_ref_files.specs.Settled.{IsWhole}
+use Rattle.gix_ref_files.specs.Settled.{IsWholeAt}
 use Rattle.gix_ref_files.proofs.Moments.{starts, passes_starts}
 use Rattle.gix_ref_theory.specs.OnRealTrees.{view_of}
 use Rattle.gix_ref_theory.specs.Readings.{Store}
@@ -43,7 +43,7 @@ module _ (s : Store) (kind : Kind) (all : List RefEdit) (first : Meaning) where
     pub run : Leaves first now (AddsLocks locks locks first.tree)
     pub lockable : AreLockable s kind first.tree (take i all) (drop i all) → AreLockable s kind first.tree [] all
     pub whole : AreWholeLocks (disk_of now) (locks_of s (take i all))
-    pub wholes : (q : Path) (text : List ℕ) → IsWhole (disk_of first) q text → IsWhole (disk_of now) q text
+    pub wholes : (q : Path) (text : List ℕ) → IsWholeAt (disk_of first) q text → IsWholeAt (disk_of now) q text
     pub passes : OnlyLocks locks first now
 
   -- And where the ids of their records are known, what was found and decided of them is by the tree at the beginning, and the rest gives the

@@ -8,7 +8,7 @@ use Rattle.gix_ref_files.specs.Tree.{Tree, Path, is_file}
 use Rattle.gix_ref_files.specs.Disk.{Disk}
 use Rattle.gix_ref_files.specs.Files.{Meaning, disk_of, Leaves, Passes}
 use Rattle.gix_ref_files.specs.Lock.{lock_of, LockingOn}
-use Rattle.gix_ref_files.specs.Settled.{IsWhole}
+use Rattle.gix_ref_files.specs.Settled.{IsWholeAt}
 use Rattle.gix_ref_files.proofs.Moments.{passes_weaken, passes_joins}
 use Rattle.gix_ref_theory.specs.OnDisks.{IsAsBefore}
 use Rattle.gix_ref_theory.specs.Readings.{Store}
@@ -86,7 +86,7 @@ module _ (locked staying : List Path) (first : Disk) where
       passes_joins run (passes_weaken next (λ E found. filling_as_before (disk_of mid) E lock own file run.disk found))
 
 -- locks that stay whole
-whole_on : (D E : Disk) (locks : List Path) → ((q : Path) (bytes : List ℕ) → IsWhole D q bytes → IsWhole E q bytes) → AreWholeLocks D locks → AreWholeLocks E locks
+whole_on : (D E : Disk) (locks : List Path) → ((q : Path) (bytes : List ℕ) → IsWholeAt D q bytes → IsWholeAt E q bytes) → AreWholeLocks D locks → AreWholeLocks E locks
 whole_on D E [] keeps whole = tt
 whole_on D E (lock ∷ locks) keeps whole = ((whole.0.0, keeps lock whole.0.0 whole.0.1), whole_on D E locks keeps whole.1)
 
@@ -94,12 +94,12 @@ whole_more : (D : Disk) (locks : List Path) (lock : Path) → AreWholeLocks D lo
 whole_more D [] lock whole here = (here, tt)
 whole_more D (l ∷ locks) lock whole here = (whole.0, whole_more D locks lock whole.1 here)
 
-filling_whole : (D E : Disk) (lock q : Path) (bytes : List ℕ) → lock ≢ q → IsWhole D q bytes → FillingOn D lock E → IsWhole E q bytes
-filling_whole D E lock q bytes apart whole (inl e) = subst (λ (X : Disk). IsWhole X q bytes) (sym e) whole
+filling_whole : (D E : Disk) (lock q : Path) (bytes : List ℕ) → lock ≢ q → IsWholeAt D q bytes → FillingOn D lock E → IsWholeAt E q bytes
+filling_whole D E lock q bytes apart whole (inl e) = subst (λ (X : Disk). IsWholeAt X q bytes) (sym e) whole
 filling_whole D E lock q bytes apart whole (inr (text, writing)) = whole_writing D E lock q text bytes apart whole writing
 
 -- what is whole stays so where one more lock is taken, which was free, and gets its text
-pub keeps_whole : (D U E : Disk) (place : Path) → D.tree (lock_of place) ≡ None → LockingOn D place U → FillingOn U (lock_of place) E → (q : Path) (bytes : List ℕ) → IsWhole D q bytes → IsWhole E q bytes
+pub keeps_whole : (D U E : Disk) (place : Path) → D.tree (lock_of place) ≡ None → LockingOn D place U → FillingOn U (lock_of place) E → (q : Path) (bytes : List ℕ) → IsWholeAt D q bytes → IsWholeAt E q bytes
 keeps_whole D U E place free locking filling q bytes whole =
     filling_whole U E (lock_of place) q bytes apart (whole_locking D U place q bytes apart whole locking) filling
   where
@@ -133,7 +133,7 @@ module _ (s : Store) (kind : Kind) (edits : List RefEdit) (apart : LocksAreApart
       filling_passes locked staying D first one two lock (own lock within') file (locking_round one before next locked staying D own here) last
 
   module _ (one two : Meaning) (new : IsNewLock mid.tree lock one.tree) (next : Passes mid one (LockingOn (disk_of mid) place)) (last : Passes one two (FillingOn (disk_of one) lock)) where
-    pub wholes_round : (q : Path) (text : List ℕ) → IsWhole (disk_of mid) q text → IsWhole (disk_of two) q text
+    pub wholes_round : (q : Path) (text : List ℕ) → IsWholeAt (disk_of mid) q text → IsWholeAt (disk_of two) q text
     wholes_round q text whole = keeps_whole (disk_of mid) (disk_of one) (disk_of two) place new.free next.disk last.disk q text whole
 
     pub whole_round : AreWholeLocks (disk_of mid) (locks_of s (take i edits)) → IsSomeWhole (disk_of two) lock → AreWholeLocks (disk_of two) (locks_of s (take (i + 1) edits))

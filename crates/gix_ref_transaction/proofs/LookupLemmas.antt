@@ -15,7 +15,7 @@ use Rattle.gix_ref_theory.specs.Edits.{Effect, effect_of_change, has_already}
 use Rattle.gix_ref_theory.specs.Edits.Change.{Update}
 use Rattle.gix_ref_theory.specs.Edits.Effect.{Writes, Removes, Keeps}
 use Rattle.gix_ref_theory.specs.Edits.Mode.{DeletionsOnly}
-use Rattle.gix_ref_theory.specs.Readings.{Store, reading, reading_by, reading_of_loose, reading_of_record, reading_of_id, records_in, as_read}
+use Rattle.gix_ref_theory.specs.Readings.{Store, reading, reading_by, reading_of_loose, reading_of_record, reading_of_id, records_of_file, as_read}
 use Rattle.gix_ref_theory.specs.Readings.Reading.{Is, Fault, Absent}
 use Rattle.gix_ref_theory.specs.Views.{View}
 use Rattle.gix_ref_lookup.specs.StoreLayout.{git_options}
@@ -77,8 +77,8 @@ by_decision Keep text = Keeps
 pub effect_alike : (s : Store) (view other : View) (edit : RefEdit) → view (s.place (name_of edit)) ≡ other (s.place (name_of edit)) → view s.packed_path ≡ other s.packed_path → effect_on s view edit ≡ effect_on s other edit
 effect_alike s view other edit same packed =
     ap (λ r. if is_of_reference (mode_of edit.change) then effect_of_change s DeletionsOnly (s.key (name_of edit)) r (change_of edit.change) else Keeps)
-    (ap (λ (file : Option (List ℕ)). if s.is_prohibited (s.place (name_of edit)) then Fault else reading_by s (s.key (name_of edit)) file (records_in s (view s.packed_path))) same
-    ∙ ap (λ (file : Option (List ℕ)). if s.is_prohibited (s.place (name_of edit)) then Fault else reading_by s (s.key (name_of edit)) (other (s.place (name_of edit))) (records_in s file)) packed)
+    (ap (λ (file : Option (List ℕ)). if s.is_prohibited (s.place (name_of edit)) then Fault else reading_by s (s.key (name_of edit)) file (records_of_file s (view s.packed_path))) same
+    ∙ ap (λ (file : Option (List ℕ)). if s.is_prohibited (s.place (name_of edit)) then Fault else reading_by s (s.key (name_of edit)) (other (s.place (name_of edit))) (records_of_file s file)) packed)
 
 module _ (s : Store) where
   already_by : (old new : TargetValue) → has_already (Is old) new ≡ is_found (Some old) new
@@ -113,8 +113,8 @@ module _ (s : Store) where
   pub already_is : (view : View) (name : List ℕ) (t : TargetValue) → s.is_prohibited (s.place name) ≡ false →
       has_already (reading s view name) t ≡ (not (is_damaged s (view (s.place name))) && is_found (found s view name) t)
   already_is view name t allowed =
-      ap (λ b. has_already (if b then Fault else reading_by s (s.key name) (view (s.place name)) (records_in s (view s.packed_path))) t) allowed
-      ∙ by_files (s.key name) (view (s.place name)) (records_in s (view s.packed_path)) t
+      ap (λ b. has_already (if b then Fault else reading_by s (s.key name) (view (s.place name)) (records_of_file s (view s.packed_path))) t) allowed
+      ∙ by_files (s.key name) (view (s.place name)) (records_of_file s (view s.packed_path)) t
 
   -- what is decided of an update, by what was found and its file, is what becomes of the file
   decided_update : (view : View) (name : List ℕ) (refers : Bool) (new : TargetValue) → s.is_prohibited (s.place name) ≡ false → s.text_of new ≡ loose_text new →

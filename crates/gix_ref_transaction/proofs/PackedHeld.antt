@@ -9,7 +9,7 @@ use Rattle.gix_ref_files.specs.Tree.Content.{File}
 use Rattle.gix_ref_files.proofs.Puts.{put_other}
 use Rattle.gix_ref_theory.specs.Edits.{Effect}
 use Rattle.gix_ref_theory.specs.OnRealTrees.{file_of, view_of}
-use Rattle.gix_ref_theory.specs.Readings.{Store, records_in}
+use Rattle.gix_ref_theory.specs.Readings.{Store, records_of_file}
 use Rattle.gix_ref_edits.specs.RefEdits.{name_of, expected_of, new_of, Expects}
 use Rattle.gix_ref_edits.specs.declared.transaction.RefEdit.{RefEdit}
 use Rattle.gix_ref_transaction.specs.Causes.{decoded, found, found_by, packed_id, packed_of, IsApartFromPacked, IsFault, IsFirstCause, IsLockable, IsMismatch, IsUnlockable, NoCause, Passes}
@@ -46,7 +46,7 @@ module _ (s : Store) (kind : Kind) (plain held : Tree) (off : (q : Path) → q �
     same_found : found s (view_of held) (name_of edit) ≡ found s (view_of plain) (name_of edit)
     same_found =
         ap (λ (file : Option (List ℕ)). found_by s (decoded s file) (packed_of s (view_of held) (name_of edit))) same_place
-        ∙ ap (λ (file : Option (List ℕ)). found_by s (decoded s (view_of plain (s.place (name_of edit)))) (packed_id (s.key (name_of edit)) (records_in s file))) same_packed
+        ∙ ap (λ (file : Option (List ℕ)). found_by s (decoded s (view_of plain (s.place (name_of edit)))) (packed_id (s.key (name_of edit)) (records_of_file s file))) same_packed
 
     same_effect : effect_on s (view_of held) edit ≡ effect_on s (view_of plain) edit
     same_effect = effect_alike s (view_of held) (view_of plain) edit same_place same_packed
@@ -124,7 +124,7 @@ module _ (s : Store) (kind : Kind) (plain held : Tree) (off : (q : Path) → q �
   ids_on : (some : List RefEdit) → packed_ids s held some ≡ packed_ids s plain some
   ids_on [] = refl
   ids_on (e ∷ some) =
-      ap (λ (file : Option (List ℕ)). packed_id (s.key (name_of e)) (records_in s file) ∷ packed_ids s held some) same_packed
+      ap (λ (file : Option (List ℕ)). packed_id (s.key (name_of e)) (records_of_file s file) ∷ packed_ids s held some) same_packed
       ∙ ap (λ l. packed_of s (view_of plain) (name_of e) ∷ l) (ids_on some)
 
   pub settled_on : (T : Tree) (old new : List Edit) → AreApart (updates old) → AreSettled s kind held T old new → AreSettled s kind plain T old new

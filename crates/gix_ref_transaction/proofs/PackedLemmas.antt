@@ -22,7 +22,7 @@ use Rattle.gix_ref_packed.specs.declared.packed.buffer.open.Error.TheVariants.{I
 use Rattle.gix_ref_base.specs.Layout.{Layout}
 use Rattle.gix_ref_theory.specs.ConcreteStore.{store_of}
 use Rattle.gix_ref_lookup.specs.StoreLayout.{git_options}
-use Rattle.gix_ref_theory.specs.Readings.{Store, reading_by, reading_of_record, reading_of_id, records_in}
+use Rattle.gix_ref_theory.specs.Readings.{Store, reading_by, reading_of_record, reading_of_id, records_of_file}
 use Rattle.gix_ref_theory.specs.Readings.Reading.{Absent}
 use Rattle.gix_ref_lookup.specs.Lookups.{IsNotPacked, ArePackedRecords}
 use Rattle.gix_ref_lookup.specs.declared.find.error.Error.{Error as LookupError}
@@ -100,7 +100,7 @@ no_id s (Some key) rs absent = by (record_named key rs) absent
     by (Some r) absent' = unread_is (id_read r.target) absent'
 
 -- the records of a well-formed `packed-refs` are those that the store reads
-pub records_are : (f : Layout) (kind : Kind) (prohibits : Bool) (packed : Option (List ℕ)) (rs : List Record) → ArePackedRecords kind packed rs → records_in (store_of f (git_options kind prohibits)) packed ≡ rs
+pub records_are : (f : Layout) (kind : Kind) (prohibits : Bool) (packed : Option (List ℕ)) (rs : List Record) → ArePackedRecords kind packed rs → records_of_file (store_of f (git_options kind prohibits)) packed ≡ rs
 records_are f kind prohibits None rs are = sym are
 records_are f kind prohibits (Some text) rs are = records_computed kind text are.0 rs are.1.whole
 

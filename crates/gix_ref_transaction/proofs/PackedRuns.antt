@@ -4,7 +4,7 @@ use Rattle.std.specs.Prelude.{bytes_eq}
 use Rattle.gix_ref_files.specs.Disk.{Disk}
 use Rattle.gix_ref_files.specs.Files.{Meaning, Leaves, HasRisen}
 use Rattle.gix_ref_files.specs.Lock.{lock_of}
-use Rattle.gix_ref_files.specs.Settled.{IsWhole}
+use Rattle.gix_ref_files.specs.Settled.{IsWholeAt}
 use Rattle.gix_ref_files.specs.Tree.{Tree, Path, Content, fronts, is_file}
 use Rattle.gix_ref_files.specs.Tree.Content.{File, Folder}
 use Rattle.gix_ref_files.proofs.Moments.{joins, weaken, passes_joins}
@@ -84,7 +84,7 @@ module _ (xs all : List Path) where
       (weaken removes (λ (V : Tree) less. adds_again left (xs ++ all) old.tree mid.tree end.tree V free first.tree adds less (λ q mine out. clash (in_left xs all q mine) out) (λ q h. in_right xs all q (ours q h))))
 
 -- locks that stay whole, and others
-pub whole_both : (D E : Disk) (xs ys : List Path) → ((q : Path) (text : List ℕ) → IsWhole D q text → IsWhole E q text) → AreWholeLocks D xs → AreWholeLocks E ys → AreWholeLocks E (xs ++ ys)
+pub whole_both : (D E : Disk) (xs ys : List Path) → ((q : Path) (text : List ℕ) → IsWholeAt D q text → IsWholeAt E q text) → AreWholeLocks D xs → AreWholeLocks E ys → AreWholeLocks E (xs ++ ys)
 whole_both D E [] ys keeps first second = second
 whole_both D E (x ∷ xs) ys keeps first second = ((first.0.0, keeps x first.0.0 first.0.1), whole_both D E xs ys keeps first.1 second)
 

@@ -28,7 +28,7 @@ use Rattle.gix_ref_edits.specs.declared.transaction.RefEdit.{RefEdit}
 use Rattle.gix_ref_edits.proofs.Joining.{after_round-append}
 use Rattle.gix_ref_transaction.specs.Causes.{decoded, IsMisnamed}
 use Rattle.gix_ref_transaction.specs.Parents.{first_parents, level_parents, parent_list, parents_from, parents_given}
-use Rattle.gix_ref_transaction.specs.Splits.{name_in, values_of, AreDirect, CanFollow, IsFirstMisnamed, OnlyReads}
+use Rattle.gix_ref_transaction.specs.Splits.{symbolic_name_in, values_of, AreDirect, CanFollow, IsFirstMisnamed, OnlyReads}
 use Rattle.gix_ref_transaction.specs.internal.SplitRounds.{name_by, led_to, led_by, after_by, child_values, children_by, parents_by}
 use Rattle.gix_ref_transaction.specs.declared.prepare.error.Error.{Error}
 use Rattle.gix_ref_transaction.proofs.Firsts.{next_of, seen_of}
@@ -42,12 +42,12 @@ module _ (f : Layout) (kind : Kind) (prohibits : Bool) where
   same_target (object_id id) = refl
   same_target (symbolic_name n) = refl
 
-  pub leads_is : (loose : Loose) (file : Option (List ℕ)) → IsDecoded kind file loose → name_by f.namespace loose ≡ name_in git (decoded git file)
-  leads_is loose_files.Absent file told = sym (ap (λ b. name_in git (decoded git b)) told)
+  pub leads_is : (loose : Loose) (file : Option (List ℕ)) → IsDecoded kind file loose → name_by f.namespace loose ≡ symbolic_name_in git (decoded git file)
+  leads_is loose_files.Absent file told = sym (ap (λ b. symbolic_name_in git (decoded git b)) told)
   leads_is (loose_files.Holds target) file told =
-      ap target_name (same_target (target_value target)) ∙ ap (name_in git) (sym (ap (decoded git) told.1 ∙ held_is kind told.0 (target_value target) told.2))
+      ap target_name (same_target (target_value target)) ∙ ap (symbolic_name_in git) (sym (ap (decoded git) told.1 ∙ held_is kind told.0 (target_value target) told.2))
   leads_is (loose_files.Undecodable error) file told =
-      sym (ap (name_in git) (ap (decoded git) told.1 ∙ refused_none kind told.0 error told.2 told.3))
+      sym (ap (symbolic_name_in git) (ap (decoded git) told.1 ∙ refused_none kind told.0 error told.2 told.3))
 
 -- no call
 pub reads_none : {F : Type 0} (honest : Type 0) (means : F → Meaning) (faults : F → ℕ) (a : F) → OnlyReads honest means faults a a

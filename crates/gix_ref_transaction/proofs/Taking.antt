@@ -9,7 +9,7 @@ use Rattle.gix_ref_files.proofs.Puts.{put_at, put_other}
 use Rattle.gix_ref_transaction.specs.OwnLocks.{is_in, leads_to, IsOurs, AddsLocks}
 use Rattle.gix_ref_theory.specs.OnRealTrees.{view_of, file_of}
 use Rattle.gix_ref_transaction.specs.Causes.{found, found_by, decoded, packed_id, packed_of, IsFault, IsLockable, LocksAreApart, locks_of}
-use Rattle.gix_ref_theory.specs.Readings.{Store, records_in}
+use Rattle.gix_ref_theory.specs.Readings.{Store, records_of_file}
 use Rattle.gix_ref_transaction.specs.PrepareSteps.{effect_on, has_file_at, lock_text, IsRefusedLock, IsNewLock, FillsLock, HoldTexts}
 use Rattle.gix_ref_edits.specs.RefEdits.{name_of}
 use Rattle.gix_ref_files.specs.Lock.{lock_of}
@@ -129,7 +129,7 @@ module _ (s : Store) (kind : Kind) (edits : List RefEdit) (apart : LocksAreApart
 
       module _ (apart_place : is_in all (s.place (name_of edit)) ≡ false) where
         pub same_id : packed_of s (view_of U) (name_of edit) ≡ packed_of s (view_of T0) (name_of edit)
-        same_id = ap (λ (file : Option (List ℕ)). packed_id (s.key (name_of edit)) (records_in s file)) (same_file s.packed_path apart.packed)
+        same_id = ap (λ (file : Option (List ℕ)). packed_id (s.key (name_of edit)) (records_of_file s file)) (same_file s.packed_path apart.packed)
 
         pub same_found : found s (view_of U) (name_of edit) ≡ found s (view_of T0) (name_of edit)
         same_found =

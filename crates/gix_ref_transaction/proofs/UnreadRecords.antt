@@ -18,7 +18,7 @@ use Rattle.gix_ref_transaction.specs.PrepareSteps.{all_asked, updates}
 use Rattle.gix_ref_transaction.specs.declared.edit.Edit.{Edit}
 use Rattle.gix_ref_transaction.specs.declared.prepare.error.Error.{Error}
 use Rattle.gix_ref_transaction.specs.declared.prepare.error.Error.TheVariants.{UnsafeName, DeviceName, DeleteMustNotExist, PackedTransactionAcquire, DeleteReferenceMustExist, TargetNotFull, OtherHashKind, PreprocessingFailed, Packed, PackedFind, PathCollision, LockAcquire, MustExist, MustNotExist, ReferenceOutOfDate, ReferenceDecode, Io, Memory as NoMemory}
-use Rattle.gix_ref_transaction.specs.internal.StuckRecords.{IsStuckAt}
+use Rattle.gix_ref_transaction.specs.internal.StuckRecords.{IsStuckKey}
 use Rattle.gix_ref_transaction.proofs.PackedLemmas.{updates_alike}
 
 -- why no record was found, as it is reported
@@ -75,7 +75,7 @@ find_wider P Q (ReferenceDecode error) wider holds = tt
 
 -- among records that search the same texts
 pub stuck_back : {R : Type 0} {G : Ghosts R} (kind : Kind) (old new : Records R G) → ((of_kind : Kind) (text : List ℕ) → IsSearched kind None new of_kind text → IsSearched kind None old of_kind text) →
-    (key : List ℕ) → IsStuckAt kind new key → IsStuckAt kind old key
+    (key : List ℕ) → IsStuckKey kind new key → IsStuckKey kind old key
 stuck_back kind old new back key stuck = record {
   of_kind = stuck.of_kind;
   text = stuck.text;

@@ -21,7 +21,7 @@ use Rattle.gix_ref_packed.specs.Buffers.{IsRefusedFile}
 use Rattle.gix_ref_packed.specs.declared.packed.buffer.open.Error.TheVariants.{Io as unread}
 use Rattle.gix_ref_lookup.specs.Lookups.{ArePackedRecords, IsOpenedText, OfKey}
 use Rattle.gix_ref_records.specs.Positions.{CannotRead}
-use Rattle.gix_ref_theory.specs.Readings.{Store, as_read, records_in}
+use Rattle.gix_ref_theory.specs.Readings.{Store, as_read, records_of_file}
 use Rattle.gix_ref_base.specs.Locations.{is_safe}
 use Rattle.gix_ref_transaction.specs.OwnLocks.{is_in}
 use Rattle.gix_ref_transaction.specs.First.{AllPass, FirstFault}
@@ -78,7 +78,7 @@ IsPackedRefusal kind packed other = Unit {0}
 
 -- In the text of `packed-refs`, once it is open, the record of this key cannot be read: it is damaged, or it was not found and a line that
 -- is no record was met.
-pub record IsUnreadable (kind : Kind) (packed : Option (List ℕ)) (key : List ℕ) : Type 0 where
+pub record IsUnreadableRecord (kind : Kind) (packed : Option (List ℕ)) (key : List ℕ) : Type 0 where
   pub of_kind : Kind
   pub text : List ℕ
   pub opened : IsOpenedText kind packed of_kind text
@@ -95,7 +95,7 @@ OfSomeKey Bad s edits = Any (λ (edit : RefEdit). OfKey s (name_of edit) Bad) ed
 
 -- `PackedFind` is returned only where the record of an edit cannot be read
 abbrev pub IsFindCause : Store → Kind → Option (List ℕ) → List RefEdit → Error → Type 0
-IsFindCause s kind packed edits error = OfFind (OfSomeKey (IsUnreadable kind packed) s edits) error
+IsFindCause s kind packed edits error = OfFind (OfSomeKey (IsUnreadableRecord kind packed) s edits) error
 
 -- `packed-refs` is well formed, or there is none
 abbrev pub IsPackedWell : Kind → Option (List ℕ) → Type 0
@@ -226,7 +226,7 @@ found_by s None packed = option_map object_id packed
 
 -- the id of a name's record among these files
 abbrev pub packed_of : Store → View → List ℕ → Option ObjectId
-packed_of s view name = packed_id (s.key name) (records_in s (view s.packed_path))
+packed_of s view name = packed_id (s.key name) (records_of_file s (view s.packed_path))
 
 abbrev pub found : Store → View → List ℕ → Option TargetValue
 found s view name = found_by s (decoded s (view (s.place name))) (packed_of s view name)

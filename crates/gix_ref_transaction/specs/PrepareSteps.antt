@@ -8,7 +8,7 @@ use Rattle.gix_ref_files.specs.Tree.{Tree, Path, is_blocked, put}
 use Rattle.gix_ref_files.specs.Tree.Content.{File}
 use Rattle.gix_ref_files.specs.Disk.{Disk}
 use Rattle.gix_ref_files.specs.DiskCalls.{WritingOn}
-use Rattle.gix_ref_files.specs.Settled.{IsWhole}
+use Rattle.gix_ref_files.specs.Settled.{IsWholeAt}
 use Rattle.gix_ref_files.specs.Lock.{lock_of}
 use Rattle.gix_ref_theory.specs.OnRealTrees.{view_of}
 use Rattle.gix_ref_hash.specs.declared.hash.Kind.{Kind}
@@ -176,7 +176,7 @@ HoldTexts s before T (edit ∷ edits) =
 
 -- On the disk D a lock is whole: all of its text is synced.
 abbrev pub IsSomeWhole : Disk → Path → Type 0
-IsSomeWhole D lock = (text : List ℕ) × IsWhole D lock text
+IsSomeWhole D lock = (text : List ℕ) × IsWholeAt D lock text
 
 -- and so is each of these
 abbrev pub AreWholeLocks : Disk → List Path → Type 0

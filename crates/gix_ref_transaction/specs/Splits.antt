@@ -19,13 +19,13 @@ use Rattle.gix_ref_transaction.specs.declared.prepare.error.Error.{Error}
 use Rattle.gix_ref_transaction.specs.declared.prepare.error.Error.TheVariants.{PreprocessingFailed}
 
 -- the name that the target of a loose file is, without the namespace
-abbrev pub name_in : Store → Option TargetValue → Option (List ℕ)
-name_in s None = None
-name_in s (Some target) = target_name (as_read s target)
+abbrev pub symbolic_name_in : Store → Option TargetValue → Option (List ℕ)
+symbolic_name_in s None = None
+symbolic_name_in s (Some target) = target_name (as_read s target)
 
 -- Where the reference of a name leads: to the symbolic target of its loose file. A record names an object.
-abbrev pub leads_to : Store → View → List ℕ → Option (List ℕ)
-leads_to s view name = name_in s (decoded s (view (s.place name)))
+abbrev pub name_led_to : Store → View → List ℕ → Option (List ℕ)
+name_led_to s view name = symbolic_name_in s (decoded s (view (s.place name)))
 
 -- edits as values
 abbrev pub values_of : List RefEdit → List EditValue
@@ -33,11 +33,11 @@ values_of edits = map edit_value edits
 
 -- What becomes of edits where some follow symbolic references: their split list.
 abbrev pub AreSplit : Store → View → (given split : List RefEdit) → Type 0
-AreSplit s view given split = IsSplitList (leads_to s view) (values_of given) (values_of split)
+AreSplit s view given split = IsSplitList (name_led_to s view) (values_of given) (values_of split)
 
 -- the edits of the rounds: those that are given, and the children of the first four rounds
 abbrev pub all_rounds : Store → View → List RefEdit → List EditValue
-all_rounds s view given = first_levels (leads_to s view) (values_of given) 5
+all_rounds s view given = first_levels (name_led_to s view) (values_of given) 5
 
 -- an edit that is looked up may be: one that follows has a name for edits
 abbrev pub CanFollow : Store → EditValue → Type 0
@@ -56,7 +56,7 @@ pub record IsFirstMisnamed (s : Store) (edits : List EditValue) (error : Error) 
 -- a fifth round finds children, where all may be looked up
 abbrev pub IsTooLong : Store → View → List RefEdit → Error → Type 0
 IsTooLong s view given (PreprocessingFailed (TooManySplits rounds)) =
-    (rounds ≡ 5) × All (CanFollow s) (all_rounds s view given) × (level (leads_to s view) (values_of given) 5 ≡ [] → ⊥)
+    (rounds ≡ 5) × All (CanFollow s) (all_rounds s view given) × (level (name_led_to s view) (values_of given) 5 ≡ [] → ⊥)
 IsTooLong s view given other = ⊥
 
 -- A call that only reads files.

@@ -7,7 +7,7 @@ ghost use Rattle.gix_ref_files.specs.Calls.{Unchanged};
 ghost use Rattle.gix_ref_files.specs.DiskCalls.{Untouched};
 ghost use Rattle.gix_ref_files.specs.Files.{disk_of, Leaves, Passes, count_after};
 ghost use Rattle.gix_ref_files.specs.Lock.{lock_of, MakesLock, Readying, Acquiring, after_locking, LockingOn};
-ghost use Rattle.gix_ref_files.specs.Settled.{IsWhole};
+ghost use Rattle.gix_ref_files.specs.Settled.{IsWholeAt};
 ghost use Rattle.gix_ref_files.specs.Tree.{Tree, Path, has_folders, is_blocked, put};
 ghost use Rattle.gix_ref_files.specs.Tree.Content.{File};
 ghost use Rattle.gix_ref_lookup.specs.StoreLayout.{namespace_text};
@@ -289,7 +289,7 @@ fn take_lock<F: Files>(files: &mut F, lock: &LockFile, is_ready: bool) -> Result
 }
 
 /// Puts the text into the lock, which is empty, and syncs it.
-fn fill<F: Files>(files: &mut F, lock: &LockFile, text: &[u8]) -> Result<(), Error>
+fn write_lock<F: Files>(files: &mut F, lock: &LockFile, text: &[u8]) -> Result<(), Error>
     ensures filled { F.honest → (F.means files.old).tree (lock_of lock.now) ≡ Some (File []) →
         OnOk result ((F.means files.new).tree ≡ put (F.means files.old).tree (lock_of lock.now)
         (Some (File text.now))) }
@@ -297,8 +297,8 @@ fn fill<F: Files>(files: &mut F, lock: &LockFile, text: &[u8]) -> Result<(), Err
     ensures leaves { F.honest → (F.means files.old).tree (lock_of lock.now) ≡ Some (File []) →
         Leaves (F.means files.old) (F.means files.new) (FillsLock (F.means files.old).tree
         (lock_of lock.now)) }
-    ensures whole { F.honest → IsWhole (disk_of (F.means files.old)) (lock_of lock.now) [] →
-        OnOk result (IsWhole (disk_of (F.means files.new)) (lock_of lock.now) text.now) }
+    ensures whole { F.honest → IsWholeAt (disk_of (F.means files.old)) (lock_of lock.now) [] →
+        OnOk result (IsWholeAt (disk_of (F.means files.new)) (lock_of lock.now) text.now) }
     ensures passes { F.honest → Passes (F.means files.old) (F.means files.new)
         (FillingOn (disk_of (F.means files.old)) (lock_of lock.now)) }
     ensures no_fewer { F.faults files.old ≤ F.faults files.new }
@@ -369,7 +369,7 @@ impl Edit {
         ensures leaves { F.honest → Leaves (F.means files.old) (F.means files.new)
             (AddsLocks (lock_of self.now.lock ∷ []) (lock_of self.now.lock ∷ [])
             (F.means files.old).tree) }
-        ensures whole { F.honest → OnOk result (IsWhole (disk_of (F.means files.new))
+        ensures whole { F.honest → OnOk result (IsWholeAt (disk_of (F.means files.new))
             (lock_of self.now.lock) []) }
         ensures passes { F.honest → Passes (F.means files.old) (F.means files.new)
             (LockingOn (disk_of (F.means files.old)) self.now.lock) }
@@ -407,7 +407,7 @@ impl Edit {
         ensures leaves { F.honest → (F.means files.old).tree (lock_of self.now.lock) ≡ Some
             (File []) → Leaves (F.means files.old) (F.means files.new)
             (FillsLock (F.means files.old).tree (lock_of self.now.lock)) }
-        ensures whole { F.honest → IsWhole (disk_of (F.means files.old)) (lock_of self.now.lock)
+        ensures whole { F.honest → IsWholeAt (disk_of (F.means files.old)) (lock_of self.now.lock)
             [] → OnOk result (IsSomeWhole (disk_of (F.means files.new)) (lock_of self.now.lock)) }
         ensures passes { F.honest → Passes (F.means files.old) (F.means files.new)
             (FillingOn (disk_of (F.means files.old)) (lock_of self.now.lock)) }
@@ -417,7 +417,7 @@ impl Edit {
         match self.effect {
             Effect::Write => {
                 let text = text_of_change(alloc, &self.update.change)?;
-                fill(files, &self.lock, &text)
+                write_lock(files, &self.lock, &text)
             }
             Effect::Remove | Effect::Keep => Ok(()),
         }
@@ -425,7 +425,7 @@ impl Edit {
 
     /// Compares what there is with what the edit expects, decides what becomes of the loose file, and gives the lock, which is
     /// empty, its text. Makes one call of files, and two more for a text.
-    pub fn settle<F: Files>(
+    pub fn compare_and_write<F: Files>(
         &mut self,
         alloc: Global,
         files: &mut F,
@@ -448,7 +448,7 @@ impl Edit {
         ensures leaves { F.honest → (F.means files.old).tree (lock_of self.old.lock) ≡ Some
             (File []) → Leaves (F.means files.old) (F.means files.new)
             (FillsLock (F.means files.old).tree (lock_of self.old.lock)) }
-        ensures whole { F.honest → IsWhole (disk_of (F.means files.old)) (lock_of self.old.lock)
+        ensures whole { F.honest → IsWholeAt (disk_of (F.means files.old)) (lock_of self.old.lock)
             [] → OnOk result (IsSomeWhole (disk_of (F.means files.new)) (lock_of self.old.lock)) }
         ensures passes { F.honest → Passes (F.means files.old) (F.means files.new)
             (FillingOn (disk_of (F.means files.old)) (lock_of self.old.lock)) }

@@ -13,7 +13,7 @@ use Rattle.gix_ref_theory.specs.Between.{IsCommitted}
 use Rattle.gix_ref_theory.specs.Edits.{edited_reading, new_reading}
 use Rattle.gix_ref_theory.specs.Edits.Mode.{DeletionsOnly}
 use Rattle.gix_ref_theory.specs.OnRealTrees.{view_of}
-use Rattle.gix_ref_theory.specs.Readings.{Store as Places, HasLaws, Reading, reading, reading_among, reading_by, records_in}
+use Rattle.gix_ref_theory.specs.Readings.{Store as Places, HasLaws, Reading, reading, reading_among, reading_by, records_of_file}
 use Rattle.gix_ref_theory.specs.Readings.Reading.{Fault}
 use Rattle.gix_ref_theory.specs.Views.{View, IsOwnLock}
 use Rattle.gix_ref_theory.proofs.OnDisks.{own_is_lock}
@@ -100,8 +100,8 @@ loses_joins first second = record {
 -- after a loss of power on a settled disk each reference reads as on the disk
 lost_reading : (s : Places) → HasLaws s → (D : Disk) (T : Tree) → IsAllSettled D → Lost D T → (name : List ℕ) → s.is_reference name ≡ true → reading s (view_of T) name ≡ reading s (view_of D.tree) name
 lost_reading s laws D T settled lost name is =
-    ap (λ (file : Option (List ℕ)). if s.is_prohibited (s.place name) then Fault else reading_by s (s.key name) file (records_in s (view_of T s.packed_path))) (kept (s.place name) (λ p. laws.place_is_no_lock name p is))
-    ∙ ap (λ (file : Option (List ℕ)). if s.is_prohibited (s.place name) then Fault else reading_by s (s.key name) (view_of D.tree (s.place name)) (records_in s file)) (kept s.packed_path (λ p. laws.packed_is_no_lock p))
+    ap (λ (file : Option (List ℕ)). if s.is_prohibited (s.place name) then Fault else reading_by s (s.key name) file (records_of_file s (view_of T s.packed_path))) (kept (s.place name) (λ p. laws.place_is_no_lock name p is))
+    ∙ ap (λ (file : Option (List ℕ)). if s.is_prohibited (s.place name) then Fault else reading_by s (s.key name) (view_of D.tree (s.place name)) (records_of_file s file)) (kept s.packed_path (λ p. laws.packed_is_no_lock p))
   where
     kept : (q : Path) → ((p : Path) → q ≢ lock_of p) → view_of T q ≡ view_of D.tree q
     kept q no_lock = lost_holds D T (view_of D.tree q) (λ (file : Option (List ℕ)). file ≡ view_of D.tree q) q (settled q no_lock) refl lost

@@ -22,13 +22,12 @@ use Rattle.gix_ref_theory.specs.OnRealTrees.{view_of}
 use Rattle.gix_ref_theory.specs.Readings.{Store as Places, Reading, reading_among}
 use Rattle.gix_ref_theory.specs.Views.{View}
 use Rattle.gix_ref_edits.specs.declared.transaction.RefEdit.{RefEdit}
-use Rattle.gix_ref_lookup.specs.Lookups.{meaning_in}
+use Rattle.gix_ref_lookup.specs.Lookups.{meaning_in, Among}
 use Rattle.gix_ref_lookup.specs.declared.settings.Settings.{Settings}
 use Rattle.gix_ref_listing.specs.Items.{IsItem}
 use Rattle.gix_ref_listing.specs.Listings.{Listed}
 use Rattle.gix_ref_listing.specs.Listings.Listed.{Walked, InPacked}
-use Rattle.gix_ref_listing.specs.WholeListings.{HoldsFor, IsInStore, IsListing, IsName, key_in, listed_key}
-use Rattle.gix_ref_listing.specs.Walks.{Among}
+use Rattle.gix_ref_listing.specs.WholeListings.{HoldsFor, IsInStore, IsListing, IsNameItem, key_in, listed_key}
 use Rattle.gix_ref_listing.specs.declared.error.Error.{Error}
 use Rattle.gix_ref_listing.specs.declared.found.Found.TheVariants.{File, Unlisted}
 use Rattle.gix_ref_listing.proofs.FolderWalks.{unchanged_on}
@@ -56,16 +55,16 @@ module _ (settings : Settings) (plainly : settings.precompose_unicode ≡ false)
   abbrev found : List ℕ → Reading
   found name = reading_among s view records name
 
-  in_prefix : (one : Listed) → IsName one → IsInStore settings view records prefix one → IsPartialName (listed_key one) × BeginsWith (listed_key one) prefix
+  in_prefix : (one : Listed) → IsNameItem one → IsInStore settings view records prefix one → IsPartialName (listed_key one) × BeginsWith (listed_key one) prefix
   in_prefix (Walked (key, File n path)) name (named, file) = (file.placed.valid, file.placed.begins)
   in_prefix (Walked (key, Unlisted path e)) name there = absurd name
   in_prefix (InPacked own) name (there, has) = (there.valid, there.begins)
 
-  module _ (reads : List ℕ → Reading) (agree : (name : List ℕ) → IsPartialName name → BeginsWith name prefix → reads name ≡ found name) (names : AllByRecursion IsName listed) where
-    agree_at : (one : Listed) → IsName one → IsInStore settings view records prefix one → reads (listed_key one) ≡ found (listed_key one)
+  module _ (reads : List ℕ → Reading) (agree : (name : List ℕ) → IsPartialName name → BeginsWith name prefix → reads name ≡ found name) (names : AllByRecursion IsNameItem listed) where
+    agree_at : (one : Listed) → IsNameItem one → IsInStore settings view records prefix one → reads (listed_key one) ≡ found (listed_key one)
     agree_at one name there = let within = in_prefix one name there in agree (listed_key one) within.0 within.1
 
-    all_read : (ones : List Listed) → AllByRecursion IsName ones → AllByRecursion (IsInStore settings view records prefix) ones → AllByRecursion (λ one. is_there (found (listed_key one)) ≡ true) ones →
+    all_read : (ones : List Listed) → AllByRecursion IsNameItem ones → AllByRecursion (IsInStore settings view records prefix) ones → AllByRecursion (λ one. is_there (found (listed_key one)) ≡ true) ones →
         AllByRecursion (λ one. is_there (reads (listed_key one)) ≡ true) ones
     all_read [] names there read = tt
     all_read (one ∷ ones) names there read = (subst (λ r. is_there r ≡ true) (sym (agree_at one names.0 there.0)) read.0, all_read ones names.1 there.1 read.1)
@@ -75,11 +74,11 @@ module _ (settings : Settings) (plainly : settings.precompose_unicode ≡ false)
     one_item one (Ok r) same (name, target) = (name, λ may. subst (λ n. reads n ≡ found n) (sym name) same ∙ target may)
 
     module _ {F : Type 0} (honest : Type 0) (h : honest) (means : F → Meaning) (faults : F → ℕ) (now : ℕ) where
-      all_items : (items : List (Result Reference Error)) (before : ℕ) (ones : List Listed) → AllByRecursion IsName ones → AllByRecursion (IsInStore settings view records prefix) ones →
+      all_items : (items : List (Result Reference Error)) (before : ℕ) (ones : List Listed) → AllByRecursion IsNameItem ones → AllByRecursion (IsInStore settings view records prefix) ones →
           ((l : Listed) → Among (λ x. l ≡ x) ones → Among (λ x. l ≡ x) listed) → AreFirst honest means faults settings view before now ones [] items → AreItemsOf s reads ones items
       all_items [] before ones names_are there within first = subst (λ os. AreItemsOf s reads os []) (sym first.1) tt
       all_items (item ∷ items) before ones names_are there within (mid, one, more, same, up, is_item, later) =
-          let names' : AllByRecursion IsName (one ∷ more) = subst (AllByRecursion IsName) same names_are in
+          let names' : AllByRecursion IsNameItem (one ∷ more) = subst (AllByRecursion IsNameItem) same names_are in
           let there' : AllByRecursion (IsInStore settings view records prefix) (one ∷ more) = subst (AllByRecursion (IsInStore settings view records prefix)) same there in
           let within' : (l : Listed) → Among (λ x. l ≡ x) (one ∷ more) → Among (λ x. l ≡ x) listed = λ l w. within l (subst (λ os. Among (λ x. l ≡ x) os) (sym same) w) in
           subst (λ os. AreItemsOf s reads os (item ∷ items)) (sym same) (
@@ -180,7 +179,7 @@ module _ {F : Type 0} (honest : Type 0) (means : F → Meaning) (faults : F → 
       (subst (λ (x : Settings). AreOf records prefix items x (view_in means mid)) (sym (same_settings old mid looks.same)) (are.listed, are.is, (are.before, are.now, are.first))) in
       record { listed = moved.0; is = moved.1; before = moved.2.0; now = moved.2.1; first = moved.2.2 }
 
-  one_is_name : (settings : Settings) (view : View) (before now : ℕ) (one : Listed) (item : Result Reference Error) → IsItem honest settings view before now one item → IsNoFolder item → IsName one
+  one_is_name : (settings : Settings) (view : View) (before now : ℕ) (one : Listed) (item : Result Reference Error) → IsItem honest settings view before now one item → IsNoFolder item → IsNameItem one
   one_is_name settings view before now (InPacked own) item is plain = tt
   one_is_name settings view before now (Walked (key, File n path)) item is plain = tt
   one_is_name settings view before now (Walked (key, Unlisted path source)) (Ok r) is plain = is
@@ -188,10 +187,10 @@ module _ {F : Type 0} (honest : Type 0) (means : F → Meaning) (faults : F → 
 
   -- where no item is a folder, each is a name
   all_names : (settings : Settings) (view : View) (items : List (Result Reference Error)) (before now : ℕ) (ones : List Listed) → AreFirst honest means faults settings view before now ones [] items →
-      AllByRecursion IsNoFolder items → AllByRecursion IsName ones
-  all_names settings view [] before now ones first plain = subst (AllByRecursion IsName) (sym first.1) tt
+      AllByRecursion IsNoFolder items → AllByRecursion IsNameItem ones
+  all_names settings view [] before now ones first plain = subst (AllByRecursion IsNameItem) (sym first.1) tt
   all_names settings view (item ∷ items) before now ones (mid, one, more, same, up, is, later) plain =
-      subst (AllByRecursion IsName) (sym same) (one_is_name settings view before mid one item is plain.0, all_names settings view items mid now more later plain.1)
+      subst (AllByRecursion IsNameItem) (sym same) (one_is_name settings view before mid one item is plain.0, all_names settings view items mid now more later plain.1)
 
   -- a valid name below `refs/` may be that of a reference
   is_reference : (s : Store F) (name : List ℕ) → IsPartialName name → BeginsWith name (codes "refs/") → (meaning_of s).is_reference name ≡ true

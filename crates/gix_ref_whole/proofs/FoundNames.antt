@@ -7,7 +7,7 @@ use Rattle.gix_ref_base.specs.PackedRecords.{Record}
 use Rattle.gix_ref_base.specs.Targets.{TargetValue, target_value}
 use Rattle.gix_ref_records.specs.declared.raw.Reference.{Reference}
 use Rattle.gix_ref_theory.specs.Lookups.{Hit, hit, first_hit, hit_or_head, lookup, is_there}
-use Rattle.gix_ref_theory.specs.Readings.{Store, Reading, reading_among, records_in}
+use Rattle.gix_ref_theory.specs.Readings.{Store, Reading, reading_among, records_of_file}
 use Rattle.gix_ref_theory.specs.Readings.Reading.{Is, Fault, Absent}
 use Rattle.gix_ref_theory.specs.Views.{View}
 use Rattle.gix_ref_lookup.specs.Lookups.{Answers, IsSound, lookup_of, hit_given}
@@ -46,7 +46,7 @@ as_given name None r is = is
 as_given name (Some h) None is = is
 as_given name (Some h) (Some r) is = (is.0 ∙ given_same name h.name, is.1, is.2)
 
-module _ (s : Store) (view : View) (records : List Record) (same : records_in s (view s.packed_path) ≡ records) (name : List ℕ) where
+module _ (s : Store) (view : View) (records : List Record) (same : records_of_file s (view s.packed_path) ≡ records) (name : List ℕ) where
   abbrev more : Option Hit
   more = first_hit s view records (further name)
 

@@ -17,15 +17,14 @@ use Rattle.gix_ref_theory.specs.Lookups.{is_there}
 use Rattle.gix_ref_theory.specs.Readings.{Store, Reading, reading_among, reading_by, reading_of_loose, reading_of_id, reading_of_record}
 use Rattle.gix_ref_theory.specs.Readings.Reading.{Is, Fault, Absent}
 use Rattle.gix_ref_theory.specs.Views.{View}
-use Rattle.gix_ref_lookup.specs.Lookups.{meaning_in, name_asked}
+use Rattle.gix_ref_lookup.specs.Lookups.{meaning_in, name_asked, Among}
 use Rattle.gix_ref_lookup.specs.declared.settings.Settings.{Settings}
 use Rattle.gix_ref_listing.specs.Items.{IsItem, IsUnread}
 use Rattle.gix_ref_listing.specs.Listings.{Listed}
 use Rattle.gix_ref_listing.specs.Listings.Listed.{Walked, InPacked}
 use Rattle.gix_ref_listing.specs.LooseListings.{IsFront, IsLooseListed}
 use Rattle.gix_ref_listing.specs.OwnRecords.{Own}
-use Rattle.gix_ref_listing.specs.Walks.{Among}
-use Rattle.gix_ref_listing.specs.WholeListings.{IsInStore, IsListing, IsLooseOf, IsName, IsOf, Rises, key_in, listed_key}
+use Rattle.gix_ref_listing.specs.WholeListings.{IsInStore, IsListing, IsLooseOf, IsNameItem, IsOf, Rises, key_in, listed_key}
 use Rattle.gix_ref_listing.specs.declared.error.Error.{Error}
 use Rattle.gix_ref_listing.specs.declared.found.Found.TheVariants.{File, Unlisted}
 use Rattle.gix_ref_listing.specs.declared.error.Error.TheVariants.{Traversal, ReadFileContents, ReferenceCreation, PackedReference, Memory}
@@ -54,7 +53,7 @@ loose_is name (Walked e) h = h
 loose_is name (InPacked own) h = absurd h
 
 -- the name of a file
-loose_key : (name : List ℕ) (one : Listed) → IsName one → IsLooseOf name one → listed_key one ≡ name
+loose_key : (name : List ℕ) (one : Listed) → IsNameItem one → IsLooseOf name one → listed_key one ≡ name
 loose_key name (Walked (key, File n path)) is h = h
 loose_key name (Walked (key, Unlisted path e)) is h = absurd is
 loose_key name (InPacked own) is h = absurd h
@@ -64,11 +63,11 @@ no_record_is_loose own (Walked e) is h = cc
 no_record_is_loose own (InPacked other) is h = h
 
 -- a listing has no file under the name of a record
-alone : (own : Own) (listed : List Listed) → Rises listed → AllByRecursion IsName listed → Among (λ one. InPacked own ≡ one) listed → Among (IsLooseOf own.name) listed → ⊥
+alone : (own : Own) (listed : List Listed) → Rises listed → AllByRecursion IsNameItem listed → Among (λ one. InPacked own ≡ one) listed → Among (IsLooseOf own.name) listed → ⊥
 alone own [] rises names has loose = has
 alone own (one ∷ listed) (above, rises) (is, names) (inl here) (inl loose) = no_record_is_loose own one here loose
 alone own (one ∷ listed) (above, rises) (is, names) (inl here) (inr loose) =
-    let both : (l : Listed) × (Below (listed_key one) (listed_key l) × IsName l) × IsLooseOf own.name l = of_all _ (IsLooseOf own.name) listed (and_all (λ l. Below (listed_key one) (listed_key l)) IsName listed above names) loose in
+    let both : (l : Listed) × (Below (listed_key one) (listed_key l) × IsNameItem l) × IsLooseOf own.name l = of_all _ (IsLooseOf own.name) listed (and_all (λ l. Below (listed_key one) (listed_key l)) IsNameItem listed above names) loose in
     not_below_itself (listed_key one) (listed_key both.0) (sym (ap listed_key here) ∙ sym (loose_key own.name both.0 both.1.1 both.2)) both.1.0
   where
     and_all : (P Q : Listed → Type 0) (ls : List Listed) → AllByRecursion P ls → AllByRecursion Q ls → AllByRecursion (λ l. P l × Q l) ls
@@ -152,7 +151,7 @@ module _ (settings : Settings) (plainly : settings.precompose_unicode ≡ false)
             packed (Some r) has h own = is.packed name record { valid = listable.valid; begins = listable.begins; own = own; there = ap is_some has }
 
     -- and no other
-    one_there : (one : Listed) → IsName one → IsInStore settings view records prefix one → is_there (reads (listed_key one)) ≡ true
+    one_there : (one : Listed) → IsNameItem one → IsInStore settings view records prefix one → is_there (reads (listed_key one)) ≡ true
     one_there (Walked (key, Unlisted path e)) name found = absurd name
     one_there (Walked (key, File n path)) name (named, file) =
         let at : s.place key.items ≡ path.items = file.placed.own ∙ (ap (λ d. file.front ++ d) (file.asked ∙ asked_plainly file.disk) ∙ sym file.at) in
@@ -162,11 +161,11 @@ module _ (settings : Settings) (plainly : settings.precompose_unicode ≡ false)
         there_anyway (s.is_prohibited (s.place own.name)) (reading_by s (s.key own.name) (view (s.place own.name)) records)
         (by_record s (s.key own.name) (view (s.place own.name)) records (key_in settings own.name) own.of there.own has)
 
-    all_there : (ones : List Listed) → AllByRecursion IsName ones → AllByRecursion (IsInStore settings view records prefix) ones → AllByRecursion (λ one. is_there (reads (listed_key one)) ≡ true) ones
+    all_there : (ones : List Listed) → AllByRecursion IsNameItem ones → AllByRecursion (IsInStore settings view records prefix) ones → AllByRecursion (λ one. is_there (reads (listed_key one)) ≡ true) ones
     all_there [] names found = tt
     all_there (one ∷ ones) names found = (one_there one names.0 found.0, all_there ones names.1 found.1)
 
-    pub only_given : AllByRecursion IsName listed → AllByRecursion (λ one. is_there (reads (listed_key one)) ≡ true) listed
+    pub only_given : AllByRecursion IsNameItem listed → AllByRecursion (λ one. is_there (reads (listed_key one)) ≡ true) listed
     only_given names = all_there listed names is.only
 
     -- a file that holds no target reads a fault
@@ -186,7 +185,7 @@ module _ (settings : Settings) (plainly : settings.precompose_unicode ≡ false)
         by false is = is
 
     -- and each reference has the target that it reads
-    pub one_target : (honest : Type 0) → honest → AllByRecursion IsName listed → (before now : ℕ) (one : Listed) (item : Result Reference Error) → IsName one → Among (λ l. one ≡ l) listed → IsInStore settings view records prefix one →
+    pub one_target : (honest : Type 0) → honest → AllByRecursion IsNameItem listed → (before now : ℕ) (one : Listed) (item : Result Reference Error) → IsNameItem one → Among (λ l. one ≡ l) listed → IsInStore settings view records prefix one →
         IsItem honest settings view before now one item → IsItemOf s reads one item
     one_target honest h names before now (Walked (key, Unlisted path source)) (Err e) is_name within found item = absurd is_name
     one_target honest h names before now (Walked (key, File n path)) (Err e) is_name within (named, file) item =

@@ -14,14 +14,14 @@ use Rattle.gix_ref_files.specs.Settled.{IsAllSettled}
 use Rattle.gix_ref_files.specs.Tree.{Tree, Path, file_of}
 use Rattle.gix_ref_lookup.specs.Lookups.{ArePackedRecords}
 use Rattle.gix_ref_lookup.specs.StoreLayout.{git_options}
-use Rattle.gix_ref_theory.specs.Between.{IsBetween, IsCommitted, IsMerged, IsOther, IsPackedFile}
+use Rattle.gix_ref_theory.specs.Between.{IsBetween, IsCommitted, MergesRecords, IsOther, IsPackedFile}
 use Rattle.gix_ref_theory.specs.ConcreteStore.{Options, store_of}
-use Rattle.gix_ref_theory.specs.Edits.{Edit, alters_packed, file_of_records, is_key, merged_record, record_after}
+use Rattle.gix_ref_theory.specs.Edits.{Edit, alters_packed, file_of_records, is_key, merged_record, edited_record}
 use Rattle.gix_ref_theory.specs.Edits.Mode.{DeletionsOnly}
 use Rattle.gix_ref_theory.specs.Losses.{IsLostBetween}
 use Rattle.gix_ref_theory.specs.OnDisks.{IsSpokenOf}
 use Rattle.gix_ref_theory.specs.OnRealTrees.{view_of}
-use Rattle.gix_ref_theory.specs.Readings.{Store, Reading, reading, reading_by, reading_of_record, records_in}
+use Rattle.gix_ref_theory.specs.Readings.{Store, Reading, reading, reading_by, reading_of_record, records_of_file}
 use Rattle.gix_ref_theory.specs.Readings.Reading.{Fault}
 use Rattle.gix_ref_theory.specs.Views.{IsOwnLock}
 use Rattle.gix_ref_theory.proofs.OnDisks.{own_is_lock}
@@ -123,21 +123,21 @@ module _ (f : Layout) (k : Kind) (prohibits : Bool) where
   merged_same : (edits : List Edit) (key : List ℕ) (old : Option Record) → (IsKeyInside f key → ⊥) → merged_record git DeletionsOnly edits key old ≡ old
   merged_same [] key old out = refl
   merged_same (e ∷ edits) key old out =
-      cond-false (e.and_reference && is_key (git.key e.name) key) (record_after DeletionsOnly key e e.change old) (merged_record git DeletionsOnly edits key old)
+      cond-false (e.and_reference && is_key (git.key e.name) key) (edited_record DeletionsOnly key e e.change old) (merged_record git DeletionsOnly edits key old)
       (and_false e.and_reference (is_key (git.key e.name) key) (not_key (git.key e.name) key (λ is. out (keys_inside f (git_options k prohibits) e.name key is))))
       ∙ merged_same edits key old out
 
   records_outside : (edits : List Edit) (old new : Option (List ℕ)) (rs : List Record) → ArePackedRecords k old rs → IsPackedFile git DeletionsOnly edits old new → (key : List ℕ) → (IsKeyInside f key → ⊥) →
-      record_named key (records_in git new) ≡ record_named key (records_in git old)
-  records_outside edits old new rs are file key out = go (alters_packed git DeletionsOnly (records_in git old) edits) file
+      record_named key (records_of_file git new) ≡ record_named key (records_of_file git old)
+  records_outside edits old new rs are file key out = go (alters_packed git DeletionsOnly (records_of_file git old) edits) file
     where
-      go : (b : Bool) → MatchBool b ((merged : List Record) × IsMerged git DeletionsOnly edits (records_in git old) merged × (new ≡ file_of_records git merged)) (new ≡ old) →
-          record_named key (records_in git new) ≡ record_named key (records_in git old)
-      go false same = ap (λ (n : Option (List ℕ)). record_named key (records_in git n)) same
+      go : (b : Bool) → MatchBool b ((merged : List Record) × MergesRecords git DeletionsOnly edits (records_of_file git old) merged × (new ≡ file_of_records git merged)) (new ≡ old) →
+          record_named key (records_of_file git new) ≡ record_named key (records_of_file git old)
+      go false same = ap (λ (n : Option (List ℕ)). record_named key (records_of_file git n)) same
       go true (merged, m, is) =
-          ap (λ (n : Option (List ℕ)). record_named key (records_in git n)) is
+          ap (λ (n : Option (List ℕ)). record_named key (records_of_file git n)) is
           ∙ (ap (record_named key) (read_again f k prohibits edits old rs merged are m)
-          ∙ (m.each key ∙ merged_same edits key (record_named key (records_in git old)) out))
+          ∙ (m.each key ∙ merged_same edits key (record_named key (records_of_file git old)) out))
 
   module _ (edits : List Edit) (locked : List Path) (Excepted : Path → Type 0) (named : (q : Path) → IsOwnLock locked q → Excepted q) (before : Tree) (rs : List Record) (are : ArePackedRecords k (view_of before git.packed_path) rs) (T : Tree) where
     -- after a commit
@@ -152,7 +152,7 @@ module _ (f : Layout) (k : Kind) (prohibits : Bool) where
     between_outside b = record {
       files = λ path out. b.others path (outside_is_other locked Excepted edits path named out);
       records = λ key out. ⊎_elim
-          (λ same. ap (λ (n : Option (List ℕ)). record_named key (records_in git n)) same)
+          (λ same. ap (λ (n : Option (List ℕ)). record_named key (records_of_file git n)) same)
           (λ file. records_outside edits (view_of before git.packed_path) (view_of T git.packed_path) rs are file key out)
           b.packed;
     }
@@ -163,7 +163,7 @@ module _ (f : Layout) (k : Kind) (prohibits : Bool) where
   lost_outside edits locked D before rs are T settled b = record {
     files = λ path out. b.others path (outside_is_other locked IsLock edits path (own_is_lock locked) out) (settled path (λ p is. out.not_excepted (p, is)));
     records = λ key out. ⊎_elim
-        (λ same. ap (λ (n : Option (List ℕ)). record_named key (records_in git n)) same)
+        (λ same. ap (λ (n : Option (List ℕ)). record_named key (records_of_file git n)) same)
         (λ file. records_outside edits (view_of before git.packed_path) (view_of T git.packed_path) rs are file key out)
         b.packed;
   }
@@ -172,7 +172,7 @@ module _ (f : Layout) (k : Kind) (prohibits : Bool) where
   pub locking_outside : (locks : List Path) (before T : Tree) → is_in locks git.packed_path ≡ false → AddsLocks locks locks before T → OutsideIsAsBefore f git (IsOneOf locks) before T
   locking_outside locks before T apart adds = record {
     files = λ path out. same_view file_of refl locks locks before T path adds (is_false (is_in locks path) out.not_excepted);
-    records = λ key out. ap (λ (n : Option (List ℕ)). record_named key (records_in git n)) (same_view file_of refl locks locks before T git.packed_path adds apart);
+    records = λ key out. ap (λ (n : Option (List ℕ)). record_named key (records_of_file git n)) (same_view file_of refl locks locks before T git.packed_path adds apart);
   }
 
   -- and after a loss of power meanwhile
@@ -183,7 +183,7 @@ module _ (f : Layout) (k : Kind) (prohibits : Bool) where
     pub unlost_outside : OutsideIsAsBefore f git IsLock D.tree T
     unlost_outside = record {
       files = λ path out. still path (λ p is. out.not_excepted (p, is));
-      records = λ key out. ap (λ (n : Option (List ℕ)). record_named key (records_in git n)) (still git.packed_path apart);
+      records = λ key out. ap (λ (n : Option (List ℕ)). record_named key (records_of_file git n)) (still git.packed_path apart);
     }
 
 pub stops_outside : EveryStopLeavesTheOutside
@@ -213,7 +213,7 @@ reads_by_record s None None old new same = refl
 reads_by_record s (Some k) None old new same = ap reading_of_record (same k refl)
 
 -- the records of a text do not depend on the folders
-same_records : (f g : Layout) (o : Options) (file : Option (List ℕ)) → records_in (store_of g o) file ≡ records_in (store_of f o) file
+same_records : (f g : Layout) (o : Options) (file : Option (List ℕ)) → records_of_file (store_of g o) file ≡ records_of_file (store_of f o) file
 same_records f g o None = refl
 same_records f g o (Some bytes) = refl
 
@@ -221,16 +221,16 @@ module _ (f g : Layout) (o : Options) (before T : Tree) (one : g.common ≡ f.co
   abbrev s : Store
   s = store_of g o
 
-  at_packed : (S : Tree) (key : List ℕ) → record_named key (records_in s (view_of S s.packed_path)) ≡ record_named key (records_in (store_of f o) (view_of S (packed_refs f)))
+  at_packed : (S : Tree) (key : List ℕ) → record_named key (records_of_file s (view_of S s.packed_path)) ≡ record_named key (records_of_file (store_of f o) (view_of S (packed_refs f)))
   at_packed S key =
-      ap (λ (common : Path). record_named key (records_in s (view_of S (below common (codes "packed-refs"))))) one
+      ap (λ (common : Path). record_named key (records_of_file s (view_of S (below common (codes "packed-refs"))))) one
       ∙ ap (record_named key) (same_records f g o (view_of S (packed_refs f)))
 
   reading_stays : (name : List ℕ) → IsOutside f IsLock (s.place name) → ((key : List ℕ) → s.key name ≡ Some key → IsKeyInside f key → ⊥) → reading s (view_of T) name ≡ reading s (view_of before) name
   reading_stays name out other =
-      ap (λ (file : Option (List ℕ)). if s.is_prohibited (s.place name) then Fault else reading_by s (s.key name) file (records_in s (view_of T s.packed_path))) (outside.files (s.place name) out)
+      ap (λ (file : Option (List ℕ)). if s.is_prohibited (s.place name) then Fault else reading_by s (s.key name) file (records_of_file s (view_of T s.packed_path))) (outside.files (s.place name) out)
       ∙ ap (λ (r : Reading). if s.is_prohibited (s.place name) then Fault else r)
-      (reads_by_record s (s.key name) (view_of before (s.place name)) (records_in s (view_of before s.packed_path)) (records_in s (view_of T s.packed_path))
+      (reads_by_record s (s.key name) (view_of before (s.place name)) (records_of_file s (view_of before s.packed_path)) (records_of_file s (view_of T s.packed_path))
       (λ key has. at_packed T key ∙ (outside.records key (other key has) ∙ sym (at_packed before key))))
 
 pub readings_stay : ReadingsOutsideStay

@@ -21,12 +21,12 @@ use Rattle.gix_ref_packed.proofs.RecordsOfText.{records_computed}
 use Rattle.gix_ref_rewrite.proofs.OutcomeLemmas.{well_formed}
 use Rattle.gix_ref_lookup.specs.Lookups.{ArePackedRecords}
 use Rattle.gix_ref_lookup.specs.StoreLayout.{git_options}
-use Rattle.gix_ref_theory.specs.Between.{IsMerged, IsPackedFile}
+use Rattle.gix_ref_theory.specs.Between.{MergesRecords, IsPackedFile}
 use Rattle.gix_ref_theory.specs.ConcreteStore.{store_of}
-use Rattle.gix_ref_theory.specs.Edits.{Edit, Change, merged_record, record_after, alters_packed, file_of_records, is_key}
+use Rattle.gix_ref_theory.specs.Edits.{Edit, Change, merged_record, edited_record, alters_packed, file_of_records, is_key}
 use Rattle.gix_ref_theory.specs.Edits.Change.{Update, Delete}
 use Rattle.gix_ref_theory.specs.Edits.Mode.{DeletionsOnly}
-use Rattle.gix_ref_theory.specs.Readings.{Store, records_in}
+use Rattle.gix_ref_theory.specs.Readings.{Store, records_of_file}
 
 -- ---- the records that are left
 
@@ -34,7 +34,7 @@ no_record : (r : Record) → None ≡ Some r → ⊥
 no_record r is = cc
 
 -- an edit leaves the record of a key as it was, or removes it
-one_kept : (key : List ℕ) (e : Edit) (change : Change) (old : Option Record) (r : Record) → record_after DeletionsOnly key e change old ≡ Some r → old ≡ Some r
+one_kept : (key : List ℕ) (e : Edit) (change : Change) (old : Option Record) (r : Record) → edited_record DeletionsOnly key e change old ≡ Some r → old ≡ Some r
 one_kept key e Delete old r is = absurd (no_record r is)
 one_kept key e (Update (symbolic_name name)) old r is = is
 one_kept key e (Update (object_id id)) old r is = is
@@ -47,7 +47,7 @@ either false x y old r first second is = second is
 all_kept : (s : Store) (edits : List Edit) (key : List ℕ) (old : Option Record) (r : Record) → merged_record s DeletionsOnly edits key old ≡ Some r → old ≡ Some r
 all_kept s [] key old r is = is
 all_kept s (e ∷ edits) key old r is =
-    either (e.and_reference && is_key (s.key e.name) key) (record_after DeletionsOnly key e e.change old) (merged_record s DeletionsOnly edits key old) old r
+    either (e.and_reference && is_key (s.key e.name) key) (edited_record DeletionsOnly key e e.change old) (merged_record s DeletionsOnly edits key old) old r
     (one_kept key e e.change old r) (all_kept s edits key old r) is
 
 -- ---- records found by their names
@@ -110,7 +110,7 @@ module _ (f : Layout) (k : Kind) (prohibits : Bool) where
   git = store_of f (git_options k prohibits)
 
   -- they are the records that are computed
-  pub computed : (file : Option (List ℕ)) (rs : List Record) → ArePackedRecords k file rs → records_in git file ≡ rs
+  pub computed : (file : Option (List ℕ)) (rs : List Record) → ArePackedRecords k file rs → records_of_file git file ≡ rs
   computed None rs are = sym are
   computed (Some text) rs are = records_computed k text are.0 rs are.1.whole
 
@@ -119,7 +119,7 @@ module _ (f : Layout) (k : Kind) (prohibits : Bool) where
   readable (Some text) rs are = let whole = are.1.whole in records_read k whole.0 rs whole.2
 
   -- merged records can be read
-  merged_read : (edits : List Edit) (old new : List Record) → IsMerged git DeletionsOnly edits old new → All (IsReadable k) old → All (IsReadable k) new
+  merged_read : (edits : List Edit) (old new : List Record) → MergesRecords git DeletionsOnly edits old new → All (IsReadable k) old → All (IsReadable k) new
   merged_read edits old new m all =
       all_found (IsReadable k) new (pairs_ascend new m.ascending)
       (λ key r is. found_one (IsReadable k) key old r all (all_kept git edits key (record_named key old) r (sym (m.each key) ∙ is)))
@@ -129,17 +129,17 @@ module _ (f : Layout) (k : Kind) (prohibits : Bool) where
   merged_has (r ∷ rs) m all = (Some written_header, well_formed k (r ∷ rs) (pairs_ascend (r ∷ rs) m) all)
 
   -- merged records are those of their file
-  pub read_again : (edits : List Edit) (old : Option (List ℕ)) (rs merged : List Record) → ArePackedRecords k old rs → IsMerged git DeletionsOnly edits (records_in git old) merged → records_in git (file_of_records git merged) ≡ merged
+  pub read_again : (edits : List Edit) (old : Option (List ℕ)) (rs merged : List Record) → ArePackedRecords k old rs → MergesRecords git DeletionsOnly edits (records_of_file git old) merged → records_of_file git (file_of_records git merged) ≡ merged
   read_again edits old rs merged are m =
       computed (file_of_records git merged) merged
-      (merged_has merged m.ascending (merged_read edits (records_in git old) merged m (subst (All (IsReadable k)) (sym (computed old rs are)) (readable old rs are))))
+      (merged_has merged m.ascending (merged_read edits (records_of_file git old) merged m (subst (All (IsReadable k)) (sym (computed old rs are)) (readable old rs are))))
 
   -- its records after edits
   pub has_again : (edits : List Edit) (old new : Option (List ℕ)) (rs : List Record) → ArePackedRecords k old rs → IsPackedFile git DeletionsOnly edits old new → (left : List Record) × ArePackedRecords k new left
-  has_again edits old new rs are file = go (alters_packed git DeletionsOnly (records_in git old) edits) file
+  has_again edits old new rs are file = go (alters_packed git DeletionsOnly (records_of_file git old) edits) file
     where
-      go : (b : Bool) → MatchBool b ((merged : List Record) × IsMerged git DeletionsOnly edits (records_in git old) merged × (new ≡ file_of_records git merged)) (new ≡ old) → (left : List Record) × ArePackedRecords k new left
+      go : (b : Bool) → MatchBool b ((merged : List Record) × MergesRecords git DeletionsOnly edits (records_of_file git old) merged × (new ≡ file_of_records git merged)) (new ≡ old) → (left : List Record) × ArePackedRecords k new left
       go false same = (rs, subst (λ file. ArePackedRecords k file rs) (sym same) are)
       go true (merged, m, is) =
-          let all = merged_read edits (records_in git old) merged m (subst (All (IsReadable k)) (sym (computed old rs are)) (readable old rs are)) in
+          let all = merged_read edits (records_of_file git old) merged m (subst (All (IsReadable k)) (sym (computed old rs are)) (readable old rs are)) in
           (merged, subst (λ file. ArePackedRecords k file merged) (sym is) (merged_has merged m.ascending all))

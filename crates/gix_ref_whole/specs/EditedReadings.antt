@@ -6,7 +6,7 @@ use Rattle.gix_ref_base.specs.Targets.{target_value}
 use Rattle.gix_ref_records.specs.declared.raw.Reference.{Reference}
 use Rattle.gix_ref_theory.specs.Edits.{Edit, edited_reading}
 use Rattle.gix_ref_theory.specs.Lookups.{hit_name, lookup}
-use Rattle.gix_ref_theory.specs.Readings.{Store, Reading, reading, records_in}
+use Rattle.gix_ref_theory.specs.Readings.{Store, Reading, reading, records_of_file}
 use Rattle.gix_ref_theory.specs.Readings.Reading.{Is, Fault, Absent}
 use Rattle.gix_ref_theory.specs.Views.{View}
 use Rattle.gix_ref_lookup.specs.Lookups.{Answers, IsSound, name_asked}
@@ -35,7 +35,7 @@ AnswersName s view name (Is target) (Some r) =
     (target_value r.target ≡ target) × (full_bytes r.name ≡ hit_name s name (s.key name) (view (s.place name)))
 AnswersName s view name (Is target) None = ⊥
 AnswersName s view name Fault found = ⊥
-AnswersName s view name Absent found = Answers (lookup s view (records_in s (view s.packed_path)) (further name) (remote_head name)) found
+AnswersName s view name Absent found = Answers (lookup s view (records_of_file s (view s.packed_path)) (further name) (remote_head name)) found
 
 -- and so as the result of `find`; the error of a lookup is a fault of files, a file that cannot be decoded, or want of memory
 abbrev pub IsFoundAs : Store → View → List ℕ → Reading → Result Reference Missing → Type 0

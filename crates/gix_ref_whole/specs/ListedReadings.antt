@@ -10,10 +10,10 @@ use Rattle.gix_ref_theory.specs.Lookups.{is_there}
 use Rattle.gix_ref_theory.specs.Readings.{Store, Reading}
 use Rattle.gix_ref_theory.specs.Readings.Reading.{Is, Fault}
 use Rattle.gix_ref_listing.specs.Listings.{Listed}
-use Rattle.gix_ref_listing.specs.Walks.{Among}
 use Rattle.gix_ref_listing.specs.WholeListings.{IsOf, Rises, listed_key}
 use Rattle.gix_ref_listing.specs.declared.error.Error.{Error}
 use Rattle.gix_ref_listing.specs.declared.error.Error.TheVariants.{Traversal, ReadFileContents, ReferenceCreation, Memory}
+use Rattle.gix_ref_lookup.specs.Lookups.{Among}
 
 -- the store prohibits nothing at the place of the name
 abbrev pub IsAllowed : Store → List ℕ → Type 0

@@ -12,7 +12,7 @@ use Rattle.gix_ref_theory.specs.ConcreteStore.{Options, store_of}
 use Rattle.gix_ref_theory.specs.Edits.Mode.{DeletionsOnly}
 use Rattle.gix_ref_theory.specs.Losses.{IsLostWell}
 use Rattle.gix_ref_theory.specs.OnRealTrees.{view_of}
-use Rattle.gix_ref_theory.specs.Readings.{Store, reading, records_in}
+use Rattle.gix_ref_theory.specs.Readings.{Store, reading, records_of_file}
 use Rattle.gix_ref_edits.specs.declared.transaction.RefEdit.{RefEdit}
 use Rattle.gix_ref_lookup.specs.StoreLayout.{git_options}
 use Rattle.gix_ref_transaction.specs.Causes.{IsPackedWell}
@@ -59,7 +59,7 @@ pub record IsOutside (f : Layout) (Excepted : Path → Type 0) (path : Path) : T
 pub record OutsideIsAsBefore (f : Layout) (s : Store) (Excepted : Path → Type 0) (before T : Tree) : Type 0 where
   pub files : (path : Path) → IsOutside f Excepted path → view_of T path ≡ view_of before path
   pub records : (key : List ℕ) → (IsKeyInside f key → ⊥) →
-      record_named key (records_in s (view_of T s.packed_path)) ≡ record_named key (records_in s (view_of before s.packed_path))
+      record_named key (records_of_file s (view_of T s.packed_path)) ≡ record_named key (records_of_file s (view_of before s.packed_path))
 
 -- the place of each name lies in the namespace
 abbrev pub PlacesLieInside : Type 0

@@ -6,10 +6,10 @@ use Rattle.hex.specs.Hex.{encode_with, decode_pairs}
 use Rattle.gix_ref_hash.specs.declared.hash.ObjectId.TheVariants.{Sha1, Sha256}
 use Rattle.gix_ref_hash.specs.Bytes.{without_front, components}
 use Rattle.gix_ref_grammar.specs.NameGrammar.{partial_error}
-use Rattle.gix_ref_theory.proofs.Writes.{same, same_true, same_false}
+use Rattle.gix_ref_theory.proofs.Writes.{same, same_true}
 use Rattle.gix_ref_base.specs.Targets.{TargetValue}
 use Rattle.gix_ref_base.specs.Targets.TargetValue.{object_id, symbolic_name}
-use Rattle.gix_ref_theory.specs.Between.{AreEdits, InOrder, IsEdit, IsMerged, NoDeletionFirst}
+use Rattle.gix_ref_theory.specs.Between.{AreEdits, InOrder, IsEdit, MergesRecords, NoDeletionFirst}
 use Rattle.gix_ref_theory.specs.OnRealTrees.{CarryOut}
 use Rattle.gix_ref_theory.specs.Edits.{Edit, edited_reading, file_of_records, merged_record}
 use Rattle.gix_ref_theory.specs.Edits.Change.{Delete, Update}
@@ -18,7 +18,7 @@ use Rattle.gix_ref_worked_example.specs.Example.{ExampleIsPrepared, PackedFirstI
 use Rattle.gix_ref_theory.specs.Plan.{plan}
 use Rattle.gix_ref_base.specs.PackedRecords.{Record, record_named, written_text, id_read}
 use Rattle.gix_ref_hash.specs.declared.hash.ObjectId.{ObjectId}
-use Rattle.gix_ref_theory.specs.Readings.{Reading, reading, records_in}
+use Rattle.gix_ref_theory.specs.Readings.{Reading, reading, records_of_file}
 use Rattle.gix_ref_theory.specs.Readings.Reading.{Absent, Fault, Is}
 use Rattle.gix_ref_theory.specs.ConcreteStore.{below_folders, written_id, loose_text}
 use Rattle.gix_ref_theory.specs.Views.{View, Write, after, changed_at}
@@ -244,11 +244,11 @@ read_back e target he is = by he
     by (inr (inr (inl h))) = absurd (never (ap (λ (x : Edit). x.change) h ∙ is))
     by (inr (inr (inr h))) = absurd h
 
-records_before : records_in store (files store.packed_path) ≡ old_records
+records_before : records_of_file store (files store.packed_path) ≡ old_records
 unfolding encode_with decode_pairs without_front
 records_before = refl
 
-records_back : records_in store (file_of_records store kept_records) ≡ kept_records
+records_back : records_of_file store (file_of_records store kept_records) ≡ kept_records
 unfolding encode_with decode_pairs
 records_back = refl
 
@@ -257,7 +257,7 @@ keeps_old true y old = refl
 keeps_old false true old = refl
 keeps_old false false old = refl
 
-merged : IsMerged store DeletionsOnly edits old_records kept_records
+merged : MergesRecords store DeletionsOnly edits old_records kept_records
 merged = record {
   each = λ key. at_key key (cases_Bool (bytes_eq t key));
   ascending = λ i j d lt le. absurd (omega arith);
@@ -299,7 +299,7 @@ prepared = record {
   allowed = λ e he. none_prohibited (components (below_folders (record { git = codes "/r"; common = codes "/r"; namespace = [] }) (store.place e.name)));
   targets_read_back = read_back;
   ids_read_back = ids_back;
-  records_are_merged = λ h. subst (λ old. IsMerged store DeletionsOnly edits old kept_records) (sym records_before) merged;
+  records_are_merged = λ h. subst (λ old. MergesRecords store DeletionsOnly edits old kept_records) (sym records_before) merged;
   records_read_back = λ h. records_back;
 }
 

@@ -48,15 +48,15 @@ abbrev pub packed_records : List Record
 packed_records = a_record (codes "refs/heads/a") twos ∷ a_record (codes "refs/heads/b") twos ∷ kept_records
 
 -- a decoder of the loose texts that occur here
-abbrev pub target_in : List ℕ → Option TargetValue
-target_in text =
+abbrev pub example_target : List ℕ → Option TargetValue
+example_target text =
     if bytes_eq text (loose_text (object_id ones)) then Some (object_id ones)
     else if bytes_eq text (loose_text (object_id twos)) then Some (object_id twos)
     else None
 
 -- and of the packed ones
-abbrev pub records_of_text : List ℕ → List Record
-records_of_text text =
+abbrev pub example_records : List ℕ → List Record
+example_records text =
     if bytes_eq text (written_text old_records) then old_records
     else if bytes_eq text (written_text kept_records) then kept_records
     else if bytes_eq text (written_text packed_records) then packed_records
@@ -66,7 +66,7 @@ records_of_text text =
 abbrev pub store : Store
 store =
     store_of (record { git = codes "/r"; common = codes "/r"; namespace = [] })
-    (record { target_of = target_in; records_of = records_of_text; is_device = λ name. false })
+    (record { target_of = example_target; records_of = example_records; is_device = λ name. false })
 
 -- a and b are loose at ones; t is packed at ones and u at twos
 abbrev pub files : View
@@ -89,8 +89,8 @@ abbrev pub edits : List Edit
 edits = update (codes "refs/heads/a") ∷ update (codes "refs/heads/b") ∷ deletion (codes "refs/tags/t") ∷ []
 
 -- what a, b, t and u read
-abbrev pub shown : View → List Reading
-shown view = map (λ name. reading store view name) (codes "refs/heads/a" ∷ codes "refs/heads/b" ∷ codes "refs/tags/t" ∷ codes "refs/tags/u" ∷ [])
+abbrev pub shown_readings : View → List Reading
+shown_readings view = map (λ name. reading store view name) (codes "refs/heads/a" ∷ codes "refs/heads/b" ∷ codes "refs/tags/t" ∷ codes "refs/tags/u" ∷ [])
 
 -- the files after so many writes of the plan
 abbrev pub files_after : Mode → List Record → ℕ → View
@@ -109,7 +109,7 @@ PlanIsFiveWrites =
 
 -- after so many writes, a and b read these ids and t reads this; u is always as before
 abbrev pub Shows : ℕ → ObjectId → ObjectId → Reading → Type 0
-Shows n a b t = shown (files_after DeletionsOnly kept_records n) ≡ Is (object_id a) ∷ Is (object_id b) ∷ t ∷ Is (object_id twos) ∷ []
+Shows n a b t = shown_readings (files_after DeletionsOnly kept_records n) ≡ Is (object_id a) ∷ Is (object_id b) ∷ t ∷ Is (object_id twos) ∷ []
 
 -- the four rows, in this order and no others
 abbrev pub FourRows : Type 0

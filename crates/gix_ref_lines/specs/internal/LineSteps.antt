@@ -13,7 +13,7 @@ use Rattle.gix_ref_lines.specs.declared.rules.Rules.{Rules}
 use Rattle.gix_ref_lines.specs.declared.create_or_update.Error.TheVariants.{CreateLeadingDirectories, MessageWithNewlines, SignatureUnwritable}
 use Rattle.gix_ref_lines.specs.declared.error.Error.{Error as Refusal}
 use Rattle.gix_ref_lines.specs.declared.error.Error.TheVariants.{CreateOrUpdateRefLog, Memory}
-use Rattle.gix_ref_lines.specs.internal.SeenLogs.{is_among}
+use Rattle.gix_ref_transaction.specs.OwnLocks.{is_in}
 
 abbrev pub log_rules : Rules → LogRules
 log_rules r = rules_of r.settings.now r.write_reflog r.committer
@@ -47,4 +47,4 @@ IsInPath path Memory = Unit {0}
 
 -- the files are those of a tree, and logs that have a line due
 abbrev pub Sees : View → Tree → List Path → Type 0
-Sees files T due = (q : Path) → is_some (files q) ≡ (is_some (view_of T q) || is_among due q)
+Sees files T due = (q : Path) → is_some (files q) ≡ (is_some (view_of T q) || is_in due q)

@@ -1,7 +1,7 @@
 -- A listing that is made entry by entry.
 use Rattle.std.specs.Prelude.{◌≡◌, ◌≢◌, ◌∷◌, ◌++◌, List, ℕ, IsSome, All, Any, AllPairs}
 use Rattle.gix_ref_files.specs.Tree.{Tree, Path}
-use Rattle.gix_ref_files.specs.Calls.{IsName, IsEntryOf, entry_name}
+use Rattle.gix_ref_files.specs.Calls.{IsEntryName, IsEntryOf, entry_name}
 use Rattle.gix_ref_files.specs.declared.files.Entry.{Entry}
 
 -- an entry has this name
@@ -10,7 +10,7 @@ IsListed entries name = Any (λ entry. entry_name entry ≡ name) entries
 
 -- some entries of the folder p, each once
 pub record ListsSome (T : Tree) (p : Path) (entries : List Entry) : Type 0 where
-  pub names : All (λ entry. IsName (entry_name entry)) entries
+  pub names : All (λ entry. IsEntryName (entry_name entry)) entries
   pub tells : All (IsEntryOf T p) entries
   pub once : AllPairs (λ entry later. entry_name entry ≢ entry_name later) entries
 

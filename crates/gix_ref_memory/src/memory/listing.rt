@@ -2,7 +2,7 @@
 ghost use Rattle.std.specs.Prelude.{◌≡◌, ◌∷◌, ◌++◌, List, ℕ, None, true, false, bytes_eq, IfOk, OnOk, IsSome, MatchOption};
 ghost use Rattle.std.specs.List.{list_any};
 ghost use Rattle.gix_ref_files.specs.Tree.{no_tree};
-ghost use Rattle.gix_ref_files.specs.Calls.{IsListing, IsName, entry_name};
+ghost use Rattle.gix_ref_files.specs.Calls.{ListsFolder, IsEntryName, entry_name};
 ghost use Rattle.gix_ref_memory.specs.Changes.{after};
 ghost use Rattle.gix_ref_memory.specs.internal.Listing.{AddsEntries};
 
@@ -25,8 +25,8 @@ fn below<'a>(folder: &[u8], path: &'a [u8]) -> Option<&'a [u8]>
 
 /// The name of a path that lies right in a folder.
 fn child<'a>(folder: &[u8], path: &'a [u8]) -> Option<&'a [u8]>
-    ensures { MatchOption result ((name : List ℕ) → IsName name →
-        path.now ≡ folder.now ++ 47 ∷ name → ⊥) (λ name. IsName name.now
+    ensures { MatchOption result ((name : List ℕ) → IsEntryName name →
+        path.now ≡ folder.now ++ 47 ∷ name → ⊥) (λ name. IsEntryName name.now
         × (path.now ≡ folder.now ++ 47 ∷ name.now)) }
 {
     match below(folder, path) {
@@ -67,7 +67,7 @@ fn add_entry(
     name: &[u8],
     entries: &mut Vec<Entry>,
 ) -> Result<(), AllocError>
-    requires name { IsName name.now }
+    requires name { IsEntryName name.now }
     requires path { path.now ≡ folder.now ++ 47 ∷ name.now }
     ensures { OnOk result
         (AddsEntries (after changes.now no_tree) folder.now name.now entries.old.items
@@ -87,7 +87,7 @@ fn add_entry(
 
 /// The entries of a folder, in the order in which they were first made.
 pub fn list_now(alloc: Global, changes: &[Change], folder: &[u8]) -> Result<Vec<Entry>, AllocError>
-    ensures { IfOk result (λ entries. IsListing (after changes.now no_tree) folder.now
+    ensures { IfOk result (λ entries. ListsFolder (after changes.now no_tree) folder.now
         entries.items) }
 {
     let mut entries = Vec::new(alloc);

@@ -16,14 +16,14 @@ pub struct MemoryReader {
 }
 
 impl ReadAt for MemoryReader {
-    ghost use Rattle.gix_ref_memory.specs.Reader.{bytes_in, reader_faults, reader_calls, reader_plan, reader_turn};
+    ghost use Rattle.gix_ref_memory.specs.Reader.{reader_bytes, reader_faults, reader_calls, reader_plan, reader_turn};
     ghost use Rattle.gix_ref_memory.specs.declared.memory.turns.Turn.TheVariants.{Go};
 
     ghost honest = { Unit {0} };
 
-    ghost bytes = { bytes_in };
+    ghost bytes = { reader_bytes };
 
-    ghost size = { λ reader. length (bytes_in reader) };
+    ghost size = { λ reader. length (reader_bytes reader) };
 
     ghost faults = { reader_faults };
 
@@ -33,12 +33,12 @@ impl ReadAt for MemoryReader {
 
     /// It reads only where its turn is to go, and then fails only past the end.
     fn read_exact_at(&mut self, place: u64, buf: &mut [u8]) -> Result<(), FileError>
-        ensures bytes { OnOk result (IsRead (bytes_in self.old) place buf.new) }
+        ensures bytes { OnOk result (IsRead (reader_bytes self.old) place buf.new) }
         ensures turn { OnOk result (reader_turn self.old ≡ Go) }
         ensures goes { reader_turn self.old ≡ Go →
-            place + length buf.old < length (bytes_in self.old) + 1 → is_ok result ≡ true }
-        ensures same { bytes_in self.new ≡ bytes_in self.old }
-        ensures size { length (bytes_in self.new) ≡ length (bytes_in self.old) }
+            place + length buf.old < length (reader_bytes self.old) + 1 → is_ok result ≡ true }
+        ensures same { reader_bytes self.new ≡ reader_bytes self.old }
+        ensures size { length (reader_bytes self.new) ≡ length (reader_bytes self.old) }
         ensures counts { reader_calls self.new ≡ one_more (reader_calls self.old) }
         ensures plan { reader_plan self.new ≡ reader_plan self.old }
         ensures count { reader_faults self.new ≡ count_after result (reader_faults self.old) }

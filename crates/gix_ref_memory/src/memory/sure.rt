@@ -2,7 +2,7 @@
 ghost use Rattle.std.specs.Prelude.{◌≡◌};
 ghost use Rattle.gix_ref_files.specs.Disk.{folder_of};
 ghost use Rattle.gix_ref_memory.specs.Changes.{found_item};
-ghost use Rattle.gix_ref_memory.specs.internal.Power.{entries, entry_after, entered, settled, no_entry, sure_entry};
+ghost use Rattle.gix_ref_memory.specs.internal.Power.{disk_entry, entry_after, entered, settled, no_entry, sure_entry};
 
 use super::changes::{Change, Known, Stands, len_of, stored_stands};
 use gix_ref_files::paths;
@@ -130,7 +130,7 @@ fn entry_after<'a>(change: &'a Change, path: &[u8], folder: &[u8], sure: Sure<'a
 
 /// What is known of an entry after all changes.
 pub fn sure_at<'a>(changes: &'a [Change], path: &[u8]) -> Sure<'a>
-    ensures { sure_entry result ≡ entries changes.now path.now no_entry }
+    ensures { sure_entry result ≡ disk_entry changes.now path.now no_entry }
 {
     let folder = paths::folder(path);
     let mut sure = settled(known_nothing());

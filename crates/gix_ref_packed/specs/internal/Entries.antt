@@ -9,8 +9,8 @@ use Rattle.gix_ref_records.specs.Views.{record_of}
 abbrev pub entry_record : Entry → Record
 entry_record e = record_of e.reference
 
-abbrev pub entry_name : Entry → List ℕ
-entry_name e = full_ref_bytes e.reference.name
+abbrev pub entry_ref_name : Entry → List ℕ
+entry_ref_name e = full_ref_bytes e.reference.name
 
 abbrev pub entry_bytes : Entry → List ℕ
 entry_bytes e = e.bytes.now

@@ -32,7 +32,7 @@ impl Buffer {
     ghost use Rattle.gix_ref_files.specs.Calls.{Unchanged};
     ghost use Rattle.gix_ref_files.specs.DiskCalls.{Untouched};
     ghost use Rattle.gix_ref_records.specs.OpenedText.{Keeps};
-    ghost use Rattle.gix_ref_packed.specs.Buffers.{buffer_text, buffer_kind, buffer_line, Opened, IsRefused, IsRefusedFile, IsStuck, count_open};
+    ghost use Rattle.gix_ref_packed.specs.Buffers.{buffer_text, buffer_kind, buffer_line, Opened, IsRefusedText, IsRefusedFile, IsStuck, count_open};
 
     /// Opens the file at a path, whose ids are of the kind; `None` where no file is there. `Io` where it cannot be
     /// read, and else an error of `from_bytes`. The threshold, from which on other stores map the file into memory, has
@@ -88,7 +88,7 @@ impl Buffer {
     /// ```
     pub fn from_bytes(alloc: Global, bytes: Vec<u8>, kind: Kind) -> Result<Buffer, Error>
         ensures opened { IfOk result (Opened kind bytes.items) }
-        ensures refused { IfErr result (IsRefused kind bytes.items) }
+        ensures refused { IfErr result (IsRefusedText kind bytes.items) }
     {
         let Some(HeaderEnd { header, start }) = read_header_end(&bytes) else {
             return Err(Error::HeaderParsing);
@@ -160,14 +160,14 @@ impl Buffer {
         &self.bytes[self.start..]
     }
 
-    /// The kind of the ids.
+    /// The kind of the ids. Not in gix-ref.
     pub fn kind(&self) -> Kind
         ensures { result ≡ buffer_kind self.now }
     {
         self.kind
     }
 
-    /// The number of the records' first line in the file.
+    /// The number of the records' first line in the file, from 1. Not in gix-ref.
     pub fn first_line(&self) -> u64
         ensures line { result ≡ buffer_line self.now }
         ensures early { result < 3 }

@@ -85,7 +85,8 @@ impl<R: ReadAt + Drop> PackedFile<R> {
     ghost use Rattle.gix_ref_packed.specs.FilePrefixes.{HoldsPrefix, FailsReadBy};
     ghost use Rattle.gix_ref_packed.specs.FileSearches.{FindsIn, IsNoChange, count_find};
 
-    /// Opens the file at a path, whose ids are of the kind; `None` where no file is there.
+    /// Opens the file at a path, whose ids are of the kind; `None` where no file is there. In place of the memory map of gix-ref's
+    /// `packed::Buffer::open`.
     ///
     /// ```text
     /// if let Some(mut packed) = PackedFile::open(alloc, &mut files, b".git/packed-refs", Kind::Sha1)? {
@@ -160,10 +161,11 @@ impl<R: ReadAt + Drop> PackedFile<R> {
             },
         }
     }
+
     /// The records of the prefix, in a buffer that is asked by `iter_prefixed` of that prefix; other records may be in it.
     /// Of a sorted file only their lines are read, or the whole where they are more than an eighth of it, or where a
     /// line among them is no record: so lines are numbered as in the file. `Io` where the file could not be read, and
-    /// `Memory` where there was no memory for what is read.
+    /// `Memory` where there was no memory for what is read. Not in gix-ref.
     ///
     /// ```text
     /// let packed = file.into_prefixed(alloc, b"refs/tags/")?;

@@ -1,9 +1,9 @@
 //! The search for a reference in a `packed-refs` in memory, by halving.
 ghost use Rattle.std.specs.Prelude.{◌≡◌, ◌≤◌, ◌<◌, ◌++◌, true, false, length};
 ghost use Rattle.gix_ref_grammar.specs.NameGrammar.{IsPartialName};
-ghost use Rattle.gix_ref_packed.specs.AskedNames.{is_rooted as rooted};
 ghost use Rattle.gix_ref_packed.specs.Searches.{Finds, FindsOne, FindsPartial};
 ghost use Rattle.gix_ref_records.specs.SearchCosts.{CountsProbes};
+ghost use Rattle.gix_ref_name.specs.Candidates.{is_rooted as rooted};
 
 pub mod existing;
 

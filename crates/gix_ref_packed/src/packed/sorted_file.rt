@@ -133,7 +133,7 @@ impl<R: ReadAt + Drop> SortedFile<R> {
     ghost use Rattle.gix_ref_records.specs.Shown.{IfHere, IsHere};
     ghost use Rattle.gix_ref_packed.specs.FileSearches.{IsNoChange, FindsIn, count_read, count_find};
 
-    /// The records of a file from that place on. Nothing is read yet.
+    /// The records of a file from that place on, in bytes. Nothing is read yet. Not in gix-ref, which maps the file into memory.
     pub fn new(alloc: Global, reader: R, base: u64) -> SortedFile<R>
         ensures reader { result.reader ≡ reader }
         ensures base { result.base ≡ base }
@@ -332,7 +332,8 @@ impl<R: ReadAt + Drop> SortedFile<R> {
     ghost use Rattle.gix_ref_name.specs.Names.{full_ref_bytes};
     ghost use Rattle.gix_ref_packed.specs.FileSearches.{FindsIn, count_find};
 
-    /// The ids of the record of a full name, as `try_find_full` finds it, for a caller who does not count.
+    /// The ids of the record of a full name, as `try_find_full` finds it, for a caller who does not count. As gix-ref's
+    /// `packed::Buffer::try_find`.
     pub fn find(&mut self, kind: Kind, name: FullNameRef<'_>) -> Result<Option<Found>, FindError>
         ensures same { R.bytes self.new.reader ≡ R.bytes self.old.reader }
         ensures place { (self.new.base ≡ self.old.base)

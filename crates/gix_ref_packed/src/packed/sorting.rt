@@ -8,7 +8,7 @@ ghost use Rattle.gix_ref_base.specs.PackedRecords.{Record};
 ghost use Rattle.gix_ref_records.specs.RecordGrammar.{Records, Below, Rising};
 ghost use Rattle.gix_ref_records.specs.OpenedText.{lines_of, IsPiece, SortsText};
 ghost use Rattle.gix_ref_records.specs.Views.{record_of};
-ghost use Rattle.gix_ref_packed.specs.internal.Entries.{entry_record, entry_piece, entry_name, entry_bytes};
+ghost use Rattle.gix_ref_packed.specs.internal.Entries.{entry_record, entry_piece, entry_ref_name, entry_bytes};
 ghost use Rattle.gix_ref_packed.specs.Buffers.{IsStuck};
 
 use crate::packed::buffer::open::Error;
@@ -113,8 +113,9 @@ fn is_below(name: &[u8], other: &[u8]) -> bool
 /// Sorts records by name; those of one name stay in their order.
 fn sort_by_name(entries: &mut Vec<Entry<'_>>) -> Result<(), AllocError>
     ensures moved { IsPermutation entries.old.items entries.new.items }
-    ensures sorted { OnOk result (IsSortedByKey entry_name (slice_cmp nat_cmp) entries.new.items) }
-    ensures stable { IsStableByKey entry_name
+    ensures sorted { OnOk result (IsSortedByKey entry_ref_name (slice_cmp nat_cmp)
+        entries.new.items) }
+    ensures stable { IsStableByKey entry_ref_name
         (slice_cmp nat_cmp) entries.old.items entries.new.items }
 {
     entries.sort_by(|a, b| a.reference.name.to_path().cmp(b.reference.name.to_path()))?;

@@ -7,9 +7,9 @@ ghost use Rattle.gix_ref_files.specs.DiskCalls.{RemovingFileOn, RenamingOn, Sync
 ghost use Rattle.gix_ref_files.specs.Files.{Leaves, Passes, disk_of};
 ghost use Rattle.gix_ref_files.specs.Lock.{lock_of};
 ghost use Rattle.gix_ref_files.specs.Tree.{is_folder, moved};
-ghost use Rattle.gix_ref_packed_transaction.specs.PackedLosses.{IsReady, SettlesFrom};
+ghost use Rattle.gix_ref_packed_transaction.specs.PackedLosses.{IsReadyOn, SettlesFrom};
 ghost use Rattle.gix_ref_packed_transaction.specs.PackedTransactions.{IsLockEmpty, IsMadeOf, IsOldOrRewritten, IsRewritten, IsStuckBuffer, OnlyLockChanges, OnlyLockGoes};
-ghost use Rattle.gix_ref_packed_transaction.specs.internal.Keeping.{IsMoved, Keeps};
+ghost use Rattle.gix_ref_packed_transaction.specs.internal.Keeping.{IsMoved, KeepsSettled};
 ghost use Rattle.gix_ref_packed_transaction.specs.internal.LockSteps.{IsUnlocked, IsWhyNotPut};
 
 use gix_ref_files::files::{FileError, Files, Rename};
@@ -18,7 +18,7 @@ use gix_ref_files::paths::folder;
 use gix_ref_hash::hash::Kind;
 use gix_ref_packed::packed::Buffer;
 pub use gix_ref_repack::error::Error;
-use gix_ref_repack::fill::fill;
+use gix_ref_repack::fill::write_text;
 use gix_ref_repack::removal::without;
 use gix_ref_rewrite::outcome::Rewrite;
 use std::alloc::Global;
@@ -85,10 +85,10 @@ fn remove_both<F: Files>(files: &mut F, lock: &LockFile) -> Result<(), Error>
         (F.means files.old).tree (F.means files.new).tree) }
     ensures leaves { F.honest → Leaves (F.means files.old) (F.means files.new)
         (IsOldOrRewritten Rewrite.Removed lock.now (F.means files.old).tree) }
-    ensures passes { F.honest → IsReady lock.now (disk_of (F.means files.old)) →
+    ensures passes { F.honest → IsReadyOn lock.now (disk_of (F.means files.old)) →
         Passes (F.means files.old) (F.means files.new)
-        (Keeps Rewrite.Removed lock.now (disk_of (F.means files.old))) }
-    ensures settled { F.honest → IsReady lock.now (disk_of (F.means files.old)) → OnOk result
+        (KeepsSettled Rewrite.Removed lock.now (disk_of (F.means files.old))) }
+    ensures settled { F.honest → IsReadyOn lock.now (disk_of (F.means files.old)) → OnOk result
         (SettlesFrom lock.now (disk_of (F.means files.old)) (disk_of (F.means files.new))) }
     ensures why { IfErr result (IsWhyNotPut F.honest lock.now (F.faults files.old)
         (F.faults files.new) (F.means files.new).tree) }
@@ -132,16 +132,16 @@ fn put_text<F: Files>(files: &mut F, lock: &LockFile, text: &Vec<u8>) -> Result<
     ensures leaves { F.honest → IsLockEmpty lock.now (F.means files.old).tree →
         Leaves (F.means files.old) (F.means files.new)
         (IsOldOrRewritten (Rewrite.Text text.now) lock.now (F.means files.old).tree) }
-    ensures passes { F.honest → IsReady lock.now (disk_of (F.means files.old)) →
+    ensures passes { F.honest → IsReadyOn lock.now (disk_of (F.means files.old)) →
         Passes (F.means files.old) (F.means files.new)
-        (Keeps (Rewrite.Text text.now) lock.now (disk_of (F.means files.old))) }
-    ensures settled { F.honest → IsReady lock.now (disk_of (F.means files.old)) → OnOk result
+        (KeepsSettled (Rewrite.Text text.now) lock.now (disk_of (F.means files.old))) }
+    ensures settled { F.honest → IsReadyOn lock.now (disk_of (F.means files.old)) → OnOk result
         (SettlesFrom lock.now (disk_of (F.means files.old)) (disk_of (F.means files.new))) }
     ensures why { IfErr result (IsWhyNotPut F.honest lock.now (F.faults files.old)
         (F.faults files.new) (F.means files.new).tree) }
     ensures no_fewer { F.faults files.old ≤ F.faults files.new }
 {
-    if let Err(error) = fill(files, lock, text) {
+    if let Err(error) = write_text(files, lock, text) {
         return Err(Error::Io(error));
     }
     move_lock(files, lock)?;
@@ -159,10 +159,10 @@ pub(crate) fn put_rewrite<F: Files>(
     ensures leaves { F.honest → IsLockEmpty lock.now (F.means files.old).tree →
         Leaves (F.means files.old) (F.means files.new)
         (IsOldOrRewritten rewrite.now lock.now (F.means files.old).tree) }
-    ensures passes { F.honest → IsReady lock.now (disk_of (F.means files.old)) →
+    ensures passes { F.honest → IsReadyOn lock.now (disk_of (F.means files.old)) →
         Passes (F.means files.old) (F.means files.new)
-        (Keeps rewrite.now lock.now (disk_of (F.means files.old))) }
-    ensures settled { F.honest → IsReady lock.now (disk_of (F.means files.old)) → OnOk result
+        (KeepsSettled rewrite.now lock.now (disk_of (F.means files.old))) }
+    ensures settled { F.honest → IsReadyOn lock.now (disk_of (F.means files.old)) → OnOk result
         (SettlesFrom lock.now (disk_of (F.means files.old)) (disk_of (F.means files.new))) }
     ensures why { IfErr result (IsWhyNotPut F.honest lock.now (F.faults files.old)
         (F.faults files.new) (F.means files.new).tree) }

@@ -10,5 +10,5 @@ use Rattle.gix_ref_repack.specs.Repacks.{removes_record}
 abbrev pub removed_key : Store → Edit → Option (List ℕ)
 removed_key s edit = if removes_record edit then s.key (name_of edit.update) else None
 
-abbrev pub removed_keys : Store → List Edit → List (List ℕ)
-removed_keys s edits = filter_map (removed_key s) edits
+abbrev pub keys_to_remove : Store → List Edit → List (List ℕ)
+keys_to_remove s edits = filter_map (removed_key s) edits

@@ -3,6 +3,7 @@ ghost use Rattle.std.specs.Prelude.{◌≡◌};
 ghost use Rattle.gix_ref_name.specs.Names.{partial_ref_bytes};
 ghost use Rattle.gix_ref_store.specs.Lookup.{IsNotFound};
 
+use crate::file::settings::settings;
 use crate::file::store::Store;
 use crate::raw::Reference;
 use gix_ref_files::files::Files;
@@ -10,7 +11,6 @@ use gix_ref_lookup::find::composed::find_reference;
 use gix_ref_lookup::find::records::Records;
 pub use gix_ref_lookup::find::{Error, ReadError, existing};
 use gix_ref_lookup::loose;
-use gix_ref_lookup::settings::Settings;
 use gix_ref_name::name::PartialNameRef;
 use gix_ref_packed::packed::Buffer;
 use std::alloc::Global;
@@ -68,13 +68,7 @@ impl<F: Files> Store<F> {
         ensures unchanged { LooksUp F.honest F.means self.old self.new }
     {
         let composes = self.composes(asks_records);
-        let settings = Settings {
-            dirs: &self.dirs,
-            namespace: &self.namespace,
-            kind: self.object_hash,
-            prohibit_windows_device_names: self.prohibit_windows_device_names,
-            precompose_unicode: self.precompose_unicode,
-        };
+        let settings = settings!(self);
         find_reference(alloc, &mut self.files, settings, composes, partial, asked)
     }
 

@@ -3,6 +3,7 @@ ghost use Rattle.std.specs.Prelude.{◌≡◌};
 ghost use Rattle.std.specs.Borrow.{sem, RestsIfErr};
 ghost use Rattle.gix_ref_store.specs.Listings.{of_open, prefix_of_all};
 
+use crate::file::settings::settings;
 use crate::file::store::Store;
 use gix_ref_files::files::Files;
 use gix_ref_listing::item::{next_item, next_record};
@@ -12,7 +13,6 @@ use gix_ref_listing::own_records::OwnRecord;
 pub use gix_ref_listing::prefix::Error;
 use gix_ref_listing::prefix::check_prefix;
 use gix_ref_listing::pseudo::list_pseudo;
-use gix_ref_lookup::settings::Settings;
 use gix_ref_name::namespace::Namespace;
 use gix_ref_packed::packed::Buffer;
 use gix_ref_packed::packed::buffer::open;
@@ -120,7 +120,7 @@ impl<'s, F: Files> Platform<'s, F> {
     ghost use Rattle.std.specs.Prelude.{◌≡◌, ◌⊎◌, List, IfOk, IfErr, OnOk};
     ghost use Rattle.gix_ref_base.specs.PackedRecords.{Record};
     ghost use Rattle.gix_ref_listing.specs.declared.prefix.Error.TheVariants.{Memory};
-    ghost use Rattle.gix_ref_listing.specs.CleanPrefixes.{IsTaken, IsRefused};
+    ghost use Rattle.gix_ref_listing.specs.CleanPrefixes.{IsAcceptedPrefix, IsRefusedPrefix};
     ghost use Rattle.gix_ref_store.specs.Lookup.{LooksUp};
     ghost use Rattle.gix_ref_store.specs.Listings.{Lists, ListsPseudo, HasRecords, prefix_of_all, platform_store};
 
@@ -170,9 +170,9 @@ impl<'s, F: Files> Platform<'s, F> {
             IfOk result (Lists F.honest F.means F.faults (platform_store self.entry.now) records
             prefix.now) }
         ensures taken { OnOk result
-            (IsTaken (platform_store self.entry.now).namespace prefix.now) }
+            (IsAcceptedPrefix (platform_store self.entry.now).namespace prefix.now) }
         ensures refused { IfErr result (λ error. (error ≡ Memory)
-            ⊎ IsRefused (platform_store self.entry.now).namespace prefix.now error) }
+            ⊎ IsRefusedPrefix (platform_store self.entry.now).namespace prefix.now error) }
     {
         let Platform { store, packed } = self;
         store.iter_prefixed_packed(alloc, prefix, packed.as_ref())
@@ -209,7 +209,7 @@ impl<F: Files> Store<F> {
     ghost use Rattle.gix_ref_store.specs.Lookup.{AreRecordsIn, LooksUp, settings_of};
     ghost use Rattle.std.specs.Option.{option_len};
     ghost use Rattle.gix_ref_listing.specs.Listings.{Listed, IsNoRecord, merge_left};
-    ghost use Rattle.gix_ref_listing.specs.CleanPrefixes.{IsTaken, IsRefused};
+    ghost use Rattle.gix_ref_listing.specs.CleanPrefixes.{IsAcceptedPrefix, IsRefusedPrefix};
     ghost use Rattle.gix_ref_listing.specs.Steps.{AreYet, GivesNext, GivesRecord};
     ghost use Rattle.gix_ref_store.specs.Store.{files_of, IsSameStore};
     ghost use Rattle.gix_ref_store.specs.Listings.{AreHeldFor, Lists, ListsPseudo, HasRecords, IsNotOpened, LeavesUnopened, prefix_of_all};
@@ -226,13 +226,7 @@ impl<F: Files> Store<F> {
             (files_of self.old) (files_of self.new) merge.old result merge.new }
         ensures left { option_len result + merge_left merge.new ≤ merge_left merge.old }
     {
-        let settings = Settings {
-            dirs: &self.dirs,
-            namespace: &self.namespace,
-            kind: self.object_hash,
-            prohibit_windows_device_names: self.prohibit_windows_device_names,
-            precompose_unicode: self.precompose_unicode,
-        };
+        let settings = settings!(self);
         next_item(alloc, &mut self.files, settings, merge)
     }
 
@@ -244,13 +238,7 @@ impl<F: Files> Store<F> {
         ensures stays { IfNone result (merge.new ≡ merge.old) }
         ensures left { option_len result + merge_left merge.new ≤ merge_left merge.old }
     {
-        let settings = Settings {
-            dirs: &self.dirs,
-            namespace: &self.namespace,
-            kind: self.object_hash,
-            prohibit_windows_device_names: self.prohibit_windows_device_names,
-            precompose_unicode: self.precompose_unicode,
-        };
+        let settings = settings!(self);
         next_record(settings, merge)
     }
 
@@ -273,13 +261,7 @@ impl<F: Files> Store<F> {
             IfOk result (Lists F.honest F.means F.faults self.entry.now records prefix.now) }
         ensures memory { IfErr result (λ error. error ≡ Memory) }
     {
-        let settings = Settings {
-            dirs: &self.dirs,
-            namespace: &self.namespace,
-            kind: self.object_hash,
-            prohibit_windows_device_names: self.prohibit_windows_device_names,
-            precompose_unicode: self.precompose_unicode,
-        };
+        let settings = settings!(self);
         match list(alloc, &mut self.files, settings, prefix, packed) {
             Ok(merge) => Ok(LooseThenPacked {
                 store: self,
@@ -355,9 +337,9 @@ impl<F: Files> Store<F> {
         ensures lists { F.honest → (records : List Record) →
             AreHeldFor self.entry.now prefix.now packed.entry records →
             IfOk result (Lists F.honest F.means F.faults self.entry.now records prefix.now) }
-        ensures taken { OnOk result (IsTaken self.entry.now.namespace prefix.now) }
+        ensures taken { OnOk result (IsAcceptedPrefix self.entry.now.namespace prefix.now) }
         ensures refused { IfErr result (λ error. (error ≡ Memory)
-            ⊎ IsRefused self.entry.now.namespace prefix.now error) }
+            ⊎ IsRefusedPrefix self.entry.now.namespace prefix.now error) }
     {
         match check_prefix(&self.namespace, prefix) {
             Ok(()) => self.list(alloc, prefix, packed),
@@ -397,9 +379,9 @@ impl<F: Files> Store<F> {
             (λ it. LooksUp F.honest F.means self.entry.now it.store.now) }
         ensures lists { F.honest → IfOk result
             (Lists F.honest F.means F.faults self.entry.now [] prefix.now) }
-        ensures taken { OnOk result (IsTaken self.entry.now.namespace prefix.now) }
+        ensures taken { OnOk result (IsAcceptedPrefix self.entry.now.namespace prefix.now) }
         ensures refused { IfErr result (λ error. (error ≡ Memory)
-            ⊎ IsRefused self.entry.now.namespace prefix.now error) }
+            ⊎ IsRefusedPrefix self.entry.now.namespace prefix.now error) }
     {
         self.iter_prefixed_packed(alloc, prefix, None)
     }
@@ -463,13 +445,7 @@ impl<F: Files> Store<F> {
             (ListsPseudo F.honest F.means F.faults self.entry.now) }
         ensures memory { IfErr result (λ error. error ≡ Memory) }
     {
-        let settings = Settings {
-            dirs: &self.dirs,
-            namespace: &self.namespace,
-            kind: self.object_hash,
-            prohibit_windows_device_names: self.prohibit_windows_device_names,
-            precompose_unicode: self.precompose_unicode,
-        };
+        let settings = settings!(self);
         match list_pseudo(alloc, &mut self.files, settings) {
             Ok(merge) => Ok(LooseThenPacked {
                 store: self,

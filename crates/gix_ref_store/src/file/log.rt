@@ -1,11 +1,11 @@
 //! The reflogs of a store (`git reflog`).
 ghost use Rattle.std.specs.Prelude.{◌≡◌};
 
+use crate::file::settings::settings;
 use crate::file::store::Store;
 use gix_ref_files::files::Files;
 pub use gix_ref_lines::create_or_update;
 use gix_ref_log::log::iter::{Forward, Reverse, forward, reverse};
-use gix_ref_lookup::settings::Settings;
 use gix_ref_name::name::FullNameRef;
 pub use gix_ref_reflog::Error;
 use gix_ref_reflog::reflog::{log_exists, open_log, read_log};
@@ -42,13 +42,7 @@ impl<F: Files> Store<F> {
             (files_of self.old)) }
         ensures unchanged { LooksUp F.honest F.means self.old self.new }
     {
-        let settings = Settings {
-            dirs: &self.dirs,
-            namespace: &self.namespace,
-            kind: self.object_hash,
-            prohibit_windows_device_names: self.prohibit_windows_device_names,
-            precompose_unicode: self.precompose_unicode,
-        };
+        let settings = settings!(self);
         log_exists(alloc, &mut self.files, settings, name)
     }
 
@@ -82,13 +76,7 @@ impl<F: Files> Store<F> {
             (files_of self.old)) }
         ensures unchanged { LooksUp F.honest F.means self.old self.new }
     {
-        let settings = Settings {
-            dirs: &self.dirs,
-            namespace: &self.namespace,
-            kind: self.object_hash,
-            prohibit_windows_device_names: self.prohibit_windows_device_names,
-            precompose_unicode: self.precompose_unicode,
-        };
+        let settings = settings!(self);
         if read_log(alloc, &mut self.files, settings, name, buf)? {
             Ok(Some(forward(buf)))
         } else {
@@ -132,13 +120,7 @@ impl<F: Files> Store<F> {
             (files_of self.old)) }
         ensures unchanged { LooksUp F.honest F.means self.old self.new }
     {
-        let settings = Settings {
-            dirs: &self.dirs,
-            namespace: &self.namespace,
-            kind: self.object_hash,
-            prohibit_windows_device_names: self.prohibit_windows_device_names,
-            precompose_unicode: self.precompose_unicode,
-        };
+        let settings = settings!(self);
         match open_log(alloc, &mut self.files, settings, name)? {
             None => Ok(None),
             Some(reader) => match reverse(alloc, reader, buf) {

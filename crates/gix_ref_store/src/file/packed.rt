@@ -1,8 +1,8 @@
 //! The `packed-refs` of a store (`git pack-refs`).
+use crate::file::settings::settings;
 use crate::file::store::Store;
 use gix_ref_files::files::Files;
 use gix_ref_listing::prefixed_records::open_prefixed;
-use gix_ref_lookup::settings::Settings;
 use gix_ref_packed::packed::Buffer;
 use gix_ref_packed::packed::buffer::open::Error;
 use std::alloc::Global;
@@ -105,13 +105,7 @@ impl<F: Files> Store<F> {
             (F.faults (files_of self.old)) (F.faults (files_of self.new))) }
         ensures unchanged { LooksUp F.honest F.means self.old self.new }
     {
-        let settings = Settings {
-            dirs: &self.dirs,
-            namespace: &self.namespace,
-            kind: self.object_hash,
-            prohibit_windows_device_names: self.prohibit_windows_device_names,
-            precompose_unicode: self.precompose_unicode,
-        };
+        let settings = settings!(self);
         open_prefixed(alloc, &mut self.files, settings, prefix)
     }
 

@@ -1,9 +1,9 @@
 //! Whether a store is as `git init` makes it.
 use crate::file::iter::prefix_of_all;
+use crate::file::settings::settings;
 use crate::file::store::Store;
 use gix_ref_files::files::Files;
 use gix_ref_listing::pristine::is_pristine;
-use gix_ref_lookup::settings::Settings;
 use gix_ref_name::name::FullNameRef;
 use std::alloc::{AllocError, Global};
 
@@ -42,13 +42,7 @@ impl<F: Files> Store<F> {
             ⊎ HasRisen (F.faults (files_of self.old)) (F.faults (files_of self.new)))) }
         ensures unchanged { LooksUp F.honest F.means self.old self.new }
     {
-        let settings = Settings {
-            dirs: &self.dirs,
-            namespace: &self.namespace,
-            kind: self.object_hash,
-            prohibit_windows_device_names: self.prohibit_windows_device_names,
-            precompose_unicode: self.precompose_unicode,
-        };
+        let settings = settings!(self);
         let prefix = prefix_of_all(&self.namespace);
         is_pristine(alloc, &mut self.files, settings, prefix, default_ref)
     }

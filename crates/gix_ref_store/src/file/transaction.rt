@@ -22,7 +22,7 @@ use gix_ref_files::lock::LockFile;
 use gix_ref_log::actor::SignatureRef;
 use gix_ref_object::object::{Find, Never};
 use gix_ref_transaction::edit::Edit;
-use gix_ref_transaction::prepare::carry::carry_all;
+use gix_ref_transaction::prepare::carry::record_old_values;
 use gix_ref_transaction::prepare::hold::{HeldLocks, LockFailure};
 use gix_ref_transaction::release::{Remains, release_all};
 use std::alloc::Global;
@@ -125,7 +125,7 @@ impl<'s, F: Files, T: Find> Transaction<'s, F, PackedRefs<T>> {
         ensures packed_refs { IfOk result (λ p. prepared_mode p.plan ≡ self.entry.packed_refs) }
     {
         let Transaction { store, packed_refs } = self;
-        match store.begin_given(alloc, edits) {
+        match store.compose_and_lock(alloc, edits) {
             Err(failure) => {
                 let LockFailure { error, locks_left } = failure;
                 Err(Refused {
@@ -140,7 +140,7 @@ impl<'s, F: Files, T: Find> Transaction<'s, F, PackedRefs<T>> {
                     mut edits,
                     remains,
                 } = held;
-                carry_all(&mut edits);
+                record_old_values(&mut edits);
                 Ok(Prepared {
                     store,
                     plan: Plan {

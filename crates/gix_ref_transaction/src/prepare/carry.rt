@@ -8,7 +8,7 @@ use crate::edit::Edit;
 use gix_ref_edits::transaction::{Change, PreviousValue};
 
 /// The edit whose reference was found expects just that.
-fn carry(edit: &mut Edit)
+fn record_old_value(edit: &mut Edit)
     ensures carried { IsCarried edit.old.update (value_of edit.old.found) edit.new.update }
     ensures place { edit.new.lock ≡ edit.old.lock }
     ensures parent { edit.new.parent ≡ edit.old.parent }
@@ -26,7 +26,7 @@ fn carry(edit: &mut Edit)
 }
 
 /// Each edit whose reference was found expects just that.
-pub fn carry_all(edits: &mut [Edit])
+pub fn record_old_values(edits: &mut [Edit])
     ensures carried { AreCarried (updates edits.old) (targets_of edits.old) (updates edits.new) }
     ensures places { place_paths edits.new ≡ place_paths edits.old }
     ensures parents { parents_in edits.new ≡ parents_in edits.old }
@@ -35,6 +35,6 @@ pub fn carry_all(edits: &mut [Edit])
     ensures ids { ids_in edits.new ≡ ids_in edits.old }
 {
     for edit in edits.iter_mut() {
-        carry(edit);
+        record_old_value(edit);
     }
 }

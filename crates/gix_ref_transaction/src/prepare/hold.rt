@@ -3,7 +3,7 @@ ghost use Rattle.std.specs.Prelude.{◌≡◌, ◌≤◌, ◌<◌, ◌+◌, ◌�
 ghost use Rattle.std.specs.Vec.{vec_capacity};
 ghost use Rattle.gix_ref_files.specs.Files.{disk_of, Leaves, HasRisen};
 ghost use Rattle.gix_ref_files.specs.Lock.{lock_of};
-ghost use Rattle.gix_ref_files.specs.Settled.{IsWhole};
+ghost use Rattle.gix_ref_files.specs.Settled.{IsWholeAt};
 ghost use Rattle.gix_ref_files.specs.Tree.{Path};
 ghost use Rattle.gix_ref_packed.specs.OpenFiles.{HasReadFault};
 ghost use Rattle.gix_ref_lookup.specs.Lookups.{packed_refs_in};
@@ -73,7 +73,7 @@ pub fn edits_at(
 }
 
 /// Takes all locks, or removes those that it took. Each edit has the id of its record.
-fn hold<F: Files>(
+fn lock_all_or_none<F: Files>(
     alloc: Global,
     files: &mut F,
     settings: &Settings<'_>,
@@ -126,8 +126,8 @@ fn hold<F: Files>(
         OnOk result (AreWholeLocks (disk_of (F.means files.new))
         (locks_of (setting_of settings.now) (updates edits.items))) }
     ensures wholes { F.honest → (q : Path) (text : List ℕ) →
-        IsWhole (disk_of (F.means files.old)) q text →
-        OnOk result (IsWhole (disk_of (F.means files.new)) q text) }
+        IsWholeAt (disk_of (F.means files.old)) q text →
+        OnOk result (IsWholeAt (disk_of (F.means files.new)) q text) }
     ensures passes { F.honest → OnlyLocks (locks_of (setting_of settings.now)
         (updates edits.items)) (F.means files.old) (F.means files.new) }
     ensures no_fewer { F.faults files.old ≤ F.faults files.new }
@@ -150,7 +150,7 @@ fn hold<F: Files>(
 
 /// Finds the records of all edits, and then takes all locks, or removes those that it took. `packed-refs` is not opened where it is
 /// known to be no file.
-fn find_and_hold<F: Files>(
+fn find_and_lock<F: Files>(
     alloc: Global,
     files: &mut F,
     settings: &Settings<'_>,
@@ -212,8 +212,8 @@ fn find_and_hold<F: Files>(
         OnOk result (AreWholeLocks (disk_of (F.means files.new))
         (locks_of (setting_of settings.now) (updates edits.items))) }
     ensures wholes { F.honest → (q : Path) (text : List ℕ) →
-        IsWhole (disk_of (F.means files.old)) q text →
-        OnOk result (IsWhole (disk_of (F.means files.new)) q text) }
+        IsWholeAt (disk_of (F.means files.old)) q text →
+        OnOk result (IsWholeAt (disk_of (F.means files.new)) q text) }
     ensures passes { F.honest → OnlyLocks (locks_of (setting_of settings.now)
         (updates edits.items)) (F.means files.old) (F.means files.new) }
     ensures no_fewer { F.faults files.old ≤ F.faults files.new }
@@ -221,7 +221,7 @@ fn find_and_hold<F: Files>(
         F.Reader.faults) (F.faults files.old) (F.faults files.new) failure.error) }
 {
     match find_records(alloc, files, settings, is_absent, &mut edits) {
-        Ok(()) => hold(alloc, files, settings, edits, remains),
+        Ok(()) => lock_all_or_none(alloc, files, settings, edits, remains),
         Err(error) => Err(LockFailure {
             error,
             locks_left: remains.left,
@@ -231,7 +231,7 @@ fn find_and_hold<F: Files>(
 
 /// Takes the lock of `packed-refs` where it is due, finds the records of all edits, and takes the locks of these; or removes those
 /// that it took.
-pub fn hold_all<F: Files>(
+pub fn lock_edits<F: Files>(
     alloc: Global,
     files: &mut F,
     settings: &Settings<'_>,
@@ -311,7 +311,7 @@ pub fn hold_all<F: Files>(
         }
     };
     let is_absent = is_absent(settings, &edits, &packed);
-    match find_and_hold(alloc, files, settings, is_absent, edits, remains) {
+    match find_and_lock(alloc, files, settings, is_absent, edits, remains) {
         Ok(held) => {
             let HeldEdits { edits, remains } = held;
             Ok(HeldLocks {

@@ -5,7 +5,7 @@ ghost use Rattle.gix_ref_files.specs.Calls.{Creating, Unchanged};
 ghost use Rattle.gix_ref_files.specs.DiskCalls.{CreatingOn, Untouched};
 ghost use Rattle.gix_ref_files.specs.Files.{disk_of, Leaves, Passes};
 ghost use Rattle.gix_ref_files.specs.Lock.{lock_of};
-ghost use Rattle.gix_ref_files.specs.Settled.{IsWhole};
+ghost use Rattle.gix_ref_files.specs.Settled.{IsWholeAt};
 ghost use Rattle.gix_ref_files.specs.Tree.{Tree};
 ghost use Rattle.gix_ref_theory.specs.OnRealTrees.{view_of};
 ghost use Rattle.gix_ref_edits.specs.RefEdits.{is_of_reference, mode_of};
@@ -60,7 +60,7 @@ fn take_lock<F: Files>(files: &mut F, lock: LockFile) -> Result<Option<LockFile>
     ensures kept { F.honest → OnErr result ((F.means files.new).tree ≡ (F.means files.old).tree) }
     ensures leaves { F.honest → Leaves (F.means files.old) (F.means files.new)
         (Creating (F.means files.old).tree (lock_of lock)) }
-    ensures whole { F.honest → OnOk result (IsWhole (disk_of (F.means files.new)) (lock_of lock)
+    ensures whole { F.honest → OnOk result (IsWholeAt (disk_of (F.means files.new)) (lock_of lock)
         []) }
     ensures passes { F.honest → Passes (F.means files.old) (F.means files.new)
         (CreatingOn (disk_of (F.means files.old)) (lock_of lock)) }

@@ -11,7 +11,7 @@ ghost use Rattle.gix_ref_packed.specs.OpenFiles.{HasReadFault};
 ghost use Rattle.gix_ref_edits.specs.RefEdits.{name_of};
 ghost use Rattle.gix_ref_lookup.specs.Lookups.{packed_refs_in, ArePackedRecords, AreAsked, AreHonest, IsOpenedText, IsReady, IsSearched, OfKey};
 ghost use Rattle.gix_ref_transaction.specs.Causes.{id_of_record, packed_id, IsCounted, IsCountedWith, IsFindCause, IsIoOrMemory, IsPackedRefusal, OfFind, OfSomeKey};
-ghost use Rattle.gix_ref_transaction.specs.internal.StuckRecords.{IsStuckAt};
+ghost use Rattle.gix_ref_transaction.specs.internal.StuckRecords.{IsStuckKey};
 ghost use Rattle.gix_ref_transaction.specs.PackedCauses.{as_cause, ids_among};
 ghost use Rattle.gix_ref_transaction.specs.PrepareSteps.{setting_of, updates, all_asked, ids_in};
 
@@ -54,7 +54,7 @@ fn id_at<R: ReadAt + Drop>(
     ensures asked { (kind : Kind) (rs : List Record) → AreAsked kind None records.old rs →
         AreAsked kind None records.new rs }
     ensures unread { AreHonest records.old → (kind : Kind) →
-        IfErr result (OfFind (IsStuckAt kind records.old (full_ref_bytes key.entry))) }
+        IfErr result (OfFind (IsStuckKey kind records.old (full_ref_bytes key.entry))) }
     ensures searched { (kind of_kind : Kind) (text : List ℕ) →
         IsSearched kind None records.new of_kind text →
         IsSearched kind None records.old of_kind text }
@@ -89,7 +89,7 @@ fn id_of<R: ReadAt + Drop>(
         AreAsked kind None records.new rs }
     ensures unread { AreHonest records.old → (kind : Kind) →
         IfErr result (OfFind (OfKey (setting_of settings.now) (full_ref_bytes name.entry)
-        (IsStuckAt kind records.old))) }
+        (IsStuckKey kind records.old))) }
     ensures searched { (kind of_kind : Kind) (text : List ℕ) →
         IsSearched kind None records.new of_kind text →
         IsSearched kind None records.old of_kind text }
@@ -157,7 +157,7 @@ fn id_unless_hidden<F: Files>(
         AreAsked kind None records.new rs }
     ensures unread { AreHonest records.old → (kind : Kind) →
         IfErr result (OfFind (OfKey (setting_of settings.now) (name_of edit.now.update)
-        (IsStuckAt kind records.old))) }
+        (IsStuckKey kind records.old))) }
     ensures searched { (kind of_kind : Kind) (text : List ℕ) →
         IsSearched kind None records.new of_kind text →
         IsSearched kind None records.old of_kind text }
@@ -198,7 +198,7 @@ fn find_ids<F: Files>(
     ensures counted { IfErr result (IsCountedWith (AreHonest records.old)
         (HasReadFault F.Reader.faults) (F.faults files.old) (F.faults files.new)) }
     ensures unread { AreHonest records.old → (kind : Kind) →
-        IfErr result (OfFind (OfSomeKey (IsStuckAt kind records.old) (setting_of settings.now)
+        IfErr result (OfFind (OfSomeKey (IsStuckKey kind records.old) (setting_of settings.now)
         (updates edits.old))) }
     ensures leaves { F.honest → Leaves (F.means files.old) (F.means files.new)
         (Unchanged (F.means files.old).tree) }

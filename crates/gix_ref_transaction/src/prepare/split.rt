@@ -11,7 +11,7 @@ ghost use Rattle.gix_ref_edits.specs.SplitLists.{child_list, looked_up, referent
 ghost use Rattle.gix_ref_transaction.specs.Causes.{AllValid, IsCounted, IsIoOrMemory, IsMisnamed, IsWellNamed};
 ghost use Rattle.gix_ref_transaction.specs.Parents.{parents_from, parents_given, split_parents};
 ghost use Rattle.gix_ref_transaction.specs.PrepareSteps.{setting_of};
-ghost use Rattle.gix_ref_transaction.specs.Splits.{leads_to, values_of, all_rounds, AreDirect, AreSplit, CanFollow, IsFirstMisnamed, IsTooLong, OnlyReads};
+ghost use Rattle.gix_ref_transaction.specs.Splits.{name_led_to, values_of, all_rounds, AreDirect, AreSplit, CanFollow, IsFirstMisnamed, IsTooLong, OnlyReads};
 ghost use Rattle.gix_ref_transaction.specs.internal.SplitRounds.{name_by, led_to, led_by, after_by, children_by, child_values, parents_by, IsRoundBy, IsRoundOver};
 
 use crate::prepare::Error;
@@ -65,7 +65,7 @@ fn referent_of<F: Files>(
     settings: &Settings<'_>,
     name: FullNameRef<'_>,
 ) -> Result<Option<FullName>, Error>
-    ensures led { F.honest → IfOk result (λ name'. option_map full_bytes name' ≡ leads_to
+    ensures led { F.honest → IfOk result (λ name'. option_map full_bytes name' ≡ name_led_to
         (setting_of settings.now) (view_of (F.means files.old).tree) (full_ref_bytes name.entry)) }
     ensures outside { IfErr result IsIoOrMemory }
     ensures reads { OnlyReads F.honest F.means F.faults files.old files.new }
@@ -84,7 +84,8 @@ fn follow<F: Files>(
     edit: &RefEdit,
 ) -> Result<Option<FullName>, Error>
     ensures led { F.honest → IfOk result (λ name. option_map full_bytes name ≡ referent
-        (leads_to (setting_of settings.now) (view_of (F.means files.old).tree)) (name_of edit.now)
+        (name_led_to (setting_of settings.now) (view_of (F.means files.old).tree)) (name_of
+        edit.now)
         edit.now.deref) }
     ensures can_follow { OnOk result (CanFollow (setting_of settings.now) (edit_value edit.now)) }
     ensures refused { IfErr result (λ error. IsIoOrMemory error
@@ -108,7 +109,7 @@ fn follow_all<F: Files>(
 ) -> Result<Vec<Option<FullName>>, Error>
     ensures len { IfOk result (λ names. vec_len names ≡ length edits.now) }
     ensures led { F.honest → IfOk result (λ names. led_to names.items ≡ led_by
-        (leads_to (setting_of settings.now) (view_of (F.means files.old).tree))
+        (name_led_to (setting_of settings.now) (view_of (F.means files.old).tree))
         (values_of edits.now)) }
     ensures can_follow { OnOk result (All (CanFollow (setting_of settings.now)) (values_of
         edits.now)) }
@@ -191,10 +192,10 @@ fn split_round<F: Files>(
 ) -> Result<SplitEdits, Error>
     requires { first + vec_len edits.old < 2 ^ 64 }
     ensures round { F.honest → IfOk result (λ kids. IsRoundOver
-        (leads_to (setting_of settings.now) (view_of (F.means files.old).tree))
+        (name_led_to (setting_of settings.now) (view_of (F.means files.old).tree))
         (values_of edits.old.items) (values_of edits.new.items) (values_of kids.edits.items)) }
     ensures parents { F.honest → IfOk result (λ kids. kids.parents.items ≡ parents_from
-        (leads_to (setting_of settings.now) (view_of (F.means files.old).tree)) first
+        (name_led_to (setting_of settings.now) (view_of (F.means files.old).tree)) first
         (values_of edits.old.items)) }
     ensures len { IfOk result (λ kids. vec_len kids.parents ≡ vec_len kids.edits) }
     ensures by { IfOk result (λ kids. IsRoundBy (values_of edits.old.items)
@@ -235,7 +236,7 @@ fn split_in_rounds<F: Files>(
     ensures split { F.honest → IfOk result (λ split. AreSplit (setting_of settings.now)
         (view_of (F.means files.old).tree) edits.items split.edits.items) }
     ensures parents { F.honest → IfOk result (λ split. split.parents.items ≡ split_parents
-        (leads_to (setting_of settings.now) (view_of (F.means files.old).tree))
+        (name_led_to (setting_of settings.now) (view_of (F.means files.old).tree))
         (values_of edits.items)) }
     ensures len { IfOk result (λ split. vec_len split.parents ≡ vec_len split.edits) }
     ensures can_follow { F.honest → OnOk result (All (CanFollow (setting_of settings.now))
@@ -293,7 +294,7 @@ pub fn split_edits<F: Files>(
     ensures split { F.honest → IfOk result (λ split. AreSplit (setting_of settings.now)
         (view_of (F.means files.old).tree) edits.items split.edits.items) }
     ensures parents { F.honest → IfOk result (λ split. split.parents.items ≡ split_parents
-        (leads_to (setting_of settings.now) (view_of (F.means files.old).tree))
+        (name_led_to (setting_of settings.now) (view_of (F.means files.old).tree))
         (values_of edits.items)) }
     ensures len { IfOk result (λ split. vec_len split.parents ≡ vec_len split.edits) }
     ensures can_follow { F.honest → OnOk result (All (CanFollow (setting_of settings.now))

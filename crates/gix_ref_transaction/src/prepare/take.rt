@@ -2,7 +2,7 @@
 ghost use Rattle.std.specs.Prelude.{◌≡◌, ◌≤◌, ◌<◌, ◌-◌, ℕ, List, [], OnOk, IfErr, None, true, length, take, get_or};
 ghost use Rattle.gix_ref_files.specs.Tree.{Tree, Path, has_folders};
 ghost use Rattle.gix_ref_files.specs.Files.{disk_of, Leaves};
-ghost use Rattle.gix_ref_files.specs.Settled.{IsWhole};
+ghost use Rattle.gix_ref_files.specs.Settled.{IsWholeAt};
 ghost use Rattle.gix_ref_transaction.specs.OwnLocks.{AddsLocks, OnlyLocks, is_in};
 ghost use Rattle.gix_ref_transaction.specs.Causes.{AllValid, LocksAreApart, IsCounted, IsFirstCause, locks_of};
 ghost use Rattle.gix_ref_transaction.specs.PrepareSteps.{setting_of, updates, place_paths, places_of, all_given, ids_in, packed_ids, AreSettled, AreLockable, AreWholeLocks};
@@ -82,8 +82,8 @@ pub fn take_locks<F: Files>(
         OnOk result (AreWholeLocks (disk_of (F.means files.new))
         (locks_of (setting_of settings.now) (updates edits.old))) }
     ensures wholes { F.honest → (q : Path) (text : List ℕ) →
-        IsWhole (disk_of (F.means files.old)) q text →
-        OnOk result (IsWhole (disk_of (F.means files.new)) q text) }
+        IsWholeAt (disk_of (F.means files.old)) q text →
+        OnOk result (IsWholeAt (disk_of (F.means files.new)) q text) }
     ensures passes { F.honest → OnlyLocks (locks_of (setting_of settings.now)
         (updates edits.old)) (F.means files.old) (F.means files.new) }
     ensures no_fewer { F.faults files.old ≤ F.faults files.new }
@@ -94,7 +94,7 @@ pub fn take_locks<F: Files>(
         let edit = &mut edits[i];
         edit.take(files, is_ready)?;
         *taken = i + 1;
-        edit.settle(alloc, files, settings)?;
+        edit.compare_and_write(alloc, files, settings)?;
     }
     Ok(())
 }

@@ -12,7 +12,7 @@ use Rattle.gix_ref_lines.specs.AskedEdits.{asked_edit, but_log, leaf_after}
 use Rattle.gix_ref_lines.specs.DueLines.{with_log}
 use Rattle.gix_ref_lines.specs.internal.Leaves.{leaf_id}
 use Rattle.gix_ref_lines.specs.internal.LineSteps.{log_rules, Sees}
-use Rattle.gix_ref_lines.specs.internal.SeenLogs.{paths_in}
+use Rattle.gix_ref_lines.specs.internal.SeenLogs.{due_paths}
 use Rattle.gix_ref_lines.specs.declared.leaves.Leaf.TheVariants.{Itself}
 use Rattle.gix_ref_lines.proofs.Deciding.{decided_more, refused_at, there_more}
 use Rattle.gix_ref_lines.proofs.LeafSteps.{id_of_leaf}
@@ -60,9 +60,9 @@ returns-in_err-decide_log-clause-refused g c h =
     let told = err_from_is_err_and c.from_residual-in_err-decide_log.result c.from_residual-in_err-decide_log.ensures.1 in
     let so_far = x.decided h in
     let same = (x.leaves h).tree in
-    let sees = subst (λ (S : Tree). Sees so_far.files S (paths_in c.loop-i.due)) (sym same) so_far.sees in
+    let sees = subst (λ (S : Tree). Sees so_far.files S (due_paths c.loop-i.due)) (sym same) so_far.sees in
     rw (told.1, told.2)
-    (refused_at (log_rules (record { settings = c.args.settings; write_reflog = c.args.write_reflog; committer = c.args.committer })) (g.F.Files.means c.args.files.now).tree given i edits (paths_in c.loop-i.due) so_far e c.id-leaf.result lt (is ∙ x.rest i e (omega arith)) leaf
+    (refused_at (log_rules (record { settings = c.args.settings; write_reflog = c.args.write_reflog; committer = c.args.committer })) (g.F.Files.means c.args.files.now).tree given i edits (due_paths c.loop-i.due) so_far e c.id-leaf.result lt (is ∙ x.rest i e (omega arith)) leaf
     c.in_err-decide_log.field-0.0 (c.in_err-decide_log.ensures.refused h so_far.files sees))
 
 pub loop-i-preserved : goal.loop-i-preserved
@@ -91,10 +91,10 @@ loop-i-preserved g c =
       decided = λ h.
           let so_far = x.decided h in
           let same = (x.leaves h).tree in
-          let sees = subst (λ (S : Tree). Sees so_far.files S (paths_in c.loop-i.due)) (sym same) so_far.sees in
-          decided_more (log_rules (record { settings = c.args.settings; write_reflog = c.args.write_reflog; committer = c.args.committer })) (g.F.Files.means c.args.files.now).tree given i edits (paths_in c.loop-i.due) so_far e c.id-leaf.result lt (is ∙ x.rest i e (omega arith)) leaf
-          new (paths_in c.decide_log.new.due) len (c.in_ok-decide_log.ensures.log h so_far.files sees) (c.in_ok-decide_log.ensures.passed h so_far.files sees)
-          (subst (λ (S : Tree). Sees (with_log (log_rules (record { settings = c.args.settings; write_reflog = c.args.write_reflog; committer = c.args.committer })) so_far.files (asked_edit e c.id-leaf.result)) S (paths_in c.decide_log.new.due)) same (c.in_ok-decide_log.ensures.seen h so_far.files sees));
+          let sees = subst (λ (S : Tree). Sees so_far.files S (due_paths c.loop-i.due)) (sym same) so_far.sees in
+          decided_more (log_rules (record { settings = c.args.settings; write_reflog = c.args.write_reflog; committer = c.args.committer })) (g.F.Files.means c.args.files.now).tree given i edits (due_paths c.loop-i.due) so_far e c.id-leaf.result lt (is ∙ x.rest i e (omega arith)) leaf
+          new (due_paths c.decide_log.new.due) len (c.in_ok-decide_log.ensures.log h so_far.files sees) (c.in_ok-decide_log.ensures.passed h so_far.files sees)
+          (subst (λ (S : Tree). Sees (with_log (log_rules (record { settings = c.args.settings; write_reflog = c.args.write_reflog; committer = c.args.committer })) so_far.files (asked_edit e c.id-leaf.result)) S (due_paths c.decide_log.new.due)) same (c.in_ok-decide_log.ensures.seen h so_far.files sees));
     }
 
 pub returns-clause-there : goal.returns-clause-there

@@ -6,8 +6,8 @@ use Rattle.gix_ref_transaction.specs.declared.edit.Edit.{Edit}
 use Rattle.gix_ref_transaction.specs.CommitRenames.{SeesItsLog}
 use Rattle.gix_ref_lines.specs.AskedEdits.{all_but_logs}
 use Rattle.gix_ref_lines.specs.internal.LineSteps.{log_rules}
-use Rattle.gix_ref_lines.specs.internal.SeenLogs.{paths_in, IsBounded}
-use Rattle.gix_ref_lines.specs.internal.Decided.{IsDecided}
+use Rattle.gix_ref_lines.specs.internal.SeenLogs.{due_paths, IsBounded}
+use Rattle.gix_ref_lines.specs.internal.Decided.{AreDecidedBefore}
 use Rattle.gix_ref_lines.proofs.decide.decide_logs.Given as goal
 
 -- the logs of the edits before this one are decided, and the others are as they were
@@ -20,5 +20,5 @@ invariant-loop-i g l = record {
   no_fewer : g.F.Files.faults l.fn.files ≤ g.F.Files.faults l.files;
   there : g.F.Files.honest → (k : ℕ) (d : Edit) → k < l.i → SeesItsLog (g.F.Files.means l.fn.files).tree (get_or l.edits k d);
   bounded : IsBounded l.due;
-  decided : g.F.Files.honest → IsDecided (log_rules l.rules) (g.F.Files.means l.fn.files).tree l.fn.edits l.i l.edits (paths_in l.due);
+  decided : g.F.Files.honest → AreDecidedBefore (log_rules l.rules) (g.F.Files.means l.fn.files).tree l.fn.edits l.i l.edits (due_paths l.due);
 }

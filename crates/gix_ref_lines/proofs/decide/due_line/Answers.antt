@@ -5,7 +5,7 @@ use Rattle.std.proofs.lemmas.Result.{err_from_is_err_and}
 use Rattle.gix_ref_lines.specs.AskedEdits.{asked_edit}
 use Rattle.gix_ref_lines.specs.DueLines.{written_ids, has_log}
 use Rattle.gix_ref_lines.specs.LineCauses.{has_file_in_path}
-use Rattle.gix_ref_lines.specs.internal.SeenLogs.{paths_in}
+use Rattle.gix_ref_lines.specs.internal.SeenLogs.{due_paths}
 use Rattle.gix_ref_lines.specs.internal.LineSteps.{log_rules}
 use Rattle.gix_ref_lines.proofs.LineSteps.{no_ids, no_line, none_passes, none_kept, is_due, has_one, blocked_seen, due_fails, due_passes}
 use Rattle.gix_ref_lines.proofs.decide.due_line.Goals as goal
@@ -41,7 +41,7 @@ returns-in_err-line-clause-refused g c h view sees =
     let told = err_from_is_err_and c.from_residual-in_err-line.result c.from_residual-in_err-line.ensures.1 in
     let some : written_ids r a ≡ Some c.in-Some.ids = sym c.written_ids.ensures ∙ c.in-Some.is in
     let has : has_log r view a ≡ true = has_one r view a path c.requires.path place.is_log c.in_ok-has_log.field-0 (c.in_ok-place.ensures.log h ∙ sym (sees path)) c.in_ok-has_log.ensures c.if-not-branch.false in
-    let way : place.is_blocked ≡ has_file_in_path view path = c.in_ok-place.ensures.blocked h ∙ sym (blocked_seen view T (paths_in c.args.due.now) sees path) in
+    let way : place.is_blocked ≡ has_file_in_path view path = c.in_ok-place.ensures.blocked h ∙ sym (blocked_seen view T (due_paths c.args.due.now) sees path) in
     rw (told.1, told.2) (due_fails r view a c.in-Some.ids (is_due r view a c.in-Some.ids some has) _ c.message_of-message.ensures path c.requires.path place.is_blocked way c.in_err-line.field-0.0 c.in_err-line.ensures.refused)
 
 pub returns-clause-passed : goal.returns-clause-passed
@@ -53,5 +53,5 @@ returns-clause-passed g c h view sees =
     let place = c.in_ok-place.place in
     let some : written_ids r a ≡ Some c.in-Some.ids = sym c.written_ids.ensures ∙ c.in-Some.is in
     let has : has_log r view a ≡ true = has_one r view a path c.requires.path place.is_log c.in_ok-has_log.field-0 (c.in_ok-place.ensures.log h ∙ sym (sees path)) c.in_ok-has_log.ensures c.if-not-branch.false in
-    let way : place.is_blocked ≡ has_file_in_path view path = c.in_ok-place.ensures.blocked h ∙ sym (blocked_seen view T (paths_in c.args.due.now) sees path) in
+    let way : place.is_blocked ≡ has_file_in_path view path = c.in_ok-place.ensures.blocked h ∙ sym (blocked_seen view T (due_paths c.args.due.now) sees path) in
     due_passes r view a c.in-Some.ids (is_due r view a c.in-Some.ids some has) _ c.message_of-message.ensures path c.requires.path c.in_ok-line.ensures.can (sym way ∙ c.in_ok-line.ensures.open)

@@ -5,12 +5,13 @@ use Rattle.gix_ref_files.specs.Files.{HasRisen}
 use Rattle.gix_ref_files.specs.Tree.{Tree}
 use Rattle.gix_ref_theory.specs.OnRealTrees.{view_of}
 use Rattle.gix_ref_listing.specs.PlainSettings.{plain}
-use Rattle.gix_ref_listing.specs.PristineStores.{IsReadable, IsUnreadable}
-use Rattle.gix_ref_listing.specs.Walks.{Among, FoundEntry, IsFile}
+use Rattle.gix_ref_listing.specs.PristineStores.{IsReadableFile, IsUnreadableFile}
+use Rattle.gix_ref_listing.specs.Walks.{FoundEntry, IsFile}
 use Rattle.gix_ref_listing.proofs.FolderWalks.{risen_from, unchanged_on}
 use Rattle.gix_ref_listing.proofs.PristineLemmas.{says, none_left, found_file}
 use Rattle.gix_ref_listing.proofs.StoreWalks.{all_none}
 use Rattle.gix_ref_listing.proofs.pristine.any_readable.Goals as goal
+use Rattle.gix_ref_lookup.specs.Lookups.{Among}
 
 pub loop-one-preserved : goal.loop-one-preserved
 loop-one-preserved g c =
@@ -23,15 +24,15 @@ loop-one-preserved g c =
     let rest = c.pop_first.new.self.entries in
     let removal = c.in-Some.ensures.removal in
     let said = rw c.in-Some-2.is at c.in_ok-is.ensures.says in
-    let R = λ (e : FoundEntry). IsReadable s view e.1 in
-    let U = λ (e : FoundEntry). IsUnreadable s view e.1 in
+    let R = λ (e : FoundEntry). IsReadableFile s view e.1 in
+    let U = λ (e : FoundEntry). IsUnreadableFile s view e.1 in
     record {
       some = λ is h. ⊎_elim (λ any. before.some any h)
-          (λ reads. before.has h (subst (Among R) (sym removal) (inl (subst (λ (T : Tree). IsReadable s (view_of T) one) (before.leaves h).tree (reads h)))))
+          (λ reads. before.has h (subst (Among R) (sym removal) (inl (subst (λ (T : Tree). IsReadableFile s (view_of T) one) (before.leaves h).tree (reads h)))))
           (rw is at said);
       none = λ is h all.
           let no = rw is at said in
-          before.none no.0 h (subst (All U) (sym removal) (All-cons U first rest (subst (λ (T : Tree). IsUnreadable s (view_of T) one) (before.leaves h).tree (no.1 h)) all));
+          before.none no.0 h (subst (All U) (sym removal) (All-cons U first rest (subst (λ (T : Tree). IsUnreadableFile s (view_of T) one) (before.leaves h).tree (no.1 h)) all));
       has = λ h has. before.has h (subst (Among R) (sym removal) (inr has));
       files = λ all. All-tail IsFile first rest (subst (All IsFile) removal (before.files all));
       rises = le_trans before.rises c.is_readable.ensures.rises;
@@ -54,4 +55,4 @@ returns-clause-says g c =
     let none = none_left _ (λ below. let bad : false ≡ true = c.in_default.ensures.variant.1 below in absurd (cc)) in
     let F = g.F.Files in
     says _ _ (All IsFile c.args.found.entries → HasRisen (F.faults c.args.files.now) (F.faults c.loop-one.files)) c.loop-one.any (λ is h. c.loop-one.invariant.some is h)
-    (λ is h. c.loop-one.invariant.none is h (all_none (λ (e : FoundEntry). IsUnreadable (plain c.args.settings) view e.1) left none))
+    (λ is h. c.loop-one.invariant.none is h (all_none (λ (e : FoundEntry). IsUnreadableFile (plain c.args.settings) view e.1) left none))

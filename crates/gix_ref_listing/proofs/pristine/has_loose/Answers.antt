@@ -3,11 +3,12 @@ use Rattle.std.specs.List.{All}
 use Rattle.gix_ref_files.specs.Tree.{Tree}
 use Rattle.gix_ref_theory.specs.OnRealTrees.{view_of}
 use Rattle.gix_ref_listing.specs.PlainSettings.{plain}
-use Rattle.gix_ref_listing.specs.PristineStores.{IsReadable, IsUnreadable}
-use Rattle.gix_ref_listing.specs.Walks.{Among, FoundEntry}
+use Rattle.gix_ref_listing.specs.PristineStores.{IsReadableFile, IsUnreadableFile}
+use Rattle.gix_ref_listing.specs.Walks.{FoundEntry}
 use Rattle.gix_ref_listing.proofs.FolderWalks.{risen_from, risen_on}
 use Rattle.gix_ref_listing.proofs.PristineLemmas.{says_too, has_one, has_none}
 use Rattle.gix_ref_listing.proofs.pristine.has_loose.Goals as goal
+use Rattle.gix_ref_lookup.specs.Lookups.{Among}
 
 pub returns-clause-says : goal.returns-clause-says
 returns-clause-says g c =
@@ -20,6 +21,6 @@ returns-clause-says g c =
     let mid = F.faults c.walk_store.new.files in
     let now = F.faults c.any_readable.new.files in
     says_too c.any_readable.result
-    (λ reads h. has_one settings view prefix es (c.in-Ok.ensures.there h) (subst (λ (T : Tree). Among (λ (e : FoundEntry). IsReadable (plain settings) (view_of T) e.1) es) (c.walk_store.ensures.leaves h).tree (reads h)))
-    (λ reads h. has_none settings view prefix es (c.in-Ok.ensures.there h) (c.in-Ok.ensures.finds h) (subst (λ (T : Tree). All (λ (e : FoundEntry). IsUnreadable (plain settings) (view_of T) e.1) es) (c.walk_store.ensures.leaves h).tree (reads h)))
+    (λ reads h. has_one settings view prefix es (c.in-Ok.ensures.there h) (subst (λ (T : Tree). Among (λ (e : FoundEntry). IsReadableFile (plain settings) (view_of T) e.1) es) (c.walk_store.ensures.leaves h).tree (reads h)))
+    (λ reads h. has_none settings view prefix es (c.in-Ok.ensures.there h) (c.in-Ok.ensures.finds h) (subst (λ (T : Tree). All (λ (e : FoundEntry). IsUnreadableFile (plain settings) (view_of T) e.1) es) (c.walk_store.ensures.leaves h).tree (reads h)))
     (λ risen. ⊎_elim (λ files. risen_from before mid now c.walk_store.ensures.rises (risen files)) (λ first. risen_on before mid now first c.any_readable.ensures.rises) c.in-Ok.ensures.files) c.any_readable.ensures.says

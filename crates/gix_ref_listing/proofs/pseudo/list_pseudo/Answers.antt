@@ -1,6 +1,6 @@
 use Rattle.std.proofs.Common.{refl, ⊎_elim, inl, inr, []}
 use Rattle.gix_ref_theory.specs.OnRealTrees.{view_of}
-use Rattle.gix_ref_listing.specs.Listings.{merged}
+use Rattle.gix_ref_listing.specs.Listings.{merged_listing}
 use Rattle.gix_ref_listing.proofs.Listing.{found_rises, all_names}
 use Rattle.gix_ref_listing.proofs.PlainListings.{to_plain}
 use Rattle.gix_ref_listing.proofs.PseudoLemmas.{pseudo_listing}
@@ -11,8 +11,8 @@ returns-clause-lists g c h =
     let settings = c.args.settings in
     let es = c.in-Ok.found.entries in
     record {
-      listed = merged es [];
+      listed = merged_listing es [];
       is = pseudo_listing settings (view_of (g.F.Files.means c.args.files.now).tree) es (found_rises es c.len.ensures.ordered) (c.in-Ok.ensures.finds h) (c.in-Ok.ensures.there h);
       names = ⊎_elim (λ files. inl (all_names es [] files)) (λ risen. inr risen) c.in-Ok.ensures.files;
-      yet = to_plain settings record { found = c.in-Ok.found; packed = c.of-packed.result } (merged es []) ([], c.of-packed.ensures [] refl, refl);
+      yet = to_plain settings record { found = c.in-Ok.found; packed = c.of-packed.result } (merged_listing es []) ([], c.of-packed.ensures [] refl, refl);
     }

@@ -4,12 +4,13 @@ use Rattle.std.specs.declared.alloc.Global.{Global}
 use Rattle.gix_ref_base.specs.Layout.{below}
 use Rattle.gix_ref_lookup.specs.StoreLayout.{namespace_text}
 use Rattle.gix_ref_theory.specs.OnRealTrees.{view_of}
-use Rattle.gix_ref_listing.specs.Walks.{Among, Holds, IsFile, IsInnerPath, IsThereOr}
+use Rattle.gix_ref_listing.specs.Walks.{Holds, IsFile, IsInnerPath, IsThereOr}
 use Rattle.gix_ref_listing.specs.PseudoListings.{IsPseudoFound}
 use Rattle.gix_ref_listing.proofs.CleanFolders.{clean_named}
 use Rattle.gix_ref_listing.proofs.StoreWalks.{all_none}
 use Rattle.gix_ref_listing.proofs.PseudoLemmas.{not_inner, kept_holds, all_kept, pseudo_of_root, all_pseudo}
 use Rattle.gix_ref_listing.proofs.pseudo.walk_pseudo.Goals as goal
+use Rattle.gix_ref_lookup.specs.Lookups.{Among}
 
 pub front_of-requires : goal.front_of-requires
 front_of-requires g c =

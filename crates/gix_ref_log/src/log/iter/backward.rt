@@ -5,7 +5,7 @@ ghost use Rattle.std.specs.Prelude.{◌≡◌, ◌+◌, ◌-◌, ◌≤◌, ◌<
 ghost use Rattle.gix_ref_hash.specs.Bytes.{NoByte};
 ghost use Rattle.gix_ref_log.specs.LogLines.{IsOwned, line_ref_parts};
 ghost use Rattle.gix_ref_log.specs.LogStages.{text_of_line, IsDoneAfter};
-ghost use Rattle.gix_ref_log.specs.LogItems.{Gives, LineGives, count_of};
+ghost use Rattle.gix_ref_log.specs.LogItems.{GivesLine, LineGives, count_of};
 
 use super::decode;
 use super::error::ReverseError;
@@ -62,7 +62,7 @@ fn line_of(alloc: Global, text: &[u8], number: u64) -> Result<Line, ReverseError
 }
 
 impl<'a, F: ReadAt> Reverse<'a, F> {
-    ghost use Rattle.gix_ref_log.specs.LogWindows.{SameLog, OnlyWindowMoves, KeepsWindow, Counts, Begins, IsOpen, open_items, items_left, IsTied, most_left};
+    ghost use Rattle.gix_ref_log.specs.LogWindows.{SameLog, OnlyWindowMoves, KeepsWindow, Counts, BeginsAtEnd, IsOpen, open_items, items_left, IsTied, most_left};
 
     /// Moves the bytes of the window to the end of the buffer, and reads the bytes before them in the file.
     fn widen(&mut self) -> Result<(), FileError>
@@ -107,7 +107,7 @@ impl<'a, F: ReadAt> Reverse<'a, F> {
         ensures nearer { OnOk result (self.new.pos + self.new.end ≤ self.old.pos + self.old.end) }
         ensures begins { F.honest → self.old.end ≡ 0
             → self.old.pos ≡ length (F.bytes self.old.reader) → IfOk result
-            (Begins (F.bytes self.old.reader) self.new.buf.now self.new.pos self.new.end) }
+            (BeginsAtEnd (F.bytes self.old.reader) self.new.buf.now self.new.pos self.new.end) }
     {
         self.widen()?;
         let ends = self.ends_with_feed();
@@ -160,7 +160,8 @@ impl<'a, F: ReadAt> Reverse<'a, F> {
             ≡ count_of (Some result) (F.faults self.old.reader) }
         ensures done { IsDoneAfter (Some result) self.new.stage }
         ensures step { F.honest → IsOpen F.bytes ends self.old
-            → Gives (open_items F.bytes ends self.old) (Some result) (items_left F.bytes self.new)
+            → GivesLine (open_items F.bytes ends self.old) (Some result) (items_left F.bytes
+            self.new)
             × IsTied F.bytes self.new }
     {
         match self.find_start() {

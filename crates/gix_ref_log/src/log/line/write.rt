@@ -3,7 +3,7 @@ ghost use Rattle.std.specs.Prelude.{◌≡◌, ◌↔◌, ◌++◌, ◌∷◌, [
 ghost use Rattle.std.specs.Io.KnownBytes.{Appends};
 ghost use Rattle.gix_ref_hash.specs.Bytes.{NoByte};
 ghost use Rattle.gix_ref_log.specs.Signatures.{Who, CanWrite, signature_who, signature_ref_who, trimmed_who};
-ghost use Rattle.gix_ref_log.specs.LogLines.{LogLine, IsLine, IsReadAs, IsReadable, CanWriteLine, written_parts, message_part, line_text, head_text, appended_text};
+ghost use Rattle.gix_ref_log.specs.LogLines.{LogLine, IsLine, IsReadAs, IsReadableLine, CanWriteLine, written_parts, message_part, line_text, head_text, appended_text};
 ghost use Rattle.gix_ref_hash.specs.declared.hash.ObjectId.{ObjectId};
 ghost use Rattle.gix_ref_log.specs.declared.log.line.Line.{Line};
 
@@ -168,10 +168,10 @@ pub fn appended_line(
 pub fn lines_read_back()
     ensures one { (text : List ℕ) (line other : LogLine) → IsLine text line → IsLine text other
         → other ≡ line }
-    ensures written { (line : Line) → IsReadable line.previous_oid line.new_oid
+    ensures written { (line : Line) → IsReadableLine line.previous_oid line.new_oid
         (signature_who line.signature) line.message.items → IsReadAs (line_text line) line }
     ensures appended { (previous new : ObjectId) (who : Who) (message : List ℕ)
-        → IsReadable previous new (trimmed_who who) message
+        → IsReadableLine previous new (trimmed_who who) message
         → IsLine (appended_text previous new who message)
         (written_parts previous new (trimmed_who who) message) }
 {}

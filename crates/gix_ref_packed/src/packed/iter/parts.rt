@@ -1,14 +1,14 @@
 //! What an iterator over packed references asks of lines and names.
 ghost use Rattle.std.specs.Prelude.{◌≡◌, ◌<◌, ◌≤◌, length, ℕ, List};
 ghost use Rattle.std.specs.Option.{option_map};
-ghost use Rattle.gix_ref_packed.specs.Items.{CutsLine, FirstLine, has_prefix, line_feeds, without_cr};
+ghost use Rattle.gix_ref_packed.specs.Items.{CutsAtFeed, FirstLine, has_prefix, line_feeds, line_without_cr};
 
 use gix_ref_hash::bytes::cut;
 use memchr::memchr_iter;
 
 /// The line at the front of the text, up to its LF, and what follows it; the whole text where it has no LF.
 pub fn cut_line(text: &[u8]) -> (&[u8], &[u8])
-    ensures { CutsLine text.now result.0.now result.1.now }
+    ensures { CutsAtFeed text.now result.0.now result.1.now }
 {
     match cut(text, b'\n') {
         Some((line, rest)) => (line, rest),
@@ -18,7 +18,7 @@ pub fn cut_line(text: &[u8]) -> (&[u8], &[u8])
 
 /// A line without the CR of a CRLF.
 fn strip_cr(line: &[u8]) -> &[u8]
-    ensures { result.now ≡ without_cr line.now }
+    ensures { result.now ≡ line_without_cr line.now }
 {
     if line.ends_with(b"\r") {
         &line[..line.len().saturating_sub(1)]

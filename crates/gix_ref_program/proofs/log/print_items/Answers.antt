@@ -2,7 +2,7 @@ use Rattle.std.proofs.Common.{sym, subst, ◌∙◌, ap}
 use Rattle.std.specs.Io.KnownBytes.{Appends}
 use Rattle.gix_ref_log.specs.LogWindows.{NextStep}
 use Rattle.gix_ref_program.proofs.ItemLemmas.{status_fault, status_line, item_printed, rest_printed, whole_run}
-use Rattle.gix_ref_program.specs.LogPrinting.{item_text, log_text}
+use Rattle.gix_ref_program.specs.LogPrinting.{log_item_text, log_text}
 use Rattle.gix_ref_program.specs.Printed.{items_status}
 use Rattle.gix_ref_program.proofs.log.print_items.Goals.{then-is_err, else-is_err}
 use Rattle.gix_ref_program.proofs.log.print_items.Goals as goal
@@ -13,7 +13,7 @@ loop-item-preserved-in_ok-write_block g c = (
     | then-is_err w ↦ w.status-is ∙ status_fault c.loop-item.yielded c.in-Some.item (sym w.if-is_err.ensures.value)
     | else-is_err w ↦ status_line c.loop-item.yielded c.in-Some.item c.if-is_err.status (w.status-is ∙ c.loop-item.invariant.0) (sym w.if-is_err.ensures.value)
   ],
-  item_printed item_text (g.W.Write.contents c.args.out.now) (g.W.Write.contents c.loop-item.out) (g.W.Write.contents c.write_block.new.out) c.loop-item.text.items c.push_item.new.text.items c.write_block.new.text.items
+  item_printed log_item_text (g.W.Write.contents c.args.out.now) (g.W.Write.contents c.loop-item.out) (g.W.Write.contents c.write_block.new.out) c.loop-item.text.items c.push_item.new.text.items c.write_block.new.text.items
       c.loop-item.yielded c.in-Some.item c.loop-item.invariant.1 c.in_ok-push_item.ensures c.in_ok-write_block.ensures,
 )
 
@@ -23,7 +23,7 @@ loop-item-preserved g c = (
     | then-is_err w ↦ w.status-is ∙ status_fault c.loop-item.yielded c.in-Some.item (sym w.if-is_err.ensures.value)
     | else-is_err w ↦ status_line c.loop-item.yielded c.in-Some.item c.if-is_err.status (w.status-is ∙ c.loop-item.invariant.0) (sym w.if-is_err.ensures.value)
   ],
-  item_printed item_text (g.W.Write.contents c.args.out.now) (g.W.Write.contents c.loop-item.out) (g.W.Write.contents c.write_block.new.out) c.loop-item.text.items c.push_item.new.text.items c.write_block.new.text.items
+  item_printed log_item_text (g.W.Write.contents c.args.out.now) (g.W.Write.contents c.loop-item.out) (g.W.Write.contents c.write_block.new.out) c.loop-item.text.items c.push_item.new.text.items c.write_block.new.text.items
       c.loop-item.yielded c.in-Some.item c.loop-item.invariant.1 c.in_ok-push_item.ensures c.in_ok-write_block.ensures,
 )
 

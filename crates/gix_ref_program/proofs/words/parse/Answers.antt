@@ -2,7 +2,7 @@ use Rattle.std.proofs.Common.{◌∷◌, List, ℕ, sym, ◌∙◌, ap}
 use Rattle.std.specs.Option.{option_map}
 use Rattle.std.specs.String.{string_bytes}
 use Rattle.gix_ref_log.specs.Signatures.{signature_ref_who}
-use Rattle.gix_ref_program.specs.Words.{texts, asked_of}
+use Rattle.gix_ref_program.specs.Words.{texts, command_asked}
 use Rattle.gix_ref_program.proofs.WordLemmas.{no_signature, no_text, no_committer, no_command, is_line}
 use Rattle.gix_ref_program.proofs.words.parse.Goals as goal
 
@@ -21,13 +21,13 @@ returns-in_err-message c =
     (option_map (λ value. value.now) c.in_ok-signature.signature) (texts c.in_ok-signature.rest.now) c.in_ok-signature.ensures
     c.in_err-message.ensures)
 
-pub returns-in_err-committer : goal.returns-in_err-committer
-returns-in_err-committer c =
-    rw c.from_residual-in_err-committer.ensures (no_committer (texts c.args.words.now) (string_bytes c.in_ok-dir.dir.now) (texts c.in_ok-dir.rest.now) (texts c.kind_of-object_hash.result.1.now) c.kind_of-object_hash.result.0
+pub returns-in_default : goal.returns-in_default
+returns-in_default c =
+    no_committer (texts c.args.words.now) (string_bytes c.in_ok-dir.dir.now) (texts c.in_ok-dir.rest.now) (texts c.kind_of-object_hash.result.1.now) c.kind_of-object_hash.result.0
     (ap texts c.in_ok-dir.ensures.cases.0) c.kind_of-object_hash.ensures.words c.kind_of-object_hash.ensures.option
     (option_map (λ value. value.now) c.in_ok-namespace.namespace) (texts c.in_ok-namespace.rest.now) c.in_ok-namespace.ensures
     (option_map (λ value. value.now) c.in_ok-signature.signature) (texts c.in_ok-signature.rest.now) c.in_ok-signature.ensures
-    c.in_err-committer.ensures)
+    c.in_default.ensures
 
 pub returns-in_err-command : goal.returns-in_err-command
 returns-in_err-command c =
@@ -45,4 +45,4 @@ returns c =
     (option_map (λ value. value.now) c.in_ok-namespace.namespace) (texts c.in_ok-namespace.rest.now) c.in_ok-namespace.ensures
     (option_map (λ value. value.now) c.in_ok-signature.signature) (texts c.in_ok-signature.rest.now) c.in_ok-signature.ensures
     (option_map (λ value. value.now) c.in_ok-message.message) (texts c.in_ok-message.rest.now) c.in_ok-message.ensures
-    (option_map signature_ref_who c.in_ok-committer.committer) (asked_of c.in_ok-command.command) c.in_ok-committer.ensures c.in_ok-command.ensures
+    (option_map signature_ref_who c.in-Ok.committer) (command_asked c.in_ok-command.command) c.in-Ok.ensures c.in_ok-command.ensures

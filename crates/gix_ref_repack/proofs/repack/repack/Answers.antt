@@ -8,7 +8,7 @@ use Rattle.gix_ref_transaction.specs.CommittedEdits.{planned}
 use Rattle.gix_ref_transaction.specs.PrepareSteps.{setting_of, updates}
 use Rattle.gix_ref_repack.specs.Refusals.{IsIoOrMemory}
 use Rattle.gix_ref_repack.specs.Repacks.{IsRepack}
-use Rattle.gix_ref_repack.specs.internal.RemovedKeys.{removed_keys}
+use Rattle.gix_ref_repack.specs.internal.RemovedKeys.{keys_to_remove}
 use Rattle.gix_ref_repack.specs.Removals.{IsWithout}
 use Rattle.gix_ref_repack.proofs.RepackLemmas.{err_part, ok_part, repack_is, sorted_keys, unaltered}
 use Rattle.gix_ref_repack.proofs.repack.repack.Goals as goal
@@ -27,7 +27,7 @@ returns-clause-repacked g c h apart rs are found =
     let edits = c.args.edits.now in
     let keys = map vec_items c.deref.result.now in
     let same = sym (ap (map vec_items) c.deref.ensures.value) in
-    let moved = subst (λ (ks : List (List ℕ)). IsPermutation (removed_keys (setting_of set) edits) ks) same c.in_ok-keys.ensures.moved in
+    let moved = subst (λ (ks : List (List ℕ)). IsPermutation (keys_to_remove (setting_of set) edits) ks) same c.in_ok-keys.ensures.moved in
     let in_order = subst (λ (ks : List (List ℕ)). IsSorted (slice_cmp nat_cmp) ks) same c.in_ok-keys.ensures.sorted in
     let up = sorted_keys f laid set.kind set.prohibit_windows_device_names edits keys apart moved in_order in
     ok_part (IsWithout set.kind keys rs) (IsRepack (setting_of set) set.kind rs (planned (updates edits))) IsIoOrMemory c.file_without.result (c.file_without.ensures.rewritten h rs are up)
@@ -41,7 +41,7 @@ returns-clause-sound g c h apart rs are =
     let edits = c.args.edits.now in
     let keys = map vec_items c.deref.result.now in
     let same = sym (ap (map vec_items) c.deref.ensures.value) in
-    let moved = subst (λ (ks : List (List ℕ)). IsPermutation (removed_keys (setting_of set) edits) ks) same c.in_ok-keys.ensures.moved in
+    let moved = subst (λ (ks : List (List ℕ)). IsPermutation (keys_to_remove (setting_of set) edits) ks) same c.in_ok-keys.ensures.moved in
     let in_order = subst (λ (ks : List (List ℕ)). IsSorted (slice_cmp nat_cmp) ks) same c.in_ok-keys.ensures.sorted in
     let up = sorted_keys f laid set.kind set.prohibit_windows_device_names edits keys apart moved in_order in
     err_part (IsWithout set.kind keys rs) IsIoOrMemory c.file_without.result (c.file_without.ensures.rewritten h rs are up)

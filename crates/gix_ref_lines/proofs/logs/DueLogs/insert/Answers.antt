@@ -2,18 +2,18 @@ use Rattle.std.proofs.Common.{◌≡◌, ◌≤◌, Bool, true, false, length, a
 use Rattle.std.specs.Prelude.{bytes_eq, ◌||◌}
 use Rattle.std.proofs.Math.Nat.{min-le_left, min-le_right}
 use Rattle.std.proofs.lemmas.Slice.Eq.{bytes_eq-Decides}
-use Rattle.gix_ref_files.specs.Tree.{Path}
-use Rattle.gix_ref_lines.specs.internal.SeenLogs.{is_among, paths_in}
+use Rattle.gix_ref_lines.specs.internal.SeenLogs.{due_paths}
 use Rattle.gix_ref_lines.proofs.LogPaths.{key_added}
 use Rattle.gix_ref_lines.proofs.logs.DueLogs.insert.Goals as goal
+use Rattle.gix_ref_transaction.specs.OwnLocks.{is_in}
 
 pub returns-clause-added : goal.returns-clause-added
 returns-clause-added c q = key_added q c.args.path c.args.self.now.paths.keys c.insert.new.self.keys c.in_ok-insert.field-0 c.in_ok-insert.ensures.added c.in_ok-insert.ensures.keys
 
 pub returns-clause-bounded : goal.returns-clause-bounded
-returns-clause-bounded c bounded q within = by (bytes_eq c.args.path.items q) refl (is_among (paths_in c.args.self.now) q) refl (sym (returns-clause-added c q) ∙ within)
+returns-clause-bounded c bounded q within = by (bytes_eq c.args.path.items q) refl (is_in (due_paths c.args.self.now) q) refl (sym (returns-clause-added c q) ∙ within)
   where
-    by : (same : Bool) → bytes_eq c.args.path.items q ≡ same → (before : Bool) → is_among (paths_in c.args.self.now) q ≡ before → (same || before) ≡ true → c.min-self.result ≤ length q
+    by : (same : Bool) → bytes_eq c.args.path.items q ≡ same → (before : Bool) → is_in (due_paths c.args.self.now) q ≡ before → (same || before) ≡ true → c.min-self.result ≤ length q
     by true e before f h = omega (arith, c.min-self.ensures, c.len-len.ensures, c.args.path.ok, min-le_right c.args.self.now.shortest c.len-len.result, ap length ((bytes_eq-Decides c.args.path.items q).0 e))
     by false e true f h = omega (arith, c.min-self.ensures, min-le_left c.args.self.now.shortest c.len-len.result, bounded q f)
     by false e false f h = absurd (differ h)

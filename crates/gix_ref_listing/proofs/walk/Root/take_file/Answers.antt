@@ -1,8 +1,9 @@
 use Rattle.std.proofs.Common.{sym, ◌∙◌, subst, IsSome}
 use Rattle.gix_ref_name.specs.Names.{full_bytes}
-use Rattle.gix_ref_listing.specs.Walks.{Among, Holds, IsFileOfName}
+use Rattle.gix_ref_listing.specs.Walks.{Holds, IsFileOfName}
 use Rattle.gix_ref_listing.proofs.WalkLemmas.{file_stays, file_holds, known_holds, file_is_file, file_there}
 use Rattle.gix_ref_listing.proofs.walk.Root.take_file.Goals as goal
+use Rattle.gix_ref_lookup.specs.Lookups.{Among}
 
 pub returns-in_ok-insert-clause-stays : goal.returns-in_ok-insert-clause-stays
 returns-in_ok-insert-clause-stays c = file_stays _ c.in-Some.field-0.name c.in-Some.field-0.path c.args.found.now.entries c.insert.new.self.entries c.in_ok-insert.ensures.entries (sym c.contains_key.ensures ∙ c.if-not-contains_key.true)

@@ -3,8 +3,9 @@ use Rattle.std.specs.List.{All}
 use Rattle.gix_ref_files.specs.Calls.{Unchanged}
 use Rattle.gix_ref_files.specs.Files.{Leaves, HasRisen}
 use Rattle.gix_ref_theory.specs.OnRealTrees.{view_of}
-use Rattle.gix_ref_listing.specs.Walks.{IsThereOr, FoundEntry, IsFile, StaysFound, IsFolderPath, IsBelow, Among, Holds, IsLooseName}
+use Rattle.gix_ref_listing.specs.Walks.{IsThereOr, FoundEntry, IsFile, StaysFound, IsFolderPath, IsBelow, Holds, IsLooseName}
 use Rattle.gix_ref_listing.proofs.walk.Root.walk.Given as goal
+use Rattle.gix_ref_lookup.specs.Lookups.{Among}
 
 -- each name is found, or is below a folder of the level that comes next
 abbrev pub invariant-loop : goal.invariant-loop

@@ -1,7 +1,7 @@
 use Rattle.gix_ref_files.specs.declared.files.FileError.TheVariants.{Memory}
 use Rattle.std.proofs.Common.{◌≡◌, ◌≢◌, inl, inr, sym, ◌∙◌, ap, ◌++◌, ◌∷◌, [], subst, false, rules}
 use Rattle.gix_ref_files.specs.Tree.{is_folder}
-use Rattle.gix_ref_files.specs.Calls.{IsListing}
+use Rattle.gix_ref_files.specs.Calls.{ListsFolder}
 use Rattle.gix_ref_theory.specs.OnRealTrees.{view_of}
 use Rattle.gix_ref_listing.proofs.FolderWalks.{path_of_folder, entries_there, entries_reach, folder_is_there, fault_rises, counts_up}
 use Rattle.gix_ref_listing.proofs.WalkLemmas.{not_both}
@@ -15,7 +15,7 @@ returns-in-Ok-take_entries-clause-reaches g c h at name loose begins =
     let listed = rw c.in-Ok-Some.field-0-is at (c.in-Ok-Some.ensures.answer h) in
     let here : c.deref.result.now ≡ way.0 = c.deref.ensures.value ∙ c.in-Ok.ensures way.0 way.2 in
     let entries = c.deref-in-Ok-Some.result.now in
-    let listing : IsListing T way.0 entries = subst (IsListing T way.0) (sym c.deref-in-Ok-Some.ensures.value) (subst (λ p. IsListing T p c.in-Ok-Some.entries.items) here listed.1) in
+    let listing : ListsFolder T way.0 entries = subst (ListsFolder T way.0) (sym c.deref-in-Ok-Some.ensures.value) (subst (λ p. ListsFolder T p c.in-Ok-Some.entries.items) here listed.1) in
     entries_reach c.args.self T c.args.folder.now way.0 (g.met.F.Files.shaped c.args.files.now h) way.2 way.1 at name loose begins.0 begins.1 entries listing c.take_entries.new.found.entries c.take_entries.new.next.items c.in-Ok-take_entries.ensures.taken
 
 pub returns-in-Ok-take_entries-clause-there : goal.returns-in-Ok-take_entries-clause-there
@@ -26,7 +26,7 @@ returns-in-Ok-take_entries-clause-there g c h at others all =
     let listed = rw c.in-Ok-Some.field-0-is at (c.in-Ok-Some.ensures.answer h) in
     let here : c.deref.result.now ≡ way.0 = c.deref.ensures.value ∙ c.in-Ok.ensures way.0 way.2 in
     let entries = c.deref-in-Ok-Some.result.now in
-    let listing : IsListing T way.0 entries = subst (IsListing T way.0) (sym c.deref-in-Ok-Some.ensures.value) (subst (λ p. IsListing T p c.in-Ok-Some.entries.items) here listed.1) in
+    let listing : ListsFolder T way.0 entries = subst (ListsFolder T way.0) (sym c.deref-in-Ok-Some.ensures.value) (subst (λ p. ListsFolder T p c.in-Ok-Some.entries.items) here listed.1) in
     c.in-Ok-take_entries.ensures.there others (view_of T) all (entries_there c.args.self T c.args.folder.now way.0 entries way.2 listing)
 
 pub returns-in-Ok-None-clause-reaches : goal.returns-in-Ok-None-clause-reaches

@@ -3,9 +3,10 @@ use Rattle.std.specs.List.{All}
 use Rattle.gix_ref_hash.specs.Bytes.{BeginsWith}
 use Rattle.gix_ref_files.specs.Tree.{Tree}
 use Rattle.gix_ref_theory.specs.OnRealTrees.{view_of}
-use Rattle.gix_ref_listing.specs.Walks.{Among, Holds, IsThereOr, IsLooseName, IsFolderPath, IsBelow}
+use Rattle.gix_ref_listing.specs.Walks.{Holds, IsThereOr, IsLooseName, IsFolderPath, IsBelow}
 use Rattle.gix_ref_listing.proofs.FolderWalks.{files_still, unchanged_on, among_next, among_none}
 use Rattle.gix_ref_listing.proofs.walk.Root.walk_level.Goals as goal
+use Rattle.gix_ref_lookup.specs.Lookups.{Among}
 
 pub loop-folder-preserved : goal.loop-folder-preserved
 loop-folder-preserved g c =

@@ -3,8 +3,9 @@ use Rattle.std.specs.List.{All}
 use Rattle.gix_ref_files.specs.Calls.{Unchanged}
 use Rattle.gix_ref_files.specs.Files.{Leaves, HasRisen}
 use Rattle.gix_ref_theory.specs.OnRealTrees.{view_of}
-use Rattle.gix_ref_listing.specs.Walks.{IsThereOr, FoundEntry, IsFile, StaysFound, IsInnerPath, IsBelow, Among, Holds, IsLooseName}
+use Rattle.gix_ref_listing.specs.Walks.{IsThereOr, FoundEntry, IsFile, StaysFound, IsInnerPath, IsBelow, Holds, IsLooseName}
 use Rattle.gix_ref_listing.proofs.walk.Root.walk_level.Given as goal
+use Rattle.gix_ref_lookup.specs.Lookups.{Among}
 
 -- the names below the folders that were seen are found, or are below a folder of the next level
 abbrev pub invariant-loop-folder : goal.invariant-loop-folder

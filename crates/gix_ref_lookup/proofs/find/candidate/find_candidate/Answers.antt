@@ -1,8 +1,8 @@
-use Rattle.std.proofs.Common.{◌∙◌, ap, sym, subst}
+use Rattle.std.proofs.Common.{◌∙◌, sym, subst}
 use Rattle.gix_ref_name.specs.Names.{full_ref_bytes}
 use Rattle.gix_ref_files.specs.Tree.{Tree}
 use Rattle.gix_ref_theory.specs.OnRealTrees.{view_of}
-use Rattle.gix_ref_lookup.specs.Lookups.{meaning_in, AreAsked, IsLooseTarget}
+use Rattle.gix_ref_lookup.specs.Lookups.{meaning_in, AreAsked}
 use Rattle.gix_ref_lookup.proofs.Answering.{loose_candidate, packed_candidate}
 use Rattle.gix_ref_lookup.proofs.Opening.{if_ok}
 use Rattle.gix_ref_lookup.proofs.find.candidate.find_candidate.Goals as goal

@@ -1,11 +1,10 @@
-use Rattle.std.proofs.Common.{◌≡◌, ◌≢◌, ◌⊎◌, inl, inr, ℕ, List, Option, Result, IfOk, IfErr, IfSome, refl, sym, ◌∙◌, ap, subst}
+use Rattle.std.proofs.Common.{◌≡◌, ◌≢◌, ◌⊎◌, inl, ℕ, List, IfOk, IfErr, IfSome, refl, sym, ◌∙◌, subst}
 use Rattle.std.specs.Option.{option_map}
 use Rattle.gix_ref_name.specs.Candidates.{candidates, remote_head}
 use Rattle.gix_ref_name.specs.Names.{partial_ref_bytes, partial_bytes}
 use Rattle.gix_ref_theory.specs.OnRealTrees.{view_of}
 use Rattle.gix_ref_theory.specs.Lookups.{lookup}
-use Rattle.gix_ref_records.specs.declared.raw.Reference.{Reference}
-use Rattle.gix_ref_lookup.specs.Lookups.{meaning_in, Answers, IsHit, IsHitOf, Among, FailsAmong, asked_names, name_asked, name_given, hit_given}
+use Rattle.gix_ref_lookup.specs.Lookups.{meaning_in, Answers, IsHit, IsHitOf, Among, FailsAmong, asked_names, name_asked, hit_given}
 use Rattle.gix_ref_lookup.specs.declared.find.error.Error.{Error}
 use Rattle.gix_ref_lookup.specs.declared.find.error.Error.TheVariants.{Memory}
 use Rattle.gix_ref_lookup.proofs.Composing.{answers_same, given_answers, given_some, given_err, hit_as_asked}

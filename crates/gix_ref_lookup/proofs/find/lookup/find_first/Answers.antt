@@ -1,5 +1,4 @@
-use Rattle.std.proofs.Common.{◌≡◌, inl, ℕ, ◌+◌, ◌<◌, List, [], ◌∷◌, ◌++◌, Some, None, Bor, get_or, length, drop, arith, sym, ◌∙◌, ap, subst}
-use Rattle.gix_ref_hash.specs.declared.hash.Kind.{Kind}
+use Rattle.std.proofs.Common.{◌≡◌, inl, ℕ, ◌+◌, ◌<◌, List, [], ◌∷◌, ◌++◌, Some, None, Bor, get_or, drop, arith, sym, ◌∙◌, ap, subst}
 use Rattle.gix_ref_name.specs.Candidates.{candidates, fronts_of}
 use Rattle.gix_ref_name.specs.Names.{partial_ref_bytes, full_ref_bytes}
 use Rattle.gix_ref_base.specs.PackedRecords.{Record}
@@ -9,7 +8,6 @@ use Rattle.gix_ref_theory.specs.Lookups.{first_hit}
 use Rattle.gix_ref_theory.specs.Readings.{reading_among}
 use Rattle.gix_ref_theory.specs.Readings.Reading.{Absent}
 use Rattle.gix_ref_theory.specs.OnRealTrees.{view_of}
-use Rattle.gix_ref_lookup.specs.declared.find.error.Error.{Error}
 use Rattle.gix_ref_lookup.specs.declared.find.error.Error.TheVariants.{Memory}
 use Rattle.gix_ref_lookup.specs.Lookups.{meaning_in, AreAsked, IsSearched, IsCandidate, IsPassed, IsHit, Answers, CandidateFails}
 use Rattle.gix_ref_lookup.proofs.Looking.{packed_refs_at, still_asked, next_name, hit_here, hit_later, among_here, fails_here, fails_later, fails_from, hit_from}

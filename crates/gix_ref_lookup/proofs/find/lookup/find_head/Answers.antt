@@ -1,4 +1,4 @@
-use Rattle.std.proofs.Common.{◌≡◌, inr, List, ℕ, [], Some, None, Option, IfOk, IfErr, refl, sym, ◌∙◌, ap, subst}
+use Rattle.std.proofs.Common.{◌≡◌, List, ℕ, [], Some, None, Option, IfOk, refl, sym, ◌∙◌, ap, subst}
 use Rattle.std.specs.Option.{option_map}
 use Rattle.gix_ref_name.specs.Candidates.{remote_head}
 use Rattle.gix_ref_name.specs.Names.{partial_ref_bytes, full_ref_bytes, full_bytes}

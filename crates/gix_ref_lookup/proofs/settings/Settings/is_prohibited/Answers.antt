@@ -1,6 +1,5 @@
 use Rattle.std.proofs.Common.{sym, false}
 use Rattle.gix_ref_hash.specs.Bytes.{components}
-use Rattle.gix_ref_grammar.specs.DeviceNames.{is_device}
 use Rattle.gix_ref_theory.specs.ConcreteStore.{below_folders}
 use Rattle.gix_ref_lookup.specs.StoreLayout.{folders_of}
 use Rattle.gix_ref_lookup.proofs.Answering.{any_device}

@@ -5,7 +5,7 @@ use Rattle.gix_ref_files.specs.Calls.{IsMovable}
 use Rattle.gix_ref_memory.specs.Changes.{after, items}
 use Rattle.gix_ref_files.proofs.Puts.{shaped_moved}
 use Rattle.gix_ref_memory.proofs.Grows.{move_more, disk}
-use Rattle.gix_ref_files.specs.Disk.{Item, nothing}
+use Rattle.gix_ref_files.specs.Disk.{DiskItem, nothing}
 use Rattle.gix_ref_memory.specs.declared.memory.changes.Change.{Change}
 use Rattle.gix_ref_memory.proofs.Items.{items_synced}
 use Rattle.gix_ref_memory.proofs.memory.edits.rename_now.Goals as goal
@@ -17,7 +17,7 @@ returns-in_ok-push-in-Some-FileOf-clause-answer c =
     let to : c.in_ok-to-in-Some-FileOf.to.items ≡ c.args.to.now = search rules in
     let is : c.in_ok-bytes-in-Some-FileOf.bytes.items ≡ c.in-Some-FileOf.old.now = search rules in
     let given : c.deref-in-Some-FileOf-3.result.now ≡ c.args.changes.now.items = search rules in
-    let count : c.item_at-synced.result.synced ≡ (disk c.args.changes.now.items).unsynced.synced c.args.from.now = ap (λ (i : Item). i.synced) c.item_at-synced.ensures ∙ (ap (λ (l : List Change). (items l c.args.from.now nothing).synced) given ∙ items_synced c.args.changes.now.items c.args.from.now) in
+    let count : c.item_at-synced.result.synced ≡ (disk c.args.changes.now.items).unsynced.synced c.args.from.now = ap (λ (i : DiskItem). i.synced) c.item_at-synced.ensures ∙ (ap (λ (l : List Change). (items l c.args.from.now nothing).synced) given ∙ items_synced c.args.changes.now.items c.args.from.now) in
     let stood : Some (File c.in-Some-FileOf.old.now) ≡ T c.args.from.now = search rules in
     let no_folder : is_folder (T c.args.to.now) ≡ false = search rules in
     let below : has_folders T c.args.to.now ≡ true = search rules in
@@ -32,7 +32,7 @@ returns-in_ok-push-in-Some-FileOf-clause-passes c =
     let to : c.in_ok-to-in-Some-FileOf.to.items ≡ c.args.to.now = search rules in
     let is : c.in_ok-bytes-in-Some-FileOf.bytes.items ≡ c.in-Some-FileOf.old.now = search rules in
     let given : c.deref-in-Some-FileOf-3.result.now ≡ c.args.changes.now.items = search rules in
-    let count : c.item_at-synced.result.synced ≡ (disk c.args.changes.now.items).unsynced.synced c.args.from.now = ap (λ (i : Item). i.synced) c.item_at-synced.ensures ∙ (ap (λ (l : List Change). (items l c.args.from.now nothing).synced) given ∙ items_synced c.args.changes.now.items c.args.from.now) in
+    let count : c.item_at-synced.result.synced ≡ (disk c.args.changes.now.items).unsynced.synced c.args.from.now = ap (λ (i : DiskItem). i.synced) c.item_at-synced.ensures ∙ (ap (λ (l : List Change). (items l c.args.from.now nothing).synced) given ∙ items_synced c.args.changes.now.items c.args.from.now) in
     let stood : Some (File c.in-Some-FileOf.old.now) ≡ T c.args.from.now = search rules in
     let no_folder : is_folder (T c.args.to.now) ≡ false = search rules in
     let below : has_folders T c.args.to.now ≡ true = search rules in
@@ -47,7 +47,7 @@ returns-in_ok-push-in-Some-FileOf-clause-disk c =
     let to : c.in_ok-to-in-Some-FileOf.to.items ≡ c.args.to.now = search rules in
     let is : c.in_ok-bytes-in-Some-FileOf.bytes.items ≡ c.in-Some-FileOf.old.now = search rules in
     let given : c.deref-in-Some-FileOf-3.result.now ≡ c.args.changes.now.items = search rules in
-    let count : c.item_at-synced.result.synced ≡ (disk c.args.changes.now.items).unsynced.synced c.args.from.now = ap (λ (i : Item). i.synced) c.item_at-synced.ensures ∙ (ap (λ (l : List Change). (items l c.args.from.now nothing).synced) given ∙ items_synced c.args.changes.now.items c.args.from.now) in
+    let count : c.item_at-synced.result.synced ≡ (disk c.args.changes.now.items).unsynced.synced c.args.from.now = ap (λ (i : DiskItem). i.synced) c.item_at-synced.ensures ∙ (ap (λ (l : List Change). (items l c.args.from.now nothing).synced) given ∙ items_synced c.args.changes.now.items c.args.from.now) in
     let stood : Some (File c.in-Some-FileOf.old.now) ≡ T c.args.from.now = search rules in
     let no_folder : is_folder (T c.args.to.now) ≡ false = search rules in
     let below : has_folders T c.args.to.now ≡ true = search rules in
@@ -62,7 +62,7 @@ returns-in_ok-push-in-Some-FileOf-clause-shape c shape =
     let to : c.in_ok-to-in-Some-FileOf.to.items ≡ c.args.to.now = search rules in
     let is : c.in_ok-bytes-in-Some-FileOf.bytes.items ≡ c.in-Some-FileOf.old.now = search rules in
     let given : c.deref-in-Some-FileOf-3.result.now ≡ c.args.changes.now.items = search rules in
-    let count : c.item_at-synced.result.synced ≡ (disk c.args.changes.now.items).unsynced.synced c.args.from.now = ap (λ (i : Item). i.synced) c.item_at-synced.ensures ∙ (ap (λ (l : List Change). (items l c.args.from.now nothing).synced) given ∙ items_synced c.args.changes.now.items c.args.from.now) in
+    let count : c.item_at-synced.result.synced ≡ (disk c.args.changes.now.items).unsynced.synced c.args.from.now = ap (λ (i : DiskItem). i.synced) c.item_at-synced.ensures ∙ (ap (λ (l : List Change). (items l c.args.from.now nothing).synced) given ∙ items_synced c.args.changes.now.items c.args.from.now) in
     let stood : Some (File c.in-Some-FileOf.old.now) ≡ T c.args.from.now = search rules in
     let no_folder : is_folder (T c.args.to.now) ≡ false = search rules in
     let below : has_folders T c.args.to.now ≡ true = search rules in

@@ -5,10 +5,10 @@ use Rattle.gix_ref_packed.specs.declared.packed.buffer.open.Error.{Error}
 use Rattle.gix_ref_packed.specs.declared.packed.buffer.open.Error.TheVariants.{Iter, HeaderParsing, Io, Memory}
 use Rattle.gix_ref_records.specs.OpenedText.{Keeps, line_behind, says_sorted}
 use Rattle.gix_ref_records.specs.declared.packed.decode.options.Header.{Header}
-use Rattle.gix_ref_packed.specs.Buffers.{IsRefused, IsRefusedBytes}
+use Rattle.gix_ref_packed.specs.Buffers.{IsRefusedText, IsRefusedBytes}
 use Rattle.gix_ref_packed.proofs.packed.file.open_reader.Goals as goal
 
-refused_bytes : (k : Kind) (t : List ℕ) (e : Error) → IsRefused k t e → IsRefusedBytes k t e
+refused_bytes : (k : Kind) (t : List ℕ) (e : Error) → IsRefusedText k t e → IsRefusedBytes k t e
 refused_bytes k t (Io error) h = absurd h
 refused_bytes k t HeaderParsing h = h
 refused_bytes k t (Iter line) h = h
@@ -50,7 +50,7 @@ pub returns-clause-refused : goal.returns-clause-refused
 returns-clause-refused g c = λ honest.
     let bytes = g.R.ReadAt.bytes c.args.reader in
     let whole : c.read_window.new.window.items ≡ bytes = whole_read c.read_window.new.window.items (g.R.ReadAt.bytes c.file_header.new.reader) bytes (c.in-Ok.ensures.read honest) (let one = c.in-Ok.ensures.len in let two = c.len-len.ensures.bytes honest in omega arith) c.file_header.ensures.same in
-    refused_bytes c.args.kind bytes c.in-Err-from_bytes.error (subst (λ (t : List ℕ). IsRefused c.args.kind t c.in-Err-from_bytes.error) whole c.in-Err-from_bytes.ensures.refused)
+    refused_bytes c.args.kind bytes c.in-Err-from_bytes.error (subst (λ (t : List ℕ). IsRefusedText c.args.kind t c.in-Err-from_bytes.error) whole c.in-Err-from_bytes.ensures.refused)
 
 pub returns-in-Err-clause-refused : goal.returns-in-Err-clause-refused
 returns-in-Err-clause-refused g c = λ honest. c.refusal.ensures.refused c.args.kind (g.R.ReadAt.bytes c.args.reader)

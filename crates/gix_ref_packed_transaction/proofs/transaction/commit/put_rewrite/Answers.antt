@@ -4,7 +4,7 @@ use Rattle.gix_ref_files.specs.Files.{disk_of}
 use Rattle.gix_ref_packed_transaction.specs.PackedTransactions.{IsRewritten}
 use Rattle.gix_ref_packed_transaction.proofs.LockSteps.{as_before, unlocked, on_ok, when_ok}
 use Rattle.gix_ref_packed_transaction.proofs.Losses.{keeps_first, keeps_unlock, settles_unchanged}
-use Rattle.gix_ref_packed_transaction.specs.internal.Keeping.{Keeps}
+use Rattle.gix_ref_packed_transaction.specs.internal.Keeping.{KeepsSettled}
 use Rattle.gix_ref_packed_transaction.proofs.transaction.commit.put_rewrite.Goals as goal
 use Rattle.gix_ref_rewrite.specs.declared.outcome.Rewrite.TheVariants.{Unchanged}
 
@@ -22,7 +22,7 @@ pub returns-in-Unchanged-clause-passes : goal.returns-in-Unchanged-clause-passes
 returns-in-Unchanged-clause-passes g c honest ready =
     let place = c.args.lock.now in
     let D = disk_of (g.F.Files.means c.args.files.now) in
-    passes_weaken (c.unlock.ensures.passes honest) (λ E unlocks. subst (λ r. Keeps r place D E) (sym c.in-Unchanged.is) (keeps_unlock Unchanged place D D E unlocks (keeps_first Unchanged place D ready)))
+    passes_weaken (c.unlock.ensures.passes honest) (λ E unlocks. subst (λ r. KeepsSettled r place D E) (sym c.in-Unchanged.is) (keeps_unlock Unchanged place D D E unlocks (keeps_first Unchanged place D ready)))
 
 pub returns-in-Unchanged-clause-settled : goal.returns-in-Unchanged-clause-settled
 returns-in-Unchanged-clause-settled g c honest ready =

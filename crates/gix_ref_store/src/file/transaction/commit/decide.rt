@@ -20,6 +20,7 @@ ghost use Rattle.gix_ref_store.specs.CommitResult.{IsPackedEmpty, RepacksFrom};
 ghost use Rattle.gix_ref_store.specs.Decisions.{IsUndecided};
 ghost use Rattle.gix_ref_store.specs.Store.{files_of, meaning_of, with_files};
 
+use crate::file::settings::settings;
 use crate::file::store::Store;
 use gix_ref_commit::decide::{NewPacked, decide_folders, decide_packed};
 use gix_ref_commit::error::Error;
@@ -31,7 +32,6 @@ use gix_ref_files::files::Files;
 use gix_ref_files::lock::LockFile;
 use gix_ref_lines::decide::decide_logs;
 use gix_ref_log::actor::SignatureRef;
-use gix_ref_lookup::settings::Settings;
 use gix_ref_rewrite::outcome::Rewrite;
 use gix_ref_transaction::edit::Edit;
 use std::alloc::Global;
@@ -88,13 +88,7 @@ impl<F: Files> Store<F> {
             committer.entry edits.old.items) }
         ensures same { self.new ≡ with_files self.old (files_of self.new) }
     {
-        let settings = Settings {
-            dirs: &self.dirs,
-            namespace: &self.namespace,
-            kind: self.object_hash,
-            prohibit_windows_device_names: self.prohibit_windows_device_names,
-            precompose_unicode: self.precompose_unicode,
-        };
+        let settings = settings!(self);
         let mode = self.write_reflog;
         if let Err(error) = decide_logs(alloc, &mut self.files, &settings, mode, committer, edits) {
             return Err(unlogged(error));

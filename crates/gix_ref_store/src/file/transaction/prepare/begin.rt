@@ -7,10 +7,11 @@ ghost use Rattle.gix_ref_transaction.specs.OwnLocks.{paths_of};
 ghost use Rattle.gix_ref_store.specs.Prepared.{RefusesFrom, RefusesGiven, RefusesSplit, HoldsFrom, HoldsGiven, SplitsFrom, HasGoodRecords, HoldsPacked, LosesNothing, HasRoom, locks_in, tree_of, disk_in};
 ghost use Rattle.gix_ref_store.specs.Store.{files_of, kind_of, meaning_of, with_files};
 ghost use Rattle.gix_ref_transaction.specs.Parents.{parents_in, split_parents};
-ghost use Rattle.gix_ref_transaction.specs.Splits.{leads_to, values_of, IsSplitCause, OnlyReads};
+ghost use Rattle.gix_ref_transaction.specs.Splits.{name_led_to, values_of, IsSplitCause, OnlyReads};
 ghost use Rattle.gix_ref_transaction.specs.PrepareSteps.{setting_of, effects_of, effects_on, files_at, ids_in, packed_ids, seen_files, targets_of, updates, AreWholeLocks, place_paths, places_of};
 ghost use Rattle.gix_ref_transaction.specs.Causes.{AllValid, IsCounted};
 
+use crate::file::settings::settings;
 use crate::file::store::Store;
 use crate::file::transaction::prepare::compose::asked_edits;
 use gix_ref_edits::transaction::RefEdit;
@@ -19,7 +20,7 @@ use gix_ref_lookup::settings::Settings;
 use gix_ref_transaction::edit::Edit;
 use gix_ref_transaction::prepare::Error;
 use gix_ref_transaction::prepare::check::{check_edits, check_names};
-use gix_ref_transaction::prepare::hold::{HeldLocks, LockFailure, edits_at, hold_all};
+use gix_ref_transaction::prepare::hold::{HeldLocks, LockFailure, edits_at, lock_edits};
 use gix_ref_transaction::prepare::split::{SplitEdits, split_edits};
 use gix_ref_transaction::release::Remains;
 use std::alloc::{AllocError, Global};
@@ -56,7 +57,7 @@ fn begun(
 
 impl<F: Files> Store<F> {
     /// Looks at the names of a split list, finds the records of its edits, and takes their locks with their texts.
-    fn hold_split(&mut self, alloc: Global, split: SplitEdits) -> Result<HeldLocks, LockFailure>
+    fn lock_split(&mut self, alloc: Global, split: SplitEdits) -> Result<HeldLocks, LockFailure>
         requires valid { AllValid (meaning_of self.old) (kind_of self.old) [] split.edits.items }
         requires len { vec_len split.parents ≡ vec_len split.edits }
         ensures refused { IfErr result (λ failure. RefusesSplit F.honest (HasReadFault
@@ -85,18 +86,14 @@ impl<F: Files> Store<F> {
             self.new split.edits.items held.packed) }
         ensures room { IfOk result (λ held. HasRoom held.edits held.remains) }
     {
-        let settings = Settings {
-            dirs: &self.dirs,
-            namespace: &self.namespace,
-            kind: self.object_hash,
-            prohibit_windows_device_names: self.prohibit_windows_device_names,
-            precompose_unicode: self.precompose_unicode,
-        };
+        let settings = settings!(self);
         if let Err(error) = check_names(alloc, &split.edits) {
             return Err(untouched(alloc, error));
         }
         match begun(alloc, &settings, split) {
-            Ok((edits, remains)) => { hold_all(alloc, &mut self.files, &settings, edits, remains) }
+            Ok((edits, remains)) => {
+                lock_edits(alloc, &mut self.files, &settings, edits, remains)
+            }
             Err(_) => Err(untouched(alloc, Error::Memory)),
         }
     }
@@ -108,7 +105,7 @@ impl<F: Files> Store<F> {
         ensures valid { IfOk result (λ split. AllValid (meaning_of self.old) (kind_of self.old) []
             split.edits.items) }
         ensures parents { F.honest → IfOk result (λ split. split.parents.items ≡ split_parents
-            (leads_to (meaning_of self.old) (view_of (tree_of F.means self.old)))
+            (name_led_to (meaning_of self.old) (view_of (tree_of F.means self.old)))
             (values_of edits.items)) }
         ensures len { IfOk result (λ split. vec_len split.parents ≡ vec_len split.edits) }
         ensures refused { F.honest → IfErr result (IsSplitCause (meaning_of self.old)
@@ -119,20 +116,18 @@ impl<F: Files> Store<F> {
             (F.faults (files_of self.new))) }
         ensures same { self.new ≡ with_files self.old (files_of self.new) }
     {
-        let settings = Settings {
-            dirs: &self.dirs,
-            namespace: &self.namespace,
-            kind: self.object_hash,
-            prohibit_windows_device_names: self.prohibit_windows_device_names,
-            precompose_unicode: self.precompose_unicode,
-        };
+        let settings = settings!(self);
         check_edits(alloc, &settings, &edits)?;
         split_edits(alloc, &mut self.files, &settings, edits)
     }
 
     /// Checks the edits, splits those that follow symbolic references, finds the records of all, and takes their locks with their
     /// texts.
-    fn begin(&mut self, alloc: Global, edits: Vec<RefEdit>) -> Result<HeldLocks, LockFailure>
+    fn check_and_lock(
+        &mut self,
+        alloc: Global,
+        edits: Vec<RefEdit>,
+    ) -> Result<HeldLocks, LockFailure>
         ensures refused { IfErr result (λ failure. RefusesFrom F.honest (HasReadFault
             F.Reader.faults) F.means F.faults self.old self.new edits.items failure.error
             (paths_of failure.locks_left.items)) }
@@ -156,20 +151,20 @@ impl<F: Files> Store<F> {
         ensures places { IfOk result (λ held. place_paths held.edits.items ≡ places_of
             (meaning_of self.old) (updates held.edits.items)) }
         ensures parents { F.honest → IfOk result (λ held. parents_in held.edits.items
-            ≡ split_parents (leads_to (meaning_of self.old) (view_of (tree_of F.means self.old)))
+            ≡ split_parents (name_led_to (meaning_of self.old) (view_of (tree_of F.means self.old)))
             (values_of edits.items)) }
         ensures packed { IfOk result (λ held. HoldsPacked F.honest F.means F.faults self.old
             self.new (updates held.edits.items) held.packed) }
         ensures room { IfOk result (λ held. HasRoom held.edits held.remains) }
     {
         match self.split(alloc, edits) {
-            Ok(split) => self.hold_split(alloc, split),
+            Ok(split) => self.lock_split(alloc, split),
             Err(error) => Err(untouched(alloc, error)),
         }
     }
 
     /// Composes the names of the edits, where the store composes names; then all as above.
-    pub(crate) fn begin_given(
+    pub(crate) fn compose_and_lock(
         &mut self,
         alloc: Global,
         edits: Vec<RefEdit>,
@@ -182,7 +177,7 @@ impl<F: Files> Store<F> {
         ensures room { IfOk result (λ held. HasRoom held.edits held.remains) }
     {
         match asked_edits(alloc, self.precompose_unicode, edits) {
-            Ok(asked) => self.begin(alloc, asked),
+            Ok(asked) => self.check_and_lock(alloc, asked),
             Err(_) => Err(untouched(alloc, Error::Memory)),
         }
     }

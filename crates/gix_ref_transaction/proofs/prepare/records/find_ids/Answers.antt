@@ -5,7 +5,7 @@ use Rattle.gix_ref_lookup.specs.Lookups.{OfKey}
 use Rattle.gix_ref_edits.specs.RefEdits.{name_of}
 use Rattle.gix_ref_transaction.specs.Causes.{OfSomeKey}
 use Rattle.gix_ref_transaction.specs.PrepareSteps.{setting_of, updates}
-use Rattle.gix_ref_transaction.specs.internal.StuckRecords.{IsStuckAt}
+use Rattle.gix_ref_transaction.specs.internal.StuckRecords.{IsStuckKey}
 use Rattle.gix_ref_transaction.proofs.UnreadRecords.{find_wider, some_key, stuck_back}
 use Rattle.gix_ref_transaction.specs.declared.edit.Edit.{Edit}
 use Rattle.gix_ref_transaction.proofs.PackedLemmas.{counted_by, counted_on, ids_more, then_unchanged, then_untouched}
@@ -32,8 +32,8 @@ returns-in_err-edit-clause-unread g c h kind =
     let e = get_or edits i c.edit-item.result in
     let is : e ≡ get_or edits i e = ap (λ d. get_or edits i d) c.edit-item.is in
     let lt : i < length edits = omega arith in
-    rw (told.1, told.2) (find_wider (OfKey s (name_of e.update) (IsStuckAt kind c.loop-edit.records)) (OfSomeKey (IsStuckAt kind c.args.records.now) s (updates old)) _
-    (λ key. some_key (IsStuckAt kind c.args.records.now) s old edits x.same i e lt is (key.0, key.1, stuck_back kind c.args.records.now c.loop-edit.records (λ of_kind text. x.searched kind of_kind text) key.0 key.2))
+    rw (told.1, told.2) (find_wider (OfKey s (name_of e.update) (IsStuckKey kind c.loop-edit.records)) (OfSomeKey (IsStuckKey kind c.args.records.now) s (updates old)) _
+    (λ key. some_key (IsStuckKey kind c.args.records.now) s old edits x.same i e lt is (key.0, key.1, stuck_back kind c.args.records.now c.loop-edit.records (λ of_kind text. x.searched kind of_kind text) key.0 key.2))
     (c.in_err-edit.ensures.unread (x.honest h) kind))
 
 pub loop-edit-preserved : goal.loop-edit-preserved

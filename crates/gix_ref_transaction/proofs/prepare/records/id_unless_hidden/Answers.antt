@@ -6,7 +6,7 @@ use Rattle.gix_ref_transaction.specs.Causes.{IsCountedWith, OfFind}
 use Rattle.gix_ref_transaction.specs.declared.prepare.error.Error.{Error}
 use Rattle.gix_ref_edits.specs.RefEdits.{name_of}
 use Rattle.gix_ref_transaction.specs.PrepareSteps.{setting_of}
-use Rattle.gix_ref_transaction.specs.internal.StuckRecords.{IsStuckAt}
+use Rattle.gix_ref_transaction.specs.internal.StuckRecords.{IsStuckKey}
 use Rattle.gix_ref_transaction.proofs.UnreadRecords.{no_find}
 use Rattle.gix_ref_transaction.proofs.PackedLemmas.{counted_later}
 use Rattle.gix_ref_transaction.proofs.prepare.records.id_unless_hidden.Goals as goal
@@ -30,7 +30,7 @@ pub returns-in_err-pass_hidden-in-Err-clause-unread : goal.returns-in_err-pass_h
 returns-in_err-pass_hidden-in-Err-clause-unread g c h kind =
     let told = err_from_is_err_and c.from_residual.result c.from_residual.ensures.1 in
     let s = setting_of c.args.settings.now in
-    let stuck = IsStuckAt kind c.args.records.now in
+    let stuck = IsStuckKey kind c.args.records.now in
     let P = OfKey s (name_of c.args.edit.now.update) stuck in
     let first : OfFind P c.in-Err.error = subst (λ (n : List ℕ). OfFind (OfKey s n stuck) c.in-Err.error) c.as_ref.ensures (c.in-Err.ensures.unread h kind) in
     rw (told.1, told.2) (⊎_elim

@@ -10,7 +10,7 @@ use Rattle.gix_ref_edits.specs.EditValues.{edit_value}
 use Rattle.gix_ref_edits.specs.RefEdits.{name_of}
 use Rattle.gix_ref_edits.specs.SplitLists.{referent}
 use Rattle.gix_ref_transaction.specs.PrepareSteps.{setting_of}
-use Rattle.gix_ref_transaction.specs.Splits.{leads_to, values_of, CanFollow}
+use Rattle.gix_ref_transaction.specs.Splits.{name_led_to, values_of, CanFollow}
 use Rattle.gix_ref_transaction.specs.internal.SplitRounds.{led_by, led_to}
 use Rattle.gix_ref_transaction.proofs.SplitLemmas.{first_misnamed, led_more, reads_more, values_more}
 use Rattle.gix_ref_transaction.proofs.prepare.split.follow_all.Goals as goal
@@ -43,7 +43,7 @@ loop-edit-preserved g c =
       len = search rules;
       reads = reads_more F.honest F.means F.faults c.args.files.now c.loop-edit.files c.follow.new.files x.reads here.reads;
       led = λ h.
-          let lead : Tree → _ = λ T. leads_to s (view_of T) in
+          let lead : Tree → _ = λ T. name_led_to s (view_of T) in
           let find = lead (F.means c.args.files.now).tree in
           let told : option_map full_bytes c.in_ok-name.name ≡ referent find (name_of edit) edit.deref = here.led h ∙ ap (λ (T : Tree). referent (lead T) (name_of edit) edit.deref) (x.reads.leaves h).tree in
           ap led_to pushed ∙ (led_more find c.loop-edit.names.items c.in_ok-name.name (values_of (take i edits)) (edit_value edit) (x.led h) told ∙ ap (led_by find) (sym seen));

@@ -1,7 +1,7 @@
 use Rattle.std.proofs.Common.{◌≡◌, take, vec_len, All}
 use Rattle.gix_ref_theory.specs.OnRealTrees.{view_of}
 use Rattle.gix_ref_transaction.specs.PrepareSteps.{setting_of}
-use Rattle.gix_ref_transaction.specs.Splits.{leads_to, values_of, CanFollow, OnlyReads}
+use Rattle.gix_ref_transaction.specs.Splits.{name_led_to, values_of, CanFollow, OnlyReads}
 use Rattle.gix_ref_transaction.specs.internal.SplitRounds.{led_to, led_by}
 use Rattle.gix_ref_transaction.proofs.prepare.split.follow_all.Given as goal
 
@@ -13,6 +13,6 @@ invariant-loop-edit g l =
     record {
       len : vec_len l.names ≡ l.edit-index;
       reads : OnlyReads g.F.Files.honest g.F.Files.means g.F.Files.faults l.fn.files l.files;
-      led : g.F.Files.honest → led_to l.names.items ≡ led_by (leads_to s (view_of (g.F.Files.means l.fn.files).tree)) seen;
+      led : g.F.Files.honest → led_to l.names.items ≡ led_by (name_led_to s (view_of (g.F.Files.means l.fn.files).tree)) seen;
       can_follow : All (CanFollow s) seen;
     }

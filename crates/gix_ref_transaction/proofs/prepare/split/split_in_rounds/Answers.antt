@@ -9,7 +9,7 @@ use Rattle.gix_ref_edits.specs.EditValues.{edit_value}
 use Rattle.gix_ref_edits.specs.SplitLists.{first_levels, level}
 use Rattle.gix_ref_transaction.specs.Parents.{first_parents, parents_from}
 use Rattle.gix_ref_transaction.specs.PrepareSteps.{setting_of}
-use Rattle.gix_ref_transaction.specs.Splits.{leads_to, values_of, CanFollow}
+use Rattle.gix_ref_transaction.specs.Splits.{name_led_to, values_of, CanFollow}
 use Rattle.gix_ref_transaction.specs.internal.SplitRounds.{IsRoundOver, IsSoundValue, IsUpdateValue, IsValidValue}
 use Rattle.gix_ref_transaction.proofs.SplitLemmas.{after_by-length, can_more, can_none, done_more, done_none, first_parents_more, first_parents_none, level_more, level_none, level_parents_more, level_parents_none, misnamed_on, reads_more, reads_none}
 use Rattle.gix_ref_transaction.proofs.SplitValidity.{after_updates, after_valid, all_updates, all_valid, children_sound, children_updates, given_sound, given_updates, now_valid}
@@ -20,7 +20,7 @@ loop-round-init g c =
     let F = g.F.Files in
     let s = setting_of c.args.settings.now in
     let kind = c.args.settings.now.kind in
-    let find = leads_to s (view_of (F.means c.args.files.now).tree) in
+    let find = name_led_to s (view_of (F.means c.args.files.now).tree) in
     let given = values_of c.args.edits.items in
     record {
       done = λ h. ap values_of c.in_ok-with_capacity.ensures.items ∙ done_none find given;
@@ -46,7 +46,7 @@ returns-in_err-children-clause-refused g c h =
     let F = g.F.Files in
     let x = c.loop-round.invariant in
     let s = setting_of c.args.settings.now in
-    let find = leads_to s (view_of (F.means c.args.files.now).tree) in
+    let find = name_led_to s (view_of (F.means c.args.files.now).tree) in
     let given = values_of c.args.edits.items in
     let n = c.loop-round._round in
     let lt : n < 5 = omega (arith, c.loop-round-test.true, c.loop-round.auto._round-end) in
@@ -62,7 +62,7 @@ loop-round-preserved g c =
     let x = c.loop-round.invariant in
     let s = setting_of c.args.settings.now in
     let kind = c.args.settings.now.kind in
-    let find = leads_to s (view_of (F.means c.args.files.now).tree) in
+    let find = name_led_to s (view_of (F.means c.args.files.now).tree) in
     let given = values_of c.args.edits.items in
     let n = c.loop-round._round in
     let here = c.in_ok-children.ensures in
@@ -75,10 +75,10 @@ loop-round-preserved g c =
     sym (length-map c.split_round.new.edits.items edit_value) ∙ (ap length here.by.changed ∙ (after_by-length back here.by.led here.by.len ∙ length-map c.loop-round.level.edits.items edit_value)) in
     record {
       done = λ h.
-          let round = subst (λ (T : Tree). IsRoundOver (leads_to s (view_of T)) back after kids) (x.reads.leaves h).tree (here.round h) in
+          let round = subst (λ (T : Tree). IsRoundOver (name_led_to s (view_of T)) back after kids) (x.reads.leaves h).tree (here.round h) in
           joined ∙ done_more find given n done back after (x.done h) (x.next h) round.changed;
       next = λ h.
-          let round = subst (λ (T : Tree). IsRoundOver (leads_to s (view_of T)) back after kids) (x.reads.leaves h).tree (here.round h) in
+          let round = subst (λ (T : Tree). IsRoundOver (name_led_to s (view_of T)) back after kids) (x.reads.leaves h).tree (here.round h) in
           level_more find given n back kids (x.next h) round.split;
       done_parents = λ h. c.in_ok-append-2.ensures.items ∙ first_parents_more find given n c.loop-round.done.parents.items c.loop-round.level.parents.items (x.done_parents h) (x.next_parents h);
       next_parents = λ h.
@@ -86,7 +86,7 @@ loop-round-preserved g c =
           let first = c.len-first.result in
           let at : first ≡ length c.loop-round.done.edits.items = omega arith in
           level_parents_more find given n first c.loop-round.done.edits.items back kids_parents at (x.done h) (x.next h)
-          (subst (λ (T : Tree). kids_parents ≡ parents_from (leads_to s (view_of T)) first back) (x.reads.leaves h).tree (here.parents h));
+          (subst (λ (T : Tree). kids_parents ≡ parents_from (name_led_to s (view_of T)) first back) (x.reads.leaves h).tree (here.parents h));
       done_len = omega (
         arith,
         x.done_len,
@@ -116,13 +116,13 @@ loop-round-preserved g c =
 pub returns-then-is_empty-clause-can_follow : goal.returns-then-is_empty-clause-can_follow
 returns-then-is_empty-clause-can_follow g c h =
     let s = setting_of c.args.settings.now in
-    let find = leads_to s (view_of (g.F.Files.means c.args.files.now).tree) in
+    let find = name_led_to s (view_of (g.F.Files.means c.args.files.now).tree) in
     let five : c.loop-round._round ≡ 5 = omega (arith, c.loop-round-test.false, c.loop-round.auto._round-end) in
     subst (λ n. All (CanFollow s) (first_levels find (values_of c.args.edits.items) n)) five (c.loop-round.invariant.can_follow h)
 
 pub returns-then-is_empty-clause-parents : goal.returns-then-is_empty-clause-parents
 returns-then-is_empty-clause-parents g c h =
-    let find = leads_to (setting_of c.args.settings.now) (view_of (g.F.Files.means c.args.files.now).tree) in
+    let find = name_led_to (setting_of c.args.settings.now) (view_of (g.F.Files.means c.args.files.now).tree) in
     let five : c.loop-round._round ≡ 5 = omega (arith, c.loop-round-test.false, c.loop-round.auto._round-end) in
     c.loop-round.invariant.done_parents h ∙ ap (first_parents find (values_of c.args.edits.items)) five
 
@@ -136,7 +136,7 @@ returns-then-is_empty-clause-updates g c updates = all_updates c.loop-round.done
 pub returns-else-is_empty-clause-refused : goal.returns-else-is_empty-clause-refused
 returns-else-is_empty-clause-refused g c h =
     let s = setting_of c.args.settings.now in
-    let find = leads_to s (view_of (g.F.Files.means c.args.files.now).tree) in
+    let find = name_led_to s (view_of (g.F.Files.means c.args.files.now).tree) in
     let given = values_of c.args.edits.items in
     let left = c.loop-round.level.edits.items in
     let five : c.loop-round._round ≡ 5 = omega (arith, c.loop-round-test.false, c.loop-round.auto._round-end) in

@@ -5,7 +5,7 @@ use Rattle.gix_ref_edits.specs.SplitLists.{after_round, first_levels, level}
 use Rattle.gix_ref_transaction.specs.Causes.{AllValid}
 use Rattle.gix_ref_transaction.specs.Parents.{first_parents, level_parents}
 use Rattle.gix_ref_transaction.specs.PrepareSteps.{setting_of}
-use Rattle.gix_ref_transaction.specs.Splits.{leads_to, values_of, CanFollow, OnlyReads}
+use Rattle.gix_ref_transaction.specs.Splits.{name_led_to, values_of, CanFollow, OnlyReads}
 use Rattle.gix_ref_transaction.specs.internal.SplitRounds.{IsValidValue, IsSoundValue, IsUpdateValue}
 use Rattle.gix_ref_transaction.proofs.prepare.split.split_in_rounds.Given as goal
 
@@ -14,7 +14,7 @@ abbrev pub invariant-loop-round : goal.invariant-loop-round
 invariant-loop-round g l =
     let s = setting_of l.settings in
     let kind = l.settings.kind in
-    let find = leads_to s (view_of (g.F.Files.means l.fn.files).tree) in
+    let find = name_led_to s (view_of (g.F.Files.means l.fn.files).tree) in
     let given = values_of l.fn.edits.items in
     record {
       done : g.F.Files.honest → values_of l.done.edits.items ≡ after_round find (first_levels find given l._round);

@@ -80,8 +80,8 @@ returns-in_err-take-clause-passes g c h =
     let t = turn old c.loop-i.edits x.same c.loop-i.i c.index-edits-i.result (omega arith) c.index-edits-i.is in
     took_passes s old t kind c.requires.apart c.requires.places first mid (x.goes h) (g.F.Files.means c.take.new.files) (c.take.ensures.passes h)
 
-pub settle-requires-clause-place : goal.settle-requires-clause-place
-settle-requires-clause-place g c =
+pub compare_and_write-requires-clause-place : goal.compare_and_write-requires-clause-place
+compare_and_write-requires-clause-place g c =
     let s = setting_of c.args.settings.now in
     let kind = c.args.settings.now.kind in
     let old = c.args.edits.now in
@@ -91,8 +91,8 @@ settle-requires-clause-place g c =
     let t = turn old c.loop-i.edits x.same c.loop-i.i c.index-edits-i.result (omega arith) c.index-edits-i.is in
     place_is s old t c.requires.places
 
-pub settle-requires-clause-allowed : goal.settle-requires-clause-allowed
-settle-requires-clause-allowed g c =
+pub compare_and_write-requires-clause-allowed : goal.compare_and_write-requires-clause-allowed
+compare_and_write-requires-clause-allowed g c =
     let s = setting_of c.args.settings.now in
     let kind = c.args.settings.now.kind in
     let old = c.args.edits.now in
@@ -102,8 +102,8 @@ settle-requires-clause-allowed g c =
     let t = turn old c.loop-i.edits x.same c.loop-i.i c.index-edits-i.result (omega arith) c.index-edits-i.is in
     subst (λ (p : Path). s.is_prohibited p ≡ false) (sym (place_is s old t c.requires.places)) (allowed_at s kind (updates old) c.requires.valid t.i t.e.update (lt_all s old t) (update_is s old t))
 
-pub settle-requires-clause-possible : goal.settle-requires-clause-possible
-settle-requires-clause-possible g c =
+pub compare_and_write-requires-clause-possible : goal.compare_and_write-requires-clause-possible
+compare_and_write-requires-clause-possible g c =
     let s = setting_of c.args.settings.now in
     let kind = c.args.settings.now.kind in
     let old = c.args.edits.now in
@@ -113,8 +113,8 @@ settle-requires-clause-possible g c =
     let t = turn old c.loop-i.edits x.same c.loop-i.i c.index-edits-i.result (omega arith) c.index-edits-i.is in
     possible_at s kind (updates old) c.requires.valid t.i t.e.update (lt_all s old t) (update_is s old t)
 
-pub returns-in_err-settle-clause-given : goal.returns-in_err-settle-clause-given
-returns-in_err-settle-clause-given g c =
+pub returns-in_err-compare_and_write-clause-given : goal.returns-in_err-compare_and_write-clause-given
+returns-in_err-compare_and_write-clause-given g c =
     let s = setting_of c.args.settings.now in
     let kind = c.args.settings.now.kind in
     let old = c.args.edits.now in
@@ -122,10 +122,10 @@ returns-in_err-settle-clause-given g c =
     let first = g.F.Files.means c.args.files.now in
     let mid = g.F.Files.means c.loop-i.files in
     let t = turn old c.loop-i.edits x.same c.loop-i.i c.index-edits-i.result (omega arith) c.index-edits-i.is in
-    same_then s old t c.settle.new.self c.settle.ensures.given
+    same_then s old t c.compare_and_write.new.self c.compare_and_write.ensures.given
 
-pub returns-in_err-settle-clause-refused : goal.returns-in_err-settle-clause-refused
-returns-in_err-settle-clause-refused g c h asked =
+pub returns-in_err-compare_and_write-clause-refused : goal.returns-in_err-compare_and_write-clause-refused
+returns-in_err-compare_and_write-clause-refused g c h asked =
     let s = setting_of c.args.settings.now in
     let kind = c.args.settings.now.kind in
     let old = c.args.edits.now in
@@ -136,13 +136,13 @@ returns-in_err-settle-clause-refused g c h asked =
     let one = g.F.Files.means c.take.new.files in
     let took = c.take.ensures.leaves h in
     let new = c.in_ok-take.ensures.taken h in
-    let two = g.F.Files.means c.settle.new.files in
-    let fills = c.settle.ensures.leaves h new.empty in
-    let told = err_from_is_err_and c.from_residual-in_err-settle.result c.from_residual-in_err-settle.ensures.1 in
-    rw (told.1, told.2) (found_refused s old t kind c.requires.apart c.requires.places first mid (x.goes h) one took new _ c.loop-i.edits (x.finds h asked) (c.in_err-settle.ensures.refused h (id_then s old t kind c.requires.apart c.requires.places first mid (x.goes h) one took new asked)))
+    let two = g.F.Files.means c.compare_and_write.new.files in
+    let fills = c.compare_and_write.ensures.leaves h new.empty in
+    let told = err_from_is_err_and c.from_residual-in_err-compare_and_write.result c.from_residual-in_err-compare_and_write.ensures.1 in
+    rw (told.1, told.2) (found_refused s old t kind c.requires.apart c.requires.places first mid (x.goes h) one took new _ c.loop-i.edits (x.finds h asked) (c.in_err-compare_and_write.ensures.refused h (id_then s old t kind c.requires.apart c.requires.places first mid (x.goes h) one took new asked)))
 
-pub returns-in_err-settle-clause-adds : goal.returns-in_err-settle-clause-adds
-returns-in_err-settle-clause-adds g c h =
+pub returns-in_err-compare_and_write-clause-adds : goal.returns-in_err-compare_and_write-clause-adds
+returns-in_err-compare_and_write-clause-adds g c h =
     let s = setting_of c.args.settings.now in
     let kind = c.args.settings.now.kind in
     let old = c.args.edits.now in
@@ -153,12 +153,12 @@ returns-in_err-settle-clause-adds g c h =
     let one = g.F.Files.means c.take.new.files in
     let took = c.take.ensures.leaves h in
     let new = c.in_ok-take.ensures.taken h in
-    let two = g.F.Files.means c.settle.new.files in
-    let fills = c.settle.ensures.leaves h new.empty in
+    let two = g.F.Files.means c.compare_and_write.new.files in
+    let fills = c.compare_and_write.ensures.leaves h new.empty in
     text_adds s old t kind c.requires.apart c.requires.places first mid (x.goes h) one took new two fills
 
-pub returns-in_err-settle-clause-free : goal.returns-in_err-settle-clause-free
-returns-in_err-settle-clause-free g c h =
+pub returns-in_err-compare_and_write-clause-free : goal.returns-in_err-compare_and_write-clause-free
+returns-in_err-compare_and_write-clause-free g c h =
     let s = setting_of c.args.settings.now in
     let kind = c.args.settings.now.kind in
     let old = c.args.edits.now in
@@ -169,12 +169,12 @@ returns-in_err-settle-clause-free g c h =
     let one = g.F.Files.means c.take.new.files in
     let took = c.take.ensures.leaves h in
     let new = c.in_ok-take.ensures.taken h in
-    let two = g.F.Files.means c.settle.new.files in
-    let fills = c.settle.ensures.leaves h new.empty in
+    let two = g.F.Files.means c.compare_and_write.new.files in
+    let fills = c.compare_and_write.ensures.leaves h new.empty in
     free_then s old t kind c.requires.apart c.requires.places first mid (x.goes h) one took new
 
-pub returns-in_err-settle-clause-leaves : goal.returns-in_err-settle-clause-leaves
-returns-in_err-settle-clause-leaves g c h =
+pub returns-in_err-compare_and_write-clause-leaves : goal.returns-in_err-compare_and_write-clause-leaves
+returns-in_err-compare_and_write-clause-leaves g c h =
     let s = setting_of c.args.settings.now in
     let kind = c.args.settings.now.kind in
     let old = c.args.edits.now in
@@ -185,12 +185,12 @@ returns-in_err-settle-clause-leaves g c h =
     let one = g.F.Files.means c.take.new.files in
     let took = c.take.ensures.leaves h in
     let new = c.in_ok-take.ensures.taken h in
-    let two = g.F.Files.means c.settle.new.files in
-    let fills = c.settle.ensures.leaves h new.empty in
+    let two = g.F.Files.means c.compare_and_write.new.files in
+    let fills = c.compare_and_write.ensures.leaves h new.empty in
     text_leaves s old t kind c.requires.apart c.requires.places first mid (x.goes h) one took new two fills
 
-pub returns-in_err-settle-clause-passes : goal.returns-in_err-settle-clause-passes
-returns-in_err-settle-clause-passes g c h =
+pub returns-in_err-compare_and_write-clause-passes : goal.returns-in_err-compare_and_write-clause-passes
+returns-in_err-compare_and_write-clause-passes g c h =
     let s = setting_of c.args.settings.now in
     let kind = c.args.settings.now.kind in
     let old = c.args.edits.now in
@@ -201,9 +201,9 @@ returns-in_err-settle-clause-passes g c h =
     let one = g.F.Files.means c.take.new.files in
     let took = c.take.ensures.leaves h in
     let new = c.in_ok-take.ensures.taken h in
-    let two = g.F.Files.means c.settle.new.files in
-    let fills = c.settle.ensures.leaves h new.empty in
-    text_passes s old t kind c.requires.apart c.requires.places first mid (x.goes h) one took new two fills (c.take.ensures.passes h) (c.settle.ensures.passes h)
+    let two = g.F.Files.means c.compare_and_write.new.files in
+    let fills = c.compare_and_write.ensures.leaves h new.empty in
+    text_passes s old t kind c.requires.apart c.requires.places first mid (x.goes h) one took new two fills (c.take.ensures.passes h) (c.compare_and_write.ensures.passes h)
 
 pub loop-i-preserved : goal.loop-i-preserved
 loop-i-preserved g c =
@@ -215,20 +215,20 @@ loop-i-preserved g c =
     let mid = g.F.Files.means c.loop-i.files in
     let t = turn old c.loop-i.edits x.same c.loop-i.i c.index-edits-i.result (omega arith) c.index-edits-i.is in
     record {
-      no_fewer = omega (arith, c.take.ensures.no_fewer, c.settle.ensures.no_fewer, x.no_fewer);
-      same = same_then s old t c.settle.new.self c.settle.ensures.given;
+      no_fewer = omega (arith, c.take.ensures.no_fewer, c.compare_and_write.ensures.no_fewer, x.no_fewer);
+      same = same_then s old t c.compare_and_write.new.self c.compare_and_write.ensures.given;
       counted = refl;
       goes = λ h.
           let one = g.F.Files.means c.take.new.files in
           let new = c.in_ok-take.ensures.taken h in
-          goes_then s old t kind c.requires.apart c.requires.places first mid (x.goes h) one (c.take.ensures.leaves h) new (g.F.Files.means c.settle.new.files) (c.settle.ensures.leaves h new.empty)
-          (c.take.ensures.passes h) (c.settle.ensures.passes h) (c.in_ok-settle.ensures.whole h (c.in_ok-take.ensures.whole h));
+          goes_then s old t kind c.requires.apart c.requires.places first mid (x.goes h) one (c.take.ensures.leaves h) new (g.F.Files.means c.compare_and_write.new.files) (c.compare_and_write.ensures.leaves h new.empty)
+          (c.take.ensures.passes h) (c.compare_and_write.ensures.passes h) (c.in_ok-compare_and_write.ensures.whole h (c.in_ok-take.ensures.whole h));
       finds = λ h asked.
           let one = g.F.Files.means c.take.new.files in
           let took = c.take.ensures.leaves h in
           let new = c.in_ok-take.ensures.taken h in
-          finds_then s old t kind c.requires.apart c.requires.places first mid (x.goes h) one took new (g.F.Files.means c.settle.new.files) (c.settle.ensures.leaves h new.empty) c.settle.new.self c.settle.ensures.given
-          (c.in_ok-settle.ensures.decided h (id_then s old t kind c.requires.apart c.requires.places first mid (x.goes h) one took new asked) new.empty) (x.finds h asked);
+          finds_then s old t kind c.requires.apart c.requires.places first mid (x.goes h) one took new (g.F.Files.means c.compare_and_write.new.files) (c.compare_and_write.ensures.leaves h new.empty) c.compare_and_write.new.self c.compare_and_write.ensures.given
+          (c.in_ok-compare_and_write.ensures.decided h (id_then s old t kind c.requires.apart c.requires.places first mid (x.goes h) one took new asked) new.empty) (x.finds h asked);
     }
 
 pub returns-clause-settled : goal.returns-clause-settled

@@ -10,7 +10,7 @@ use Rattle.gix_ref_transaction.specs.PrepareSteps.{AreEmpty, packed_places}
 use Rattle.gix_ref_transaction.specs.declared.edit.Edit.{Edit}
 use Rattle.gix_ref_lines.specs.AskedEdits.{all_but_logs, asked, but_log}
 use Rattle.gix_ref_lines.specs.LineCauses.{AllPass}
-use Rattle.gix_ref_repack.specs.Refusals.{IsRefused}
+use Rattle.gix_ref_repack.specs.Refusals.{IsRefusedRewrite}
 use Rattle.gix_ref_store.specs.CommitLines.{line_rules}
 use Rattle.gix_ref_store.specs.Decisions.{IsUndecided}
 use Rattle.gix_ref_store.specs.Store.{kind_of, meaning_of, with_files}
@@ -67,7 +67,7 @@ returns-in-Err-decide_packed-clause-failed g c =
     subst (IsUndecided F.honest F.means F.faults start new c.args.committer held.items) (sym c.undecided.ensures)
     (undecided_by F.honest F.means F.faults start new c.args.committer held.items c.deref.result.now error alike
     (counted_from _ _ _ error c.decide_logs.ensures.no_fewer e.counted)
-    (λ h. subst (λ (T : Tree). IsRefused (kind_of start) (T (meaning_of start).packed_path) error) (c.decide_logs.ensures.leaves h).tree (e.refused h))
+    (λ h. subst (λ (T : Tree). IsRefusedRewrite (kind_of start) (T (meaning_of start).packed_path) error) (c.decide_logs.ensures.leaves h).tree (e.refused h))
     (λ h apart rs are. e.sound h apart rs
     (subst (λ (T : Tree). ArePackedRecords (kind_of start) (view_of T (meaning_of start).packed_path) rs) (sym (c.decide_logs.ensures.leaves h).tree) are))
     (λ h. subst (λ (l : List Edit). AllPass (line_rules start c.args.committer) (view_of (F.means start.files).tree) (asked l)) c.deref_mut.ensures.value (c.in_default.ensures.passed h)))

@@ -7,8 +7,8 @@ returns-in-Ok g c =
     let F = g.F.Files in
     let held = c.in-Ok.held.edits in
     let e = c.in-Ok.ensures in
-    let prepared = prepares F.honest F.means F.faults c.args.self.store.now c.begin_given.new.self c.args.edits.items held.len c.in-Ok.held.packed held.items c.deref_mut.result.now c.carry_all.new.edits _
-    c.deref_mut.ensures.value c.deref_mut.ensures.len e.held c.carry_all.ensures.carried c.carry_all.ensures.places c.carry_all.ensures.parents c.carry_all.ensures.effects c.carry_all.ensures.files c.carry_all.ensures.ids in (
+    let prepared = prepares F.honest F.means F.faults c.args.self.store.now c.compose_and_lock.new.self c.args.edits.items held.len c.in-Ok.held.packed held.items c.deref_mut.result.now c.record_old_values.new.edits _
+    c.deref_mut.ensures.value c.deref_mut.ensures.len e.held c.record_old_values.ensures.carried c.record_old_values.ensures.places c.record_old_values.ensures.parents c.record_old_values.ensures.effects c.record_old_values.ensures.files c.record_old_values.ensures.ids in (
       (refl, λ w. refl, tt),
       record {
         rests = tt;

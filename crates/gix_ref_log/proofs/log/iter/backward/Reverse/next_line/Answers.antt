@@ -3,14 +3,14 @@ use Rattle.std.proofs.lemmas.List.{length-take-le}
 use Rattle.memchr.specs.Find.{IsLastByte, is_byte}
 use Rattle.gix_ref_log.specs.LogItems.{LineGives}
 use Rattle.gix_ref_log.specs.LogStages.{text_of_line}
-use Rattle.gix_ref_log.specs.LogWindows.{IsWindow, Ends}
+use Rattle.gix_ref_log.specs.LogWindows.{IsLogWindow, EndsWindow}
 use Rattle.gix_ref_log.proofs.BackwardSteps.{found_after, lone_step, small_step, fault_step}
 use Rattle.gix_ref_log.proofs.log.iter.backward.Reverse.next_line.Goals as goal
 
 small_log : (log log' : List ℕ) → log' ≡ log → length log < 2 ^ 64 → length log' < 2 ^ 64
 small_log log log' e l = subst (λ (x : List ℕ). length x < 2 ^ 64) (sym e) l
 
-number_fits : (log buf : List ℕ) (n pos end start e : ℕ) (ends : Bool) → IsWindow log buf pos end → IsLastByte (is_byte 10) (take end buf) (Some start) → pos + end ≡ e → Ends ends log e n → length log < 2 ^ 64 → n + 1 < 2 ^ 64
+number_fits : (log buf : List ℕ) (n pos end start e : ℕ) (ends : Bool) → IsLogWindow log buf pos end → IsLastByte (is_byte 10) (take end buf) (Some start) → pos + end ≡ e → EndsWindow ends log e n → length log < 2 ^ 64 → n + 1 < 2 ^ 64
 number_fits log buf n pos end start e true w h sum o small =
     let wide = length-take-le end buf w.fits in
     let high = h.0.high in

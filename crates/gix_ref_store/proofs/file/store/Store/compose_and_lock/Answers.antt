@@ -4,19 +4,19 @@ use Rattle.gix_ref_transaction.specs.OwnLocks.{paths_of}
 use Rattle.gix_ref_transaction.specs.declared.prepare.error.Error.TheVariants.{Memory}
 use Rattle.gix_ref_store.proofs.Preparing.{holds_given, refuses_given}
 use Rattle.gix_ref_store.proofs.SplitRuns.{refused_unread}
-use Rattle.gix_ref_store.proofs.file.store.Store.begin_given.Goals as goal
+use Rattle.gix_ref_store.proofs.file.store.Store.compose_and_lock.Goals as goal
 
 pub returns-in-Ok-clause-held : goal.returns-in-Ok-clause-held
 returns-in-Ok-clause-held g c =
     let F = g.F.Files in
-    let e = c.begin.ensures in
-    holds_given F.honest F.means F.faults c.args.self.now c.begin.new.self c.args.edits.items c.in-Ok.asked.items c.in-Ok.ensures c.begin.result
+    let e = c.check_and_lock.ensures in
+    holds_given F.honest F.means F.faults c.args.self.now c.check_and_lock.new.self c.args.edits.items c.in-Ok.asked.items c.in-Ok.ensures c.check_and_lock.result
     e.splits e.parents e.held e.lost e.whole e.packed e.places e.effects e.files e.ids
 
 pub returns-in-Ok-clause-refused : goal.returns-in-Ok-clause-refused
 returns-in-Ok-clause-refused g c =
     let F = g.F.Files in
-    refuses_given F.honest F.means F.faults c.args.self.now c.begin.new.self c.args.edits.items c.in-Ok.asked.items c.in-Ok.ensures (HasReadFault g.F.Reader.ReadAt.faults) c.begin.result c.begin.ensures.refused
+    refuses_given F.honest F.means F.faults c.args.self.now c.check_and_lock.new.self c.args.edits.items c.in-Ok.asked.items c.in-Ok.ensures (HasReadFault g.F.Reader.ReadAt.faults) c.check_and_lock.result c.check_and_lock.ensures.refused
 
 pub returns-in-Err-clause-refused : goal.returns-in-Err-clause-refused
 returns-in-Err-clause-refused g c =

@@ -13,7 +13,7 @@ use Rattle.gix_ref_transaction.proofs.Removing.{locks_given, cleaned, cleaning}
 use Rattle.gix_ref_transaction.proofs.Renames.{lock_found, none_renamed}
 use Rattle.gix_ref_transaction.proofs.Taking.{front_in}
 use Rattle.gix_ref_transaction.proofs.TimesLeft.{times_first}
-use Rattle.gix_ref_transaction.proofs.prepare.hold.hold.Goals as goal
+use Rattle.gix_ref_transaction.proofs.prepare.hold.lock_all_or_none.Goals as goal
 
 pub take_locks-requires-clause-apart : goal.take_locks-requires-clause-apart
 take_locks-requires-clause-apart g c = rw c.deref_mut.ensures.value c.requires.apart

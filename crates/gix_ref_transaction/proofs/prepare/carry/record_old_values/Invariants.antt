@@ -3,7 +3,7 @@ use Rattle.gix_ref_transaction.specs.CarriedEdits.{IsCarried}
 use Rattle.gix_ref_transaction.specs.Parents.{parents_in}
 use Rattle.gix_ref_transaction.specs.PrepareSteps.{effects_of, ids_in, place_paths, seen_files, value_of}
 use Rattle.gix_ref_transaction.specs.declared.edit.Edit.{Edit}
-use Rattle.gix_ref_transaction.proofs.prepare.carry.carry_all.Given as goal
+use Rattle.gix_ref_transaction.proofs.prepare.carry.record_old_values.Given as goal
 
 -- those that were seen carry what was found, and the others are as they were
 abbrev pub invariant-loop-edit : goal.invariant-loop-edit

@@ -14,7 +14,7 @@ use Rattle.gix_ref_transaction.specs.declared.edit.Effect.{Effect}
 use Rattle.gix_ref_transaction.specs.declared.edit.Effect.TheVariants.{Write, Remove, Keep}
 use Rattle.gix_ref_transaction.specs.PrepareSteps.{effect_value, targets_of, text_of_new, updates, value_of}
 use Rattle.gix_ref_transaction.specs.declared.edit.Edit.{Edit}
-use Rattle.gix_ref_transaction.proofs.prepare.carry.carry_all.Goals as goal
+use Rattle.gix_ref_transaction.proofs.prepare.carry.record_old_values.Goals as goal
 
 -- one edit more carries what was found of it
 carried_more : (given edits : List Edit) (i : ℕ) (e new : Edit) → i < length edits → e ≡ get_or edits i e → ((k : ℕ) (d : Edit) → i ≤ k → get_or edits k d ≡ get_or given k d) →
@@ -65,16 +65,16 @@ loop-edit-preserved c =
     let i = c.loop-edit.edit-index in
     let e = get_or edits i c.edit-item.result in
     let is : e ≡ get_or edits i e = ap (λ d. get_or edits i d) c.edit-item.is in
-    let new = c.carry.new.edit in
+    let new = c.record_old_value.new.edit in
     let lt : i < length edits = omega arith in
     record {
-      places = map-set_same (λ (a : Edit). a.lock) edits i new e (c.carry.ensures.place ∙ ap (λ (a : Edit). a.lock) is) ∙ x.places;
-      parents = map-set_same (λ (a : Edit). a.parent) edits i new e (c.carry.ensures.parent ∙ ap (λ (a : Edit). a.parent) is) ∙ x.parents;
-      files = map-set_same (λ (a : Edit). a.has_file) edits i new e (c.carry.ensures.file ∙ ap (λ (a : Edit). a.has_file) is) ∙ x.files;
+      places = map-set_same (λ (a : Edit). a.lock) edits i new e (c.record_old_value.ensures.place ∙ ap (λ (a : Edit). a.lock) is) ∙ x.places;
+      parents = map-set_same (λ (a : Edit). a.parent) edits i new e (c.record_old_value.ensures.parent ∙ ap (λ (a : Edit). a.parent) is) ∙ x.parents;
+      files = map-set_same (λ (a : Edit). a.has_file) edits i new e (c.record_old_value.ensures.file ∙ ap (λ (a : Edit). a.has_file) is) ∙ x.files;
       effects = map-set_same (λ (a : Edit). effect_value a.update.change a.effect) edits i new e
-          (effect_kept new.update.change e.update.change new.effect c.carry.ensures.carried.change ∙ ap (effect_value e.update.change) c.carry.ensures.effect ∙ ap (λ (a : Edit). effect_value a.update.change a.effect) is) ∙ x.effects;
-      ids = map-set_same (λ (a : Edit). a.packed) edits i new e (c.carry.ensures.id ∙ ap (λ (a : Edit). a.packed) is) ∙ x.ids;
-      carried = carried_more c.args.edits.now edits i e new lt is x.rest c.carry.ensures.carried x.carried;
+          (effect_kept new.update.change e.update.change new.effect c.record_old_value.ensures.carried.change ∙ ap (effect_value e.update.change) c.record_old_value.ensures.effect ∙ ap (λ (a : Edit). effect_value a.update.change a.effect) is) ∙ x.effects;
+      ids = map-set_same (λ (a : Edit). a.packed) edits i new e (c.record_old_value.ensures.id ∙ ap (λ (a : Edit). a.packed) is) ∙ x.ids;
+      carried = carried_more c.args.edits.now edits i e new lt is x.rest c.record_old_value.ensures.carried x.carried;
       rest = λ k d le. get_or-set_other edits i k new d (λ same. absurd (omega (arith, le, same))) ∙ x.rest k d (omega (arith, le));
     }
 

@@ -3,14 +3,14 @@ use Rattle.gix_ref_files.specs.Lock.{lock_of}
 use Rattle.gix_ref_files.specs.Disk.{Disk}
 use Rattle.gix_ref_files.specs.Tree.{Path, Tree}
 use Rattle.gix_ref_files.specs.Files.{disk_of}
-use Rattle.gix_ref_files.specs.Settled.{IsWhole}
+use Rattle.gix_ref_files.specs.Settled.{IsWholeAt}
 use Rattle.gix_ref_theory.specs.OnRealTrees.{view_of}
 use Rattle.gix_ref_edits.specs.RefEdits.{name_of, new_of, expected_of, Expects}
 use Rattle.gix_ref_transaction.specs.Causes.{found, found_by, decoded}
 use Rattle.gix_ref_transaction.specs.PrepareSteps.{setting_of, value_of, decision, effect_value, is_damaged, IsSomeWhole}
 use Rattle.gix_ref_transaction.proofs.EditRounds.{on_ok}
 use Rattle.gix_ref_transaction.proofs.LookupLemmas.{decided_is, filled_with}
-use Rattle.gix_ref_transaction.proofs.edit.Edit.settle.Goals as goal
+use Rattle.gix_ref_transaction.proofs.edit.Edit.compare_and_write.Goals as goal
 
 pub returns-clause-decided : goal.returns-clause-decided
 returns-clause-decided g c h asked empty =
@@ -50,4 +50,4 @@ returns-clause-whole g c h whole =
     let at : lock_of new.lock ≡ lock_of old.lock = ap (λ p. lock_of p.1) c.decide.ensures.given in
     let still = (c.was_at.ensures.passes h).disk in
     on_ok c.write.result (λ here. subst (IsSomeWhole (disk_of (g.F.Files.means c.write.new.files))) at here)
-    (c.write.ensures.whole h (subst (λ (l : Path). IsWhole (disk_of (g.F.Files.means c.was_at.new.files)) l []) (sym at) (subst (λ (D : Disk). IsWhole D (lock_of old.lock) []) (sym still) whole)))
+    (c.write.ensures.whole h (subst (λ (l : Path). IsWholeAt (disk_of (g.F.Files.means c.was_at.new.files)) l []) (sym at) (subst (λ (D : Disk). IsWholeAt D (lock_of old.lock) []) (sym still) whole)))

@@ -14,10 +14,10 @@ use Rattle.gix_ref_store.specs.Store.{files_of, kind_of, meaning_of, with_files}
 use Rattle.gix_ref_store.specs.declared.file.store.Store.{Store}
 use Rattle.gix_ref_store.proofs.Refusals.{if_asked, if_asked_of}
 use Rattle.gix_ref_store.proofs.SplitRuns.{effects_same, files_same, ids_same, good_on, holds_on, locks_same, loses_on, packed_on, refused_before, refused_on}
-use Rattle.gix_ref_store.proofs.file.store.Store.begin.Goals as goal
+use Rattle.gix_ref_store.proofs.file.store.Store.check_and_lock.Goals as goal
 
-pub hold_split-requires : goal.hold_split-requires
-hold_split-requires g c =
+pub lock_split-requires : goal.lock_split-requires
+lock_split-requires g c =
     record { valid = subst (λ (st : Store g.row.F.Denot). AllValid (meaning_of st) (kind_of st) [] c.in-Ok.split.edits.items) (sym c.in-Ok.ensures.same) c.in-Ok.ensures.valid; len = c.in-Ok.ensures.len }
 
 pub returns-in-Ok-clause-splits : goal.returns-in-Ok-clause-splits
@@ -25,8 +25,8 @@ returns-in-Ok-clause-splits g c =
     let F = g.F.Files in
     let old = c.args.self.now in
     let split = c.in-Ok.split.edits.items in
-    let new = c.hold_split.new.self in
-    if_asked split c.hold_split.result c.hold_split.ensures.asked (λ (held : HeldLocks) (u : List RefEdit). SplitsFrom F.honest F.means F.faults old c.args.edits.items u)
+    let new = c.lock_split.new.self in
+    if_asked split c.lock_split.result c.lock_split.ensures.asked (λ (held : HeldLocks) (u : List RefEdit). SplitsFrom F.honest F.means F.faults old c.args.edits.items u)
     (λ held. c.in-Ok.ensures.splits)
 
 pub returns-in-Ok-clause-held : goal.returns-in-Ok-clause-held
@@ -34,23 +34,23 @@ returns-in-Ok-clause-held g c =
     let F = g.F.Files in
     let old = c.args.self.now in
     let split = c.in-Ok.split.edits.items in
-    let new = c.hold_split.new.self in
-    if_asked_of split c.hold_split.result c.hold_split.ensures.asked (λ (held : HeldLocks) (u : List RefEdit). HoldsFrom F.honest F.means F.faults old new u (targets_of held.edits.items))
+    let new = c.lock_split.new.self in
+    if_asked_of split c.lock_split.result c.lock_split.ensures.asked (λ (held : HeldLocks) (u : List RefEdit). HoldsFrom F.honest F.means F.faults old new u (targets_of held.edits.items))
     (λ held. HoldsFrom F.honest F.means F.faults c.split.new.self new split (targets_of held.edits.items))
     (λ held from. holds_on F.honest F.means F.faults old (files_of c.split.new.self) c.in-Ok.ensures.reads new split (targets_of held.edits.items)
     (subst (λ (st : Store g.row.F.Denot). HoldsFrom F.honest F.means F.faults st new split (targets_of held.edits.items)) c.in-Ok.ensures.same from))
-    c.hold_split.ensures.held
+    c.lock_split.ensures.held
 
 pub returns-in-Ok-clause-effects : goal.returns-in-Ok-clause-effects
 returns-in-Ok-clause-effects g c h good =
     let F = g.F.Files in
     let old = c.args.self.now in
     let split = c.in-Ok.split.edits.items in
-    let new = c.hold_split.new.self in
+    let new = c.lock_split.new.self in
     let files = files_of c.split.new.self in
     let reads = c.in-Ok.ensures.reads in
-    let found = subst (λ (st : Store g.row.F.Denot). F.honest → HasGoodRecords F.means st → IfOk c.hold_split.result (λ held. effects_of held.edits.items ≡ effects_on (meaning_of st) (view_of (tree_of F.means st)) split)) c.in-Ok.ensures.same c.hold_split.ensures.effects in
-    if_asked_of split c.hold_split.result c.hold_split.ensures.asked (λ (held : HeldLocks) (u : List RefEdit). effects_of held.edits.items ≡ effects_on (meaning_of old) (view_of (tree_of F.means old)) u)
+    let found = subst (λ (st : Store g.row.F.Denot). F.honest → HasGoodRecords F.means st → IfOk c.lock_split.result (λ held. effects_of held.edits.items ≡ effects_on (meaning_of st) (view_of (tree_of F.means st)) split)) c.in-Ok.ensures.same c.lock_split.ensures.effects in
+    if_asked_of split c.lock_split.result c.lock_split.ensures.asked (λ (held : HeldLocks) (u : List RefEdit). effects_of held.edits.items ≡ effects_on (meaning_of old) (view_of (tree_of F.means old)) u)
     (λ held. effects_of held.edits.items ≡ effects_on (meaning_of old) (view_of (tree_of F.means (with_files old files))) split)
     (λ held is. is ∙ effects_same F.honest F.means F.faults old files reads h split)
     (found h (good_on F.honest F.means F.faults old files reads h good))
@@ -60,11 +60,11 @@ returns-in-Ok-clause-files g c h good =
     let F = g.F.Files in
     let old = c.args.self.now in
     let split = c.in-Ok.split.edits.items in
-    let new = c.hold_split.new.self in
+    let new = c.lock_split.new.self in
     let files = files_of c.split.new.self in
     let reads = c.in-Ok.ensures.reads in
-    let found = subst (λ (st : Store g.row.F.Denot). F.honest → HasGoodRecords F.means st → IfOk c.hold_split.result (λ held. seen_files held.edits.items ≡ files_at (meaning_of st) (tree_of F.means st) split)) c.in-Ok.ensures.same c.hold_split.ensures.files in
-    if_asked_of split c.hold_split.result c.hold_split.ensures.asked (λ (held : HeldLocks) (u : List RefEdit). seen_files held.edits.items ≡ files_at (meaning_of old) (tree_of F.means old) u)
+    let found = subst (λ (st : Store g.row.F.Denot). F.honest → HasGoodRecords F.means st → IfOk c.lock_split.result (λ held. seen_files held.edits.items ≡ files_at (meaning_of st) (tree_of F.means st) split)) c.in-Ok.ensures.same c.lock_split.ensures.files in
+    if_asked_of split c.lock_split.result c.lock_split.ensures.asked (λ (held : HeldLocks) (u : List RefEdit). seen_files held.edits.items ≡ files_at (meaning_of old) (tree_of F.means old) u)
     (λ held. seen_files held.edits.items ≡ files_at (meaning_of old) (tree_of F.means (with_files old files)) split)
     (λ held is. is ∙ files_same F.honest F.means F.faults old files reads h split)
     (found h (good_on F.honest F.means F.faults old files reads h good))
@@ -74,11 +74,11 @@ returns-in-Ok-clause-ids g c h good =
     let F = g.F.Files in
     let old = c.args.self.now in
     let split = c.in-Ok.split.edits.items in
-    let new = c.hold_split.new.self in
+    let new = c.lock_split.new.self in
     let files = files_of c.split.new.self in
     let reads = c.in-Ok.ensures.reads in
-    let found = subst (λ (st : Store g.row.F.Denot). F.honest → HasGoodRecords F.means st → IfOk c.hold_split.result (λ held. ids_in held.edits.items ≡ packed_ids (meaning_of st) (tree_of F.means st) split)) c.in-Ok.ensures.same c.hold_split.ensures.ids in
-    if_asked_of split c.hold_split.result c.hold_split.ensures.asked (λ (held : HeldLocks) (u : List RefEdit). ids_in held.edits.items ≡ packed_ids (meaning_of old) (tree_of F.means old) u)
+    let found = subst (λ (st : Store g.row.F.Denot). F.honest → HasGoodRecords F.means st → IfOk c.lock_split.result (λ held. ids_in held.edits.items ≡ packed_ids (meaning_of st) (tree_of F.means st) split)) c.in-Ok.ensures.same c.lock_split.ensures.ids in
+    if_asked_of split c.lock_split.result c.lock_split.ensures.asked (λ (held : HeldLocks) (u : List RefEdit). ids_in held.edits.items ≡ packed_ids (meaning_of old) (tree_of F.means old) u)
     (λ held. ids_in held.edits.items ≡ packed_ids (meaning_of old) (tree_of F.means (with_files old files)) split)
     (λ held is. is ∙ ids_same F.honest F.means F.faults old files reads h split)
     (found h (good_on F.honest F.means F.faults old files reads h good))
@@ -88,47 +88,47 @@ returns-in-Ok-clause-lost g c h =
     let F = g.F.Files in
     let old = c.args.self.now in
     let split = c.in-Ok.split.edits.items in
-    let new = c.hold_split.new.self in
-    if_asked split c.hold_split.result c.hold_split.ensures.asked (λ (held : HeldLocks) (u : List RefEdit). LosesNothing F.means old new u)
+    let new = c.lock_split.new.self in
+    if_asked split c.lock_split.result c.lock_split.ensures.asked (λ (held : HeldLocks) (u : List RefEdit). LosesNothing F.means old new u)
     (λ held. loses_on F.honest F.means F.faults old (files_of c.split.new.self) c.in-Ok.ensures.reads h new split
-    (subst (λ (st : Store g.row.F.Denot). LosesNothing F.means st new split) c.in-Ok.ensures.same (c.hold_split.ensures.lost h)))
+    (subst (λ (st : Store g.row.F.Denot). LosesNothing F.means st new split) c.in-Ok.ensures.same (c.lock_split.ensures.lost h)))
 
 pub returns-in-Ok-clause-whole : goal.returns-in-Ok-clause-whole
 returns-in-Ok-clause-whole g c h =
     let F = g.F.Files in
     let old = c.args.self.now in
     let split = c.in-Ok.split.edits.items in
-    let new = c.hold_split.new.self in
-    if_asked_of split c.hold_split.result c.hold_split.ensures.asked (λ (held : HeldLocks) (u : List RefEdit). AreWholeLocks (disk_in F.means new) (locks_in F.means old u))
+    let new = c.lock_split.new.self in
+    if_asked_of split c.lock_split.result c.lock_split.ensures.asked (λ (held : HeldLocks) (u : List RefEdit). AreWholeLocks (disk_in F.means new) (locks_in F.means old u))
     (λ held. AreWholeLocks (disk_in F.means new) (locks_in F.means c.split.new.self split))
     (λ held whole. subst (AreWholeLocks (disk_in F.means new)) (locks_same F.honest F.means F.faults old (files_of c.split.new.self) c.in-Ok.ensures.reads h split)
     (subst (λ (st : Store g.row.F.Denot). AreWholeLocks (disk_in F.means new) (locks_in F.means st split)) c.in-Ok.ensures.same whole))
-    (c.hold_split.ensures.whole h)
+    (c.lock_split.ensures.whole h)
 
 pub returns-in-Ok-clause-places : goal.returns-in-Ok-clause-places
 returns-in-Ok-clause-places g c =
     let F = g.F.Files in
     let old = c.args.self.now in
     let split = c.in-Ok.split.edits.items in
-    let new = c.hold_split.new.self in
-    if_asked_of split c.hold_split.result c.hold_split.ensures.asked (λ (held : HeldLocks) (u : List RefEdit). place_paths held.edits.items ≡ places_of (meaning_of old) u)
+    let new = c.lock_split.new.self in
+    if_asked_of split c.lock_split.result c.lock_split.ensures.asked (λ (held : HeldLocks) (u : List RefEdit). place_paths held.edits.items ≡ places_of (meaning_of old) u)
     (λ held. place_paths held.edits.items ≡ places_of (meaning_of old) split) (λ held are. are)
-    (subst (λ (st : Store g.row.F.Denot). IfOk c.hold_split.result (λ held. place_paths held.edits.items ≡ places_of (meaning_of st) split)) c.in-Ok.ensures.same c.hold_split.ensures.places)
+    (subst (λ (st : Store g.row.F.Denot). IfOk c.lock_split.result (λ held. place_paths held.edits.items ≡ places_of (meaning_of st) split)) c.in-Ok.ensures.same c.lock_split.ensures.places)
 
 pub returns-in-Ok-clause-refused : goal.returns-in-Ok-clause-refused
 returns-in-Ok-clause-refused g c =
     let F = g.F.Files in
     let old = c.args.self.now in
     let split = c.in-Ok.split.edits.items in
-    let new = c.hold_split.new.self in
+    let new = c.lock_split.new.self in
     let read = HasReadFault g.F.Reader.ReadAt.faults in
     let same = c.in-Ok.ensures.same in
-    if_err c.hold_split.result (λ (failure : LockFailure) refused.
+    if_err c.lock_split.result (λ (failure : LockFailure) refused.
     let left = paths_of failure.locks_left.items in
     refused_on F.honest F.means F.faults old (files_of c.split.new.self) c.in-Ok.ensures.reads read new c.args.edits.items split failure.error left c.in-Ok.ensures.splits
     (subst (λ (st : Store g.row.F.Denot). RefusesSplit F.honest read F.means F.faults st new split failure.error left) same refused)
-    (λ h. subst (λ (st : Store g.row.F.Denot). LosesNothing F.means st new split) same (c.hold_split.ensures.lost h)))
-    c.hold_split.ensures.refused
+    (λ h. subst (λ (st : Store g.row.F.Denot). LosesNothing F.means st new split) same (c.lock_split.ensures.lost h)))
+    c.lock_split.ensures.refused
 
 pub returns-in-Err-clause-refused : goal.returns-in-Err-clause-refused
 returns-in-Err-clause-refused g c =
@@ -150,14 +150,14 @@ returns-in-Ok-clause-packed g c =
     let F = g.F.Files in
     let old = c.args.self.now in
     let split = c.in-Ok.split.edits.items in
-    let new = c.hold_split.new.self in
-    if_asked_of split c.hold_split.result c.hold_split.ensures.asked (λ (held : HeldLocks) (u : List RefEdit). HoldsPacked F.honest F.means F.faults old new u held.packed)
+    let new = c.lock_split.new.self in
+    if_asked_of split c.lock_split.result c.lock_split.ensures.asked (λ (held : HeldLocks) (u : List RefEdit). HoldsPacked F.honest F.means F.faults old new u held.packed)
     (λ held. HoldsPacked F.honest F.means F.faults c.split.new.self new split held.packed)
     (λ held from. packed_on F.honest F.means F.faults old (files_of c.split.new.self) c.in-Ok.ensures.reads new split held.packed
     (subst (λ (st : Store g.row.F.Denot). HoldsPacked F.honest F.means F.faults st new split held.packed) c.in-Ok.ensures.same from))
-    c.hold_split.ensures.packed
+    c.lock_split.ensures.packed
 
 pub returns-in-Ok-clause-parents : goal.returns-in-Ok-clause-parents
 returns-in-Ok-clause-parents g c h =
     let parents = c.in-Ok.ensures.parents h in
-    if_ok c.hold_split.result (λ (held : HeldLocks) same. same ∙ parents) c.hold_split.ensures.parents
+    if_ok c.lock_split.result (λ (held : HeldLocks) same. same ∙ parents) c.lock_split.ensures.parents

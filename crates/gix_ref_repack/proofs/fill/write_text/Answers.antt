@@ -1,7 +1,7 @@
 use Rattle.gix_ref_files.specs.Files.{disk_of}
 use Rattle.gix_ref_files.specs.Lock.{lock_of}
 use Rattle.gix_ref_theory.proofs.LockDisks.{filled_whole}
-use Rattle.gix_ref_transaction.proofs.edit.fill.Goals as goal
+use Rattle.gix_ref_repack.proofs.fill.write_text.Goals as goal
 
 pub returns-clause-whole : goal.returns-clause-whole
 returns-clause-whole g c h whole =
