@@ -87,21 +87,22 @@ ROWS
 }
 
 # differences: FILES|MESSAGE|CHANGE, the changes that both make, but in another way, or of which one refuses: then just these
-# files differ; `-` where none does. Each is below its reason.
+# files differ; `-` where none does. Each is below its reason. A `!` in front: git itself reads no reflogs then, since HEAD leads to
+# nothing or a branch to no commit.
 differences() {
     cat <<ROWS
 # git adds a line to the log of HEAD also where its branch is changed by its own name
 logs/HEAD|made|update refs/heads/main $one
-logs/HEAD|made|delete refs/heads/main
+!logs/HEAD|made|delete refs/heads/main
 # git adds a line where a symbolic reference is made, if its target exists
 logs/refs/heads/symbolic|made|symbolic refs/heads/symbolic refs/heads/main
 logs/HEAD|made|symbolic HEAD refs/heads/a0
 # git adds a line to the log of HEAD also where the branch is at the id already
 logs/HEAD|made|update --deref HEAD $two
 # git keeps the log of a symbolic reference whose branch is deleted, and adds a line to it
-logs/HEAD|made|delete --deref HEAD
+!logs/HEAD|made|delete --deref HEAD
 # the old value of a symbolic reference is its target; git takes the object that it leads to
-logs/HEAD logs/refs/heads/main packed-refs|made|delete --deref HEAD $two
+!logs/HEAD logs/refs/heads/main packed-refs|made|delete --deref HEAD $two
 logs/refs/remotes/origin/HEAD refs/remotes/origin/HEAD|made|update refs/remotes/origin/HEAD $one $two
 logs/refs/remotes/origin/HEAD refs/remotes/origin/HEAD|made|delete refs/remotes/origin/HEAD $two
 logs/refs/remotes/origin/HEAD|made|update refs/remotes/origin/HEAD $one
@@ -115,14 +116,14 @@ logs/refs/heads/a0 packed-refs|made|delete refs/heads/a0 $null
 # an update that expects that there is no reference also accepts one at the new id
 -|made|update refs/heads/a0 $one $null
 # the null id is written as any other; git deletes the reference
-logs/refs/heads/a0 packed-refs refs/heads/a0|made|update refs/heads/a0 $null
+!logs/refs/heads/a0 packed-refs refs/heads/a0|made|update refs/heads/a0 $null
 # a message is written as it is, also where it is empty, and refused with a line break; git joins blanks and refuses an empty one
 logs/refs/heads/a0|two  blanks|update refs/heads/a0 $two
 logs/refs/heads/a0 refs/heads/a0|two\nlines|update refs/heads/a0 $two
 logs/refs/heads/a0 refs/heads/a0||update refs/heads/a0 $two
 # objects are not looked at
-logs/refs/heads/missing refs/heads/missing|made|update refs/heads/missing ${one//[0-9a-f]/1}
-logs/refs/heads/tag refs/heads/tag|made|update refs/heads/tag $tag
+!logs/refs/heads/missing refs/heads/missing|made|update refs/heads/missing ${one//[0-9a-f]/1}
+!logs/refs/heads/tag refs/heads/tag|made|update refs/heads/tag $tag
 # a name outside of refs/ has a category; others are refused
 foo/bar|made|update foo/bar $one
 main|made|update main $one

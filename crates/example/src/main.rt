@@ -45,17 +45,9 @@ fn main(rt: HostRuntime) -> Result<()> {
     match store.transaction().prepare(alloc, edits) {
         Ok(prepared) => match prepared.commit(alloc, None) {
             Ok(done) => println!(rt; "{} edit", done.edits.len())?,
-            Err(failed) => bail!(
-                "it failed: {}, {} locks left",
-                failed.error,
-                failed.locks_left.len()
-            ),
+            Err(failed) => bail!("it failed: {failed}"),
         },
-        Err(refused) => bail!(
-            "it was refused: {}, {} locks left",
-            refused.error,
-            refused.locks_left.len()
-        ),
+        Err(refused) => bail!("it was refused: {refused}"),
     }
 
     match store.find(alloc, name.as_partial_name()) {

@@ -1,6 +1,7 @@
 -- Edits that carry what was found of them are planned as they were given, and so are those whose logs are decided.
 use Rattle.std.proofs.Common.{Bool, ◌≡◌, ◌<◌, ℕ, suc, List, [], ◌∷◌, Option, None, length, map, refl, sym, ◌∙◌, ap, subst, arith}
-use Rattle.std.specs.Prelude.{slice_index_or}
+use Rattle.std.specs.Prelude.{◌&&◌, ◌||◌, is_some, slice_index_or}
+use Rattle.std.specs.List.{list_any}
 use Rattle.gix_ref_hash.specs.declared.hash.ObjectId.{ObjectId}
 use Rattle.gix_ref_name.specs.Names.{full_bytes}
 use Rattle.gix_ref_name.specs.declared.name.FullName.{FullName}
@@ -16,13 +17,14 @@ use Rattle.gix_ref_edits.specs.declared.transaction.RefLog.{RefLog}
 use Rattle.gix_ref_transaction.specs.CarriedEdits.{IsCarried, AreCarried, change_of, edit_of}
 use Rattle.gix_ref_transaction.specs.Causes.{packed_id}
 use Rattle.gix_ref_transaction.specs.CommittedEdits.{planned}
-use Rattle.gix_ref_transaction.specs.PackedCauses.{ids_among}
+use Rattle.gix_ref_transaction.specs.PackedCauses.{deletes_reference, ids_among}
 use Rattle.gix_ref_transaction.specs.PrepareSteps.{effect_value, effects_of, ids_in, lock_paths, place_paths, updates}
 use Rattle.gix_ref_files.specs.Lock.{lock_of}
 use Rattle.gix_ref_transaction.specs.declared.edit.Edit.{Edit}
 use Rattle.gix_ref_transaction.specs.declared.edit.Effect.{Effect}
 use Rattle.gix_ref_transaction.specs.CommitRenames.{written_flags}
 use Rattle.gix_ref_transaction.specs.Effects.{is_write}
+use Rattle.gix_ref_repack.specs.Repacks.{removes_record}
 use Rattle.gix_ref_lines.specs.AskedEdits.{all_but_logs}
 use Rattle.gix_ref_commit.specs.LogEffects.{AreLogsOf, IsLogOf, edit_with, with_lines}
 
@@ -121,7 +123,17 @@ flags_by : (edits : List Edit) → written_flags edits ≡ map (λ (r : Rest). i
 flags_by [] = refl
 flags_by (e ∷ edits) = ap (λ l. is_write e.effect ∷ l) (flags_by edits)
 
+abbrev removes_rest : Rest → Bool
+removes_rest r = deletes_reference r.0.change && is_some r.3
+
+removes_by : (edits : List Edit) → list_any removes_record edits ≡ list_any removes_rest (all_but_logs edits)
+removes_by [] = refl
+removes_by (e ∷ edits) = ap (λ b. removes_record e || b) (removes_by edits)
+
 module _ (ran held : List Edit) (alike : all_but_logs ran ≡ all_but_logs held) where
+  pub removes_alike : list_any removes_record ran ≡ list_any removes_record held
+  removes_alike = removes_by ran ∙ (ap (list_any removes_rest) alike ∙ sym (removes_by held))
+
   pub updates_alike : updates ran ≡ updates held
   updates_alike = updates_of ran ∙ (ap (map (λ (r : Rest). r.0)) alike ∙ sym (updates_of held))
 

@@ -123,7 +123,7 @@ module _ (W : Entry → List Path → Type 0) where
     pub cut : plan ≡ seen ++ step ∷ later
     pub about : step.1 ≡ x.1
     pub renames : (lock : Path) → HasRename lock seen → HasRename lock before
-    pub what : ((x ≡ step) × ((front : List Entry) × (fs : List Path) × (before ≡ front ++ removals step.1 fs) × W step fs)) ⊎ IsRemoval x
+    pub what : ((x ≡ step) × ((front : List Entry) × (fs : List Path) × (before ≡ front ++ removals step.1 fs) × W step fs × ((ways : List (List Path)) × (front ≡ cleared ways seen)))) ⊎ IsRemoval x
 
   -- behind a step and its removals
   module _ (fs : List Path) (e : Entry) (plan before : List Entry) (x : Entry) where
@@ -135,7 +135,7 @@ module _ (W : Entry → List Path → Type 0) where
       cut = refl;
       about = ap (λ (y : Entry). y.1) same;
       renames = λ lock h. absurd h;
-      what = inl (sym same, ([], fs, front, way));
+      what = inl (sym same, ([], fs, front, way, ([], refl)));
     }
 
     at_removal : (about : e.1 ≡ x.1) → IsRemoval x → IsCutOf (e ∷ plan) before x
@@ -158,6 +158,10 @@ module _ (W : Entry → List Path → Type 0) where
               it.1.1,
               front ∙ (ap (λ (l : List Entry). removals e.1 fs ++ m ∷ l) it.1.2 ∙ sym (append_assoc (removals e.1 fs) (m ∷ it.1.0) (removals c.step.1 it.1.1))),
               it.1.3,
+              (
+                fs ∷ it.1.4.0,
+                ap (λ (l : List Entry). removals e.1 fs ++ m ∷ l) it.1.4.1 ∙ ap (λ (y : Entry). removals e.1 fs ++ y ∷ cleared it.1.4.0 c.seen) (sym same),
+              ),
             ),
           ))
           (λ gone. inr gone) c.what;

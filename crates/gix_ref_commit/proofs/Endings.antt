@@ -7,11 +7,11 @@ use Rattle.gix_ref_files.proofs.Puts.{put_at}
 use Rattle.std.proofs.lemmas.List.{map-append}
 use Rattle.gix_ref_lookup.specs.declared.folders.Dirs.{Dirs}
 use Rattle.gix_ref_files.specs.Steps.Step.{End, Line, MakeFolders, RemoveFolder, Rename, RemoveFile}
-use Rattle.gix_ref_files.specs.Tree.{Tree, Path, IsEmptyFolder, is_folder}
+use Rattle.gix_ref_files.specs.Tree.{Tree, Path, IsEmptyFolder, is_blocked, is_folder}
 use Rattle.gix_ref_files.specs.declared.steps.Cause.TheVariants.{Asked, Unexpected}
 use Rattle.gix_ref_transaction.specs.CommitRenames.{lock_at, log_at, path_in, place_at}
 use Rattle.gix_ref_transaction.specs.declared.edit.Edit.{Edit}
-use Rattle.gix_ref_commit.specs.Cleared.{AreInWay, HoldsMore, removals, written_at}
+use Rattle.gix_ref_commit.specs.Cleared.{AreAllFolders, AreInWay, HoldsMore, removals, written_at}
 use Rattle.gix_ref_commit.specs.Entries.{Entry, bare_steps}
 use Rattle.gix_ref_commit.specs.declared.plan.About.{About}
 use Rattle.gix_ref_commit.specs.declared.plan.About.TheVariants as about
@@ -22,7 +22,8 @@ abbrev pub MeetsAt : List Edit → Option Path → About → Tree → Type 0
 MeetsAt edits packed (about.Rename at) T = (at < length edits) × (is_folder (T (place_at edits at)) ≡ true)
 MeetsAt edits packed about.Packed T = (p : Path) × (packed ≡ Some p) × (is_folder (T p) ≡ true)
 MeetsAt edits packed (about.Folders at) T = (at < length edits) × HasLine (log_at edits at)
-MeetsAt edits packed (about.Line at) T = (at < length edits) × HasLine (log_at edits at)
+MeetsAt edits packed (about.Line at) T =
+    (at < length edits) × HasLine (log_at edits at) × ((is_folder (T (path_in (log_at edits at))) ≡ true) ⊎ (is_blocked T (path_in (log_at edits at)) ≡ true))
 MeetsAt edits packed (about.LogRemoval at) T = ⊥
 MeetsAt edits packed (about.Removal at) T = ⊥
 
@@ -34,7 +35,9 @@ module _ (edits : List Edit) (packed : Option Path) where
       let e = subst (λ (x : Step). EndsBy x Unexpected S T) is ends in (p, held, ap (λ (R : Tree). is_folder (R p)) e.1 ∙ e.0)
   meets about.Packed step S T (p, held, inr is) ends = absurd (subst (λ (x : Step). EndsBy x Unexpected S T) is ends).0
   meets (about.Folders at) step S T (lt, has, is) ends = (lt, has)
-  meets (about.Line at) step S T (lt, has, line) ends = (lt, has)
+  meets (about.Line at) step S T (lt, has, (line, is)) ends =
+      let e = subst (λ (x : Step). EndsBy x Unexpected S T) is ends in
+      (lt, has, subst (λ (R : Tree). (is_folder (R (path_in (log_at edits at))) ≡ true) ⊎ (is_blocked R (path_in (log_at edits at)) ≡ true)) (sym e.1) e.0)
   meets (about.LogRemoval at) step S T (lt, (p, is)) ends = absurd (subst (λ (x : Step). EndsBy x Unexpected S T) is ends).0
   meets (about.Removal at) step S T (lt, (p, is)) ends = absurd (subst (λ (x : Step). EndsBy x Unexpected S T) is ends).0
 
@@ -112,14 +115,19 @@ module _ (dirs : Dirs) (first T : Tree) where
   last_done [] about folder S (mid, does, same) = none_or_full folder S (subst (λ (R : Tree). Does (RemoveFolder folder) S R) (sym same) does)
   last_done (e ∷ front) about folder S (mid, does, after) = last_done front about folder mid after
 
+  -- It held more than empty folders. Or each folder below it was removed in turn, itself the last, and it is not empty.
   pub not_emptied : (mid : Tree) (before front : List Entry) (about : About) (fs : List Path) (path : Path) (seen : Bool) → before ≡ front ++ removals about fs → AreInWay dirs first seen path fs → IsAfter (bare_steps before) first T → mid ≡ T →
-      seen ≡ false → is_folder (first path) ≡ true → HoldsMore dirs first path ⊎ (IsEmptyFolder mid path → ⊥)
+      seen ≡ false → is_folder (first path) ≡ true → HoldsMore dirs first path ⊎ (AreAllFolders first path fs × (IsEmptyFolder mid path → ⊥))
   not_emptied mid before front about fs path seen is way after same unseen folder = ⊎_elim
-      (λ more. inl more)
-      (λ last. inr (λ empty. last_done (front ++ removals about last.0) about path first
-      (subst (λ (es : List Entry). IsAfter (bare_steps es) first T)
-      (is ∙ (ap (λ (l : List Path). front ++ removals about l) last.1
-      ∙ (ap (λ (l : List Entry). front ++ l) (map-append (λ (f : Path). (With (RemoveFolder f) [], about)) last.0 (path ∷ []))
-      ∙ sym (append_assoc front (removals about last.0) (removals about (path ∷ [])))))) after)
-      (subst (λ (R : Tree). IsEmptyFolder R path) same empty)))
-      (way.last unseen folder)
+      (λ none. inl (none.1 unseen folder))
+      (λ all. let last = all.last in
+      inr (
+        all,
+        λ empty. last_done (front ++ removals about last.0) about path first
+            (subst (λ (es : List Entry). IsAfter (bare_steps es) first T)
+            (is ∙ (ap (λ (l : List Path). front ++ removals about l) last.1
+            ∙ (ap (λ (l : List Entry). front ++ l) (map-append (λ (f : Path). (With (RemoveFolder f) [], about)) last.0 (path ∷ []))
+            ∙ sym (append_assoc front (removals about last.0) (removals about (path ∷ [])))))) after)
+            (subst (λ (R : Tree). IsEmptyFolder R path) same empty),
+      ))
+      way.none_or_all

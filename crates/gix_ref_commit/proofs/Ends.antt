@@ -11,7 +11,9 @@ use Rattle.gix_ref_files.specs.Lock.{lock_of}
 use Rattle.gix_ref_files.specs.Settled.{AllStay, IsAllSettled}
 use Rattle.gix_ref_files.specs.Steps.{IsAfter, IsLeftBy, EndsBy}
 use Rattle.gix_ref_files.specs.DiskSteps.{IsReachedBy, IsSyncedAfter}
+use Rattle.gix_ref_files.specs.declared.files.FileError.{FileError}
 use Rattle.gix_ref_files.specs.declared.steps.Cause.{Cause}
+use Rattle.gix_ref_files.specs.declared.steps.Cause.TheVariants.{Sync}
 use Rattle.gix_ref_files.proofs.Moments.{passes_joins, passes_weaken}
 use Rattle.gix_ref_files.proofs.Between.{ended_is_begun}
 use Rattle.gix_ref_theory.specs.Between.{IsEdit}
@@ -53,12 +55,12 @@ use Rattle.gix_ref_commit.specs.declared.folders.InWay.{InWay}
 use Rattle.gix_ref_commit.proofs.Carries as carries
 use Rattle.gix_ref_commit.proofs.Cleared as cleared
 use Rattle.gix_ref_commit.proofs.Cleared.{EachOutside}
-use Rattle.gix_ref_commit.proofs.Gone.{AllMiss, gone_after, none_begun, none_is_no_file, miss_front, plan_misses}
+use Rattle.gix_ref_commit.proofs.Gone.{AllMiss, gone_after, gone_at, none_begun, none_is_no_file, miss_front, plan_misses}
 use Rattle.gix_ref_commit.proofs.Held.{IsReady, AreHeld, held}
 use Rattle.gix_ref_commit.proofs.OwnPlan.{own_plan}
 use Rattle.gix_ref_commit.proofs.Placing as placing
 use Rattle.gix_ref_commit.proofs.Placing.{IsLaid}
-use Rattle.gix_ref_commit.proofs.Renamed.{HasRename}
+use Rattle.gix_ref_commit.proofs.Renamed.{HasRename, IsRenameOf}
 use Rattle.gix_ref_commit.proofs.Runs as run
 use Rattle.gix_ref_commit.proofs.Runs.{IsText}
 
@@ -122,6 +124,13 @@ module _ (dirs : Dirs) (namespace : Option Namespace) (kind : Kind) (prohibits :
       let parts = miss_front (lock_of q) front x rest (subst (AllMiss (lock_of q)) cut (misses q)) in
       no_file_after mid now (lock_of q) removes
       (none_is_no_file (mid (lock_of q)) (none_begun (lock_of q) (bare x.0) at mid parts.1 (ended_is_begun (bare x.0) cause at mid ends) (gone_after (lock_of q) front D.tree at parts.0 renamed after)))
+
+  -- and after one that ended in a sync right after the rename itself
+  pub synced_gone : (q : Path) (front : List Entry) (x : Entry) (rest : List Entry) (fault : FileError) (at mid now : Tree) → all_entries ≡ front ++ x ∷ rest → IsRenameOf (lock_of q) (bare x.0) →
+      EndsBy (bare x.0) (Sync fault) at mid → RemovesLocks mine mid now → is_file (now (lock_of q)) ≡ false
+  synced_gone q front x rest fault at mid now cut renames ends removes =
+      let parts = miss_front (lock_of q) front x rest (subst (AllMiss (lock_of q)) cut (misses q)) in
+      no_file_after mid now (lock_of q) removes (none_is_no_file (mid (lock_of q)) (gone_at (lock_of q) (bare x.0) at mid parts.1 renames ends.1))
 
   -- Where `packed-refs` was well formed.
   module _ (ready : IsReady s kind before D.tree given ran) (rs : List Record) (are : ArePackedRecords kind (view_of before s.packed_path) rs) (repack : packed ≢ None → IsRepack s kind rs (planned given) rewrite)

@@ -63,7 +63,7 @@ none_begun lock (Append p bytes) S T misses begins none = absurd misses
 none_begun lock End S T misses begins none = absurd misses
 
 -- a lock that is renamed is gone
-gone_at : (lock : Path) (step : Step) (S T : Tree) → Misses lock step → IsRenameOf lock step → Does step S T → NoFile T lock
+pub gone_at : (lock : Path) (step : Step) (S T : Tree) → Misses lock step → IsRenameOf lock step → Does step S T → NoFile T lock
 gone_at lock (Rename from to) S T misses is done =
     ap (λ (R : Tree). file_of (R lock)) done.1
     ∙ (ap file_of (put_other (put S from None) to lock (S from) misses)

@@ -14,11 +14,15 @@ pub mod LostFolders
 pub mod Nothing
 pub mod Outcomes
 pub mod OwnPlan
+pub mod PackedEntries
 pub mod Placing
 pub mod PlanRuns
+pub mod Refilled
 pub mod Renamed
 pub mod Runs
 pub mod Shapes
+pub mod Synced
 pub mod Tidying
 pub mod Unlisted
 pub mod Walking
+pub mod Whole

@@ -5,7 +5,7 @@ use Rattle.gix_ref_name.specs.declared.name.FullName.{FullName}
 use Rattle.gix_ref_files.specs.Tree.{Path}
 use Rattle.gix_ref_files.specs.Steps.{Step}
 use Rattle.gix_ref_files.specs.declared.files.FileError.{FileError}
-use Rattle.gix_ref_files.specs.declared.steps.Cause.TheVariants.{File as Fault, Unexpected, Asked}
+use Rattle.gix_ref_files.specs.declared.steps.Cause.TheVariants.{File as Fault, Sync, Unexpected, Asked}
 use Rattle.gix_ref_lookup.specs.declared.folders.Dirs.{Dirs}
 use Rattle.gix_ref_rewrite.specs.declared.outcome.Rewrite.{Rewrite}
 use Rattle.gix_ref_lines.specs.declared.create_or_update.Error.{Error as LogError}
@@ -57,6 +57,7 @@ module _ (dirs : Dirs) (edits : List Edit) (packed : Option Path) (rewrite : Rew
   all_write (AtStep a (Fault fault)) (step, is, fails) =
       subst (IsWriteOf edits) is
       (write_of edits packed step.1 (bare step.0) (shape_at edits packed fails.seen step fails.rest (subst (AllShaped edits packed) fails.cut (all_shaped edits packed dirs rewrite))) fails.writes)
+  all_write (AtStep a (Sync fault)) fails = absurd fails
   all_write (AtStep a Unexpected) fails = absurd fails
   all_write (AtStep a Asked) fails = absurd fails
 
@@ -102,6 +103,7 @@ module _ (dirs : Dirs) (edits : List Edit) (packed : Option Path) (rewrite : Rew
 
   pub of_listing : (u : Unfinished) (error : Error) → FailsToList (planned_entries dirs edits packed rewrite) before now u → SaysWhyUnlisted edits u error → IsOfListing edits before now error
   of_listing u Memory fails says = tt
+  of_listing (AtStep a (Sync fault)) error fails says = absurd fails
   of_listing (AtStep a Unexpected) error fails says = absurd fails
   of_listing (AtStep a Asked) error fails says = absurd fails
   of_listing (AtStep a (Fault fault)) error fails says = at_step a fault error fails says

@@ -24,7 +24,7 @@ use Rattle.gix_ref_files.specs.Files.{HasRisen}
 use Rattle.gix_ref_files.specs.Steps.{step_of}
 use Rattle.gix_ref_files.specs.declared.files.FileError.{FileError}
 use Rattle.gix_ref_files.specs.declared.files.FileError.TheVariants.{Device, NotUtf8, Memory as no_memory}
-use Rattle.gix_ref_files.specs.declared.steps.Cause.TheVariants.{Asked, File as Fault, Unexpected}
+use Rattle.gix_ref_files.specs.declared.steps.Cause.TheVariants.{Asked, File as Fault, Sync, Unexpected}
 use Rattle.gix_ref_files.specs.declared.steps.Planned.{Planned}
 use Rattle.gix_ref_commit.specs.declared.folders.InWay.{InWay}
 use Rattle.gix_ref_commit.specs.declared.plan.About.{About}
@@ -32,10 +32,10 @@ use Rattle.gix_ref_commit.specs.declared.run.Unfinished.{Unfinished}
 use Rattle.gix_ref_commit.specs.declared.run.Unfinished.TheVariants.{Memory as Unwanted, Step}
 use Rattle.gix_ref_commit.specs.Entries.{Entry, bare, entries, entry}
 use Rattle.gix_ref_transaction.specs.declared.edit.Edit.{Edit}
-use Rattle.gix_ref_commit.specs.Cleared.{AllInWay, AreInWay, AreInWayOf, folder_lists, is_seen, written_at, HoldsMore, IsAtOrBelow, IsOfStore, first_component, roots_of}
+use Rattle.gix_ref_commit.specs.Cleared.{AllInWay, AreAllFolders, AreInWay, AreInWayOf, folder_lists, is_seen, written_at, HoldsMore, IsAtOrBelow, IsOfStore, first_component, roots_of}
 use Rattle.gix_ref_commit.specs.internal.Walks.{AreFolders, FailsBefore, FailsToList, IsCountedFault, IsWalked, OnlyMore}
 
-in_either : (p : Path) (a b : List Path) → IsIn p (a ++ b) → IsIn p a ⊎ IsIn p b
+pub in_either : (p : Path) (a b : List Path) → IsIn p (a ++ b) → IsIn p a ⊎ IsIn p b
 in_either p [] b h = inr h
 in_either p (x ∷ a) b (inl here) = inl (inl here)
 in_either p (x ∷ a) b (inr later) = ⊎_elim (λ first. inl (inr first)) (λ second. inr second) (in_either p a b later)
@@ -124,16 +124,16 @@ walk_starts dirs top found is outside = (
   }),
 )
 
-all_reverse : (P : Path → Type 0) (xs : List Path) → All P xs → All P (reverse xs)
+pub all_reverse : (P : Path → Type 0) (xs : List Path) → All P xs → All P (reverse xs)
 all_reverse P [] all = all
 all_reverse P (x ∷ xs) all = subst (All P) (sym (reverse-append (x ∷ []) xs)) (All-push P (reverse xs) x (all_reverse P xs (All-tail P x xs all)) (All-head P x xs all))
 
 -- what was walked, backwards
-pub in_way_of : (dirs : Dirs) (T : Tree) (top : Path) (found folders : List Path) → IsWalked dirs top found → folders ≡ reverse found → AreInWay dirs T false top folders
-in_way_of dirs T top found folders (rest, is, are) backwards = record {
+pub in_way_of : (dirs : Dirs) (T : Tree) (top : Path) (found folders : List Path) → IsWalked dirs top found → folders ≡ reverse found → AreAllFolders T top folders → AreInWay dirs T false top folders
+in_way_of dirs T top found folders (rest, is, are) backwards all = record {
   inside = subst (All (IsAtOrBelow top)) (sym backwards) (all_reverse (IsAtOrBelow top) found are.inside);
   outside = subst (All (λ f. IsIn f (roots_of dirs) → ⊥)) (sym backwards) (all_reverse (λ f. IsIn f (roots_of dirs) → ⊥) found are.outside);
-  last = λ seen folder. inr (reverse rest, backwards ∙ (ap reverse is ∙ reverse-append (top ∷ []) rest));
+  none_or_all = inr all;
 }
 
 -- none, where more is there
@@ -141,7 +141,7 @@ pub none_in_way : (dirs : Dirs) (T : Tree) (top : Path) (folders : List Path) �
 none_in_way dirs T top folders none more = record {
   inside = subst (All (IsAtOrBelow top)) (sym none) (All-nil (IsAtOrBelow top));
   outside = subst (All (λ f. IsIn f (roots_of dirs) → ⊥)) (sym none) (All-nil (λ f. IsIn f (roots_of dirs) → ⊥));
-  last = λ seen folder. inl (more folder);
+  none_or_all = inl (none, λ seen folder. more folder);
 }
 
 -- none is sought where a file was seen
@@ -150,7 +150,7 @@ none_sought dirs T seen None folders is none = none
 none_sought dirs T seen (Some top) folders is none = record {
   inside = subst (All (IsAtOrBelow top)) (sym none) (All-nil (IsAtOrBelow top));
   outside = subst (All (λ f. IsIn f (roots_of dirs) → ⊥)) (sym none) (All-nil (λ f. IsIn f (roots_of dirs) → ⊥));
-  last = λ other folder. absurd (differ (sym is ∙ other));
+  none_or_all = inl (none, λ other folder. absurd (differ (sym is ∙ other)));
 }
   where
     differ : true ≡ false → ⊥
@@ -229,6 +229,7 @@ unlisted_for planned before now fault u writes counted memory other = by fault r
 -- the step of a plan before which the search ended
 pub fails_at : (plan : List (Planned About)) (i before mid now : ℕ) (d : Planned About) (u : Unfinished) → i < length plan → before ≤ mid → FailsBefore (get_or plan i d) mid now u → FailsToList (entries plan) before now u
 fails_at plan i before mid now d Unwanted lt le fails = tt
+fails_at plan i before mid now d (Step about (Sync fault)) lt le fails = absurd fails
 fails_at plan i before mid now d (Step about Unexpected) lt le fails = absurd fails
 fails_at plan i before mid now d (Step about Asked) lt le fails = absurd fails
 fails_at plan i before mid now d (Step about (Fault fault)) lt le (same, writes, counted, some) =

@@ -1,6 +1,8 @@
 -- Empty folders: those in the way of what a commit writes, which are removed before each write, and those above what it removed.
-use Rattle.std.specs.Prelude.{◌≡◌, ◌⊎◌, ◌<◌, ℕ, suc, ◌+◌, List, [], ◌∷◌, ◌++◌, length, drop, map, Bool, true, false, Option, Some, None, codes, nat_eq, ◌==◌, if◌then◌else◌}
+use Rattle.std.specs.Prelude.{◌≡◌, ◌⊎◌, ◌<◌, AllPairs, IsSome, ℕ, suc, ◌+◌, List, [], ◌∷◌, ◌++◌, length, drop, map, Bool, true, false, Option, Some, None, codes, nat_eq, ◌==◌, if◌then◌else◌}
 use Rattle.std.specs.List.{All, flat_map, starts_with}
+use Rattle.gix_ref_base.specs.Layout.{LiesIn}
+use Rattle.gix_ref_files.specs.Calls.{IsEntryName}
 use Rattle.gix_ref_files.specs.Tree.{Tree, Path, is_file, is_folder}
 use Rattle.gix_ref_files.specs.Tree.Content.{Folder}
 use Rattle.gix_ref_files.specs.Files.{Meaning, disk_of, Passes}
@@ -57,14 +59,36 @@ is_seen edits (about.Rename at) = file_seen_at edits at
 is_seen edits (about.Line at) = is_no_folder_seen (log_seen_at edits at)
 is_seen edits other = false
 
+-- nothing is in a folder but folders, which are among these
+abbrev pub HoldsOnly : Tree → (folders : List Path) → (folder : Path) → Type 0
+HoldsOnly T folders folder =
+    is_folder (T folder) ≡ true → (name : List ℕ) → IsEntryName name → IsSome (T (folder ++ 47 ∷ name)) →
+    (is_folder (T (folder ++ 47 ∷ name)) ≡ true) × IsIn (folder ++ 47 ∷ name) folders
+
+-- The folder at a path and all that are below it, where nothing else is.
+pub record AreAllFolders (T : Tree) (path : Path) (folders : List Path) : Type 0 where
+  -- the one at the path is the last
+  pub last : (others : List Path) × (folders ≡ others ++ path ∷ [])
+  -- with each of them those in it, and it holds no file
+  pub all : All (HoldsOnly T folders) folders
+  -- each before the one that it lies in
+  pub inner_first : AllPairs (λ earlier later. LiesIn later earlier → ⊥) folders
+
+-- each path below this one that exists is that of an entry of a folder, as on every file system
+abbrev pub HasEntries : Tree → (path : Path) → Type 0
+HasEntries T path =
+    (rest : List ℕ) → IsSome (T (path ++ 47 ∷ rest)) →
+    (folder : Path) × (name : List ℕ) × (path ++ 47 ∷ rest ≡ folder ++ 47 ∷ name) × IsEntryName name × (is_folder (T folder) ≡ true)
+
 -- What is removed before a file is written at a path, where it was seen that no folder is there, or not.
 pub record AreInWay (dirs : Dirs) (T : Tree) (seen : Bool) (path : Path) (folders : List Path) : Type 0 where
   -- nothing but the folder there, and folders in it
   pub inside : All (IsAtOrBelow path) folders
   -- and no folder of the store, or above it
   pub outside : All (λ f. IsIn f (roots_of dirs) → ⊥) folders
-  -- a folder there is the last of them, unless it holds more than empty folders; where no folder was seen, none is sought
-  pub last : seen ≡ false → is_folder (T path) ≡ true → HoldsMore dirs T path ⊎ ((others : List Path) × (folders ≡ others ++ path ∷ []))
+  -- Either nothing is removed, and a folder there holds more than empty folders, unless it was seen that none is there: then none is
+  -- sought. Or the folder there is removed, and all that are below it.
+  pub none_or_all : ((folders ≡ []) × (seen ≡ false → is_folder (T path) ≡ true → HoldsMore dirs T path)) ⊎ AreAllFolders T path folders
 
 -- and so for a step, which may write no file
 abbrev pub AreInWayOf : Dirs → Tree → (seen : Bool) → Option Path → List Path → Type 0

@@ -9,6 +9,8 @@ use Rattle.gix_ref_files.specs.Steps.{Step}
 use Rattle.gix_ref_files.specs.Steps.Step.{Line, MakeFolders, Rename, RemoveFile}
 use Rattle.gix_ref_files.specs.DiskSteps.{Synced, synced_step}
 use Rattle.gix_ref_files.specs.DiskSteps.Synced.{With}
+use Rattle.gix_ref_files.specs.declared.steps.Cause.{Cause}
+use Rattle.gix_ref_files.specs.declared.steps.Cause.TheVariants as causes
 use Rattle.gix_ref_files.specs.declared.steps.Planned.{Planned}
 use Rattle.gix_ref_lookup.specs.StoreLayout.{root_in}
 use Rattle.gix_ref_lookup.specs.declared.folders.Dirs.{Dirs}
@@ -144,10 +146,22 @@ abbrev pub renames_packed : Rewrite → Bool
 renames_packed (Text text) = true
 renames_packed other = false
 
+-- and where the run ended at this step for this cause: the step is done where a sync after it failed
+abbrev pub done_at : ℕ → About → Cause → ℕ
+done_at n (about.Rename at) (causes.Sync error) = at + 1
+done_at n (about.Rename at) (causes.File error) = at
+done_at n (about.Rename at) causes.Unexpected = at
+done_at n (about.Rename at) causes.Asked = at
+done_at n (about.Folders at) cause = at
+done_at n (about.Line at) cause = at
+done_at n (about.LogRemoval at) cause = n
+done_at n about.Packed cause = n
+done_at n (about.Removal at) cause = n
+
 -- how many edits, from the first on, have their locks renamed where a commit ended so
 abbrev pub done_of : ℕ → Unfinished → ℕ
 done_of n Memory = 0
-done_of n (AtStep about cause) = done_before n about
+done_of n (AtStep about cause) = done_at n about cause
 
 -- and whether the lock of `packed-refs` was renamed
 abbrev pub packed_done : Rewrite → Unfinished → Bool
@@ -157,7 +171,10 @@ packed_done rewrite (AtStep (about.Folders at) cause) = false
 packed_done rewrite (AtStep (about.Line at) cause) = false
 packed_done rewrite (AtStep (about.Rename at) cause) = false
 packed_done rewrite (AtStep (about.LogRemoval at) cause) = false
-packed_done rewrite (AtStep about.Packed cause) = false
+packed_done rewrite (AtStep about.Packed (causes.Sync error)) = renames_packed rewrite
+packed_done rewrite (AtStep about.Packed (causes.File error)) = false
+packed_done rewrite (AtStep about.Packed causes.Unexpected) = false
+packed_done rewrite (AtStep about.Packed causes.Asked) = false
 
 -- it names one of so many edits, or `packed-refs`
 abbrev pub IsOfEdit : ℕ → About → Type 0

@@ -7,7 +7,7 @@ use Rattle.gix_ref_files.specs.Tree.{Path}
 use Rattle.gix_ref_files.specs.Files.{HasRisen}
 use Rattle.gix_ref_files.specs.declared.files.FileError.{FileError}
 use Rattle.gix_ref_files.specs.declared.files.FileError.TheVariants.{Memory as no_want}
-use Rattle.gix_ref_files.specs.declared.steps.Cause.TheVariants.{File, Unexpected, Asked}
+use Rattle.gix_ref_files.specs.declared.steps.Cause.TheVariants.{File, Sync, Unexpected, Asked}
 use Rattle.gix_ref_edits.specs.declared.transaction.RefEdit.{RefEdit}
 use Rattle.gix_ref_lines.specs.declared.create_or_update.Error.{Error as LogError}
 use Rattle.gix_ref_lines.specs.declared.create_or_update.Error.TheVariants.{CreateLeadingDirectories, Append}
@@ -78,6 +78,7 @@ abbrev pub SaysWhy : List RefEdit → (place log packed : Path) → Unfinished �
 SaysWhy edits place log packed no_memory Memory = Unit {0}
 SaysWhy edits place log packed no_memory error = ⊥
 SaysWhy edits place log packed (Step about (File fault)) error = SaysFault edits log about fault error
+SaysWhy edits place log packed (Step about (Sync fault)) error = SaysFault edits log about fault error
 SaysWhy edits place log packed (Step about Unexpected) error = SaysInWay place log packed about error
 SaysWhy edits place log packed (Step about Asked) error = SaysInWay place log packed about error
 

@@ -6,7 +6,7 @@ use Rattle.gix_ref_files.specs.Steps.{IsAfter, EndsBy}
 use Rattle.gix_ref_files.specs.DiskSteps.{Synced}
 use Rattle.gix_ref_files.specs.declared.files.FileError.TheVariants.{Memory as no_memory}
 use Rattle.gix_ref_files.specs.declared.steps.Cause.{Cause}
-use Rattle.gix_ref_files.specs.declared.steps.Cause.TheVariants.{File, Unexpected, Asked}
+use Rattle.gix_ref_files.specs.declared.steps.Cause.TheVariants.{File, Sync, Unexpected, Asked}
 use Rattle.gix_ref_files.specs.declared.steps.Ended.{Ended}
 use Rattle.gix_ref_files.specs.declared.steps.Planned.{Planned}
 use Rattle.gix_ref_commit.specs.Entries.{Entry, bare, bare_steps}
@@ -34,6 +34,7 @@ IsStepAt plan ended (Step about cause) = ((d : Planned About) → (get_or plan e
 -- a fault of files came with a rise of their count, and is no want of memory
 abbrev pub IsRaisedBy : (before now : ℕ) → Cause → Type 0
 IsRaisedBy before now (File error) = HasRisen before now × (error ≢ no_memory)
+IsRaisedBy before now (Sync error) = HasRisen before now × (error ≢ no_memory)
 IsRaisedBy before now Unexpected = Unit {0}
 IsRaisedBy before now Asked = Unit {0}
 

@@ -1,5 +1,6 @@
 //! What a commit decides of `packed-refs` before its first write.
-ghost use Rattle.std.specs.Prelude.{◌≡◌, ◌≢◌, ◌≤◌, List, [], ◌∷◌, None, Some, OnOk, IfOk, IfErr, map};
+ghost use Rattle.std.specs.Prelude.{◌≡◌, ◌≢◌, ◌≤◌, List, [], ◌∷◌, true, None, Some, OnOk, IfOk, IfErr, map};
+ghost use Rattle.std.specs.List.{list_any};
 ghost use Rattle.gix_ref_base.specs.PackedRecords.{Record};
 ghost use Rattle.gix_ref_files.specs.Calls.{Unchanged};
 ghost use Rattle.gix_ref_files.specs.DiskCalls.{Untouched};
@@ -13,8 +14,8 @@ ghost use Rattle.gix_ref_transaction.specs.CommittedEdits.{planned};
 ghost use Rattle.gix_ref_transaction.specs.OwnLocks.{OnlyLocks};
 ghost use Rattle.gix_ref_transaction.specs.PackedCauses.{ids_among};
 ghost use Rattle.gix_ref_transaction.specs.PrepareSteps.{setting_of, updates, ids_in, packed_places, AreEmpty, AreWholeLocks, FillsLock};
-ghost use Rattle.gix_ref_repack.specs.Refusals.{IsCountedRefusal, IsIoOrMemory, IsRefusedRewrite};
-ghost use Rattle.gix_ref_repack.specs.Repacks.{IsRepack};
+ghost use Rattle.gix_ref_repack.specs.Refusals.{IsCountedRefusal, IsIoOrMemory, IsReadFile, IsRefusedRewrite};
+ghost use Rattle.gix_ref_repack.specs.Repacks.{IsRepack, removes_record};
 ghost use Rattle.gix_ref_commit.specs.Cleared.{AllInWay, folder_lists};
 ghost use Rattle.gix_ref_commit.specs.Decided.{FillsPacked, IsFilled};
 ghost use Rattle.gix_ref_commit.specs.Entries.{planned_entries};
@@ -62,6 +63,9 @@ fn rewrite_packed<F: Files>(
         (rs : List Record) →
         ArePackedRecords settings.now.kind (packed_refs_in settings.now (F.means files.old)) rs →
         IfErr result IsIoOrMemory }
+    ensures whole { F.honest → list_any removes_record edits.now ≡ true → OnOk result
+        (IsReadFile settings.now.kind ((F.means files.old).tree
+        (setting_of settings.now).packed_path)) }
     ensures refused { F.honest → IfErr result (IsRefusedRewrite settings.now.kind
         ((F.means files.old).tree (setting_of settings.now).packed_path)) }
     ensures filled { F.honest → (F.means files.old).tree (lock_of lock.now) ≡ Some (File []) →
@@ -106,6 +110,9 @@ pub fn decide_packed<F: Files>(
         (rs : List Record) →
         ArePackedRecords settings.now.kind (packed_refs_in settings.now (F.means files.old)) rs →
         IfErr result IsIoOrMemory }
+    ensures whole { F.honest → packed.now ≢ None → list_any removes_record edits.now ≡ true →
+        OnOk result (IsReadFile settings.now.kind ((F.means files.old).tree
+        (setting_of settings.now).packed_path)) }
     ensures refused { F.honest → IfErr result (IsRefusedRewrite settings.now.kind
         ((F.means files.old).tree (setting_of settings.now).packed_path)) }
     ensures path { IfOk result (λ new. packed.now ≢ None →

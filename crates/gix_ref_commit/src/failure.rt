@@ -22,12 +22,18 @@ use gix_ref_transaction::edit::{Edit, LogEffect};
 use std::alloc::{AllocError, Global};
 
 impl Unfinished {
-    /// How many edits, from the first of n on, have the locks renamed that are written.
+    /// How many edits, from the first of n on, have the locks renamed that are written: that of the step at which the run ended too,
+    /// where only a sync after its rename failed.
     pub fn done(self, edits: usize) -> usize
+        requires { AllOfEdits edits self }
         ensures { result ≡ done_of edits self }
     {
         match self {
             Unfinished::Memory => 0,
+            Unfinished::Step {
+                about: About::Rename { edit },
+                cause: Cause::Sync(_),
+            } => edit + 1,
             Unfinished::Step { about, cause: _ } => about.done(edits),
         }
     }
@@ -41,6 +47,10 @@ impl Unfinished {
             Unfinished::Step {
                 about: About::Removal { .. },
                 cause: _,
+            } => is_renamed(rewrite),
+            Unfinished::Step {
+                about: About::Packed,
+                cause: Cause::Sync(_),
             } => is_renamed(rewrite),
             Unfinished::Step { .. } => false,
         }
@@ -168,7 +178,7 @@ pub fn failure(
         return Error::Memory;
     };
     match cause {
-        Cause::File(source) => fault(edits, log, about, source),
+        Cause::File(source) | Cause::Sync(source) => fault(edits, log, about, source),
         Cause::Unexpected | Cause::Asked => in_way(about, place, log, packed),
     }
 }

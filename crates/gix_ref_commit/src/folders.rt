@@ -11,7 +11,7 @@ ghost use Rattle.gix_ref_files.specs.Tree.{Tree, Path, fronts};
 ghost use Rattle.gix_ref_transaction.specs.OwnLocks.{paths_of};
 ghost use Rattle.gix_ref_commit.specs.Cleared.{roots_of, folder_lists, ClearsNothing, AllInWay, AreInWay, AreInWayOf, HoldsMore, IsAtOrBelow, IsOfStore, cleared, is_seen, removals, written_at};
 ghost use Rattle.gix_ref_commit.specs.Entries.{entries};
-ghost use Rattle.gix_ref_commit.specs.internal.Walks.{FailsBefore, FailsToList, IsCountedFault, IsWalked, OnlyMore, StopsFor};
+ghost use Rattle.gix_ref_commit.specs.internal.Walks.{AddsAll, AddsFolder, AddsFolders, AreWhole, FailsBefore, FailsToList, IsCountedFault, IsWalked, OnlyMore, StopsFor};
 
 use crate::plan::About;
 use crate::run::Unfinished;
@@ -74,6 +74,8 @@ fn add_entry(
         (paths_of found.new.items) }
     ensures stops { (T : Tree) → IsEntryOf T folder.now entry.now →
         IfOk result (StopsFor dirs.now T folder.now) }
+    ensures adds { IfOk result (λ all. all ≡ true → AddsFolder folder.now entry.now
+        (paths_of found.old.items) (paths_of found.new.items)) }
 {
     if !entry.is_folder {
         return Ok(false);
@@ -98,6 +100,8 @@ fn add_entries(
         (paths_of found.new.items) }
     ensures stops { (T : Tree) → All (IsEntryOf T folder.now) entries.now →
         IfOk result (StopsFor dirs.now T folder.now) }
+    ensures adds { IfOk result (λ all. all ≡ true → AddsAll folder.now entries.now
+        (paths_of found.old.items) (paths_of found.new.items)) }
 {
     for entry in entries {
         if !add_entry(alloc, dirs, folder, entry, found)? {
@@ -118,6 +122,9 @@ fn add_folders<F: Files>(
     ensures more { OnlyMore dirs.now folder.now (paths_of found.old.items)
         (paths_of found.new.items) }
     ensures stops { F.honest → IfOk result (StopsFor dirs.now (F.means files.old).tree folder.now) }
+    ensures adds { F.honest → IfOk result (λ all. all ≡ true → AddsFolders
+        (F.means files.old).tree folder.now (paths_of found.old.items)
+        (paths_of found.new.items)) }
     ensures leaves { F.honest → Leaves (F.means files.old) (F.means files.new)
         (Unchanged (F.means files.old).tree) }
     ensures passes { F.honest → Passes (F.means files.old) (F.means files.new)
@@ -145,6 +152,7 @@ fn one_path(alloc: Global, path: &[u8]) -> Result<Vec<Vec<u8>>, AllocError>
 
 /// Adds the folders in each of these folders, and in those that are added, until there is no more. False where anything else is in one of
 /// them. One call of files for each folder.
+#[tactic(auto, using(crate::proofs::Whole::search_starts))]
 fn walk<F: Files>(
     alloc: Global,
     files: &mut F,
@@ -152,9 +160,12 @@ fn walk<F: Files>(
     top: &[u8],
     found: &mut Vec<Vec<u8>>,
 ) -> Result<bool, FileError>
-    requires { IsWalked dirs.now top.now (paths_of found.old.items) }
+    requires folders { IsWalked dirs.now top.now (paths_of found.old.items) }
+    requires alone { paths_of found.old.items ≡ top.now ∷ [] }
     ensures walked { IsWalked dirs.now top.now (paths_of found.new.items) }
     ensures stops { F.honest → IfOk result (StopsFor dirs.now (F.means files.old).tree top.now) }
+    ensures whole { F.honest → IfOk result (λ all. all ≡ true → AreWhole (F.means files.old).tree
+        (paths_of found.new.items)) }
     ensures leaves { F.honest → Leaves (F.means files.old) (F.means files.new)
         (Unchanged (F.means files.old).tree) }
     ensures passes { F.honest → Passes (F.means files.old) (F.means files.new)

@@ -601,6 +601,30 @@ fn nine_calls_and_their_syncs(rt: HostRuntime) {
     );
 }
 
+/// Each of the three syncs after the rename of the branch fails: its lock was renamed, and another program may hold it by now, so no call
+/// is made after that.
+#[test]
+fn a_renamed_lock_is_left_alone(rt: HostRuntime) {
+    let alloc = rt.alloc();
+    let before: Texts = &[("/r/refs/heads/a", ONE), ("/r/logs/refs/heads/a", FIRST)];
+    for k in 16..19 {
+        let mut memory = made(&rt, alloc, before);
+        memory.fail_at(k);
+        let mut store = store(alloc, memory, "", "").expect(&rt, "a store");
+        store.write_reflog = WriteReflog::Normal;
+        let asked = Asked {
+            new: Some(Id::Two),
+            ..UPDATE
+        };
+        let edits = edits_of(&rt, alloc, &[asked]);
+        let (outcome, _) = committed(alloc, &mut store, Who::C, edits, "");
+        assert_eq!(rt; outcome, Outcome::LockCommit);
+        let memory = store.into_files();
+        assert_eq!(rt; memory.calls(), k);
+        hold(&rt, &memory, &[("/r/refs/heads/a", TWO)], "it is written");
+    }
+}
+
 /// How a run ends.
 #[derive(Clone, Copy, Debug, PartialEq, Eq)]
 enum End {

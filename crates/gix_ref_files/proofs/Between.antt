@@ -3,9 +3,9 @@ use Rattle.std.proofs.Common.{◌≡◌, inl, inr, ⊎_elim, ℕ, zero, suc, Lis
 use Rattle.std.proofs.Math.Seq.{take-length}
 use Rattle.gix_ref_files.specs.Tree.{Tree, Path, appended, folders_to, with_folders}
 use Rattle.gix_ref_files.specs.Calls.{created, Creating}
-use Rattle.gix_ref_files.specs.Steps.{Step, Create, Append, Line, Rename, RemoveFile, MakeFolders, RemoveFolder, End, Does, Begins, IsAfter, IsLeftBy, EndsBy, EndsAt}
+use Rattle.gix_ref_files.specs.Steps.{Step, Create, Append, Line, Rename, RemoveFile, MakeFolders, RemoveFolder, End, Does, Begins, IsAfter, IsLeftBy, EndsBy, EndsAt, HasMemory, MayBeSynced, cause_once_done}
 use Rattle.gix_ref_files.specs.declared.steps.Cause.{Cause}
-use Rattle.gix_ref_files.specs.declared.steps.Cause.TheVariants.{File, Unexpected, Asked}
+use Rattle.gix_ref_files.specs.declared.steps.Cause.TheVariants.{File, Sync, Unexpected, Asked}
 use Rattle.gix_ref_files.proofs.Puts.{appended_none}
 
 -- a step that is not begun
@@ -52,6 +52,7 @@ all_done (step ∷ steps) before T after = inr (after.0, after.1, all_done steps
 -- the step that ended a run is begun, or it is not
 pub ended_is_begun : (step : Step) (cause : Cause) (before T : Tree) → EndsBy step cause before T → Begins step before T
 ended_is_begun step (File error) before T ends = ends
+ended_is_begun step (Sync error) before T ends = done_is_begun step before T ends.1
 ended_is_begun step Unexpected before T ends = subst (λ (S : Tree). Begins step before S) (sym ends.1) (not_begun step before)
 ended_is_begun step Asked before T ends = subst (λ (S : Tree). Begins step before S) (sym ends.1) (not_begun step before)
 
@@ -62,7 +63,15 @@ ended_is_left (step ∷ steps) zero cause before T ends = inl (ended_is_begun st
 ended_is_left (step ∷ steps) (suc at) cause before T ends = inr (ends.0, ends.1, ended_is_left steps at cause ends.0 T ends.2)
 
 -- a fault of a sync ends the step, which is done
-pub ends_in_sync : (step : Step) (cause : Cause) (before T : Tree) → Does step before T → (cause ≡ Unexpected → ⊥) → (cause ≡ Asked → ⊥) → EndsBy step cause before T
-ends_in_sync step (File error) before T does not_unexpected not_asked = done_is_begun step before T does
-ends_in_sync step Unexpected before T does not_unexpected not_asked = absurd (not_unexpected refl)
-ends_in_sync step Asked before T does not_unexpected not_asked = absurd (not_asked refl)
+pub ends_in_sync : (step : Step) (cause : Cause) (before T : Tree) → MayBeSynced step → Does step before T → (cause ≡ Unexpected → ⊥) → (cause ≡ Asked → ⊥) → EndsBy step (cause_once_done cause) before T
+ends_in_sync step (File error) before T may does not_unexpected not_asked = (may, does)
+ends_in_sync step (Sync error) before T may does not_unexpected not_asked = (may, does)
+ends_in_sync step Unexpected before T may does not_unexpected not_asked = absurd (not_unexpected refl)
+ends_in_sync step Asked before T may does not_unexpected not_asked = absurd (not_asked refl)
+
+-- a run that did not want memory in a sync did not want it in the step
+pub memory_once_done : (cause : Cause) → HasMemory cause → HasMemory (cause_once_done cause)
+memory_once_done (File error) memory = memory
+memory_once_done (Sync error) memory = memory
+memory_once_done Unexpected memory = memory
+memory_once_done Asked memory = memory

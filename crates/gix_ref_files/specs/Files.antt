@@ -25,6 +25,10 @@ count_after (Err error) n = count_with error n
 abbrev pub HasRisen : ℕ → ℕ → Type 0
 HasRisen before now = (before < now) ⊎ (2 ^ 64 - 1 ≤ now)
 
+-- the count of faults has risen by so many at least, or is full
+abbrev pub HasRisenBy : (n before now : ℕ) → Type 0
+HasRisenBy n before now = (before + n ≤ now) ⊎ (2 ^ 64 - 1 ≤ now)
+
 -- What files mean at one moment.
 pub record Meaning : Type 1 where
   -- what is at each path

@@ -1,15 +1,16 @@
 -- Steps on a tree: what they make of it, and what a stop among them could leave.
-use Rattle.std.specs.Prelude.{◌≡◌, ◌⊎◌, ℕ, zero, suc, List, [], ◌∷◌, true, false, IsSome, map}
+use Rattle.std.specs.Prelude.{◌≡◌, ◌≢◌, ◌⊎◌, ℕ, zero, suc, List, [], ◌∷◌, true, false, IsSome, map}
 use Rattle.gix_ref_files.specs.Tree.{Tree, Path, appended, is_file, is_folder, is_blocked}
 use Rattle.gix_ref_files.specs.Files.{count_with}
 use Rattle.gix_ref_files.specs.Calls.{IsFree, created, Creates, Creating, Appends, Appending, Renames, Renaming, RemovesFile, RemovingFile, MakesFolders, MakingFolders, RemovesFolder, RemovingFolder, is_in_the_way}
 use Rattle.gix_ref_files.specs.declared.files.Create.TheVariants.{Made}
 use Rattle.gix_ref_files.specs.declared.files.Rename.TheVariants.{Moved}
+use Rattle.gix_ref_files.specs.declared.files.FileError.TheVariants.{Memory as no_memory}
 use Rattle.gix_ref_files.specs.declared.steps.Action.{Action}
 use Rattle.gix_ref_files.specs.declared.steps.Action.TheVariants.{Create as CreateAction, Append as AppendAction, Line as LineAction, Rename as RenameAction, RemoveFile as RemoveFileAction, MakeFolders as MakeFoldersAction, RemoveFolder as RemoveFolderAction, End as EndAction}
 use Rattle.gix_ref_files.specs.declared.steps.Planned.{Planned}
 use Rattle.gix_ref_files.specs.declared.steps.Cause.{Cause}
-use Rattle.gix_ref_files.specs.declared.steps.Cause.TheVariants.{File, Unexpected, Asked}
+use Rattle.gix_ref_files.specs.declared.steps.Cause.TheVariants.{File, Sync, Unexpected, Asked}
 
 -- One step on a tree: a call of files that changes it, or an end that the maker of the steps asks for.
 pub data Step : Type 0 where
@@ -69,9 +70,21 @@ IsRefused (MakeFolders path) T = is_in_the_way T path ≡ true
 IsRefused (RemoveFolder path) T = ⊥
 IsRefused End T = ⊥
 
--- A step ends the run for this cause, and leaves the tree T.
+-- something may be synced after the step: it is not one of folders, nor an end
+abbrev pub MayBeSynced : Step → Type 0
+MayBeSynced (Create path) = Unit {0}
+MayBeSynced (Append path bytes) = Unit {0}
+MayBeSynced (Line path bytes) = Unit {0}
+MayBeSynced (Rename from to) = Unit {0}
+MayBeSynced (RemoveFile path) = Unit {0}
+MayBeSynced (MakeFolders path) = ⊥
+MayBeSynced (RemoveFolder path) = ⊥
+MayBeSynced End = ⊥
+
+-- A step ends the run for this cause, and leaves the tree T. Where a sync failed the step is done.
 abbrev pub EndsBy : Step → Cause → Tree → Tree → Type 0
 EndsBy step (File error) before T = Begins step before T
+EndsBy step (Sync error) before T = MayBeSynced step × Does step before T
 EndsBy step Unexpected before T = IsRefused step before × (T ≡ before)
 EndsBy step Asked before T = (step ≡ End) × (T ≡ before)
 
@@ -99,5 +112,20 @@ steps_of plan = map (λ planned. step_of planned.action) plan
 -- the count of faults after a step that ended a run
 abbrev pub count_ended : Cause → ℕ → ℕ
 count_ended (File error) n = count_with error n
+count_ended (Sync error) n = count_with error n
 count_ended Unexpected n = n
 count_ended Asked n = n
+
+-- the cause that ends a run once the step is done: a fault is that of a sync
+abbrev pub cause_once_done : Cause → Cause
+cause_once_done (File error) = Sync error
+cause_once_done (Sync error) = Sync error
+cause_once_done Unexpected = Unexpected
+cause_once_done Asked = Asked
+
+-- a run that ended for this cause did not want memory
+abbrev pub HasMemory : Cause → Type 0
+HasMemory (File error) = error ≢ no_memory
+HasMemory (Sync error) = error ≢ no_memory
+HasMemory Unexpected = Unit {0}
+HasMemory Asked = Unit {0}

@@ -6,7 +6,7 @@ ghost use Rattle.gix_ref_files.specs.Files.{Leaves, Passes, disk_of, count_after
 ghost use Rattle.gix_ref_files.specs.Calls.{Unchanged};
 ghost use Rattle.gix_ref_files.specs.Settled.{synced, synced_by, folders_up, climb, from_one};
 ghost use Rattle.gix_ref_files.specs.Settled.Sync.{OfFile, OfFolder};
-ghost use Rattle.gix_ref_files.specs.Steps.{Does, Begins, EndsBy, IsAfter, IsLeftBy, IsRefused, EndsAt, step_of, steps_of, count_ended};
+ghost use Rattle.gix_ref_files.specs.Steps.{Does, Begins, EndsBy, IsAfter, IsLeftBy, IsRefused, EndsAt, step_of, steps_of, cause_once_done, count_ended, HasMemory, MayBeSynced};
 ghost use Rattle.gix_ref_files.specs.Steps.Step.{Line};
 ghost use Rattle.gix_ref_files.specs.DiskSteps.{DoesOn, BeginsOn, With, IsReachedBy, IsSyncedAfter, IsEndedAt, IsSomeSynced, Settling, path_syncs, syncs_of, synced_steps, needs, CanSync, CanSettle};
 ghost use Rattle.gix_ref_files.specs.declared.steps.Cause.TheVariants.{File};
@@ -79,8 +79,10 @@ pub struct Planned<'p, E> {
 /// Why a run ended at a step.
 #[derive(Clone, Copy, Debug, PartialEq, Eq)]
 pub enum Cause {
-    /// The call failed.
+    /// The call failed. The step is not done, or a beginning of it is.
     File(FileError),
+    /// The step is done, and a sync after it failed.
+    Sync(FileError),
     /// The call returned that it cannot do the step: something is where a file was to be made, no file to append
     /// to, a folder where a file was to go, or a file in the way.
     Unexpected,
@@ -217,7 +219,7 @@ fn change<F: Files>(files: &mut F, action: &Action<'_>) -> Result<bool, Cause>
     ensures count { MatchResult result (λ _. F.faults files.new ≡ F.faults files.old)
         (λ cause. F.faults files.new ≡ count_ended cause (F.faults files.old)) }
     ensures asked { IsErrOf result Cause.Asked → action.now ≡ Action.End }
-    ensures memory { IsErrOf result (File FileError.Memory) → ⊥ }
+    ensures memory { IfErr result HasMemory }
 {
     match *action {
         Action::Create { path } => as_done(files.create_new(path)? == Create::Made),
@@ -247,7 +249,7 @@ fn sync_bytes<F: Files>(files: &mut F, path: &[u8]) -> Result<(), Cause>
     ensures count { MatchResult result (λ _. F.faults files.new ≡ F.faults files.old)
         (λ cause. F.faults files.new ≡ count_ended cause (F.faults files.old)) }
     ensures asked { IsErrOf result Cause.Asked → ⊥ }
-    ensures memory { IsErrOf result (File FileError.Memory) → ⊥ }
+    ensures memory { IfErr result HasMemory }
 {
     if files.sync_file(path)? {
         Ok(())
@@ -269,7 +271,7 @@ fn sync_entries<F: Files>(files: &mut F, path: &[u8]) -> Result<(), Cause>
     ensures count { MatchResult result (λ _. F.faults files.new ≡ F.faults files.old)
         (λ cause. F.faults files.new ≡ count_ended cause (F.faults files.old)) }
     ensures asked { IsErrOf result Cause.Asked → ⊥ }
-    ensures memory { IsErrOf result (File FileError.Memory) → ⊥ }
+    ensures memory { IfErr result HasMemory }
 {
     if files.sync_folder(path)? {
         Ok(())
@@ -302,7 +304,7 @@ fn sync_up<F: Files>(files: &mut F, path: &[u8], top: usize) -> Result<(), Cause
     ensures count { MatchResult result (λ _. F.faults files.new ≡ F.faults files.old)
         (λ cause. F.faults files.new ≡ count_ended cause (F.faults files.old)) }
     ensures asked { IsErrOf result Cause.Asked → ⊥ }
-    ensures memory { IsErrOf result (File FileError.Memory) → ⊥ }
+    ensures memory { IfErr result HasMemory }
 {
     let mut end = path.len();
     while end > top {
@@ -327,7 +329,7 @@ fn sync_folders<F: Files>(files: &mut F, path: &[u8], root: usize) -> Result<(),
     ensures count { MatchResult result (λ _. F.faults files.new ≡ F.faults files.old)
         (λ cause. F.faults files.new ≡ count_ended cause (F.faults files.old)) }
     ensures asked { IsErrOf result Cause.Asked → ⊥ }
-    ensures memory { IsErrOf result (File FileError.Memory) → ⊥ }
+    ensures memory { IfErr result HasMemory }
 {
     let top = root_of(root);
     sync_up(files, path, top)
@@ -346,7 +348,7 @@ fn sync_line<F: Files>(files: &mut F, path: &[u8], root: usize) -> Result<(), Ca
     ensures count { MatchResult result (λ _. F.faults files.new ≡ F.faults files.old)
         (λ cause. F.faults files.new ≡ count_ended cause (F.faults files.old)) }
     ensures asked { IsErrOf result Cause.Asked → ⊥ }
-    ensures memory { IsErrOf result (File FileError.Memory) → ⊥ }
+    ensures memory { IfErr result HasMemory }
 {
     sync_bytes(files, path)?;
     sync_folders(files, path, root)
@@ -365,7 +367,7 @@ fn sync_path<F: Files>(files: &mut F, grows: bool, path: &[u8], settle: Settle) 
     ensures count { MatchResult result (λ _. F.faults files.new ≡ F.faults files.old)
         (λ cause. F.faults files.new ≡ count_ended cause (F.faults files.old)) }
     ensures asked { IsErrOf result Cause.Asked → ⊥ }
-    ensures memory { IsErrOf result (File FileError.Memory) → ⊥ }
+    ensures memory { IfErr result HasMemory }
 {
     match settle {
         Settle::Nothing => Ok(()),
@@ -398,8 +400,9 @@ fn sync_after<F: Files>(files: &mut F, action: &Action<'_>, settle: Settle) -> R
         (IsSomeSynced (syncs_of action.now settle) (disk_of (F.means files.old))) }
     ensures count { MatchResult result (λ _. F.faults files.new ≡ F.faults files.old)
         (λ cause. F.faults files.new ≡ count_ended cause (F.faults files.old)) }
+    ensures synced { OnErr result (MayBeSynced (step_of action.now)) }
     ensures asked { IsErrOf result Cause.Asked → ⊥ }
-    ensures memory { IsErrOf result (File FileError.Memory) → ⊥ }
+    ensures memory { IfErr result HasMemory }
 {
     match *action {
         Action::Create { path } => sync_path(files, false, path, settle),
@@ -410,6 +413,16 @@ fn sync_after<F: Files>(files: &mut F, action: &Action<'_>, settle: Settle) -> R
         Action::MakeFolders { .. } => Ok(()),
         Action::RemoveFolder { .. } => Ok(()),
         Action::End => Ok(()),
+    }
+}
+
+/// The cause that ends a run after a step that is done.
+fn once_done(cause: Cause) -> Cause
+    ensures { result ≡ cause_once_done cause }
+{
+    match cause {
+        Cause::File(error) => Cause::Sync(error),
+        other => other,
     }
 }
 
@@ -431,17 +444,21 @@ fn run_step<F: Files>(files: &mut F, action: &Action<'_>, settle: Settle) -> Res
     ensures count { MatchResult result (λ _. F.faults files.new ≡ F.faults files.old)
         (λ cause. F.faults files.new ≡ count_ended cause (F.faults files.old)) }
     ensures asked { IsErrOf result Cause.Asked → action.now ≡ Action.End }
-    ensures memory { IsErrOf result (File FileError.Memory) → ⊥ }
+    ensures memory { IfErr result HasMemory }
 {
-    if change(files, action)? {
-        sync_after(files, action, settle)?;
+    if !change(files, action)? {
+        return Ok(());
     }
-    Ok(())
+    match sync_after(files, action, settle) {
+        Ok(()) => Ok(()),
+        Err(cause) => Err(once_done(cause)),
+    }
 }
 
 /// Does the steps of a plan in order, each with its syncs, up to the first fault, unexpected result or `End`. Allocates no
 /// memory itself, and copies no path. Costs one call of files for each step, one or two more for a line whose file is
-/// missing, and one for each sync; a removal that finds no file syncs nothing. A fault of a sync ends the run at its step.
+/// missing, and one for each sync; a removal that finds no file syncs nothing. A fault of a sync ends the run at its step, which is
+/// done then.
 pub fn run_steps<F: Files, E>(files: &mut F, plan: &[Planned<'_, E>]) -> Result<(), Ended>
     ensures done { F.honest →
         OnOk result (IsAfter (steps_of plan.now) (F.means files.old).tree
@@ -468,7 +485,7 @@ pub fn run_steps<F: Files, E>(files: &mut F, plan: &[Planned<'_, E>]) -> Result<
     ensures count { MatchResult result (λ _. F.faults files.new ≡ F.faults files.old)
         (λ end. F.faults files.new ≡ count_ended end.cause (F.faults files.old)) }
     ensures place { IfErr result (λ end. end.at < length plan.now) }
-    ensures memory { IfErr result (λ end. end.cause ≡ File FileError.Memory → ⊥) }
+    ensures memory { IfErr result (λ end. HasMemory end.cause) }
 {
     for (at, planned) in plan.iter().enumerate() {
         if let Err(cause) = run_step(files, &planned.action, planned.settle) {

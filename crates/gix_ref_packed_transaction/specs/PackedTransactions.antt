@@ -18,6 +18,7 @@ use Rattle.gix_ref_rewrite.specs.declared.outcome.Rewrite.TheVariants.{Unchanged
 use Rattle.gix_ref_edits.specs.RefEdits.{name_of}
 use Rattle.gix_ref_edits.specs.declared.transaction.RefEdit.{RefEdit}
 use Rattle.gix_ref_transaction.specs.PackedCauses.{deletes_reference}
+use Rattle.gix_ref_repack.specs.Refusals.{IsReadText}
 use Rattle.gix_ref_repack.specs.Removals.{IsWithout, IsStuckIn}
 use Rattle.gix_ref_repack.specs.declared.error.Error.{Error}
 use Rattle.gix_ref_repack.specs.declared.error.Error.TheVariants.{Commit, Iteration, Io, Memory}
@@ -98,6 +99,11 @@ module _ (kind : Kind) (records : Option Buffer) (keys : List (List ℕ)) (place
   IsLeft before T =
       OnlyAt place before T
       × ((T place ≡ before place) ⊎ ((rewrite : Rewrite) × IsMadeOf kind records keys rewrite × HoldsRewrite rewrite (before place) (T place)))
+
+-- each line of the records is one
+abbrev pub IsReadBuffer : Kind → Option Buffer → Type 0
+IsReadBuffer kind None = Unit {0}
+IsReadBuffer kind (Some buffer) = IsReadText kind (buffer_text buffer)
 
 -- why the records cannot be rewritten: a line is no record, or there was no memory
 abbrev pub IsStuckBuffer : Kind → Option Buffer → Error → Type 0

@@ -83,7 +83,7 @@ pub struct Failed {
 impl Transaction {
     ghost use Rattle.gix_ref_packed_transaction.specs.declared.transaction.prepare.Error.TheVariants.{Memory as no_memory};
     ghost use Rattle.gix_ref_packed_transaction.specs.PackedLosses.{IsLostOf, IsReadyOn, OnlyLockIsLost, SettlesFrom};
-    ghost use Rattle.gix_ref_packed_transaction.specs.PackedTransactions.{records_of, transaction_place, transaction_kind, removed_keys, deleted_names, Commits, IsLeft, IsLockEmpty, IsUnbegun, SaysWhyPacked};
+    ghost use Rattle.gix_ref_packed_transaction.specs.PackedTransactions.{records_of, transaction_place, transaction_kind, removed_keys, deleted_names, Commits, IsLeft, IsLockEmpty, IsReadBuffer, IsUnbegun, SaysWhyPacked};
 
     /// A transaction of the file whose lock is held, and whose records these are: `None` where there is no such file. The ids of the file
     /// are of the kind. Not public in gix-ref.
@@ -142,13 +142,15 @@ impl Transaction {
     ///
     /// `Iteration` reports a line of the records that is no record, and `Memory` that there was none for the text; then nothing but
     /// the lock has changed. `Io` and `Commit` report a call of files that failed, `Commit` the rename, also onto a folder. At every
-    /// stop, and after every loss of power, the file is the old one or the new one; a commit that succeeded is not lost. As gix-ref's
+    /// stop, and after every loss of power, the file is the old one or the new one; a commit that succeeded is not lost. After a failure
+    /// the lock is removed, unless it was renamed. As gix-ref's
     /// `packed::Transaction::commit`.
     pub fn commit<F: Files>(self, alloc: Global, files: &mut F) -> Result<(), Failed>
         ensures committed { F.honest → IsLockEmpty (transaction_place self) (F.means
             files.old).tree →
             OnOk result (Commits (transaction_kind self) (records_of self) (removed_keys self)
             (transaction_place self) (F.means files.old).tree (F.means files.new).tree) }
+        ensures read { OnOk result (IsReadBuffer (transaction_kind self) (records_of self)) }
         ensures leaves { F.honest → IsLockEmpty (transaction_place self) (F.means files.old).tree →
             Leaves (F.means files.old) (F.means files.new) (IsLeft (transaction_kind self)
             (records_of self) (removed_keys self) (transaction_place self) (F.means
@@ -185,8 +187,14 @@ impl Transaction {
             Ok(rewrite) => rewrite,
             Err(error) => return Err(release(files, lock, error)),
         };
-        match put_rewrite(files, &lock, &rewrite) {
+        let mut renamed = false;
+        match put_rewrite(files, &lock, &rewrite, &mut renamed) {
             Ok(()) => Ok(()),
+            // Another may hold the lock by now.
+            Err(error) if renamed => Err(Failed {
+                error,
+                lock_left: None,
+            }),
             Err(error) => Err(release(files, lock, error)),
         }
     }

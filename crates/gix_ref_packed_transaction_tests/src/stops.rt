@@ -92,6 +92,11 @@ fn each_call_fails(rt: HostRuntime) {
         assert!(rt; is_whole(&memory), "the file of call {k}");
         assert!(rt; memory.get(LOCK).is_some() == named, "the lock of call {k}");
     }
+
+    // Once the lock is renamed another may hold it, so no call is made after a sync that failed.
+    let (_, _, done) = run(&rt, alloc, End::Done);
+    let (_, _, unsynced) = run(&rt, alloc, End::Fails(count));
+    assert_eq!(rt; unsynced.calls(), done.calls());
 }
 
 #[test]

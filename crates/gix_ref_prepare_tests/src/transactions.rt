@@ -111,7 +111,7 @@ fn causes(rt: HostRuntime) {
             Answer::MustExist,
         ),
         (
-            "absent, not as told",
+            "absent, not as expected",
             none,
             a,
             Id::One,
@@ -119,7 +119,7 @@ fn causes(rt: HostRuntime) {
             Answer::MustExist,
         ),
         (
-            "absent, as told",
+            "absent, as expected",
             none,
             a,
             Id::One,
@@ -151,7 +151,7 @@ fn causes(rt: HostRuntime) {
             Answer::Prepared,
         ),
         (
-            "there, not as told",
+            "there, not as expected",
             one,
             a,
             Id::Two,

@@ -1,7 +1,8 @@
 -- An update whose preparation succeeded: what its commit returns, seen from before the preparation.
-use Rattle.std.proofs.Common.{◌≡◌, ◌≤◌, ◌⊎◌, inl, inr, ⊎_elim, ℕ, List, [], Option, Some, None, Result, Ok, Err, OnOk, IfOk, IfErr, IfSome, sym, ◌∙◌, subst, arith}
+use Rattle.gix_ref_transaction.proofs.Faults.{risen_by_before}
+use Rattle.std.proofs.Common.{◌≡◌, inl, inr, ⊎_elim, ℕ, List, Option, Some, None, Result, Ok, Err, OnOk, IfOk, IfErr, IfSome, sym, ◌∙◌, subst, arith, length}
 use Rattle.gix_ref_files.specs.Tree.{Tree, Path}
-use Rattle.gix_ref_files.specs.Files.{Meaning, Leaves, Loses, HasRisen}
+use Rattle.gix_ref_files.specs.Files.{Meaning, Leaves, Loses, HasRisenBy}
 use Rattle.gix_ref_files.proofs.Moments.{weaken, joins}
 use Rattle.gix_ref_theory.specs.Roots.{roots}
 use Rattle.gix_ref_log.specs.declared.actor.SignatureRef.{SignatureRef}
@@ -26,10 +27,6 @@ use Rattle.gix_ref_program.specs.declared.update.UpdateError.TheVariants.{Commit
 -- what holds of one value holds of the same
 pub at_same : {A : Type 0} (P : A → Type 0) {x y : A} → x ≡ y → P y → P x
 at_same P same holds = subst P (sym same) holds
-
-rose_before : (a b d : ℕ) → a ≤ b → HasRisen b d → HasRisen a d
-rose_before a b d le (inl more) = inl (omega (arith, le, more))
-rose_before a b d le (inr full) = inr full
 
 -- what losses of power leave in one run, and then in another
 loses_weaken : {old new : Meaning} {P Q : Tree → Type 0} → Loses old new P → ((T : Tree) → P T → Q T) → Loses old new Q
@@ -79,13 +76,12 @@ module _ {F : Type 0} (honest : Type 0) (means : F → Meaning) (faults : F → 
   split_tried : honest → AreTried honest means faults old edits from.split
   split_tried h = (from.splits.asked, inl from.splits.composed, inl (from.splits.from.is h))
 
-  rises : (left : List Path) → (left ≡ []) ⊎ HasRisen (faults (files_of mid)) (faults (files_of new)) → (left ≡ []) ⊎ HasRisen (faults (files_of old)) (faults (files_of new))
-  rises left (inl none) = inl none
-  rises left (inr rose) = inr (rose_before _ _ _ from.prepared.held.no_fewer rose)
+  rises : (left : List Path) → HasRisenBy (length left) (faults (files_of mid)) (faults (files_of new)) → HasRisenBy (length left) (faults (files_of old)) (faults (files_of new))
+  rises left rose = risen_by_before _ _ _ _ from.prepared.held.no_fewer rose
 
   pub done : {T : Type 0} (answer : Result (Done T) (Failed T)) (error : Option UpdateError) (left : List Path) → error ≡ error_of answer → left ≡ left_of answer →
-      IfOk answer (λ d. CommitsFrom honest means faults mid new committer packed held (paths_of d.locks_left.items)) → OnOk answer (LinesPass honest means mid committer held) → KeepsFolders honest means faults mid new packed held → EveryStopFrom honest means faults mid new committer packed held (left_of answer) →
-      (left_of answer ≡ []) ⊎ HasRisen (faults (files_of mid)) (faults (files_of new)) → error ≡ None → IsMade honest means faults old new committer edits left
+      IfOk answer (λ d. CommitsFrom honest means faults mid new committer packed held (paths_of d.locks_left.items)) → OnOk answer (LinesPass honest means mid committer held) → KeepsFolders honest means faults mid new committer packed held → EveryStopFrom honest means faults mid new committer packed held (left_of answer) →
+      HasRisenBy (length (left_of answer)) (faults (files_of mid)) (faults (files_of new)) → error ≡ None → IsMade honest means faults old new committer edits left
   done (Ok d) error left told same commits passed kept ends counted none =
       subst (λ l. IsMade honest means faults old new committer edits l) (sym same)
       (record { begun = begun; commits = commits; lines = passed; folders = kept; stops = ends; named = rises (paths_of d.locks_left.items) counted })
@@ -103,8 +99,8 @@ module _ {F : Type 0} (honest : Type 0) (means : F → Meaning) (faults : F → 
   settles (Err f) error is settled h none at_rest = absurd (differ (Commit f.error) (sym is ∙ none))
 
   pub told : (read : Type 0) {T : Type 0} (answer : Result (Done T) (Failed T)) (error : Option UpdateError) (left : List Path) → error ≡ error_of answer → left ≡ left_of answer →
-      IfErr answer (λ f. FailsFor honest means faults mid new committer packed held f.error) → IfErr answer (λ f. NoBadLineFrom honest means faults mid packed held f.error) → KeepsFolders honest means faults mid new packed held → EveryStopFrom honest means faults mid new committer packed held (left_of answer) →
-      (left_of answer ≡ []) ⊎ HasRisen (faults (files_of mid)) (faults (files_of new)) → IfSome error (λ u. IsUpdateError honest means faults read old new committer edits u left)
+      IfErr answer (λ f. FailsFor honest means faults mid new committer packed held f.error) → IfErr answer (λ f. NoBadLineFrom honest means faults mid packed held f.error) → KeepsFolders honest means faults mid new committer packed held → EveryStopFrom honest means faults mid new committer packed held (left_of answer) →
+      HasRisenBy (length (left_of answer)) (faults (files_of mid)) (faults (files_of new)) → IfSome error (λ u. IsUpdateError honest means faults read old new committer edits u left)
   told read (Ok d) error left is same fails sound kept ends counted = subst (λ r. IfSome r (λ u. IsUpdateError honest means faults read old new committer edits u left)) (sym is) tt
   told read (Err f) error left is same fails sound kept ends counted =
       subst (λ r. IfSome r (λ u. IsUpdateError honest means faults read old new committer edits u left)) (sym is)

@@ -1,8 +1,8 @@
 -- An update from its preparation to its commit, over any files.
-use Rattle.std.specs.Prelude.{◌≡◌, ◌⊎◌, ℕ, List, [], Option, Some, None, Result, Ok, Err}
+use Rattle.std.specs.Prelude.{◌≡◌, ◌⊎◌, ℕ, List, Option, Some, None, Result, Ok, Err, length}
 use Rattle.gix_ref_files.specs.Tree.{Tree, Path}
 use Rattle.gix_ref_files.specs.Disk.{Disk}
-use Rattle.gix_ref_files.specs.Files.{Meaning, HasRisen}
+use Rattle.gix_ref_files.specs.Files.{Meaning, HasRisenBy}
 use Rattle.gix_ref_files.specs.Settled.{IsAllSettled}
 use Rattle.gix_ref_theory.specs.Edits.Mode.{DeletionsOnly}
 use Rattle.gix_ref_theory.specs.Losses.{IsLostWell}
@@ -71,18 +71,18 @@ module _ {F : Type 0} (honest : Type 0) (means : F → Meaning) (faults : F → 
     pub commits : CommitsFrom honest means faults begun.mid new committer begun.packed begun.held left
     -- no due line was passed over, and no folder is gone but those in the way of what was written, and those above what was deleted
     pub lines : LinesPass honest means begun.mid committer begun.held
-    pub folders : KeepsFolders honest means faults begun.mid new begun.packed begun.held
+    pub folders : KeepsFolders honest means faults begun.mid new committer begun.packed begun.held
     pub stops : EveryStopFrom honest means faults begun.mid new committer begun.packed begun.held left
-    pub named : (left ≡ []) ⊎ HasRisen (faults (files_of old)) (faults (files_of new))
+    pub named : HasRisenBy (length left) (faults (files_of old)) (faults (files_of new))
 
   -- An update whose commit failed for this error; the locks that stay are as above.
   pub record HasFailed (old new : Store F) (committer : Option SignatureRef) (edits : List RefEdit) (error : commits.Error) (left : List Path) : Type 0 where
     pub begun : IsBegun old edits
     pub fails : FailsFor honest means faults begun.mid new committer begun.packed begun.held error
     pub sound : NoBadLineFrom honest means faults begun.mid begun.packed begun.held error
-    pub folders : KeepsFolders honest means faults begun.mid new begun.packed begun.held
+    pub folders : KeepsFolders honest means faults begun.mid new committer begun.packed begun.held
     pub stops : EveryStopFrom honest means faults begun.mid new committer begun.packed begun.held left
-    pub named : (left ≡ []) ⊎ HasRisen (faults (files_of old)) (faults (files_of new))
+    pub named : HasRisenBy (length left) (faults (files_of old)) (faults (files_of new))
 
   -- Why an update was not made, and the locks that stay: it was refused by the first cause against it, and all is as before but for
   -- these locks; or its commit failed.

@@ -61,7 +61,7 @@ pub struct Line<'w> {
     pub command: Command<'w>,
 }
 
-/// Words that are none of those that were asked for.
+/// Words that are not a command line.
 #[derive(Drop)]
 struct WrongWords;
 

@@ -30,6 +30,9 @@ const BOTH: &str =
 const LINE_PRINTED: &str =
     "0000000000000000000000000000000000000000 1111111111111111111111111111111111111111 m\n";
 
+const BOTH_PRINTED: &str =
+    "1111111111111111111111111111111111111111 2222222222222222222222222222222222222222 n\n0000000000000000000000000000000000000000 1111111111111111111111111111111111111111 m\n";
+
 /// A file and its text, `-` where there is none.
 type File = (&'static str, &'static str);
 
@@ -163,6 +166,67 @@ fn a_line_is_printed(rt: HostRuntime) {
     );
     let ran = run_words(&rt, alloc, ran.files, &["/r", "log", "refs/heads/a"]);
     check(&rt, &ran, LINE_PRINTED, 0, &[(LOG, LINE)]);
+}
+
+/// Two updates with their lines, what is printed of the log, and the deletion of both.
+#[test]
+fn two_lines_and_a_deletion(rt: HostRuntime) {
+    let alloc = rt.alloc();
+    let mut memory = Memory::new(alloc);
+    for (message, id) in [("m", I1), ("n", I2)] {
+        let words = [
+            "/r",
+            "--as",
+            BY,
+            "--message",
+            message,
+            "update",
+            "refs/heads/a",
+            id,
+        ];
+        let ran = run_words(&rt, alloc, memory, &words);
+        check(&rt, &ran, "", 0, &[]);
+        memory = ran.files;
+    }
+    let ran = run_words(&rt, alloc, memory, &["/r", "log", "refs/heads/a"]);
+    check(&rt, &ran, BOTH_PRINTED, 0, &[(A, TWO), (LOG, BOTH)]);
+    let words = ["/r", "delete", "refs/heads/a", I2];
+    let ran = run_words(&rt, alloc, ran.files, &words);
+    check(&rt, &ran, "", 0, &[(A, "-"), (LOG, "-")]);
+}
+
+/// A new branch with its line in an empty repository: after a stop at each call, and then a loss of power, the branch is absent or whole,
+/// and after an update that was done both files are whole.
+#[test]
+fn a_new_branch_at_each_loss_of_power(rt: HostRuntime) {
+    let alloc = rt.alloc();
+    let words = [
+        "/r",
+        "--as",
+        BY,
+        "--message",
+        "m",
+        "update",
+        "refs/heads/a",
+        I1,
+    ];
+    for k in 1..40 {
+        let mut memory = with_files(&rt, alloc, &[(HEAD, TO_MAIN)]);
+        memory.stop_at(k, 1);
+        let ran = run_words(&rt, alloc, memory, &words);
+        let done = ran.status == 0;
+        let mut files = ran.files;
+        assert!(rt; files.lose_power(0).is_ok());
+        let branch = files.get(A.as_bytes());
+        assert!(rt;
+            branch == Some(ONE.as_bytes()) || (branch.is_none() && !done),
+            "call {k}"
+        );
+        assert!(rt;
+            !done || files.get(LOG.as_bytes()) == Some(LINE.as_bytes()),
+            "call {k}"
+        );
+    }
 }
 
 #[test]

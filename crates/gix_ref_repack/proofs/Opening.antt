@@ -1,12 +1,12 @@
 -- What an opened `packed-refs` holds, and what it is where it is not opened.
-use Rattle.std.proofs.Common.{◌≡◌, ℕ, List, [], ◌∷◌, Option, Some, None, true, false, refl, sym, ap, ◌∙◌, subst, Result, Ok, Err}
-use Rattle.std.specs.Prelude.{MatchResult}
+use Rattle.std.proofs.Common.{◌≡◌, ℕ, List, [], ◌∷◌, Option, Some, None, true, false, refl, sym, ap, ◌∙◌, subst, inr, Result, Ok, Err}
+use Rattle.std.specs.Prelude.{MatchResult, OnOk}
 use Rattle.gix_ref_hash.specs.declared.hash.Kind.{Kind}
 use Rattle.gix_ref_base.specs.PackedRecords.{Record}
 use Rattle.gix_ref_files.specs.Tree.{Content, is_file, bytes_of}
 use Rattle.gix_ref_files.specs.Tree.Content.{File, Folder}
 use Rattle.gix_ref_theory.specs.OnRealTrees.{file_of}
-use Rattle.gix_ref_packed.specs.Buffers.{HoldsRecords, IsRefusedFile, Opened, buffer_text}
+use Rattle.gix_ref_packed.specs.Buffers.{HoldsRecords, IsRefusedFile, Opened, buffer_line, buffer_text}
 use Rattle.gix_ref_packed.specs.declared.packed.buffer.Buffer.{Buffer}
 use Rattle.gix_ref_packed.specs.declared.packed.buffer.open.Error.{Error as OpenError}
 use Rattle.gix_ref_packed.specs.declared.packed.buffer.open.Error.TheVariants.{Iter, HeaderParsing, Io as unread, Memory as open_memory}
@@ -14,7 +14,7 @@ use Rattle.gix_ref_packed.proofs.WellFormedLemmas.{opened_holds}
 use Rattle.gix_ref_lookup.specs.Lookups.{ArePackedRecords, IsFaultOrMemory}
 use Rattle.gix_ref_lookup.specs.Lookups as lookups
 use Rattle.gix_ref_lookup.proofs.Opening.{opens_sound}
-use Rattle.gix_ref_repack.specs.Refusals.{IsIoOrMemory, of_opening}
+use Rattle.gix_ref_repack.specs.Refusals.{IsIoOrMemory, IsReadFile, IsReadText, of_opening}
 use Rattle.gix_ref_repack.specs.declared.error.Error.{Error}
 use Rattle.gix_ref_repack.specs.declared.error.Error.TheVariants.{Memory}
 use Rattle.gix_ref_repack.specs.Removals.{finds_some}
@@ -50,3 +50,8 @@ sound kind content rs error are refused = by error (opens_sound kind content rs 
 pub memory_only : {X : Type 0} (P : X → Type 0) (r : Result X Error) → MatchResult r P (λ error. error ≡ Memory) → MatchResult r P IsIoOrMemory
 memory_only P (Ok x) is = is
 memory_only P (Err e) is = subst IsIoOrMemory (sym is) tt
+
+-- what is read of an opened file is read of the file
+pub file_is_read : {X : Type 0} (kind : Kind) (content : Option Content) (b : Buffer) (r : Result X Error) → Opened kind (bytes_of content) b → OnOk r (IsReadText kind (buffer_text b)) → OnOk r (IsReadFile kind content)
+file_is_read kind content b (Ok x) opened read = inr (buffer_text b, buffer_line b, opened.opens, read)
+file_is_read kind content b (Err e) opened read = tt

@@ -1,10 +1,12 @@
 -- Why there is no new `packed-refs`.
-use Rattle.std.specs.Prelude.{◌≡◌, ◌⊎◌, ℕ, List, true, Option}
+use Rattle.std.specs.Prelude.{◌≡◌, ◌⊎◌, ℕ, List, true, false, Option}
 use Rattle.gix_ref_hash.specs.declared.hash.Kind.{Kind}
 use Rattle.gix_ref_files.specs.Files.{HasRisen}
 use Rattle.gix_ref_files.specs.Tree.{Content, is_file, bytes_of}
 use Rattle.gix_ref_files.specs.declared.files.FileError.TheVariants.{Memory as out_of_memory}
+use Rattle.gix_ref_base.specs.PackedRecords.{Record}
 use Rattle.gix_ref_records.specs.OpenedText.{OpensTo, StuckAt}
+use Rattle.gix_ref_records.specs.RecordGrammar.{Records}
 use Rattle.gix_ref_packed.specs.Buffers.{IsRefusedFile}
 use Rattle.gix_ref_packed.specs.declared.packed.buffer.open.Error.{Error as OpenError}
 use Rattle.gix_ref_packed.specs.declared.packed.buffer.open.Error.TheVariants.{Iter, HeaderParsing, Io as unread, Memory as open_memory}
@@ -37,6 +39,15 @@ IsCountedRefusal before now (Io error) = HasRisen before now × (error ≡ out_o
 IsCountedRefusal before now (Commit error) = ⊥
 IsCountedRefusal before now (Iteration line) = Unit {0}
 IsCountedRefusal before now Memory = Unit {0}
+
+-- the text is records as a whole
+abbrev pub IsReadText : Kind → List ℕ → Type 0
+IsReadText kind text = (rs : List Record) × Records kind text rs
+
+-- each line of the file behind its header is a record, or there is no file
+abbrev pub IsReadFile : Kind → Option Content → Type 0
+IsReadFile kind packed =
+    (is_file packed ≡ false) ⊎ ((text : List ℕ) × (first : ℕ) × OpensTo kind (bytes_of packed) text first × IsReadText kind text)
 
 -- the file is opened, and in the line of that number no record begins
 abbrev pub IsStuckFile : Kind → Option Content → ℕ → Type 0

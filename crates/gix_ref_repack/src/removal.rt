@@ -1,5 +1,5 @@
 //! `packed-refs` without the records of some keys.
-ghost use Rattle.std.specs.Prelude.{◌≡◌, ◌≤◌, List, map, vec_items, IfOk, IfErr, MatchResult};
+ghost use Rattle.std.specs.Prelude.{◌≡◌, ◌≤◌, List, map, vec_items, IfOk, IfErr, MatchResult, OnOk};
 ghost use Rattle.std.specs.Cmp.Lexicographic.{slice_cmp};
 ghost use Rattle.std.specs.List.Sorted.{IsStrictlySortedBy};
 ghost use Rattle.std.specs.Ordering.{nat_cmp};
@@ -9,7 +9,7 @@ ghost use Rattle.gix_ref_files.specs.DiskCalls.{Untouched};
 ghost use Rattle.gix_ref_files.specs.Files.{disk_of, Leaves, Passes};
 ghost use Rattle.gix_ref_packed.specs.Buffers.{buffer_text, buffer_line, HoldsRecords};
 ghost use Rattle.gix_ref_lookup.specs.Lookups.{meaning_in, packed_refs_in, ArePackedRecords};
-ghost use Rattle.gix_ref_repack.specs.Refusals.{of_opening, of_rewrite, IsCountedRefusal, IsIoOrMemory, IsRefusedRewrite};
+ghost use Rattle.gix_ref_repack.specs.Refusals.{of_opening, of_rewrite, IsCountedRefusal, IsIoOrMemory, IsReadFile, IsReadText, IsRefusedRewrite};
 ghost use Rattle.gix_ref_repack.specs.Removals.{AreRemovals, IsStuckIn, IsWithout};
 
 use crate::error::Error;
@@ -68,6 +68,7 @@ pub fn without(
         IsStrictlySortedBy (slice_cmp nat_cmp) (map vec_items keys.now) →
         MatchResult result (IsWithout kind (map vec_items keys.now) rs)
         (λ error. error ≡ Error.Memory) }
+    ensures whole { OnOk result (IsReadText kind (buffer_text buffer.now)) }
     ensures refused { IfErr result
         (IsStuckIn kind (buffer_line buffer.now) (buffer_text buffer.now)) }
 {
@@ -90,6 +91,8 @@ pub fn file_without<F: Files>(
         IsStrictlySortedBy (slice_cmp nat_cmp) (map vec_items keys.now) →
         MatchResult result (IsWithout settings.now.kind (map vec_items keys.now) rs)
         IsIoOrMemory }
+    ensures whole { F.honest → OnOk result (IsReadFile settings.now.kind ((F.means files.old).tree
+        (meaning_in settings.now).packed_path)) }
     ensures refused { F.honest → IfErr result (IsRefusedRewrite settings.now.kind
         ((F.means files.old).tree (meaning_in settings.now).packed_path)) }
     ensures leaves { F.honest → Leaves (F.means files.old) (F.means files.new)

@@ -1,5 +1,5 @@
 //! What becomes of `packed-refs` by the edits of a transaction.
-ghost use Rattle.std.specs.Prelude.{◌≡◌, ◌≤◌, List, false, Ok, IfOk, IfErr};
+ghost use Rattle.std.specs.Prelude.{◌≡◌, ◌≤◌, List, true, false, Ok, OnOk, IfOk, IfErr};
 ghost use Rattle.std.specs.List.{list_any};
 ghost use Rattle.gix_ref_base.specs.PackedRecords.{Record};
 ghost use Rattle.gix_ref_files.specs.Calls.{Unchanged};
@@ -10,7 +10,7 @@ ghost use Rattle.gix_ref_theory.specs.Between.{AreEdits};
 ghost use Rattle.gix_ref_transaction.specs.CommittedEdits.{planned};
 ghost use Rattle.gix_ref_transaction.specs.PackedCauses.{ids_among};
 ghost use Rattle.gix_ref_transaction.specs.PrepareSteps.{setting_of, updates, ids_in};
-ghost use Rattle.gix_ref_repack.specs.Refusals.{IsCountedRefusal, IsIoOrMemory, IsRefusedRewrite};
+ghost use Rattle.gix_ref_repack.specs.Refusals.{IsCountedRefusal, IsIoOrMemory, IsReadFile, IsRefusedRewrite};
 ghost use Rattle.gix_ref_repack.specs.Repacks.{removes_record, IsRepack};
 
 use crate::error::Error;
@@ -54,7 +54,11 @@ pub fn repack<F: Files>(
         ArePackedRecords settings.now.kind (packed_refs_in settings.now (F.means files.old)) rs →
         IfErr result IsIoOrMemory }
 
-    // Of any file, a line that is reported is no record. Where no edit removes a record, no file is looked at.
+    // Of any file, a line that is reported is no record, and where an edit removes a record each line is one. Where no edit removes
+    // a record, no file is looked at.
+    ensures whole { F.honest → list_any removes_record edits.now ≡ true → OnOk result
+        (IsReadFile settings.now.kind ((F.means files.old).tree
+        (setting_of settings.now).packed_path)) }
     ensures refused { F.honest → IfErr result (IsRefusedRewrite settings.now.kind
         ((F.means files.old).tree (setting_of settings.now).packed_path)) }
     ensures idle { list_any removes_record edits.now ≡ false →

@@ -1,5 +1,5 @@
 -- Why a commit failed, by what it could not decide or by the step at which it ended.
-use Rattle.std.proofs.Common.{◌≡◌, ◌≢◌, inl, inr, ⊎_elim, ◌⊎◌, ℕ, zero, suc, ◌<◌, ◌≤◌, List, [], ◌∷◌, Bool, true, false, Option, Some, None, map, refl, sym, ◌∙◌, ap, subst, length, arith, get_or}
+use Rattle.std.proofs.Common.{◌≡◌, ◌≢◌, inl, inr, ⊎_elim, ◌⊎◌, ℕ, zero, suc, ◌<◌, ◌≤◌, List, [], ◌∷◌, ◌++◌, Bool, true, false, Option, Some, None, map, refl, sym, ◌∙◌, ap, subst, length, arith, get_or}
 use Rattle.std.specs.Prelude.{bytes_eq, if◌then◌else◌}
 use Rattle.std.proofs.lemmas.List.{length-map}
 use Rattle.gix_ref_files.specs.DiskCalls.{Untouched}
@@ -7,12 +7,12 @@ use Rattle.gix_ref_files.specs.Files.{Meaning, HasRisen, Passes, disk_of}
 use Rattle.gix_ref_files.proofs.Moments.{passes_joins, passes_weaken}
 use Rattle.gix_ref_theory.specs.OnDisks.{IsAsBefore}
 use Rattle.gix_ref_files.specs.Lock.{lock_of}
-use Rattle.gix_ref_files.specs.Steps.{Step}
-use Rattle.gix_ref_files.specs.Tree.{Tree, Path, IsEmptyFolder, is_folder}
+use Rattle.gix_ref_files.specs.Steps.{Step, IsAfter}
+use Rattle.gix_ref_files.specs.Tree.{Tree, Path, is_blocked, is_folder}
 use Rattle.gix_ref_files.specs.Tree.Content.{File}
 use Rattle.gix_ref_files.specs.declared.files.FileError.{FileError}
 use Rattle.gix_ref_files.specs.declared.steps.Cause.{Cause}
-use Rattle.gix_ref_files.specs.declared.steps.Cause.TheVariants.{File as Fault, Unexpected, Asked}
+use Rattle.gix_ref_files.specs.declared.steps.Cause.TheVariants.{File as Fault, Sync, Unexpected, Asked}
 use Rattle.gix_ref_files.proofs.Puts.{put_other}
 use Rattle.gix_ref_lookup.specs.declared.folders.Dirs.{Dirs}
 use Rattle.gix_ref_rewrite.specs.declared.outcome.Rewrite.{Rewrite}
@@ -37,9 +37,9 @@ use Rattle.gix_ref_transaction.specs.declared.edit.Edit.{Edit}
 use Rattle.gix_ref_transaction.proofs.Adds.{any_cases, any_left, any_right, clash, in_here}
 use Rattle.gix_ref_repack.specs.declared.error.Error.{Error as RepackError}
 use Rattle.gix_ref_repack.specs.declared.error.Error.TheVariants as repack
-use Rattle.gix_ref_commit.specs.Cleared.{AllInWay, AreInWayOf, FoldersGo, HoldsMore, all_removed, commit_entries, folder_lists, is_seen, written_at}
+use Rattle.gix_ref_commit.specs.Cleared.{AllInWay, AreInWay, AreInWayOf, FoldersGo, all_removed, cleared, commit_entries, folder_lists, is_seen, removals, written_at}
 use Rattle.gix_ref_commit.specs.Decided.{FillsPacked, IsFilled}
-use Rattle.gix_ref_commit.specs.Entries.{Entry, bare, done_before, done_of, planned_entries, IsOfEdit}
+use Rattle.gix_ref_commit.specs.Entries.{Entry, bare, done_at, done_before, done_of, planned_entries, IsOfEdit, bare_steps}
 use Rattle.gix_ref_base.specs.PackedRecords.{Record}
 use Rattle.gix_ref_lookup.specs.Lookups.{ArePackedRecords}
 use Rattle.gix_ref_theory.specs.Between.{AreEdits}
@@ -58,13 +58,15 @@ use Rattle.gix_ref_commit.specs.declared.plan.About.{About}
 use Rattle.gix_ref_commit.specs.declared.plan.About.TheVariants.{Folders, Line, Rename, LogRemoval, Packed, Removal}
 use Rattle.gix_ref_commit.specs.declared.run.Unfinished.{Unfinished}
 use Rattle.gix_ref_commit.specs.declared.run.Unfinished.TheVariants.{Memory as no_memory, Step as AtStep}
-use Rattle.gix_ref_commit.proofs.Alike.{ids_alike, locks_alike, places_alike, updates_alike}
+use Rattle.gix_ref_commit.proofs.Alike.{ids_alike, locks_alike, places_alike, removes_alike, updates_alike}
+use Rattle.gix_ref_commit.proofs.Synced.{done_asked, done_by_fault, done_unexpected}
 use Rattle.gix_ref_commit.proofs.Cleared.{Any, IsCutOf, Way, Ways, all_ways, any_ways, cut_of}
 use Rattle.gix_ref_commit.proofs.Endings.{MeetsAt, WritesAt, meets, never_asked, not_emptied, removal_not_asked, removal_not_refused, writes}
 use Rattle.gix_ref_commit.proofs.Outcomes.{logs_are}
+use Rattle.gix_ref_commit.proofs.Refilled.{IsWrite, holds_file, new_holds, old_holds, plan_grows}
 use Rattle.gix_ref_commit.proofs.Unlisted.{has_line}
 use Rattle.gix_ref_commit.proofs.Shapes.{AllShaped, HasLine, HasShape, all_shaped, names_edit, shape_at}
-use Rattle.gix_ref_store.specs.CommitResult.{ChangesLocks, FailsAt, FailsAtWrite, FailsFor, FailsForLog, RefusesLine, IsFault, IsOfBadLine, IsPackedEmpty, MeetsFolder, OnlyItsLocks, RepacksFrom, EndsEarlyAt}
+use Rattle.gix_ref_store.specs.CommitResult.{ChangesLocks, EndsByFault, FailsAt, FailsAtWrite, FailsFor, FailsForLog, RefusesLine, IsFault, IsOfBadLine, IsPackedEmpty, MeetsFolder, OnlyItsLocks, RepacksFrom, EndsEarlyAt, IsNotEmptied}
 use Rattle.gix_ref_store.specs.CommitLines.{LinesPass, line_rules, log_path_at}
 use Rattle.gix_ref_store.specs.Decisions.{IsUndecided}
 use Rattle.gix_ref_store.specs.Prepared.{tree_of}
@@ -117,10 +119,13 @@ log_path_is s (e ∷ held) (p ∷ ran) are (suc at) has = log_path_is s held ran
 -- What was decided of `packed-refs` by the edits whose logs were decided before is what becomes of it by those that were given.
 pub repacked_by : {F : Type 0} (honest : Type 0) (means : F → Meaning) (faults : F → ℕ) (start : Store F) (packed : Option Path) (held ran : List Edit) (rewrite : Rewrite) → all_but_logs ran ≡ all_but_logs held →
     RepacksFrom honest means faults start packed ran rewrite → RepacksFrom honest means faults start packed held rewrite
-repacked_by honest means faults start packed held ran rewrite alike repacks h apart rs are ids some =
-    subst (λ (l : List RefEdit). IsRepack (meaning_of start) (kind_of start) rs (planned l) rewrite) (updates_alike ran held alike)
-    (repacks h (subst (λ (l : List RefEdit). AreEdits (meaning_of start) (planned l)) (sym (updates_alike ran held alike)) apart) rs are
-    (ids_alike ran held alike ∙ (ids ∙ ap (ids_among (meaning_of start) rs) (sym (updates_alike ran held alike)))) some)
+repacked_by honest means faults start packed held ran rewrite alike repacks = record {
+  made = λ h apart rs are ids some.
+      subst (λ (l : List RefEdit). IsRepack (meaning_of start) (kind_of start) rs (planned l) rewrite) (updates_alike ran held alike)
+      (repacks.made h (subst (λ (l : List RefEdit). AreEdits (meaning_of start) (planned l)) (sym (updates_alike ran held alike)) apart) rs are
+      (ids_alike ran held alike ∙ (ids ∙ ap (ids_among (meaning_of start) rs) (sym (updates_alike ran held alike)))) some);
+  read = λ h some removes. repacks.read h some (removes_alike ran held alike ∙ removes);
+}
 
 -- what is in the way of a step is no fault of `packed-refs`
 none_in_way : (place log packed : Path) (a : About) (error : RepackError) → SaysInWay place log packed a (PackedTransactionCommit error) → ⊥
@@ -145,6 +150,15 @@ of_no_line edits place log packed (AtStep (Line at) (Fault fault)) (PackedTransa
 of_no_line edits place log packed (AtStep (Rename at) (Fault fault)) (PackedTransactionCommit (repack.Iteration line)) says bad = says
 of_no_line edits place log packed (AtStep (LogRemoval at) (Fault fault)) (PackedTransactionCommit (repack.Iteration line)) says bad = says
 of_no_line edits place log packed (AtStep (Removal at) (Fault fault)) (PackedTransactionCommit (repack.Iteration line)) says bad = says
+of_no_line edits place log packed (AtStep Packed (Sync fault)) (PackedTransactionCommit (repack.Iteration line)) says bad = differ says
+  where
+    differ : repack.Iteration line ≡ repack.Io fault → ⊥
+    differ e = cc
+of_no_line edits place log packed (AtStep (Folders at) (Sync fault)) (PackedTransactionCommit (repack.Iteration line)) says bad = says
+of_no_line edits place log packed (AtStep (Line at) (Sync fault)) (PackedTransactionCommit (repack.Iteration line)) says bad = says
+of_no_line edits place log packed (AtStep (Rename at) (Sync fault)) (PackedTransactionCommit (repack.Iteration line)) says bad = says
+of_no_line edits place log packed (AtStep (LogRemoval at) (Sync fault)) (PackedTransactionCommit (repack.Iteration line)) says bad = says
+of_no_line edits place log packed (AtStep (Removal at) (Sync fault)) (PackedTransactionCommit (repack.Iteration line)) says bad = says
 of_no_line edits place log packed u (PackedTransactionCommit (repack.Commit error)) says bad = bad
 of_no_line edits place log packed u (PackedTransactionCommit (repack.Io error)) says bad = bad
 of_no_line edits place log packed u (PackedTransactionCommit repack.Memory) says bad = bad
@@ -206,6 +220,7 @@ never_bad honest means faults start mid committer held (PreprocessingFailed sour
 pub raised_wider : (a b c d : ℕ) (u : Unfinished) → a ≤ b → c ≤ d → IsRaised b c u → IsRaised a d u
 raised_wider a b c d no_memory lower upper raised = tt
 raised_wider a b c d (AtStep about (Fault fault)) lower upper raised = (risen_wider a b c d lower upper raised.0, raised.1)
+raised_wider a b c d (AtStep about (Sync fault)) lower upper raised = (risen_wider a b c d lower upper raised.0, raised.1)
 raised_wider a b c d (AtStep about Unexpected) lower upper raised = tt
 raised_wider a b c d (AtStep about Asked) lower upper raised = tt
 
@@ -321,15 +336,15 @@ module _ {F : Type 0} (honest : Type 0) (means : F → Meaning) (faults : F → 
     IsLogAt (Line at) = honest → log ≡ log_path_at start held at
     IsLogAt other = Unit {0}
 
-    log_fault : (about : ℕ → About) (at : ℕ) (fault source : FileError) → source ≡ fault → IsFault honest means faults start new fault → EndsEarlyAt honest means faults start new committer packed held (about at) (Fault fault) →
-        IsFault honest means faults start new source × EndsEarlyAt honest means faults start new committer packed held (about at) (Fault source)
+    log_fault : (about : ℕ → About) (at : ℕ) (fault source : FileError) → source ≡ fault → IsFault honest means faults start new fault → EndsByFault honest means faults start new committer packed held (about at) fault →
+        IsFault honest means faults start new source × EndsByFault honest means faults start new committer packed held (about at) source
     log_fault about at fault source same isf stop =
-        (subst (IsFault honest means faults start new) (sym same) isf, subst (λ (f : FileError). EndsEarlyAt honest means faults start new committer packed held (about at) (Fault f)) (sym same) stop)
+        (subst (IsFault honest means faults start new) (sym same) isf, subst (EndsByFault honest means faults start new committer packed held (about at)) (sym same) stop)
 
     faults_at_log : (a : About) (fault : FileError) (error : LogError) → SaysLogFault a log fault error → IsFault honest means faults start new fault → IsLogAt a → IsOfEdit (length held) a →
-        EndsEarlyAt honest means faults start new committer packed held a (Fault fault) → FailsForLog honest means faults start new committer packed held error
+        EndsByFault honest means faults start new committer packed held a fault → FailsForLog honest means faults start new committer packed held error
     faults_at_log (Folders at) fault (CreateLeadingDirectories (Some source) folder) (same, is) isf logged within stop =
-        let on = log_fault Folders at fault source same isf stop in (on.0, inr (at, within, (λ h. is ∙ ap folder_of (logged h)), on.1))
+        let on = log_fault Folders at fault source same isf stop in (on.0, inr (⊎_elim (λ file. inl (at, within, (λ h. is ∙ ap folder_of (logged h)), file)) (λ sync. inr (at, within, (λ h. is ∙ ap folder_of (logged h)), sync)) on.1))
     faults_at_log (Line at) fault (Append source path) (same, is) isf logged within stop =
         let on = log_fault Line at fault source same isf stop in (on.0, (at, within, (λ h. is ∙ logged h), inr on.1))
     faults_at_log (Folders at) fault (CreateLeadingDirectories None folder) is isf logged within stop = absurd is
@@ -347,7 +362,7 @@ module _ {F : Type 0} (honest : Type 0) (means : F → Meaning) (faults : F → 
     faults_at_log (Removal at) fault error is isf logged within stop = absurd is
 
     faults_at : (a : About) (fault : FileError) (error : Error) → SaysFault (updates held) log a fault error → IsFault honest means faults start new fault → IsLogAt a → IsOfEdit (length held) a →
-        EndsEarlyAt honest means faults start new committer packed held a (Fault fault) → FailsFor honest means faults start new committer packed held error
+        EndsByFault honest means faults start new committer packed held a fault → FailsFor honest means faults start new committer packed held error
     faults_at (Folders at) fault (CreateOrUpdateRefLog error) is isf logged within stop = faults_at_log (Folders at) fault error is isf logged within stop
     faults_at (Line at) fault (CreateOrUpdateRefLog error) is isf logged within stop = faults_at_log (Line at) fault error is isf logged within stop
     faults_at (Rename at) fault (CreateOrUpdateRefLog error) is isf logged within stop = faults_at_log (Rename at) fault error is isf logged within stop
@@ -482,13 +497,35 @@ module _ {F : Type 0} (honest : Type 0) (means : F → Meaning) (faults : F → 
           (λ gone. absurd (removal_not_refused (bare e.step) gone.0 (ap bare gone.1) at.0 mid at.2))
           met_cut.what
 
-      pub kept : (path : Path) → written_at (bare e.step) ≡ Some path → is_seen ran a ≡ false → is_folder (filled path) ≡ true → HoldsMore start.dirs filled path ⊎ (IsEmptyFolder mid path → ⊥)
-      kept path writes unseen folder =
+      -- what was at the path of this step, behind the removals of the folders there
+      pub kept : (path : Path) → IsWrite a → written_at (bare e.step) ≡ Some path → is_folder (mid path) ≡ true → IsNotEmptied honest means faults start new committer packed held a Unexpected (stops a Unexpected e) path
+      kept path write writes folder =
           let at = e.ended h in
           ⊎_elim
-          (λ it. not_emptied start.dirs filled at.0 mid e.before it.1.0 met_cut.step.1 it.1.1 path (is_seen ran met_cut.step.1) it.1.2
-          (subst (λ (w : Option Path). AreInWayOf start.dirs filled (is_seen ran met_cut.step.1) w it.1.1) (ap (λ (x : Entry). written_at (bare x.0)) (sym it.0) ∙ writes) it.1.3) at.1 at.2.1
-          (ap (is_seen ran) met_cut.about ∙ unseen) folder)
+          (λ it.
+          let step_is : written_at (bare met_cut.step.0) ≡ Some path = ap (λ (x : Entry). written_at (bare x.0)) (sym it.0) ∙ writes in
+          let way : AreInWay start.dirs filled (is_seen ran met_cut.step.1) path it.1.1 = subst (λ (w : Option Path). AreInWayOf start.dirs filled (is_seen ran met_cut.step.1) w it.1.1) step_is it.1.3 in
+          let grown = plan_grows start.dirs ran packed rewrite met_cut.seen met_cut.step met_cut.later met_cut.cut (subst IsWrite (sym met_cut.about) write) in
+          let after : IsAfter (bare_steps (cleared it.1.4.0 met_cut.seen ++ removals met_cut.step.1 it.1.1)) filled mid =
+          subst (λ (R : Tree). IsAfter (bare_steps (cleared it.1.4.0 met_cut.seen ++ removals met_cut.step.1 it.1.1)) filled R) (sym at.2.1)
+          (subst (λ (es : List Entry). IsAfter (bare_steps es) filled at.0) (it.1.2 ∙ ap (λ (l : List Entry). l ++ removals met_cut.step.1 it.1.1) it.1.4.1) at.1) in
+          record {
+            there = λ unseen folder_there. ⊎_elim
+                (λ more. inl more)
+                (λ full. inr (record {
+                  front = it.1.0;
+                  folders = it.1.1;
+                  removed = it.1.2 ∙ ap (λ (b : About). it.1.0 ++ removals b it.1.1) met_cut.about;
+                  all = full.0;
+                  full = full.1;
+                  file = λ entries. holds_file start.dirs path filled mid
+                      (old_holds path filled mid met_cut.step.1 it.1.1 it.1.4.0 met_cut.seen grown.0 grown.2.0 (bare met_cut.step.0) grown.1 grown.2.1 step_is after folder folder_there way.inside full.0 entries);
+                }))
+                (not_emptied start.dirs filled at.0 mid e.before it.1.0 met_cut.step.1 it.1.1 path (is_seen ran met_cut.step.1) it.1.2 way at.1 at.2.1
+                (ap (is_seen ran) met_cut.about ∙ unseen) folder_there);
+            came = λ none. holds_file start.dirs path filled mid
+                (new_holds path filled mid met_cut.step.1 it.1.1 it.1.4.0 met_cut.seen grown.0 grown.2.0 (bare met_cut.step.0) grown.1 grown.2.1 step_is after folder none);
+          })
           (λ gone. absurd (removal_not_refused (bare e.step) gone.0 (ap bare gone.1) at.0 mid at.2))
           met_cut.what
 
@@ -514,6 +551,15 @@ module _ {F : Type 0} (honest : Type 0) (means : F → Meaning) (faults : F → 
       log_is Packed cause e tells = tt
       log_is (Removal n) cause e tells = tt
 
+      -- and so where only a sync failed
+      log_synced : (a : About) (fault : FileError) → Ends a (Sync fault) → IsTold (done_at (length ran) a (Sync fault)) → IsLogAt log a
+      log_synced (Folders n) fault e tells = log_is (Folders n) (Sync fault) e tells
+      log_synced (Line n) fault e tells = log_is (Line n) (Sync fault) e tells
+      log_synced (Rename n) fault e tells = tt
+      log_synced (LogRemoval n) fault e tells = tt
+      log_synced Packed fault e tells = tt
+      log_synced (Removal n) fault e tells = tt
+
       -- what was met is at the path that is reported
       met_rename : (n : ℕ) (path : Path) → Ends (Rename n) Unexpected → ToldAt (Rename n) → path ≡ place → honest → MeetsFolder honest means faults start new committer packed held path
       met_rename n path e tells is h =
@@ -523,14 +569,23 @@ module _ {F : Type 0} (honest : Type 0) (means : F → Meaning) (faults : F → 
             n,
             omega (arith, meet.0, same_length),
             here ∙ ap (λ (l : List Path). get_or l n []) (places_alike ran held alike),
-            ((stops (Rename n) Unexpected e, kept (Rename n) e h path (written (Rename n) e h ∙ ap Some (sym here))), ap (λ (p : Path). is_folder (mid p)) here ∙ meet.1),
+            ((stops (Rename n) Unexpected e, kept (Rename n) e h path tt (written (Rename n) e h ∙ ap Some (sym here))), ap (λ (p : Path). is_folder (mid p)) here ∙ meet.1),
           )
 
       met_line : (n : ℕ) (path : Path) → Ends (Line n) Unexpected → ToldAt (Line n) → path ≡ log → honest → MeetsFolder honest means faults start new committer packed held path
       met_line n path e tells is h =
           let meet = met (Line n) e h in
           let here : path ≡ log_path_at start held n = is ∙ log_is (Line n) Unexpected e tells h in
-          inr (inl (n, edit_at (Line n) Unexpected e, here, (stops (Line n) Unexpected e, kept (Line n) e h path (written (Line n) e h ∙ ap Some (log_path h n meet.1 ∙ sym here)))))
+          let own : path_in (log_at ran n) ≡ path = log_path h n meet.1 ∙ sym here in
+          inr (inl (
+            n,
+            edit_at (Line n) Unexpected e,
+            here,
+            (
+              (stops (Line n) Unexpected e, kept (Line n) e h path tt (written (Line n) e h ∙ ap Some own)),
+              subst (λ (p : Path). (is_folder (mid p) ≡ true) ⊎ (is_blocked mid p ≡ true)) own meet.2,
+            ),
+          ))
 
       met_packed : (path : Path) → Ends Packed Unexpected → ToldAt Packed → path ≡ told → honest → MeetsFolder honest means faults start new committer packed held path
       met_packed path e tells is h =
@@ -627,6 +682,8 @@ module _ {F : Type 0} (honest : Type 0) (means : F → Meaning) (faults : F → 
       run_fails no_memory (FolderInPlace path) ended tells says raised only = absurd says
       run_fails no_memory (PreprocessingFailed source) ended tells says raised only = absurd says
       run_fails (AtStep a (Fault fault)) error ended tells says raised only =
-          faults_at log a fault error says raised (log_is a (Fault fault) ended tells) (edit_at a (Fault fault) ended) (stops a (Fault fault) ended)
-      run_fails (AtStep a Unexpected) error ended tells says raised only = in_way a error ended tells says
-      run_fails (AtStep a Asked) error ended tells says raised only = in_way a error (unasked a ended) tells says
+          faults_at log a fault error says raised (log_is a (Fault fault) ended (subst IsTold (done_by_fault (length ran) a fault) tells)) (edit_at a (Fault fault) ended) (inl (stops a (Fault fault) ended))
+      run_fails (AtStep a (Sync fault)) error ended tells says raised only =
+          faults_at log a fault error says raised (log_synced a fault ended tells) (edit_at a (Sync fault) ended) (inr (stops a (Sync fault) ended))
+      run_fails (AtStep a Unexpected) error ended tells says raised only = in_way a error ended (subst IsTold (done_unexpected (length ran) a) tells) says
+      run_fails (AtStep a Asked) error ended tells says raised only = in_way a error (unasked a ended) (subst IsTold (done_asked (length ran) a) tells) says

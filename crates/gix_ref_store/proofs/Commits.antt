@@ -1,7 +1,7 @@
 -- A commit from the store before its `prepare`, from what it decides, what its steps leave, and the release of its locks.
 use Rattle.std.proofs.Common.{◌≡◌, ◌≢◌, inl, inr, ⊎_elim, ◌⊎◌, ℕ, suc, ◌+◌, ◌<◌, ◌≤◌, List, [], ◌∷◌, ◌++◌, Bool, true, false, not, ◌&&◌, Option, Some, None, All, map, refl, sym, ◌∙◌, ap, subst, length, arith}
-use Rattle.std.specs.Prelude.{bytes_eq, if◌then◌else◌, nat_lt}
-use Rattle.std.proofs.lemmas.Bool.{ltb-true}
+use Rattle.std.specs.Prelude.{nat_eq, bytes_eq, if◌then◌else◌, nat_lt}
+use Rattle.std.proofs.lemmas.Bool.{eqb-true, eqb-false, ltb-true}
 use Rattle.gix_ref_hash.specs.declared.hash.Kind.{Kind}
 use Rattle.gix_ref_base.specs.Layout.{Layout}
 use Rattle.gix_ref_base.specs.PackedRecords.{Record}
@@ -10,7 +10,10 @@ use Rattle.gix_ref_files.specs.DiskSteps.{IsReachedBy, IsSyncedAfter}
 use Rattle.gix_ref_files.specs.Files.{Meaning, disk_of, Leaves, Passes}
 use Rattle.gix_ref_files.specs.Lock.{lock_of}
 use Rattle.gix_ref_files.specs.Settled.{AllStay, IsAllSettled}
-use Rattle.gix_ref_files.specs.Steps.{IsAfter, IsLeftBy}
+use Rattle.gix_ref_files.specs.declared.files.FileError.{FileError}
+use Rattle.gix_ref_files.specs.declared.steps.Cause.{Cause}
+use Rattle.gix_ref_files.specs.declared.steps.Cause.TheVariants.{File as Fault, Sync, Unexpected, Asked}
+use Rattle.gix_ref_files.specs.Steps.{IsAfter, IsLeftBy, MayBeSynced}
 use Rattle.gix_ref_files.specs.Tree.{Tree, Path, Content, is_file, file_of, put}
 use Rattle.gix_ref_files.specs.Tree.Content.{File}
 use Rattle.gix_ref_files.proofs.Moments.{joins, losses, passes_joins, passes_weaken, weaken}
@@ -57,12 +60,12 @@ use Rattle.gix_ref_repack.specs.Repacks.{IsRepack}
 use Rattle.gix_ref_commit.specs.Cleared.{AllInWay, FoldersGo, LosesNoMore, OnlyFolders, commit_entries, folder_lists, roots_of}
 use Rattle.gix_ref_commit.specs.CommittedTrees.{AreCommitted, IsOldOrNew}
 use Rattle.gix_ref_commit.specs.Decided.{FillsPacked, IsFilled}
-use Rattle.gix_ref_commit.specs.Entries.{Entry, bare_steps, done_before, done_of, packed_before, packed_done, planned_entries, renames_packed, steps_in}
+use Rattle.gix_ref_commit.specs.Entries.{Entry, bare, bare_steps, done_before, done_of, packed_before, packed_done, planned_entries, renames_packed, steps_in}
 use Rattle.gix_ref_commit.specs.LogEffects.{AreLogsOf, lines_in, with_lines}
 use Rattle.gix_ref_lines.specs.AskedEdits.{all_but_logs, asked, outcomes_of}
 use Rattle.gix_ref_lines.specs.DueLines.{log_outcomes}
 use Rattle.gix_ref_log.specs.declared.actor.SignatureRef.{SignatureRef}
-use Rattle.gix_ref_commit.specs.Unfinished.{EndsIn}
+use Rattle.gix_ref_commit.specs.Unfinished.{EndsAtStep, EndsIn}
 use Rattle.gix_ref_commit.specs.declared.folders.InWay.{InWay}
 use Rattle.gix_ref_commit.specs.declared.plan.About.{About}
 use Rattle.gix_ref_commit.specs.declared.plan.About.TheVariants as about
@@ -79,7 +82,9 @@ use Rattle.gix_ref_commit.proofs.LostFolders.{lost_well_alike}
 use Rattle.gix_ref_commit.proofs.Nothing as nothing
 use Rattle.gix_ref_commit.proofs.Outcomes.{lines_are, logs_are}
 use Rattle.gix_ref_commit.proofs.Placing.{IsLaid}
-use Rattle.gix_ref_commit.proofs.Renamed.{HasRename, packed_renamed_before, packed_renamed_in_all, renamed_before, renamed_in_all}
+use Rattle.gix_ref_commit.proofs.PackedEntries.{RenamesPacked, at_packed, renames_packed_lock}
+use Rattle.gix_ref_commit.proofs.Renamed.{HasRename, IsRenameOf, packed_renamed_before, packed_renamed_in_all, renamed_before, renamed_in_all}
+use Rattle.gix_ref_commit.proofs.Shapes.{AllShaped, HasShape, all_shaped, shape_at}
 use Rattle.gix_ref_commit.proofs.Runs.{IsText}
 use Rattle.gix_ref_commit.proofs.Tidying.{no_file_still, same_files}
 use Rattle.gix_ref_store.specs.CommitResult.{EveryLossIsOldOrNew, EveryStopIsOldOrNew, RepacksFrom}
@@ -432,7 +437,7 @@ module _ {F : Type 0} (honest : Type 0) (means : F → Meaning) (faults : F → 
                 ids_in held ≡ ids_among m rs (updates held) → packed ≢ None → IsRepack m k rs (planned (updates held)) rewrite
 
             at : Repacks s (kind_of old)
-            at = subst (Repacks s) from.held.same.of_kind (subst (λ (m : readings.Store). Repacks m (kind_of start)) meaning_is (repacks h))
+            at = subst (Repacks s) from.held.same.of_kind (subst (λ (m : readings.Store). Repacks m (kind_of start)) meaning_is (repacks.made h))
 
         pub text_held : (h : honest) (path : Path) (bytes : List ℕ) → packed ≡ Some path → IsText rewrite bytes → view_of decided.tree (lock_of path) ≡ Some bytes
         text_held h path bytes some is = by rewrite is (subst (λ (p : Option Path). IsFilled p rewrite first.tree decided.tree) some (filled h))
@@ -506,16 +511,57 @@ module _ {F : Type 0} (honest : Type 0) (means : F → Meaning) (faults : F → 
               ends.all_gone old.dirs old.namespace (kind_of old) old.prohibit_windows_device_names before (disk_of decided) given ran packed rewrite ways (out h) (laid h) path mid.tree released.tree
               (cleared_rename (lock_of path) (folder_lists ways) (planned_entries old.dirs ran packed rewrite) (packed_renamed_in_all old.dirs (length ran) ran packed rewrite path some text)) (after h) (removes h)
 
-          -- and after one that ended at a step
-          pub cut_gone : (u : Unfinished) → EndsIn honest all_entries decided.tree mid.tree u → honest → (k : ℕ) → k < length ran → k < done_of (length ran) u → is_written_at ran k ≡ true → is_file (released.tree (lock_at ran k)) ≡ false
-          cut_gone no_memory e h k lt early written = absurd (omega (arith, early))
-          cut_gone (AtStep about cause) e h k lt early written =
+          -- and after one that ended before a step or at it
+          cut_before : (about : About) (cause : Cause) → EndsAtStep honest all_entries decided.tree mid.tree about cause → honest → (k : ℕ) → k < length ran → k < done_before (length ran) about → is_written_at ran k ≡ true →
+              is_file (released.tree (lock_at ran k)) ≡ false
+          cut_before about cause e h k lt early written =
               let at = e.ended h in
               let c = cut_at e.before (e.step, about) e.rest e.cut in
               subst (λ (p : Path). is_file (released.tree p) ≡ false) (sym (lock_is ran k lt))
               (ends.cut_gone old.dirs old.namespace (kind_of old) old.prohibit_windows_device_names before (disk_of decided) given ran packed rewrite ways (out h) (laid h) (place_at ran k) e.before (e.step, about) e.rest cause at.0 mid.tree released.tree
               e.cut (subst (λ (p : Path). HasRename p e.before) (lock_is ran k lt) (c.renames (lock_at ran k)
               (renamed_before old.dirs (length ran) ran packed rewrite c.seen c.step c.later c.cut k (subst (λ (a : About). k < done_before (length ran) a) (sym c.about) early) written))) at.1 at.2 (removes h))
+
+          -- the rename of a step is that of its lock
+          synced_rename : (n : ℕ) (fault : FileError) (e : EndsAtStep honest all_entries decided.tree mid.tree (about.Rename n) (Sync fault)) (h : honest) → IsRenameOf (lock_at ran n) (bare e.step)
+          synced_rename n fault e h =
+              let c = cut_at e.before (e.step, about.Rename n) e.rest e.cut in
+              ⊎_elim
+              (λ it.
+              let shape = subst (λ (y : Entry). HasShape ran packed y.1 (bare y.0)) (sym it.0) (shape_at ran packed c.seen c.step c.later (subst (AllShaped ran packed) c.cut (all_shaped ran packed old.dirs rewrite))) in
+              subst (IsRenameOf (lock_at ran n)) (sym shape.1) refl)
+              (λ gone. absurd (subst MayBeSynced (ap bare gone.1) (e.ended h).2.0))
+              c.what
+
+          synced_packed : (fault : FileError) (e : EndsAtStep honest all_entries decided.tree mid.tree about.Packed (Sync fault)) (h : honest) (path : Path) → packed ≡ Some path → renames_packed rewrite ≡ true → IsRenameOf (lock_of path) (bare e.step)
+          synced_packed fault e h path some text =
+              let c = cut_at e.before (e.step, about.Packed) e.rest e.cut in
+              ⊎_elim
+              (λ it. subst (λ (y : Entry). IsRenameOf (lock_of path) (bare y.0)) (sym it.0)
+              (at_packed old.dirs path c.seen c.step c.later (subst (RenamesPacked old.dirs path) c.cut (renames_packed_lock old.dirs path ran packed rewrite some text)) c.about))
+              (λ gone. absurd (subst MayBeSynced (ap bare gone.1) (e.ended h).2.0))
+              c.what
+
+          cut_synced : (n : ℕ) (fault : FileError) → EndsAtStep honest all_entries decided.tree mid.tree (about.Rename n) (Sync fault) → honest → n < length ran → is_file (released.tree (lock_at ran n)) ≡ false
+          cut_synced n fault e h lt =
+              let at = e.ended h in
+              subst (λ (p : Path). is_file (released.tree p) ≡ false) (sym (lock_is ran n lt))
+              (ends.synced_gone old.dirs old.namespace (kind_of old) old.prohibit_windows_device_names before (disk_of decided) given ran packed rewrite ways (out h) (laid h) (place_at ran n) e.before (e.step, about.Rename n) e.rest fault at.0 mid.tree released.tree
+              e.cut (subst (λ (p : Path). IsRenameOf p (bare e.step)) (lock_is ran n lt) (synced_rename n fault e h)) at.2 (removes h))
+
+          pub cut_gone : (u : Unfinished) → EndsIn honest all_entries decided.tree mid.tree u → honest → (k : ℕ) → k < length ran → k < done_of (length ran) u → is_written_at ran k ≡ true → is_file (released.tree (lock_at ran k)) ≡ false
+          cut_gone no_memory e h k lt early written = absurd (omega (arith, early))
+          cut_gone (AtStep (about.Rename n) (Sync fault)) e h k lt early written = either_way (nat_eq k n)
+              (λ same. let is = eqb-true k n same in subst (λ j. is_file (released.tree (lock_at ran j)) ≡ false) (sym is) (cut_synced n fault e h (subst (λ j. j < length ran) is lt)))
+              (λ other. cut_before (about.Rename n) (Sync fault) e h k lt (omega (arith, early, eqb-false k n other)) written)
+          cut_gone (AtStep (about.Rename n) (Fault fault)) e h k lt early written = cut_before (about.Rename n) (Fault fault) e h k lt early written
+          cut_gone (AtStep (about.Rename n) Unexpected) e h k lt early written = cut_before (about.Rename n) Unexpected e h k lt early written
+          cut_gone (AtStep (about.Rename n) Asked) e h k lt early written = cut_before (about.Rename n) Asked e h k lt early written
+          cut_gone (AtStep (about.Folders n) cause) e h k lt early written = cut_before (about.Folders n) cause e h k lt early written
+          cut_gone (AtStep (about.Line n) cause) e h k lt early written = cut_before (about.Line n) cause e h k lt early written
+          cut_gone (AtStep (about.LogRemoval n) cause) e h k lt early written = cut_before (about.LogRemoval n) cause e h k lt early written
+          cut_gone (AtStep about.Packed cause) e h k lt early written = cut_before about.Packed cause e h k lt early written
+          cut_gone (AtStep (about.Removal n) cause) e h k lt early written = cut_before (about.Removal n) cause e h k lt early written
 
           pub cut_packed_gone : (u : Unfinished) → EndsIn honest all_entries decided.tree mid.tree u → honest → packed_done rewrite u ≡ true → (path : Path) → packed ≡ Some path → is_file (released.tree (lock_of path)) ≡ false
           cut_packed_gone (AtStep (about.Removal n) cause) e h text path some =
@@ -528,7 +574,13 @@ module _ {F : Type 0} (honest : Type 0) (means : F → Meaning) (faults : F → 
           cut_packed_gone (AtStep (about.Line n) cause) e h text path some = clash text refl
           cut_packed_gone (AtStep (about.Rename n) cause) e h text path some = clash text refl
           cut_packed_gone (AtStep (about.LogRemoval n) cause) e h text path some = clash text refl
-          cut_packed_gone (AtStep about.Packed cause) e h text path some = clash text refl
+          cut_packed_gone (AtStep about.Packed (Sync fault)) e h text path some =
+              let at = e.ended h in
+              ends.synced_gone old.dirs old.namespace (kind_of old) old.prohibit_windows_device_names before (disk_of decided) given ran packed rewrite ways (out h) (laid h) path e.before (e.step, about.Packed) e.rest fault at.0 mid.tree released.tree
+              e.cut (synced_packed fault e h path some text) at.2 (removes h)
+          cut_packed_gone (AtStep about.Packed (Fault fault)) e h text path some = clash text refl
+          cut_packed_gone (AtStep about.Packed Unexpected) e h text path some = clash text refl
+          cut_packed_gone (AtStep about.Packed Asked) e h text path some = clash text refl
 
           pub committed : (h : honest) → HasGoodRecords means old → IsAfter (bare_steps all_entries) decided.tree mid.tree →
               ((q : Path) → is_in mine q ≡ true → is_in left q ≡ false → is_file (now.tree q) ≡ false) → AreCommitted s given lines before left now.tree

@@ -24,7 +24,8 @@ use Rattle.gix_ref_transaction.specs.declared.edit.Effect.TheVariants as effects
 use Rattle.gix_ref_transaction.specs.declared.edit.LogEffect.{LogEffect}
 use Rattle.gix_ref_transaction.specs.declared.edit.LogEffect.TheVariants as logs
 use Rattle.gix_ref_transaction.proofs.Adds.{clash, either_way, in_here, is_same_path, same_path}
-use Rattle.gix_ref_lines.specs.AskedEdits.{all_but_logs}
+use Rattle.gix_ref_lines.specs.AskedEdits.{all_but_logs, but_log, outcome_of, outcomes_of}
+use Rattle.gix_ref_lines.specs.DueLines.{LogOutcome}
 use Rattle.gix_ref_commit.specs.Cleared.{AllInWay, AreInWayOf, FoldersGo, IsAbove, IsAtOrBelow, all_removed, cleared, is_seen, removals, removed_file, removed_log, roots_of, written_at}
 use Rattle.gix_ref_commit.specs.Decided.{FillsPacked}
 use Rattle.gix_ref_commit.proofs.LogFolders.{folders_either}
@@ -32,7 +33,7 @@ use Rattle.gix_ref_commit.specs.Entries.{Entry, bare, bare_steps, each, folders_
 use Rattle.gix_ref_commit.specs.LogEffects.{AreLogsOf, IsLogOf}
 use Rattle.gix_ref_commit.specs.declared.plan.About.{About}
 use Rattle.gix_ref_commit.proofs.Held.{heads}
-use Rattle.gix_ref_store.specs.CommittedFolders.{FoldersStay, IsInOneOf, deleted_by, log_of_deletion, written_by}
+use Rattle.gix_ref_store.specs.CommittedFolders.{FoldersStay, IsInOneOf, deleted_by, lined_by, log_of_deletion, written_by, written_file}
 
 -- A folder is there after a step, unless that removes it.
 
@@ -154,7 +155,13 @@ module _ (W : Path → Type 0) where
   line_plain dirs at (logs.Remove log) w = tt
   line_plain dirs at (logs.Append log line) w = (record { writes = λ path e. one_writes w e; keeps = λ q e. cc }, tt)
 
-  rename_plain : (dirs : Dirs) (at : ℕ) (place : Path) (effect : Effect) → W place → ArePlainSteps (rename_for dirs at place effect)
+  -- and so is a place whose loose file is written
+  abbrev pub IsPlaced : Path → Effect → Type 0
+  IsPlaced place effects.Write = W place
+  IsPlaced place effects.Remove = Unit {0}
+  IsPlaced place effects.Keep = Unit {0}
+
+  rename_plain : (dirs : Dirs) (at : ℕ) (place : Path) (effect : Effect) → IsPlaced place effect → ArePlainSteps (rename_for dirs at place effect)
   rename_plain dirs at place effects.Write w = (record { writes = λ path e. one_writes w e; keeps = λ q e. cc }, tt)
   rename_plain dirs at place effects.Remove w = tt
   rename_plain dirs at place effects.Keep w = tt
@@ -175,12 +182,12 @@ module _ (W : Path → Type 0) where
   packed_plain dirs (Some path) Removed w = (record { writes = λ path e. none_writes e; keeps = λ q e. cc }, tt)
   packed_plain dirs (Some path) (Text text) w = (record { writes = λ other e. one_writes (w path refl) e; keeps = λ q e. cc }, tt)
 
-  -- of each edit the place is one of them, and so is a log that gains a line
+  -- of each edit the place that is written is one of them, and so is the log that gains a line
   abbrev pub AreWritten : List Edit → Type 0
   AreWritten [] = Unit {0}
-  AreWritten (e ∷ edits) = (W e.lock × IsLined e.log) × AreWritten edits
+  AreWritten (e ∷ edits) = (IsPlaced e.lock e.effect × IsLined e.log) × AreWritten edits
 
-  each_plain : (f : ℕ → Edit → List Entry) → ((at : ℕ) (e : Edit) → W e.lock × IsLined e.log → ArePlainSteps (f at e)) →
+  each_plain : (f : ℕ → Edit → List Entry) → ((at : ℕ) (e : Edit) → IsPlaced e.lock e.effect × IsLined e.log → ArePlainSteps (f at e)) →
       (at : ℕ) (edits : List Edit) → AreWritten edits → ArePlainSteps (each f at edits)
   each_plain f one at [] w = tt
   each_plain f one at (e ∷ edits) w = both (f at e) (each f (at + 1) edits) (one at e w.0) (each_plain f one (at + 1) edits w.1)
@@ -272,14 +279,6 @@ in_right : (a b : List Path) (q : Path) → IsInOneOf b q → IsInOneOf (a ++ b)
 in_right [] b q within = within
 in_right (p ∷ a) b q within = inr (in_right a b q within)
 
-log_in : (W : Path → Type 0) (path : Path) (change : plan.Change) (l : LogEffect) → IsLogOf path change l → W path → IsLined W l
-log_in W path plan.Change.Delete logs.Keep of w = absurd of
-log_in W path plan.Change.Delete (logs.Remove log) of w = tt
-log_in W path plan.Change.Delete (logs.Append log line) of w = absurd of
-log_in W path (plan.Change.Update target) logs.Keep of w = tt
-log_in W path (plan.Change.Update target) (logs.Remove log) of w = absurd of
-log_in W path (plan.Change.Update target) (logs.Append log line) of w = subst W (sym of) w
-
 log_removed : (path : Path) (change : plan.Change) (l : LogEffect) → IsLogOf path change l → removed_log l ≡ log_of_deletion path change
 log_removed path plan.Change.Delete logs.Keep of = absurd of
 log_removed path plan.Change.Delete (logs.Remove log) of = ap (λ (p : Path). p ∷ []) of
@@ -288,20 +287,42 @@ log_removed path (plan.Change.Update target) logs.Keep of = refl
 log_removed path (plan.Change.Update target) (logs.Remove log) of = absurd of
 log_removed path (plan.Change.Update target) (logs.Append log line) of = refl
 
-module _ (s : readings.Store) where
-  are_written : (written : List Path) (held ran : List Edit) → all_but_logs ran ≡ all_but_logs held → AreLogsOf s (updates held) ran →
-      ((q : Path) → IsInOneOf (flat_map (written_by s) held) q → IsInOneOf written q) → AreWritten (IsOneOf written) ran
-  are_written written [] [] alike logged into = tt
-  are_written written [] (p ∷ ran) alike logged into = absurd logged
-  are_written written (e ∷ held) [] alike logged into = tt
-  are_written written (e ∷ held) (p ∷ ran) alike logged into = (
+-- what is written at the places and the logs of these edits is among these
+module _ (written : List Path) where
+  placed : (place : Path) (effect : Effect) → ((q : Path) → IsInOneOf (written_file place effect) q → IsInOneOf written q) → IsPlaced (IsOneOf written) place effect
+  placed place effects.Write into = λ q at. into q (inl at)
+  placed place effects.Remove into = tt
+  placed place effects.Keep into = tt
+
+  lined : (l : LogEffect) → ((q : Path) → IsInOneOf (lined_by (outcome_of l)) q → IsInOneOf written q) → IsLined (IsOneOf written) l
+  lined logs.Keep into = tt
+  lined (logs.Remove log) into = tt
+  lined (logs.Append log line) into = λ q at. into q (inl at)
+
+  are_written : (ran : List Edit) → ((q : Path) → IsInOneOf (flat_map written_by ran) q → IsInOneOf written q) → ((q : Path) → IsInOneOf (flat_map lined_by (outcomes_of ran)) q → IsInOneOf written q) → AreWritten (IsOneOf written) ran
+  are_written [] places lines = tt
+  are_written (p ∷ ran) places lines = (
     (
-      subst (IsOneOf written) (sym (ap (λ r. r.2) (heads alike).0)) (λ q at. into q (inl at)),
-      log_in (IsOneOf written) (s.log (name_of e.update)) (change_of e.update.change) p.log logged.0 (λ q at. into q (inr (inl at))),
+      placed p.lock p.effect (λ q at. places q (in_left (written_by p) (flat_map written_by ran) q at)),
+      lined p.log (λ q at. lines q (in_left (lined_by (outcome_of p.log)) (flat_map lined_by (outcomes_of ran)) q at)),
     ),
-    are_written written held ran (heads alike).1 logged.1 (λ q within. into q (inr (inr within))),
+    are_written ran (λ q at. places q (in_right (written_by p) (flat_map written_by ran) q at)) (λ q at. lines q (in_right (lined_by (outcome_of p.log)) (flat_map lined_by (outcomes_of ran)) q at)),
   )
 
+written_same : (held ran : List Edit) → all_but_logs ran ≡ all_but_logs held → flat_map written_by ran ≡ flat_map written_by held
+written_same [] [] alike = refl
+written_same [] (p ∷ ran) alike = absurd (differ alike)
+  where
+    differ : but_log p ∷ all_but_logs ran ≡ [] → ⊥
+    differ e = cc
+written_same (e ∷ held) [] alike = absurd (differ alike)
+  where
+    differ : [] ≡ but_log e ∷ all_but_logs held → ⊥
+    differ h = cc
+written_same (e ∷ held) (p ∷ ran) alike =
+    ap (λ r. written_file r.2 r.5 ++ flat_map written_by ran) (heads alike).0 ∙ ap (λ (l : List Path). written_by e ++ l) (written_same held ran (heads alike).1)
+
+module _ (s : readings.Store) where
   removed_same : (held ran : List Edit) → all_but_logs ran ≡ all_but_logs held → AreLogsOf s (updates held) ran → all_removed ran ≡ flat_map (deleted_by s) held
   removed_same [] [] alike logged = refl
   removed_same [] (p ∷ ran) alike logged = absurd logged
@@ -312,12 +333,12 @@ module _ (s : readings.Store) where
       ∙ ap (λ (l : List Path). deleted_by s e ++ l) (removed_same held ran (heads alike).1 logged.1))
 
   -- a commit from the tree `start` to T, whose run came to its end or not
-  pub folders_stay : (dirs : Dirs) (held ran : List Edit) (packed : Option Path) (rewrite : Rewrite) (folders : List (List Path)) (start filled mid released T : Tree) (locks : List Path) →
-      all_but_logs ran ≡ all_but_logs held → AreLogsOf s (updates held) ran → AreEmpty start (map lock_of (packed_places packed)) → FillsPacked packed start filled →
+  pub folders_stay : (dirs : Dirs) (held ran : List Edit) (packed : Option Path) (rewrite : Rewrite) (folders : List (List Path)) (start filled mid released T : Tree) (locks : List Path) (outcomes : List LogOutcome) →
+      all_but_logs ran ≡ all_but_logs held → AreLogsOf s (updates held) ran → outcomes_of ran ≡ outcomes → AreEmpty start (map lock_of (packed_places packed)) → FillsPacked packed start filled →
       AllInWay ran dirs filled folders (planned_entries dirs ran packed rewrite) → IsLeftBy (bare_steps (cleared folders (planned_entries dirs ran packed rewrite))) filled mid →
       RemovesLocks locks mid released → FoldersGo dirs (all_removed ran) released T →
-      FoldersStay dirs (packed_places packed ++ flat_map (written_by s) held) (flat_map (deleted_by s) held) start T
-  folders_stay dirs held ran packed rewrite folders start filled mid released T locks alike logged empty fills in_way after removes tidied q folder =
+      FoldersStay dirs (packed_places packed ++ (flat_map written_by held ++ flat_map lined_by outcomes)) (flat_map (deleted_by s) held) start T
+  folders_stay dirs held ran packed rewrite folders start filled mid released T locks outcomes alike logged gained empty fills in_way after removes tidied q folder =
       ⊎_elim
       (λ still. ⊎_elim
       (λ same. inl (same ∙ released_has locks mid released q removes still))
@@ -327,9 +348,13 @@ module _ (s : readings.Store) where
       (run_stays dirs filled written ran folders (planned_entries dirs ran packed rewrite) in_way plain filled mid after q (filled_has packed start filled q empty fills folder))
     where
       written : List Path
-      written = packed_places packed ++ flat_map (written_by s) held
+      written = packed_places packed ++ (flat_map written_by held ++ flat_map lined_by outcomes)
 
       plain : ArePlainSteps (IsOneOf written) (planned_entries dirs ran packed rewrite)
       plain = plan_plain (IsOneOf written) dirs ran packed rewrite
-          (are_written written held ran alike logged (λ p within. in_right (packed_places packed) (flat_map (written_by s) held) p within))
-          (λ path some p at. in_left (packed_places packed) (flat_map (written_by s) held) p (subst (λ (o : Option Path). IsInOneOf (packed_places o) p) (sym some) (inl at)))
+          (are_written written ran
+          (λ p within. in_right (packed_places packed) (flat_map written_by held ++ flat_map lined_by outcomes) p
+          (in_left (flat_map written_by held) (flat_map lined_by outcomes) p (subst (λ (l : List Path). IsInOneOf l p) (written_same held ran alike) within)))
+          (λ p within. in_right (packed_places packed) (flat_map written_by held ++ flat_map lined_by outcomes) p
+          (in_right (flat_map written_by held) (flat_map lined_by outcomes) p (subst (λ (l : List LogOutcome). IsInOneOf (flat_map lined_by l) p) gained within))))
+          (λ path some p at. in_left (packed_places packed) (flat_map written_by held ++ flat_map lined_by outcomes) p (subst (λ (o : Option Path). IsInOneOf (packed_places o) p) (sym some) (inl at)))

@@ -1,10 +1,11 @@
 -- A split list that is refused, or held, from what the search in `packed-refs` and the rounds of the locks say of it.
+use Rattle.gix_ref_store.proofs.Releasing.{paths_risen}
 use Rattle.std.proofs.Common.{◌≡◌, ◌⊎◌, inl, inr, ⊎_elim, ℕ, List, [], true, Option, Result, Ok, Err, OnOk, IfOk, IfErr, map, Vec, Global, ◌≤◌, ◌∙◌, ap, sym, subst, arith, vec_len, length}
 use Rattle.std.proofs.lemmas.List.{length-map}
 use Rattle.gix_ref_transaction.specs.declared.release.Remains.{Remains}
 use Rattle.gix_ref_files.specs.Lock.{lock_of}
 use Rattle.gix_ref_files.specs.Tree.{Path}
-use Rattle.gix_ref_files.specs.Files.{Meaning, Leaves, HasRisen}
+use Rattle.gix_ref_files.specs.Files.{Meaning, Leaves, HasRisenBy}
 use Rattle.gix_ref_edits.specs.DoubledNames.{NoneDoubled}
 use Rattle.gix_ref_edits.specs.declared.transaction.RefEdit.{RefEdit}
 use Rattle.gix_ref_transaction.specs.Causes.{IsCountedWith, IsFindCause, IsIoOrMemory, IsLockCause, IsPackedLocked, IsPackedRefusal, names_of, packed_taken}
@@ -30,7 +31,7 @@ pub refused_split : {F : Type 0} (honest read : Type 0) (means : F → Meaning) 
     (honest → IfErr r (λ u. AddsLocks (paths_of u.locks_left.items) (locks_in means old edits) (tree_of means old) (tree_of means new))) →
     IfErr r (λ u. (q : Path) → is_in (paths_of u.locks_left.items) q ≡ true → is_in (possible_locks (meaning_of old) edits) q ≡ true) →
     IfErr r (λ u. (q : Path) → times q (paths_of u.locks_left.items) ≤ times q (possible_locks (meaning_of old) edits)) →
-    IfErr r (λ u. (u.locks_left.items ≡ []) ⊎ HasRisen (faults (files_of old)) (faults (files_of new))) →
+    IfErr r (λ u. HasRisenBy (vec_len u.locks_left) (faults (files_of old)) (faults (files_of new))) →
     (honest → Leaves (means (files_of old)) (means (files_of new)) (AddsLocks (locks_in means old edits) (locks_in means old edits) (tree_of means old))) →
     IfErr r (λ u. RefusesSplit honest read means faults old new edits u.error (paths_of u.locks_left.items))
 refused_split honest read means faults old new edits (Ok t) same single cause opened unread counted as_before ours once named leaves = tt
@@ -42,7 +43,7 @@ refused_split honest read means faults old new edits (Err u) same single cause o
   as_before = as_before;
   ours = ours;
   once = once;
-  named = ⊎_elim (λ none. inl (ap paths_of none)) (λ risen. inr risen) named;
+  named = paths_risen u.locks_left _ _ named;
   leaves = leaves;
   same = same;
 }

@@ -1,7 +1,8 @@
 -- Locks that are released, where none was named before.
-use Rattle.std.proofs.Common.{◌≡◌, ◌<◌, ◌⊎◌, inl, inr, ⊎_elim, ℕ, List, [], true, false, refl, sym, ◌∙◌, ap, subst, length, arith, Vec, Global}
+use Rattle.gix_ref_transaction.proofs.Faults.{risen_by_paths}
+use Rattle.gix_ref_files.specs.Files.{HasRisenBy}
+use Rattle.std.proofs.Common.{◌≡◌, ◌<◌, ◌⊎◌, inl, inr, ⊎_elim, ℕ, List, [], true, false, refl, sym, ◌∙◌, ap, subst, length, arith, Vec, Global, vec_len}
 use Rattle.gix_ref_files.specs.Tree.{Tree, Path, is_file}
-use Rattle.gix_ref_files.specs.Files.{HasRisen}
 use Rattle.gix_ref_transaction.specs.OwnLocks.{is_in, paths_of}
 use Rattle.gix_ref_transaction.specs.CommitRenames.{lock_at, stays_at}
 use Rattle.gix_ref_transaction.specs.PrepareSteps.{lock_paths}
@@ -15,9 +16,10 @@ pub ours_alone : (before : List (Vec ℕ Global)) (left locks : List Path) → b
 ours_alone before left locks none ours q named =
     ⊎_elim (λ other. clash (ap (λ (l : List (Vec ℕ Global)). is_in (paths_of l) q) (sym none) ∙ other) refl) (λ own. own) (ours q named)
 
--- one is named only where a fault came
-pub named_by_fault : (left before : List (Vec ℕ Global)) (a b : ℕ) → before ≡ [] → (left ≡ before) ⊎ HasRisen a b → (paths_of left ≡ []) ⊎ HasRisen a b
-named_by_fault left before a b none counted = ⊎_elim (λ same. inl (ap paths_of (same ∙ none))) (λ risen. inr risen) counted
+-- each that is named has a fault
+pub paths_risen : (left : Vec (Vec ℕ Global) Global) (a b : ℕ) → HasRisenBy (vec_len left) a b → HasRisenBy (length (paths_of left.items)) a b
+paths_risen left a b (inl more) = risen_by_paths left.items a b (inl (omega (arith, more, left.ok)))
+paths_risen left a b (inr full) = risen_by_paths left.items a b (inr full)
 
 -- where nothing was renamed, all that are not named are gone
 pub all_gone : (held : List Edit) (n : ℕ) (left : List Path) (T : Tree) → length held ≡ n →

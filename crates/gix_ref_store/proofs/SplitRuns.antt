@@ -1,9 +1,10 @@
 -- A `prepare` that first read files for its splits, from the store with which it began.
-use Rattle.std.proofs.Common.{◌≡◌, ◌⊎◌, inl, inr, ⊎_elim, ℕ, List, [], true, Option, All, refl, sym, ◌∙◌, ap, subst, arith, Result, Ok, Err, IfOk, IfErr, OnOk}
+use Rattle.gix_ref_transaction.proofs.Faults.{risen_by_before, risen_by_none}
+use Rattle.std.proofs.Common.{◌≡◌, ◌⊎◌, inl, inr, ⊎_elim, ℕ, List, [], true, Option, All, refl, sym, ◌∙◌, ap, subst, arith, Result, Ok, Err, IfOk, IfErr, OnOk, length}
 use Rattle.gix_ref_base.specs.Targets.{TargetValue}
 use Rattle.gix_ref_files.specs.Disk.{Disk}
 use Rattle.gix_ref_files.specs.Tree.{Tree, Path}
-use Rattle.gix_ref_files.specs.Files.{Meaning, Leaves, Passes}
+use Rattle.gix_ref_files.specs.Files.{Meaning, Leaves, Passes, HasRisenBy}
 use Rattle.gix_ref_files.specs.Settled.{AllStay}
 use Rattle.gix_ref_files.proofs.Moments.{joins, weaken, passes_joins, passes_weaken}
 use Rattle.gix_ref_theory.specs.OnDisks.{IsAsBefore}
@@ -21,7 +22,7 @@ use Rattle.gix_ref_transaction.specs.declared.prepare.error.Error.TheVariants.{M
 use Rattle.gix_ref_transaction.specs.declared.prepare.split.SplitEdits.{SplitEdits}
 use Rattle.gix_ref_transaction.proofs.SplitLemmas.{reads_none}
 use Rattle.gix_ref_transaction.proofs.UnreadRecords.{no_find}
-use Rattle.gix_ref_transaction.proofs.PackedLemmas.{counted_later, counted_on, not_packed, rises_on}
+use Rattle.gix_ref_transaction.proofs.PackedLemmas.{counted_later, counted_on, not_packed}
 use Rattle.gix_ref_store.specs.Prepared.{HasGoodRecords, HoldsFrom, HoldsPacked, KeepsAll, LosesNothing, RefusesFrom, RefusesSplit, SplitsFrom, disk_in, locks_in, places_in, tree_of}
 use Rattle.gix_ref_store.specs.Store.{files_of, kind_of, meaning_of, with_files}
 use Rattle.gix_ref_store.specs.declared.file.store.Store.{Store}
@@ -129,7 +130,7 @@ module _ {F : Type 0} (honest : Type 0) (means : F → Meaning) (faults : F → 
     as_before = λ h. subst (λ (T : Tree). AddsLocks left (own_locks (meaning_of old) T split) T (tree_of means new)) (same_tree h) (refused.as_before h);
     ours = refused.ours;
     once = refused.once;
-    named = rises_on _ _ _ reads.no_fewer refused.named;
+    named = risen_by_before _ _ _ _ reads.no_fewer refused.named;
     leaves = λ h. leaves_on h new (locks_in means old split) (subst (λ (l : List Path). Leaves (means files) (means (files_of new)) (AddsLocks l l (tree_of means mid))) (locks_same h split) (refused.leaves h));
     lost = λ h. loses_on h new split (lost h);
     same = record { dirs = refused.same.dirs; namespace = refused.same.namespace; of_kind = refused.same.of_kind; reflogs = refused.same.reflogs; composes = refused.same.composes; prohibits = refused.same.prohibits; threshold = refused.same.threshold };
@@ -149,7 +150,7 @@ module _ {F : Type 0} (honest : Type 0) (means : F → Meaning) (faults : F → 
     as_before = λ h. same_adds left (locks_in means old given) (tree_of means old) (tree_of means mid) (same_tree h);
     ours = λ q within. absurd (none_in q (subst (λ paths. is_in paths q ≡ true) none within));
     once = λ q. let zero : times q left ≡ 0 = ap (times q) none in omega (arith, zero);
-    named = inl none;
+    named = subst (λ (l : List Path). HasRisenBy (length l) (faults (files_of old)) (faults files)) (sym none) (risen_by_none _ _ reads.no_fewer);
     leaves = λ h. weaken (reads.leaves h) (λ T same. same_adds (locks_in means old given) (locks_in means old given) (tree_of means old) T same);
     lost = λ h. kept_loses means old mid given (keeps_none h given);
     same = record { dirs = refl; namespace = refl; of_kind = refl; reflogs = refl; composes = refl; prohibits = refl; threshold = refl };

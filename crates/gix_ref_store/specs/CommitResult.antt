@@ -1,15 +1,17 @@
 -- What `commit` returns and leaves.
-use Rattle.std.specs.Prelude.{◌≡◌, ◌≢◌, ◌<◌, ◌≤◌, ◌⊎◌, ℕ, List, true, false, Option, Some, None, Result, Ok, Err, map, length}
+use Rattle.std.specs.Prelude.{◌≡◌, ◌≢◌, ◌<◌, ◌≤◌, ◌⊎◌, ℕ, List, true, false, Option, Some, None, Result, Ok, Err, map, length, ◌++◌}
+use Rattle.std.specs.List.{list_any}
 use Rattle.gix_ref_base.specs.PackedRecords.{Record}
-use Rattle.gix_ref_files.specs.Tree.{Tree, Path, is_file, is_folder, IsEmptyFolder}
+use Rattle.gix_ref_files.specs.Tree.{Tree, Path, is_blocked, is_file, is_folder, IsEmptyFolder}
 use Rattle.gix_ref_files.specs.declared.files.FileError.{FileError}
 use Rattle.gix_ref_files.specs.declared.files.FileError.TheVariants.{Memory as no_memory}
 use Rattle.gix_ref_files.specs.declared.steps.Cause.{Cause}
-use Rattle.gix_ref_files.specs.declared.steps.Cause.TheVariants.{File, Unexpected}
+use Rattle.gix_ref_files.specs.declared.steps.Cause.TheVariants.{File, Sync, Unexpected}
 use Rattle.gix_ref_files.specs.Disk.{Lost, folder_of}
 use Rattle.gix_ref_files.specs.Files.{Meaning, Leaves, Loses, HasRisen}
 use Rattle.gix_ref_files.specs.Lock.{lock_of}
 use Rattle.gix_ref_lookup.specs.Lookups.{ArePackedRecords}
+use Rattle.gix_ref_lookup.specs.declared.folders.Dirs.{Dirs}
 use Rattle.gix_ref_rewrite.specs.declared.outcome.Rewrite.{Rewrite}
 use Rattle.gix_ref_theory.specs.Between.{AreEdits}
 use Rattle.gix_ref_theory.specs.Edits.Mode.{DeletionsOnly}
@@ -28,13 +30,13 @@ use Rattle.gix_ref_lines.specs.DueLines.{log_outcomes}
 use Rattle.gix_ref_lines.specs.LineCauses.{FirstFails}
 use Rattle.gix_ref_lines.specs.declared.create_or_update.Error.{Error as LogError}
 use Rattle.gix_ref_lines.specs.declared.create_or_update.Error.TheVariants.{CreateLeadingDirectories, Append}
-use Rattle.gix_ref_repack.specs.Refusals.{IsBadLine}
-use Rattle.gix_ref_repack.specs.Repacks.{IsRepack}
+use Rattle.gix_ref_repack.specs.Refusals.{IsBadLine, IsReadFile}
+use Rattle.gix_ref_repack.specs.Repacks.{IsRepack, removes_record}
 use Rattle.gix_ref_repack.specs.declared.error.Error.TheVariants as repack
-use Rattle.gix_ref_commit.specs.Cleared.{AllInWay, FoldersGo, HoldsMore, all_removed, commit_entries, folder_lists, is_seen}
+use Rattle.gix_ref_commit.specs.Cleared.{AllInWay, AreAllFolders, FoldersGo, HasEntries, HoldsMore, all_removed, commit_entries, folder_lists, is_seen, removals}
 use Rattle.gix_ref_commit.specs.CommittedTrees.{AreCommitted, IsOldOrNew}
 use Rattle.gix_ref_commit.specs.Decided.{IsFilled}
-use Rattle.gix_ref_commit.specs.Entries.{planned_entries}
+use Rattle.gix_ref_commit.specs.Entries.{Entry, planned_entries}
 use Rattle.gix_ref_commit.specs.Failures.{IsNameAt}
 use Rattle.gix_ref_commit.specs.LogEffects.{with_lines}
 use Rattle.gix_ref_commit.specs.Unfinished.{EndsAtStep}
@@ -95,13 +97,21 @@ module _ {F : Type 0} (honest : Type 0) (means : F → Meaning) (faults : F → 
       (old : Store F) (given : List RefEdit) → PreparesFrom honest means faults old start given packed held → honest → HasGoodRecords means old →
       AreCommitted (meaning_of old) given (lines_due means start committer held) (tree_of means old) left (tree_of means new)
 
-  -- the new `packed-refs`, where its lock is held and it was well formed, is that without the records of deleted references
-  abbrev pub RepacksFrom : Store F → Option Path → List Edit → Rewrite → Type 0
-  RepacksFrom start packed held rewrite =
-      honest → AreEdits (meaning_of start) (planned (updates held)) → (rs : List Record) →
-      ArePackedRecords (kind_of start) (view_of (tree_of means start) (meaning_of start).packed_path) rs →
-      ids_in held ≡ ids_among (meaning_of start) rs (updates held) → packed ≢ None →
-      IsRepack (meaning_of start) (kind_of start) rs (planned (updates held)) rewrite
+  -- where the record of a deleted reference was found, each line of `packed-refs` is a record
+  abbrev pub ReadsPacked : Store F → Option Path → List Edit → Type 0
+  ReadsPacked start packed held =
+      honest → packed ≢ None → list_any removes_record held ≡ true → IsReadFile (kind_of start) (tree_of means start (meaning_of start).packed_path)
+
+  -- What was decided of `packed-refs`, where its lock is held.
+  pub record RepacksFrom (start : Store F) (packed : Option Path) (held : List Edit) (rewrite : Rewrite) : Type 0 where
+    -- where it was well formed, it is that without the records of deleted references
+    pub made :
+        honest → AreEdits (meaning_of start) (planned (updates held)) → (rs : List Record) →
+        ArePackedRecords (kind_of start) (view_of (tree_of means start) (meaning_of start).packed_path) rs →
+        ids_in held ≡ ids_among (meaning_of start) rs (updates held) → packed ≢ None →
+        IsRepack (meaning_of start) (kind_of start) rs (planned (updates held)) rewrite
+    -- of any file, no line was passed over
+    pub read : ReadsPacked start packed held
 
   -- the lock of `packed-refs` is empty, where it is held
   abbrev pub IsPackedEmpty : Store F → Option Path → Type 0
@@ -138,16 +148,21 @@ module _ {F : Type 0} (honest : Type 0) (means : F → Meaning) (faults : F → 
   abbrev pub IsFault : (start new : Store F) → FileError → Type 0
   IsFault start new fault = HasRisen (faults (files_of start)) (faults (files_of new)) × (fault ≢ no_memory)
 
+  -- a call of files failed at this step, or a sync after it
+  abbrev pub EndsByFault : (start new : Store F) → Option SignatureRef → Option Path → List Edit → About → FileError → Type 0
+  EndsByFault start new committer packed held about fault =
+      EndsEarlyAt start new committer packed held about (File fault) ⊎ EndsEarlyAt start new committer packed held about (Sync fault)
+
   -- a call of files failed at the step about the edit of this name
   abbrev pub FailsAt : (start new : Store F) → Option SignatureRef → Option Path → List Edit → (ℕ → About) → FileError → (ℕ → Type 0) → Type 0
   FailsAt start new committer packed held about fault is_named =
-      IsFault start new fault × ((at : ℕ) × (at < length held) × is_named at × EndsEarlyAt start new committer packed held (about at) (File fault))
+      IsFault start new fault × ((at : ℕ) × (at < length held) × is_named at × EndsByFault start new committer packed held (about at) fault)
 
   -- or no folder in the way of the write of that edit could be listed
   abbrev pub FailsAtWrite : (start new : Store F) → Option SignatureRef → Option Path → List Edit → (ℕ → About) → FileError → (ℕ → Type 0) → Type 0
   FailsAtWrite start new committer packed held about fault is_named =
       IsFault start new fault
-      × ((at : ℕ) × (at < length held) × is_named at × (OnlyItsLocks start new packed held ⊎ EndsEarlyAt start new committer packed held (about at) (File fault)))
+      × ((at : ℕ) × (at < length held) × is_named at × (OnlyItsLocks start new packed held ⊎ EndsByFault start new committer packed held (about at) fault))
 
   -- the run ended at the folders of a log, or at its line, and reports that log
   abbrev pub EndsAtLog : (start new : Store F) → Option SignatureRef → Option Path → List Edit → (ℕ → About) → Cause → (reports : Path → Type 0) → Type 0
@@ -167,26 +182,41 @@ module _ {F : Type 0} (honest : Type 0) (means : F → Meaning) (faults : F → 
   FailsForLog start new committer packed held (CreateLeadingDirectories (Some fault) folder) =
       IsFault start new fault
       × (RefusesLine start new committer packed held (CreateLeadingDirectories (Some fault) folder)
-      ⊎ EndsAtLog start new committer packed held Folders (File fault) (λ log. folder.items ≡ folder_of log))
+      ⊎ (EndsAtLog start new committer packed held Folders (File fault) (λ log. folder.items ≡ folder_of log)
+      ⊎ EndsAtLog start new committer packed held Folders (Sync fault) (λ log. folder.items ≡ folder_of log)))
   FailsForLog start new committer packed held (Append source path) =
       FailsAtWrite start new committer packed held Line source (λ at. honest → path.items ≡ log_path_at start held at)
   FailsForLog start new committer packed held error = RefusesLine start new committer packed held error
 
-  -- What is at this path as a run ends was not emptied: a folder that was there before the first write held more than empty folders, or it is not
-  -- empty now. None was sought where it was seen that none is there.
-  abbrev pub NotEmptied : (start new : Store F) (committer : Option SignatureRef) (packed : Option Path) (held : List Edit) (about : About) (cause : Cause) → EndsEarlyAt start new committer packed held about cause → Path → Type 0
-  NotEmptied start new committer packed held about cause at path = is_seen at.ran about ≡ false → is_folder (at.filled path) ≡ true → HoldsMore start.dirs at.filled path ⊎ (IsEmptyFolder at.mid path → ⊥)
+  -- Right before this step a folder and each one below it were removed in turn, all that was there before the first write, and yet it is not empty as
+  -- the run ends: then a file was written below it since.
+  pub record IsFilledAgain (dirs : Dirs) (about : About) (first mid : Tree) (before : List Entry) (path : Path) : Type 0 where
+    pub front : List Entry
+    pub folders : List Path
+    pub removed : before ≡ front ++ removals about folders
+    pub all : AreAllFolders first path folders
+    pub full : IsEmptyFolder mid path → ⊥
+    pub file : HasEntries first path → HoldsMore dirs mid path
 
-  -- the run ended at this step because of a folder that was not emptied
+  -- What is in a folder at this path as a run ends.
+  pub record IsNotEmptied (start new : Store F) (committer : Option SignatureRef) (packed : Option Path) (held : List Edit) (about : About) (cause : Cause) (at : EndsEarlyAt start new committer packed held about cause) (path : Path) : Type 0 where
+    -- a folder that was there before the first write held more than empty folders then, or a file was written below it since; where it was
+    -- seen that no folder is there none was sought
+    pub there : is_seen at.ran about ≡ false → is_folder (at.filled path) ≡ true → HoldsMore start.dirs at.filled path ⊎ IsFilledAgain start.dirs about at.filled at.mid at.stops.before path
+    -- any other holds a file
+    pub came : is_folder (at.filled path) ≡ false → HoldsMore start.dirs at.mid path
+
+  -- the run ended at this step, and a folder at this path was not emptied
   abbrev pub EndsAtFolder : (start new : Store F) → Option SignatureRef → Option Path → List Edit → About → Path → Type 0
   EndsAtFolder start new committer packed held about path =
-      (at : EndsEarlyAt start new committer packed held about Unexpected) × NotEmptied start new committer packed held about Unexpected at path
+      (at : EndsEarlyAt start new committer packed held about Unexpected) × (is_folder (at.mid path) ≡ true → IsNotEmptied start new committer packed held about Unexpected at path)
 
-  -- Where a folder was in the place of a reference, of its log, or of `packed-refs`, as the run ended.
+  -- Where a folder was in the place of a reference, of its log, or of `packed-refs`, as the run ended; or a file was in the path of the log.
   abbrev pub MeetsFolder : (start new : Store F) → Option SignatureRef → Option Path → List Edit → Path → Type 0
   MeetsFolder start new committer packed held path =
       ((at : ℕ) × (at < length held) × (path ≡ place_at held at) × ((before : EndsAtFolder start new committer packed held (Rename at) path) × (is_folder (before.0.mid path) ≡ true)))
-      ⊎ (((at : ℕ) × (at < length held) × (path ≡ log_path_at start held at) × EndsAtFolder start new committer packed held (Line at) path)
+      ⊎ (((at : ℕ) × (at < length held) × (path ≡ log_path_at start held at)
+      × ((before : EndsAtFolder start new committer packed held (Line at) path) × ((is_folder (before.0.mid path) ≡ true) ⊎ (is_blocked before.0.mid path ≡ true))))
       ⊎ ((path ≡ (meaning_of start).packed_path)
       × ((before : EndsEarlyAt start new committer packed held Packed Unexpected) × (IsPackedPlace (meaning_of start) packed → is_folder (before.mid path) ≡ true))))
 
@@ -199,7 +229,7 @@ module _ {F : Type 0} (honest : Type 0) (means : F → Meaning) (faults : F → 
   FailsFor start new committer packed held (DeleteReflog name source) = FailsAt start new committer packed held LogRemoval source (λ at. IsNameAt (updates held) at name)
   FailsFor start new committer packed held (DeleteReference name err) = FailsAt start new committer packed held Removal err (λ at. IsNameAt (updates held) at name)
   FailsFor start new committer packed held (PackedTransactionCommit (repack.Io fault)) =
-      IsFault start new fault × (OnlyItsLocks start new packed held ⊎ EndsEarlyAt start new committer packed held Packed (File fault))
+      IsFault start new fault × (OnlyItsLocks start new packed held ⊎ EndsByFault start new committer packed held Packed fault)
   FailsFor start new committer packed held (PackedTransactionCommit (repack.Iteration line)) =
       (honest → IsBadLine (kind_of start) (tree_of means start (meaning_of start).packed_path) line)
       × LinesPass honest means start committer held

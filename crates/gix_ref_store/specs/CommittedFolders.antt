@@ -12,14 +12,33 @@ use Rattle.gix_ref_edits.specs.RefEdits.{name_of}
 use Rattle.gix_ref_transaction.specs.CarriedEdits.{change_of}
 use Rattle.gix_ref_transaction.specs.PrepareSteps.{packed_places}
 use Rattle.gix_ref_transaction.specs.declared.edit.Edit.{Edit}
+use Rattle.gix_ref_transaction.specs.declared.edit.Effect.{Effect}
+use Rattle.gix_ref_transaction.specs.declared.edit.Effect.TheVariants as effects
+use Rattle.gix_ref_log.specs.declared.actor.SignatureRef.{SignatureRef}
+use Rattle.gix_ref_lines.specs.AskedEdits.{asked}
+use Rattle.gix_ref_lines.specs.DueLines.{LogOutcome, log_outcomes}
+use Rattle.gix_ref_lines.specs.DueLines.LogOutcome.{Stays, Gains, Goes}
+use Rattle.gix_ref_theory.specs.OnRealTrees.{view_of}
 use Rattle.gix_ref_commit.specs.Cleared.{IsAbove, IsAtOrBelow, removed_file, roots_of}
+use Rattle.gix_ref_store.specs.CommitLines.{line_rules}
 use Rattle.gix_ref_store.specs.CommitResult.{IsPackedEmpty}
 use Rattle.gix_ref_store.specs.Store.{files_of, meaning_of}
 use Rattle.gix_ref_store.specs.declared.file.store.Store.{Store}
 
--- the paths that an edit may write: its place and its log
-abbrev pub written_by : readings.Store → Edit → List Path
-written_by s edit = edit.lock ∷ s.log (name_of edit.update) ∷ []
+-- the loose file that an edit writes, if it writes one
+abbrev pub written_file : Path → Effect → List Path
+written_file place effects.Write = place ∷ []
+written_file place effects.Remove = []
+written_file place effects.Keep = []
+
+abbrev pub written_by : Edit → List Path
+written_by edit = written_file edit.lock edit.effect
+
+-- the log that gains a line
+abbrev pub lined_by : LogOutcome → List Path
+lined_by (Gains log line) = log ∷ []
+lined_by Stays = []
+lined_by (Goes log) = []
 
 -- the log that a change removes
 abbrev pub log_of_deletion : Path → plan.Change → List Path
@@ -42,9 +61,17 @@ FoldersStay dirs written deleted before T =
     (q : Path) → before q ≡ Some Folder → (T q ≡ Some Folder) ⊎ ((IsIn q (roots_of dirs) → ⊥) × (IsInOneOf written q ⊎ IsAbove dirs deleted q))
 
 module _ {F : Type 0} (honest : Type 0) (means : F → Meaning) (faults : F → ℕ) where
+  -- what becomes of the logs of these edits as their commit begins
+  abbrev pub outcomes_in : Store F → Option SignatureRef → List Edit → List LogOutcome
+  outcomes_in start committer held = log_outcomes (line_rules start committer) (view_of (means (files_of start)).tree) (asked held)
+
+  -- where a commit of these edits writes: `packed-refs`, where its lock is held, each loose file that is written, and each log whose line is due
+  abbrev pub written_in : Store F → Option SignatureRef → Option Path → List Edit → List Path
+  written_in start committer packed held = packed_places packed ++ (flat_map written_by held ++ flat_map lined_by (outcomes_in start committer held))
+
   -- and so for a commit of these edits, whose lock of `packed-refs` is empty, where it is held
-  abbrev pub KeepsFolders : (start new : Store F) → Option Path → List Edit → Type 0
-  KeepsFolders start new packed held =
+  abbrev pub KeepsFolders : (start new : Store F) → Option SignatureRef → Option Path → List Edit → Type 0
+  KeepsFolders start new committer packed held =
       honest → IsPackedEmpty honest means faults start packed →
-      FoldersStay start.dirs (packed_places packed ++ flat_map (written_by (meaning_of start)) held) (flat_map (deleted_by (meaning_of start)) held)
+      FoldersStay start.dirs (written_in start committer packed held) (flat_map (deleted_by (meaning_of start)) held)
       (means (files_of start)).tree (means (files_of new)).tree

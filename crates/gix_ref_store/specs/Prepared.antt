@@ -1,11 +1,11 @@
 -- What `prepare` returns and leaves.
-use Rattle.std.specs.Prelude.{◌≡◌, ◌≤◌, ◌<◌, ◌+◌, ◌⊎◌, ℕ, List, [], true, false, Option, All, map, Vec, vec_len}
+use Rattle.std.specs.Prelude.{◌≡◌, ◌≤◌, ◌<◌, ◌+◌, ◌⊎◌, ℕ, List, [], true, false, Option, All, map, Vec, vec_len, length}
 use Rattle.std.specs.Vec.{vec_capacity}
 use Rattle.std.specs.declared.alloc.Global.{Global}
 use Rattle.gix_ref_base.specs.Targets.{TargetValue}
 use Rattle.gix_ref_files.specs.Tree.{Tree, Path, is_file}
 use Rattle.gix_ref_files.specs.Disk.{Disk}
-use Rattle.gix_ref_files.specs.Files.{Meaning, disk_of, Leaves, Passes, Loses, HasRisen}
+use Rattle.gix_ref_files.specs.Files.{Meaning, disk_of, Leaves, Passes, Loses, HasRisenBy}
 use Rattle.gix_ref_files.specs.Lock.{lock_of}
 use Rattle.gix_ref_files.specs.Settled.{AllStay, IsAllSettled}
 use Rattle.gix_ref_theory.specs.OnDisks.{IsSpokenOf, IsAsBefore}
@@ -99,7 +99,7 @@ module _ {F : Type 0} (honest read : Type 0) (means : F → Meaning) (faults : F
     pub ours : (q : Path) → is_in left q ≡ true → is_in (possible_locks (meaning_of old) tried) q ≡ true
     -- and each is named once: no more often than it is among the locks that the edits can have
     pub once : (q : Path) → times q left ≤ times q (possible_locks (meaning_of old) tried)
-    pub named : (left ≡ []) ⊎ HasRisen (faults (files_of old)) (faults (files_of new))
+    pub named : HasRisenBy (length left) (faults (files_of old)) (faults (files_of new))
     pub leaves : honest → Leaves (means (files_of old)) (means (files_of new)) (AddsLocks (locks_in means old tried) (locks_in means old tried) (tree_of means old))
     pub lost : honest → LosesNothing means old new tried
     pub same : IsSameStore old new
@@ -120,7 +120,7 @@ module _ {F : Type 0} (honest read : Type 0) (means : F → Meaning) (faults : F
     pub as_before : honest → AddsLocks left (locks_in means old split) (tree_of means old) (tree_of means new)
     pub ours : (q : Path) → is_in left q ≡ true → is_in (possible_locks (meaning_of old) split) q ≡ true
     pub once : (q : Path) → times q left ≤ times q (possible_locks (meaning_of old) split)
-    pub named : (left ≡ []) ⊎ HasRisen (faults (files_of old)) (faults (files_of new))
+    pub named : HasRisenBy (length left) (faults (files_of old)) (faults (files_of new))
     pub leaves : honest → Leaves (means (files_of old)) (means (files_of new)) (AddsLocks (locks_in means old split) (locks_in means old split) (tree_of means old))
     pub same : IsSameStore old new
 
@@ -208,7 +208,7 @@ module _ {F : Type 0} (honest : Type 0) (means : F → Meaning) (faults : F → 
     pub ours : (q : Path) → is_in left q ≡ true → is_in locks q ≡ true
     -- and each is named once: no more often than it is held
     pub once : (q : Path) → times q left ≤ times q locks
-    pub named : (left ≡ []) ⊎ HasRisen (faults (files_of old)) (faults (files_of new))
+    pub named : HasRisenBy (length left) (faults (files_of old)) (faults (files_of new))
     pub leaves : honest → Leaves (means (files_of old)) (means (files_of new)) (RemovesLocks locks (tree_of means old))
     pub removes : honest → OnlyRemoves locks (means (files_of old)) (means (files_of new))
     -- every loss of power meanwhile leaves each file that was settled, but for these locks, whatever places they are the locks of

@@ -1,6 +1,11 @@
 //! Every public type of the library under its path, and a call of each module.
 use gix_ref::hash::{hex_hash, hex_hash_any, newline};
+use gix_ref::log::iter::forward;
 use gix_ref::namespace::expand;
+use gix_ref::packed::decode::{
+    header, name_at_record_start, record_at_offset, record_start_at_offset, reference,
+};
+use gix_ref::steps::run_steps;
 use gix_ref::{
     actor, file, files, hash, layout, lock, log, name, namespace, object, packed, peel, raw, steps,
     store, target, transaction,
@@ -97,6 +102,10 @@ fn types_of_files_and_the_store() {
     named::<lock::Commit>();
     named::<lock::Unspent>();
     named::<steps::Action>();
+    named::<steps::Settle>();
+    named::<steps::Cause>();
+    named::<steps::Ended>();
+    named::<steps::Planned<'_, u8>>();
     named::<store::Options>();
     named::<store::WriteReflog>();
     named::<file::Store<files::Memory>>();
@@ -104,10 +113,12 @@ fn types_of_files_and_the_store() {
     named::<file::iter::Platform<'_, files::Memory>>();
     named::<file::iter::LooseThenPacked<'_, files::Memory>>();
     named::<file::iter::Error>();
+    named::<file::iter::OwnRecord<'_>>();
     named::<file::iter::loose_then_packed::Error>();
     named::<file::loose::Reference>();
     named::<file::loose::Error>();
     named::<file::find::Error>();
+    named::<file::find::Records<'_, files::DiskReader>>();
     named::<file::find::ReadError>();
     named::<file::find::existing::Error>();
     named::<log::Error>();
@@ -151,4 +162,25 @@ fn calls(rt: HostRuntime) {
     let files = files::Memory::new(alloc);
     let folder = b"/r".to_vec(alloc).expect(&rt, "memory");
     assert!(rt; file::Store::at(files, folder, hash::Kind::Sha1).is_ok());
+}
+
+/// A call of each decoder of formats.
+#[test]
+fn decoders(rt: HostRuntime) {
+    let mut text: &[u8] =
+        b"# pack-refs with: sorted \n1111111111111111111111111111111111111111 refs/heads/a\n";
+    assert!(rt; header(&mut text).is_ok());
+    assert_eq!(rt; text.len(), 54);
+    assert_eq!(rt; record_start_at_offset(text, 50), 0);
+    assert_eq!(rt; record_at_offset(text, 50).len(), 54);
+    assert_eq!(rt;
+        name_at_record_start(text, hash::Kind::Sha1),
+        Some(b"refs/heads/a".as_slice())
+    );
+    assert!(rt; reference(&mut text, hash::Kind::Sha1).is_ok());
+    assert!(rt; text.is_empty());
+    assert_eq!(rt; forward(b"no line\n").count(), 1);
+    let alloc = rt.alloc();
+    let mut memory = files::Memory::new(alloc);
+    assert_eq!(rt; run_steps::<_, u8>(&mut memory, &[]), Ok(()));
 }

@@ -3,6 +3,7 @@ pub mod Apart
 pub mod CommitLosses
 pub mod Committing
 pub mod EditRounds
+pub mod Faults
 pub mod Firsts
 pub mod Held
 pub mod Led

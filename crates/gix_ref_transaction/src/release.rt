@@ -4,7 +4,7 @@ ghost use Rattle.std.specs.Vec.{vec_capacity};
 ghost use Rattle.std.specs.Bool.{OnFalse};
 ghost use Rattle.gix_ref_files.specs.Lock.{lock_of};
 ghost use Rattle.gix_ref_files.specs.Tree.{Path, is_file};
-ghost use Rattle.gix_ref_files.specs.Files.{disk_of, Leaves, Passes, HasRisen};
+ghost use Rattle.gix_ref_files.specs.Files.{disk_of, Leaves, Passes, HasRisen, HasRisenBy};
 ghost use Rattle.gix_ref_files.specs.DiskCalls.{RemovingFileOn};
 ghost use Rattle.gix_ref_transaction.specs.OwnLocks.{paths_of, RemovesLocks, OnlyRemoves, is_in, times};
 ghost use Rattle.gix_ref_transaction.specs.CommitRenames.{lock_at, log_at, path_in, place_at, stays_at};
@@ -134,8 +134,8 @@ pub fn release_packed<F: Files>(files: &mut F, packed: Option<LockFile>, left: &
     ensures len { vec_len left.new ≤ vec_len left.old + 1 }
     ensures room { vec_capacity left.new ≡ vec_capacity left.old }
     ensures no_fewer { F.faults files.old ≤ F.faults files.new }
-    ensures counted { (left.new.items ≡ left.old.items) ⊎ HasRisen (F.faults files.old)
-        (F.faults files.new) }
+    ensures counted { (base : ℕ) → HasRisenBy (vec_len left.old) base (F.faults files.old) →
+        HasRisenBy (vec_len left.new) base (F.faults files.new) }
 {
     if let Some(lock) = packed {
         if !remove_lock(files, lock.path()) {
@@ -198,8 +198,8 @@ pub fn release_locks<F: Files>(
     ensures no_fewer { F.faults files.old ≤ F.faults files.new }
     ensures len { vec_len result.left ≤ vec_len remains.left + vec_len edits }
     ensures room { vec_capacity result.left ≡ vec_capacity remains.left }
-    ensures counted { (result.left.items ≡ remains.left.items) ⊎ HasRisen (F.faults files.old)
-        (F.faults files.new) }
+    ensures counted { (base : ℕ) → HasRisenBy (vec_len remains.left) base (F.faults files.old) →
+        HasRisenBy (vec_len result.left) base (F.faults files.new) }
 {
     while let Some(edit) = edits.pop() {
         let at = edits.len();
@@ -242,8 +242,7 @@ pub fn release_all<F: Files>(
     ensures passes { F.honest → OnlyRemoves (held_locks packed edits.items)
         (F.means files.old) (F.means files.new) }
     ensures no_fewer { F.faults files.old ≤ F.faults files.new }
-    ensures named { (result.left.items ≡ []) ⊎ HasRisen (F.faults files.old)
-        (F.faults files.new) }
+    ensures named { HasRisenBy (vec_len result.left) (F.faults files.old) (F.faults files.new) }
 {
     release_packed(files, packed, &mut remains.left);
     release_locks(files, done, edits, remains)

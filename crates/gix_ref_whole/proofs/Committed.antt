@@ -6,7 +6,8 @@ use Rattle.gix_ref_files.specs.Disk.{Disk, Lost}
 use Rattle.gix_ref_files.specs.Files.{Meaning, Loses}
 use Rattle.gix_ref_files.specs.Lock.{lock_of}
 use Rattle.gix_ref_files.specs.Settled.{IsAllSettled}
-use Rattle.gix_ref_files.specs.Tree.{Path, Tree}
+use Rattle.gix_ref_files.specs.Tree.{Path, Tree, file_of}
+use Rattle.gix_ref_files.specs.declared.files.ReadAt.{Ghosts}
 use Rattle.gix_ref_files.proofs.Moments.{joins, weaken}
 use Rattle.gix_ref_files.proofs.Settling.{lost_holds}
 use Rattle.gix_ref_theory.specs.Between.{IsCommitted}
@@ -21,29 +22,46 @@ use Rattle.gix_ref_theory.proofs.PlaceLaws.{laws_hold}
 use Rattle.gix_ref_records.specs.declared.raw.Reference.{Reference}
 use Rattle.gix_ref_log.specs.declared.actor.SignatureRef.{SignatureRef}
 use Rattle.gix_ref_edits.specs.declared.transaction.RefEdit.{RefEdit}
-use Rattle.gix_ref_lookup.specs.Lookups.{Answers, ArePackedRecords, lookup_of}
+use Rattle.gix_ref_lookup.specs.Lookups.{Answers, ArePackedRecords, IsSound, lookup_of, name_asked}
 use Rattle.gix_ref_lookup.specs.StoreLayout.{git_options}
+use Rattle.gix_ref_lookup.specs.declared.find.error.Error.{Error as FindError}
+use Rattle.gix_ref_lookup.specs.declared.find.records.Records.TheVariants.{Unopened}
 use Rattle.gix_ref_lookup.specs.declared.find.existing.Error.{Error as Missing}
+use Rattle.gix_ref_lookup.specs.declared.find.existing.Error.TheVariants.{Find}
 use Rattle.gix_ref_lookup.proofs.Laying.{folders_laid}
-use Rattle.gix_ref_transaction.specs.CarriedEdits.{edit_of}
+use Rattle.std.specs.Option.{option_map}
+use Rattle.gix_ref_base.specs.Targets.{TargetValue}
+use Rattle.gix_ref_name.specs.declared.namespace.Namespace.{Namespace}
+use Rattle.gix_ref_log.specs.Signatures.{signature_ref_who}
+use Rattle.gix_ref_lookup.specs.StoreLayout.{namespace_text}
+use Rattle.gix_ref_lines.specs.AskedEdits.{asked}
+use Rattle.gix_ref_lines.specs.DueLines.{LogRules, due_lines}
+use Rattle.gix_ref_lines.specs.declared.write_reflog.WriteReflog.{WriteReflog}
+use Rattle.gix_ref_transaction.specs.CarriedEdits.{AreCarried, edit_of}
 use Rattle.gix_ref_transaction.specs.Causes.{locks_of}
 use Rattle.gix_ref_transaction.specs.CommittedEdits.{planned}
 use Rattle.gix_ref_transaction.specs.OwnLocks.{is_in}
-use Rattle.gix_ref_transaction.specs.PrepareSteps.{places_of, possible_locks}
+use Rattle.gix_ref_transaction.specs.PrepareSteps.{old_targets, places_of, possible_locks, updates}
 use Rattle.gix_ref_transaction.specs.declared.edit.Edit.{Edit}
 use Rattle.gix_ref_transaction.proofs.LockRounds.{own_all, own_lock}
-use Rattle.gix_ref_transaction.proofs.Adds.{any_cases, in_one, is_false}
+use Rattle.gix_ref_transaction.proofs.Adds.{any_cases, in_one, is_false, same_view}
+use Rattle.gix_ref_transaction.proofs.Apart.{references}
+use Rattle.gix_ref_commit.specs.CommittedTrees.{AreCommitted}
 use Rattle.gix_ref_commit.specs.LogEffects.{with_lines}
-use Rattle.gix_ref_store.specs.CommitLines.{lines_due}
+use Rattle.gix_ref_commit.proofs.Alike.{are_same}
+use Rattle.gix_ref_store.specs.CommitLines.{line_rules, lines_due}
 use Rattle.gix_ref_store.specs.CommitResult.{CommitsFrom, EveryLossFrom, EveryStopFrom, SettlesFrom}
-use Rattle.gix_ref_store.specs.Lookup.{LooksUp, AreRecordsIn, FindsAmong, MissesAmong, composes_in, view_in}
+use Rattle.gix_ref_store.specs.Lookup.{LooksUp, AreRecordsIn, FindsAmong, MissesAmong, MissesIn, composes_in, settings_of, view_in}
 use Rattle.gix_ref_store.specs.Prepared.{HasGoodRecords, IsAtRest, PreparesGiven, disk_in, locks_in, places_in, tree_of}
-use Rattle.gix_ref_store.specs.Store.{folders, kind_of, meaning_of, IsSameStore}
+use Rattle.gix_ref_store.specs.Store.{files_of, folders, kind_of, meaning_of, IsSameStore}
 use Rattle.gix_ref_store.specs.declared.file.store.Store.{Store}
 use Rattle.gix_ref_store.proofs.Commits.{same_meaning, started}
+use Rattle.gix_ref_whole.specs.EditedReadings.{FailsAs, IsAskedFirst}
+use Rattle.gix_ref_whole.specs.FoundReferences.{FindsIn}
 use Rattle.gix_ref_whole.specs.Outside.{IsLock, IsOneOf}
-use Rattle.gix_ref_whole.specs.WholeRuns.{FindsEdited, IsSameOutside, KeepsEdited, LossesOutside, ReadsEdited, StopsOutside, reads_after}
-use Rattle.gix_ref_whole.proofs.FoundNames.{found_as}
+use Rattle.gix_ref_whole.specs.WholeRuns.{FindsEdited, HasFault, IsSameOutside, KeepsEdited, LossesOutside, ReadsEdited, StopsOutside, reads_after}
+use Rattle.gix_ref_whole.proofs.DueLemmas.{all_count, lines_same}
+use Rattle.gix_ref_whole.proofs.FoundNames.{fails_as, found_as}
 use Rattle.gix_ref_whole.proofs.OutsideLemmas.{committed_outside, locking_outside, losses_outside, stops_outside, unlocked, unlost_outside}
 use Rattle.gix_ref_whole.proofs.PackedAgain.{computed, has_again}
 
@@ -78,6 +96,13 @@ same_on first mid last a b = record {
   prohibits = b.prohibits ∙ a.prohibits;
   threshold = b.threshold ∙ a.threshold;
 }
+
+-- lines depend on the same
+rules_same : {F : Type 0} (old new : Store F) (committer : Option SignatureRef) → IsSameStore old new → line_rules new committer ≡ line_rules old committer
+rules_same old new committer same =
+    ap (λ (s : Places). record { store = s; namespace = namespace_text new.namespace; mode = new.write_reflog; committer = option_map signature_ref_who committer }) (same_meaning old new same)
+    ∙ (ap (λ (n : Option Namespace). record { store = meaning_of old; namespace = namespace_text n; mode = new.write_reflog; committer = option_map signature_ref_who committer }) same.namespace
+    ∙ ap (λ (m : WriteReflog). record { store = meaning_of old; namespace = namespace_text old.namespace; mode = m; committer = option_map signature_ref_who committer }) same.reflogs)
 
 -- what losses of power leave has a weaker property
 loses_weaken : {old new : Meaning} {P Q : Tree → Type 0} → Loses old new P → ((T : Tree) → P T → Q T) → Loses old new Q
@@ -125,6 +150,31 @@ module _ {F : Type 0} (honest : Type 0) (means : F → Meaning) (faults : F → 
     packed_apart : is_in (locks_in means old from.split) s.packed_path ≡ false
     packed_apart = is_false (is_in (locks_in means old from.split) s.packed_path)
         (λ within. let l = own_is_lock (places_in means old from.split) s.packed_path (own_all s (tree_of means old) from.split s.packed_path within) in laws.packed_is_no_lock l.0 l.1)
+
+    -- the edits that are returned carry what was found in the files before
+    pub carried_before : honest → HasGoodRecords means old → (after : List RefEdit) → after ≡ updates held → AreCarried from.split (old_targets s (tree_of means old) from.split) after
+    carried_before h good after is =
+        subst (AreCarried from.split (old_targets s (tree_of means old) from.split)) (sym is)
+        (subst (λ (was : List (Option TargetValue)). AreCarried from.split was (updates held)) (from.prepared.held.found h good) from.prepared.carried)
+
+    -- a log of theirs is no lock
+    log_apart : (n : List ℕ) → s.is_reference n ≡ true → is_in (locks_in means old from.split) (s.log n) ≡ false
+    log_apart n is = is_false (is_in (locks_in means old from.split) (s.log n))
+        (λ within. let l = own_is_lock (places_in means old from.split) (s.log n) (own_all s (tree_of means old) from.split (s.log n) within) in laws.log_is_no_lock n l.0 is l.1)
+
+    -- so the lines that are due are so by the files before
+    lines_before : honest → lines_due means mid committer held ≡ lines_due means old committer held
+    lines_before h =
+        lines_same (λ (q : Path). is_in (locks_in means old from.split) q ≡ false) (line_rules mid committer) (asked held) (view_in means mid) (view_in means old)
+        (λ q apart. same_view file_of refl (locks_in means old from.split) (locks_in means old from.split) (tree_of means old) (tree_of means mid) q (from.prepared.held.adds h) apart)
+        (all_count (λ (q : Path). is_in (locks_in means old from.split) q ≡ false) (line_rules mid committer) s (same_meaning old mid from.prepared.held.same) log_apart from.split held 0
+        (are_same from.split from.prepared.was (updates held) from.prepared.carried)
+        (references (folders old) (git_options (kind_of old) old.prohibit_windows_device_names) (folders_laid old.dirs old.namespace) (kind_of old) [] from.split from.prepared.held.valid))
+        ∙ ap (λ (r : LogRules). due_lines r (view_in means old) (asked held)) (rules_same old mid committer from.prepared.held.same)
+
+    pub committed_before : CommitsFrom honest means faults mid new committer packed held left → honest → HasGoodRecords means old → AreCommitted s from.split (lines_due means old committer held) (tree_of means old) left (tree_of means new)
+    committed_before commits h good =
+        subst (λ (lines : List (Option (List ℕ))). AreCommitted s from.split lines (tree_of means old) left (tree_of means new)) (lines_before h) (commits old from.split from.prepared h good)
 
     -- at every stop inside the `prepare` and the commit
     pub stops_same : honest → HasGoodRecords means old → StopsOutside honest means faults old new from.split
@@ -182,6 +232,11 @@ module _ {F : Type 0} (honest : Type 0) (means : F → Meaning) (faults : F → 
         losses = losses_same losses;
       }
 
+      -- of the split list that was prepared
+      pub keeps_split : (settles : SettlesFrom honest means faults mid new packed held) (losses : EveryLossFrom honest means faults mid new committer packed held) → (keeps settles losses).made.split ≡ from.split
+      unfolding keeps made
+      keeps_split settles losses = refl
+
   -- the other way round
   pub packed_back : (old new : Store F) → IsSameStore old new → (rs : List Record) → AreRecordsIn means new rs → ArePackedRecords (kind_of old) (view_in means new (meaning_of old).packed_path) rs
   packed_back old new same rs are =
@@ -219,25 +274,43 @@ module _ {F : Type 0} (honest : Type 0) (means : F → Meaning) (faults : F → 
     unfolding still_made
     still_split = refl
 
-    module _ (name : List ℕ) (found : Result Reference Missing) (finds : honest → (rs : List Record) → AreRecordsIn means mid rs → IfOk found (λ r. FindsAmong means mid rs name (Some r)))
-        (misses : honest → (rs : List Record) → AreRecordsIn means mid rs → IfErr found (MissesAmong means mid rs name)) where
+    module _ {R : Type 0} (G : Ghosts R) (name : List ℕ) (found : Result Reference Missing) (lookup : FindsIn honest means faults G mid new name found) where
       as_old : honest → (rs : List Record) (r : Option Reference) → FindsAmong means mid rs name r → Answers (lookup_of (composes_in true old) (meaning_of old) (view_in means new) rs name) r
       as_old h rs r is =
           subst (λ (v : View). Answers (lookup_of (composes_in true old) (meaning_of old) v rs name) r) (sym (view_is h))
           (subst (λ (s : Places). Answers (lookup_of (composes_in true old) s (view_in means mid) rs name) r) (same_meaning old mid same)
           (subst (λ (b : Bool). Answers (lookup_of (b && true) (meaning_of mid) (view_in means mid) rs name) r) same.composes is))
 
-      pub found_edited : FindsEdited honest means faults old new given left name found
+      -- what the name reads among the records that the commit left
+      reads_left : honest → (rs : List Record) (reads : Reading) → reading_among (meaning_of old) (view_in means new) rs name ≡ reads → reading_among (meaning_of mid) (view_in means mid) rs name ≡ reads
+      reads_left h rs reads is =
+          ap (λ (s : Places). reading_among s (view_in means mid) rs name) (same_meaning old mid same)
+          ∙ (sym (ap (λ (v : View). reading_among (meaning_of old) v rs name) (view_is h)) ∙ is)
+
+      -- why the lookup fails
+      failed_as : honest → (rs : List Record) → AreRecordsIn means mid rs → IsAskedFirst (meaning_of old) (composes_in true old) name → (reads : Reading) → reading_among (meaning_of old) (view_in means new) rs name ≡ reads →
+          (e : FindError) → IsSound e → MissesIn {G = G} honest means faults true mid new Unopened name (Find e) → FailsAs (HasFault honest means faults G mid new) reads e
+      failed_as h rs are asked reads is e sound fails =
+          fails_as G honest h (settings_of mid) (tree_of means mid) rs are (faults (files_of mid)) (faults (files_of new)) name (composes_in true mid) asked.first
+          (ap (λ (b : Bool). name_asked (b && true) name) same.composes ∙ asked.composed) reads (reads_left h rs reads is) e sound fails
+
+      pub found_edited : FindsEdited honest means faults G old mid new given left name found
       unfolding still_made records_left
       found_edited = record {
         made = still_made;
+        lookup = lookup;
         finds = λ h good asked.
             let again = made.good h good in
             let there : (rs : List Record) × ArePackedRecords (kind_of old) (view_in means new (meaning_of old).packed_path) rs = records_left h good in
             let same_records = computed (folders old) (kind_of old) old.prohibit_windows_device_names (view_in means new (meaning_of old).packed_path) there.0 there.1 in
-            found_as (meaning_of old) (view_in means new) there.0 same_records name (composes_in true old) asked (reads_after honest means faults old made.split name) found
-            (sym (ap (λ rs. reading_among (meaning_of old) (view_in means new) rs name) same_records) ∙ still_made.reads h good name asked.reference)
-            (λ r is. as_old h there.0 (Some r) (subst (λ x. IfOk x (λ r. FindsAmong means mid there.0 name (Some r))) is (finds h again.0 again.1)))
-            (λ n is. as_old h there.0 None (subst (λ x. IfErr x (MissesAmong means mid there.0 name)) is (misses h again.0 again.1)))
-            (λ e is. subst (λ x. IfErr x (MissesAmong means mid there.0 name)) is (misses h again.0 again.1));
+            let reads_is = sym (ap (λ rs. reading_among (meaning_of old) (view_in means new) rs name) same_records) ∙ still_made.reads h good name asked.reference in
+            found_as (meaning_of old) (view_in means new) there.0 same_records name (composes_in true old) asked (HasFault honest means faults G mid new) (reads_after honest means faults old made.split name) found reads_is
+            (λ r is. as_old h there.0 (Some r) (subst (λ x. IfOk x (λ r. FindsAmong means mid there.0 name (Some r))) is (lookup.finds h again.0 again.1)))
+            (λ n is. as_old h there.0 None (subst (λ x. IfErr x (MissesAmong means mid there.0 name)) is (lookup.misses h again.0 again.1)))
+            (λ e is.
+            let sound : IsSound e = subst (λ x. IfErr x (MissesAmong means mid there.0 name)) is (lookup.misses h again.0 again.1) in (
+              sound,
+              failed_as h again.0 again.1 asked (reads_after honest means faults old made.split name) reads_is e sound
+                  (subst (λ x. IfErr x (MissesIn {G = G} honest means faults true mid new Unopened name)) is lookup.fails),
+            ));
       }

@@ -1,9 +1,9 @@
 -- The items of a listing, by what each reference reads as edited.
-use Rattle.std.proofs.Common.{◌≡◌, inl, inr, ℕ, Bool, true, false, List, [], ◌∷◌, ◌++◌, refl, sym, ◌∙◌, ap, subst, Option, Some, None, Result, Ok, Err, IfOk, codes, append-nil, append_assoc}
+use Rattle.std.proofs.Common.{◌≡◌, ◌⊎◌, inl, inr, ⊎_elim, arith, ℕ, Bool, true, false, List, [], ◌∷◌, ◌++◌, refl, sym, ◌∙◌, ap, subst, Option, Some, None, Result, Ok, Err, IfOk, codes, append-nil, append_assoc}
 use denote.Ref.{Bor}
 use Rattle.std.specs.Option.{option_copied}
 use Rattle.std.specs.declared.alloc.Global.{Global}
-use Rattle.std.specs.Prelude.{Vec, ◌&&◌, is_none, is_some, option_to_list}
+use Rattle.std.specs.Prelude.{◌≤◌, Vec, ◌&&◌, is_none, is_some, option_to_list}
 use Rattle.std.specs.Iterator.{Yields}
 use Rattle.std.specs.List.{AllByRecursion}
 use Rattle.gix_ref_grammar.specs.NameGrammar.{IsPartialName}
@@ -11,7 +11,9 @@ use Rattle.gix_ref_hash.specs.Bytes.{BeginsWith}
 use Rattle.gix_ref_base.specs.Locations.{is_safe}
 use Rattle.gix_ref_base.specs.PackedRecords.{Record}
 use Rattle.gix_ref_base.proofs.LocationLemmas.{safe_is_tested}
-use Rattle.gix_ref_files.specs.Files.{Meaning}
+use Rattle.gix_ref_files.specs.Files.{Meaning, HasRisen}
+use Rattle.gix_ref_files.specs.declared.files.ReadAt.{Ghosts}
+use Rattle.gix_ref_name.specs.declared.namespace.Namespace.{Namespace}
 use Rattle.gix_ref_files.specs.Tree.{Path, Tree}
 use Rattle.gix_ref_files.proofs.Moments.{starts}
 use Rattle.gix_ref_packed.specs.Buffers.{buffer_kind, buffer_text}
@@ -28,7 +30,12 @@ use Rattle.gix_ref_listing.specs.Items.{IsItem}
 use Rattle.gix_ref_listing.specs.Listings.{Listed}
 use Rattle.gix_ref_listing.specs.Listings.Listed.{Walked, InPacked}
 use Rattle.gix_ref_listing.specs.WholeListings.{HoldsFor, IsInStore, IsListing, IsNameItem, key_in, listed_key}
+use Rattle.gix_ref_listing.specs.CleanPrefixes.{IsAcceptedPrefix, IsRefusedPrefix}
 use Rattle.gix_ref_listing.specs.declared.error.Error.{Error}
+use Rattle.gix_ref_listing.specs.declared.error.Error.TheVariants.{Traversal, ReadFileContents, ReferenceCreation, PackedReference, Memory}
+use Rattle.gix_ref_listing.specs.declared.prefix.Error.{Error as PrefixError}
+use Rattle.gix_ref_listing.specs.declared.prefix.Error.TheVariants as no_list
+use Rattle.gix_ref_lookup.specs.declared.find.error.ReadError.TheVariants.{File as file_error, DeviceName}
 use Rattle.gix_ref_listing.specs.declared.found.Found.TheVariants.{File, Unlisted}
 use Rattle.gix_ref_listing.proofs.FolderWalks.{unchanged_on}
 use Rattle.gix_ref_store.specs.Listings.{AreFirst, AreHeldFor, IsReadFor, Lists, NextItem, count_in, store_of}
@@ -39,16 +46,16 @@ use Rattle.gix_ref_store.specs.declared.file.iter.Remaining.{Remaining}
 use Rattle.gix_ref_store.specs.declared.file.store.Store.{Store}
 use Rattle.gix_ref_store.proofs.Commits.{same_meaning}
 use Rattle.gix_ref_store.proofs.ListingRuns.{same_settings}
-use Rattle.gix_ref_whole.specs.ListedItems.{AreItemsIn, GivesAll, TakesNext}
-use Rattle.gix_ref_whole.specs.ListedReadings.{AreItemsOf, IsFaultOf, IsItemOf, IsNoFolder, ListsReadings}
-use Rattle.gix_ref_whole.specs.WholeRuns.{ListsEdited, ReadsEdited, reads_after}
+use Rattle.gix_ref_whole.specs.ListedItems.{AreItemsIn, GivesAll, IsNoListing, ListsAmong, ListsIn, TakesNext}
+use Rattle.gix_ref_whole.specs.ListedReadings.{AreComposed, AreItemsOf, IsFaultOf, IsItemOf, IsNoFolder, ListsReadings}
+use Rattle.gix_ref_whole.specs.WholeRuns.{ListsEdited, ListsNames, ReadsEdited, reads_after}
 use Rattle.gix_ref_whole.proofs.Committed.{packed_back, same_on, still_made, still_split}
 use Rattle.gix_ref_whole.proofs.ListedNames.{all_given, one_target, only_given}
 use Rattle.gix_ref_whole.proofs.PackedAgain.{computed}
 
 -- ---- another reading of the same names
 
-module _ (settings : Settings) (plainly : settings.precompose_unicode ≡ false) (view : View) (records : List Record) (prefix : List ℕ) (listed : List Listed) (is : IsListing settings view records prefix listed) where
+module _ (settings : Settings) (view : View) (composed : AreComposed settings view) (records : List Record) (prefix : List ℕ) (listed : List Listed) (is : IsListing settings view records prefix listed) where
   abbrev s : Places
   s = meaning_in settings
 
@@ -69,32 +76,71 @@ module _ (settings : Settings) (plainly : settings.precompose_unicode ≡ false)
     all_read [] names there read = tt
     all_read (one ∷ ones) names there read = (subst (λ r. is_there r ≡ true) (sym (agree_at one names.0 there.0)) read.0, all_read ones names.1 there.1 read.1)
 
-    one_item : (one : Listed) (item : Result Reference Error) → reads (listed_key one) ≡ found (listed_key one) → IsItemOf s found one item → IsItemOf s reads one item
-    one_item one (Err e) same item = subst (λ r. IsFaultOf r e) (sym same) item
-    one_item one (Ok r) same (name, target) = (name, λ may. subst (λ n. reads n ≡ found n) (sym name) same ∙ target may)
+    one_item : (before now : ℕ) (one : Listed) (item : Result Reference Error) → reads (listed_key one) ≡ found (listed_key one) → IsItemOf s found before now one item → IsItemOf s reads before now one item
+    one_item before now one (Err e) same item = subst (λ r. IsFaultOf s before now (listed_key one) r e) (sym same) item
+    one_item before now one (Ok r) same (name, target) = (name, λ may. subst (λ n. reads n ≡ found n) (sym name) same ∙ target may)
 
     module _ {F : Type 0} (honest : Type 0) (h : honest) (means : F → Meaning) (faults : F → ℕ) (now : ℕ) where
       all_items : (items : List (Result Reference Error)) (before : ℕ) (ones : List Listed) → AllByRecursion IsNameItem ones → AllByRecursion (IsInStore settings view records prefix) ones →
-          ((l : Listed) → Among (λ x. l ≡ x) ones → Among (λ x. l ≡ x) listed) → AreFirst honest means faults settings view before now ones [] items → AreItemsOf s reads ones items
-      all_items [] before ones names_are there within first = subst (λ os. AreItemsOf s reads os []) (sym first.1) tt
+          ((l : Listed) → Among (λ x. l ≡ x) ones → Among (λ x. l ≡ x) listed) → AreFirst honest means faults settings view before now ones [] items → AreItemsOf s reads before now ones items
+      all_items [] before ones names_are there within first = subst (λ os. AreItemsOf s reads before now os []) (sym first.1) first.0
       all_items (item ∷ items) before ones names_are there within (mid, one, more, same, up, is_item, later) =
           let names' : AllByRecursion IsNameItem (one ∷ more) = subst (AllByRecursion IsNameItem) same names_are in
           let there' : AllByRecursion (IsInStore settings view records prefix) (one ∷ more) = subst (AllByRecursion (IsInStore settings view records prefix)) same there in
           let within' : (l : Listed) → Among (λ x. l ≡ x) (one ∷ more) → Among (λ x. l ≡ x) listed = λ l w. within l (subst (λ os. Among (λ x. l ≡ x) os) (sym same) w) in
-          subst (λ os. AreItemsOf s reads os (item ∷ items)) (sym same) (
-            one_item one item (agree_at one names'.0 there'.0) (one_target settings plainly view records prefix listed is honest h names before mid one item names'.0 (within' one (inl refl)) there'.0 is_item),
+          subst (λ os. AreItemsOf s reads before now os (item ∷ items)) (sym same) (
+            mid,
+            up,
+            one_item before mid one item (agree_at one names'.0 there'.0) (one_target settings view composed records prefix listed is honest h names before mid one item names'.0 (within' one (inl refl)) there'.0 is_item),
             all_items items mid more names'.1 there'.1 (λ l w. within' l (inr w)) later,
           )
 
-      pub lists_readings : (items : List (Result Reference Error)) (before : ℕ) → AreFirst honest means faults settings view before now listed [] items → ListsReadings s reads prefix items
+      pub lists_readings : (items : List (Result Reference Error)) (before : ℕ) → AreFirst honest means faults settings view before now listed [] items → ListsReadings s reads before now prefix items
       lists_readings items before first = record {
         listed = listed;
         ascending = is.ascending;
         all = λ name listable there.
-            all_given settings plainly view records prefix listed is name listable (subst (λ r. is_there r ≡ true) (agree name listable.valid listable.begins) there);
-        only = all_read listed names is.only (only_given settings plainly view records prefix listed is names);
+            all_given settings view composed records prefix listed is name listable (subst (λ r. is_there r ≡ true) (agree name listable.valid listable.begins) there);
+        only = all_read listed names is.only (only_given settings view composed records prefix listed is names);
         targets = all_items items before listed names is.only (λ l w. w) first;
       }
+
+-- ---- counts of faults
+
+-- a count that rose from a greater one
+risen_from : (before mid now : ℕ) → before ≤ mid → HasRisen mid now → HasRisen before now
+risen_from before mid now le (inl below) = inl (omega (arith, le, below))
+risen_from before mid now le (inr top) = inr top
+
+-- and to a greater one
+risen_to : (before mid now : ℕ) → mid ≤ now → HasRisen before mid → HasRisen before now
+risen_to before mid now le (inl below) = inl (omega (arith, le, below))
+risen_to before mid now le (inr top) = inr (omega (arith, le, top))
+
+module _ (honest : Type 0) (settings : Settings) (view : View) where
+  item_from : (before mid now : ℕ) (one : Listed) (item : Result Reference Error) → before ≤ mid → IsItem honest settings view mid now one item → IsItem honest settings view before now one item
+  item_from before mid now (InPacked own) item le is = is
+  item_from before mid now (Walked (key, File name path)) (Ok r) le is = is
+  item_from before mid now (Walked (key, File name path)) (Err (ReadFileContents (file_error source) at)) le is = ⊎_elim (λ risen. inl (risen_from before mid now le risen.0, risen.1, risen.2)) (λ gone. inr gone) is
+  item_from before mid now (Walked (key, File name path)) (Err (ReadFileContents DeviceName at)) le is = is
+  item_from before mid now (Walked (key, File name path)) (Err (ReferenceCreation source at)) le is = is
+  item_from before mid now (Walked (key, File name path)) (Err Memory) le is = is
+  item_from before mid now (Walked (key, File name path)) (Err (Traversal source at)) le is = is
+  item_from before mid now (Walked (key, File name path)) (Err (PackedReference line number)) le is = is
+  item_from before mid now (Walked (key, Unlisted path source)) (Ok r) le is = is
+  item_from before mid now (Walked (key, Unlisted path source)) (Err error) le is = is
+
+module _ {F : Type 0} (honest : Type 0) (means : F → Meaning) (faults : F → ℕ) where
+  -- the same items between counts that are farther apart
+  first_to : (settings : Settings) (view : View) (before mid now : ℕ) (listed rest : List Listed) (items : List (Result Reference Error)) → mid ≤ now →
+      AreFirst honest means faults settings view before mid listed rest items → AreFirst honest means faults settings view before now listed rest items
+  first_to settings view before mid now listed rest [] le are = (omega (arith, are.0, le), are.1)
+  first_to settings view before mid now listed rest (item ∷ items) le (m, one, more, same, up, is, later) = (m, one, more, same, up, is, first_to settings view m mid now more rest items le later)
+
+  first_from : (settings : Settings) (view : View) (before mid now : ℕ) (listed rest : List Listed) (items : List (Result Reference Error)) → before ≤ mid →
+      AreFirst honest means faults settings view mid now listed rest items → AreFirst honest means faults settings view before now listed rest items
+  first_from settings view before mid now listed rest [] le are = (omega (arith, are.0, le), are.1)
+  first_from settings view before mid now listed rest (item ∷ items) le (m, one, more, same, up, is, later) = (m, one, more, same, omega (arith, le, up), item_from honest settings view before mid m one item le is, later)
 
 -- ---- items that are taken one after the other
 
@@ -154,30 +200,40 @@ module _ {F : Type 0} (honest : Type 0) (means : F → Meaning) (faults : F → 
 
   -- ---- the whole listing
 
-  pub items_in : (old : Store F) (records : List Record) (prefix : List ℕ) (it t : LooseThenPacked F Remaining) (items : List (Result Reference Error)) → Lists honest means faults old records prefix it →
-      GivesAll honest means faults it t items → AreItemsIn honest means faults old records prefix items
-  items_in old records prefix it t items l all =
+  -- the count of faults does not fall while items are given
+  rises : (settings : Settings) (view : View) (before now : ℕ) (listed rest : List Listed) (items : List (Result Reference Error)) → AreFirst honest means faults settings view before now listed rest items → before ≤ now
+  rises settings view before now listed rest [] first = first.0
+  rises settings view before now listed rest (item ∷ items) (mid, one, more, same, up, is, later) = let on = rises settings view mid now more rest items later in omega (arith, up, on)
+
+  -- the items of a listing whose iterator ended in the store `new`
+  pub items_in : (start new : Store F) (records : List Record) (prefix : List ℕ) (it t : LooseThenPacked F Remaining) (items : List (Result Reference Error)) → Lists honest means faults start records prefix it →
+      GivesAll honest means faults it t items → store_of t ≡ new → AreItemsIn honest means faults start (faults (files_of start)) (faults (files_of new)) records prefix items
+  items_in start new records prefix it t items l all is =
       let first = l.runs items all.last all.gives in
+      let last : count_in honest means faults all.last ≤ faults (files_of new) = subst (λ (x : Store F). count_in honest means faults all.last ≤ faults (files_of x)) is all.ends.gives.rises in
+      let given = rises (settings_of start) (view_in means start) (count_in honest means faults it) (count_in honest means faults all.last) l.listed first.rest items first.first in
       record {
         listed = l.listed;
         is = l.is;
-        before = count_in honest means faults it;
-        now = count_in honest means faults all.last;
-        first = subst (λ rest. AreFirst honest means faults (settings_of old) (view_in means old) (count_in honest means faults it) (count_in honest means faults all.last) l.listed rest items) (first.ends t all.ends) first.first;
+        names = ⊎_elim (λ names. inl names) (λ risen. inr (risen_to (faults (files_of start)) (count_in honest means faults it) (faults (files_of new)) (omega (arith, last, given)) risen)) l.names;
+        first = subst (λ rest. AreFirst honest means faults (settings_of start) (view_in means start) (faults (files_of start)) (faults (files_of new)) l.listed rest items) (first.ends t all.ends)
+            (first_from honest means faults (settings_of start) (view_in means start) (faults (files_of start)) (count_in honest means faults it) (faults (files_of new)) l.listed first.rest items l.counts
+            (first_to honest means faults (settings_of start) (view_in means start) (count_in honest means faults it) (count_in honest means faults all.last) (faults (files_of new)) l.listed first.rest items last first.first));
       }
 
-  -- the items of a listing of a store that was looked at before
-  abbrev AreOf : (records : List Record) (prefix : List ℕ) (items : List (Result Reference Error)) → Settings → View → Type 0
-  AreOf records prefix items settings view =
-      (listed : List Listed) × IsListing settings view records prefix listed × ((before now : ℕ) × AreFirst honest means faults settings view before now listed [] items)
+  -- the items of a listing of a store that was looked at before, without a fault
+  abbrev AreOf : (now : ℕ) (records : List Record) (prefix : List ℕ) (items : List (Result Reference Error)) → Settings → View → ℕ → Type 0
+  AreOf now records prefix items settings view before =
+      (listed : List Listed) × IsListing settings view records prefix listed × (AllByRecursion IsNameItem listed ⊎ HasRisen before now) × AreFirst honest means faults settings view before now listed [] items
 
-  pub items_from : (old mid : Store F) (records : List Record) (prefix : List ℕ) (items : List (Result Reference Error)) → honest → LooksUp honest means old mid → AreItemsIn honest means faults mid records prefix items →
-      AreItemsIn honest means faults old records prefix items
-  items_from old mid records prefix items h looks are =
-      let moved : AreOf records prefix items (settings_of old) (view_in means old) =
-      subst (λ (T : Tree). AreOf records prefix items (settings_of old) (view_of T)) (looks.leaves h).tree
-      (subst (λ (x : Settings). AreOf records prefix items x (view_in means mid)) (sym (same_settings old mid looks.same)) (are.listed, are.is, (are.before, are.now, are.first))) in
-      record { listed = moved.0; is = moved.1; before = moved.2.0; now = moved.2.1; first = moved.2.2 }
+  items_from : (old mid : Store F) (before now : ℕ) (records : List Record) (prefix : List ℕ) (items : List (Result Reference Error)) → honest → LooksUp honest means old mid → faults (files_of mid) ≡ before →
+      AreItemsIn honest means faults mid (faults (files_of mid)) now records prefix items → AreItemsIn honest means faults old before now records prefix items
+  items_from old mid before now records prefix items h looks count are =
+      let moved : AreOf now records prefix items (settings_of old) (view_in means old) before =
+      subst (λ (n : ℕ). AreOf now records prefix items (settings_of old) (view_in means old) n) count
+      (subst (λ (T : Tree). AreOf now records prefix items (settings_of old) (view_of T) (faults (files_of mid))) (looks.leaves h).tree
+      (subst (λ (x : Settings). AreOf now records prefix items x (view_in means mid) (faults (files_of mid))) (sym (same_settings old mid looks.same)) (are.listed, are.is, are.names, are.first))) in
+      record { listed = moved.0; is = moved.1; names = moved.2; first = moved.3 }
 
   one_is_name : (settings : Settings) (view : View) (before now : ℕ) (one : Listed) (item : Result Reference Error) → IsItem honest settings view before now one item → IsNoFolder item → IsNameItem one
   one_is_name settings view before now (InPacked own) item is plain = tt
@@ -199,36 +255,64 @@ module _ {F : Type 0} (honest : Type 0) (means : F → Meaning) (faults : F → 
   begins_on : (name prefix front : List ℕ) → BeginsWith name prefix → BeginsWith prefix front → BeginsWith name front
   begins_on name prefix front (rest, is) (more, begins) = (more ++ rest, is ∙ (ap (λ p. p ++ rest) begins ∙ append_assoc front more rest))
 
-  pub lists_edited : (old mid new : Store F) (given : List RefEdit) (left : List Path) → ReadsEdited honest means faults old mid given left → IsSameStore old mid → LooksUp honest means mid new → (prefix : List ℕ) (items : List (Result Reference Error)) →
-      (honest → (records : List Record) → AreRecordsIn means mid records → AreItemsIn honest means faults mid records prefix items) → ListsEdited honest means faults old new given left prefix items
-  lists_edited old mid new given left made same looks prefix items are = record {
-    made = still_made honest means faults old mid new given left made same looks;
-    lists = λ h good below plain no_folder.
-        let again = made.good h good in
-        let all = are h again.0 again.1 in
-        let back = packed_back honest means faults old mid same again.0 again.1 in
-        let same_records = computed (folders old) (kind_of old) old.prohibit_windows_device_names (view_in means mid (meaning_of old).packed_path) again.0 back in
-        subst (λ (split : List RefEdit). ListsReadings (meaning_of old) (reads_after honest means faults old split) prefix items) (sym (still_split honest means faults old mid new given left made same looks))
-        (subst (λ (s : Places). ListsReadings s (reads_after honest means faults old made.split) prefix items) (same_meaning old mid same)
-        (lists_readings (settings_of mid) (same.composes ∙ plain) (view_in means mid) again.0 prefix all.listed all.is (reads_after honest means faults old made.split)
-        (λ name valid begins.
-        sym (made.reads h good name (is_reference old name valid (begins_on name prefix (codes "refs/") begins below)))
-        ∙ (ap (λ rs. reading_among (meaning_of old) (view_in means mid) rs name) same_records
-        ∙ ap (λ s. reading_among s (view_in means mid) again.0 name) (sym (same_meaning old mid same))))
-        (all_names (settings_of mid) (view_in means mid) items all.before all.now all.listed all.first no_folder) honest h means faults all.now items all.before all.first));
-  }
+  -- the items by what each reference reads as edited
+  names_edited : (old mid new : Store F) (given : List RefEdit) (left : List Path) (made : ReadsEdited honest means faults old mid given left) → IsSameStore old mid → LooksUp honest means mid new → (prefix : List ℕ) (items : List (Result Reference Error)) →
+      (honest → (records : List Record) → AreRecordsIn means mid records → AreItemsIn honest means faults mid (faults (files_of mid)) (faults (files_of new)) records prefix items) → ListsNames honest means faults old mid new made.split prefix items
+  names_edited old mid new given left made same looks prefix items are h good below composed no_folder =
+      let again = made.good h good in
+      let before = faults (files_of mid) in
+      let now = faults (files_of new) in
+      let all = are h again.0 again.1 in
+      let back = packed_back honest means faults old mid same again.0 again.1 in
+      let same_records = computed (folders old) (kind_of old) old.prohibit_windows_device_names (view_in means mid (meaning_of old).packed_path) again.0 back in
+      let all_composed : AreComposed (settings_of mid) (view_in means mid) =
+      subst (λ (T : Tree). AreComposed (settings_of mid) (view_of T)) (looks.leaves h).tree
+      (subst (λ (x : Settings). AreComposed x (view_in means new)) (same_settings old mid same) composed) in
+      subst (λ (s : Places). ListsReadings s (reads_after honest means faults old made.split) before now prefix items) (same_meaning old mid same)
+      (lists_readings (settings_of mid) (view_in means mid) all_composed again.0 prefix all.listed all.is (reads_after honest means faults old made.split)
+      (λ name valid begins.
+      sym (made.reads h good name (is_reference old name valid (begins_on name prefix (codes "refs/") begins below)))
+      ∙ (ap (λ rs. reading_among (meaning_of old) (view_in means mid) rs name) same_records
+      ∙ ap (λ s. reading_among s (view_in means mid) again.0 name) (sym (same_meaning old mid same))))
+      (all_names (settings_of mid) (view_in means mid) items before now all.listed all.first no_folder) honest h means faults now items before all.first)
 
   -- and so as the result of a listing
-  pub listed_edited : {E : Type 0} (old mid new : Store F) (given : List RefEdit) (left : List Path) → ReadsEdited honest means faults old mid given left → IsSameStore old mid → LooksUp honest means mid new → (prefix : List ℕ) →
-      (r : Result (Vec (Result Reference Error) Global) E) → (honest → (records : List Record) → AreRecordsIn means mid records → IfOk r (λ all. AreItemsIn honest means faults mid records prefix all.items)) →
-      IfOk r (λ all. ListsEdited honest means faults old new given left prefix all.items)
-  listed_edited old mid new given left made same looks prefix (Ok all) are = lists_edited old mid new given left made same looks prefix all.items are
-  listed_edited old mid new given left made same looks prefix (Err e) are = tt
+  pub listed_edited : {R : Type 0} (G : Ghosts R) (old mid new : Store F) (given : List RefEdit) (left : List Path) → ReadsEdited honest means faults old mid given left → IsSameStore old mid → LooksUp honest means mid new → (prefix : List ℕ) →
+      (r : Result (Vec (Result Reference Error) Global) PrefixError) → ListsIn honest means faults G mid new prefix r → ListsEdited honest means faults G old mid new given left prefix r
+  listed_edited G old mid new given left made same looks prefix r listing = record {
+    made = still_made honest means faults old mid new given left made same looks;
+    listing = listing;
+    changes = looks;
+    lists = by r listing;
+  }
+    where
+      by : (r : Result (Vec (Result Reference Error) Global) PrefixError) → ListsIn honest means faults G mid new prefix r →
+          IfOk r (λ all. ListsNames honest means faults old mid new (still_made honest means faults old mid new given left made same looks).split prefix all.items)
+      by (Ok all) listing =
+          subst (λ (split : List RefEdit). ListsNames honest means faults old mid new split prefix all.items) (sym (still_split honest means faults old mid new given left made same looks))
+          (names_edited old mid new given left made same looks prefix all.items listing.1)
+      by (Err e) listing = tt
 
-  pub listed_from : {E : Type 0} (old mid : Store F) (records : List Record) (prefix : List ℕ) → honest → LooksUp honest means old mid → (r : Result (Vec (Result Reference Error) Global) E) →
-      IfOk r (λ all. AreItemsIn honest means faults mid records prefix all.items) → IfOk r (λ all. AreItemsIn honest means faults old records prefix all.items)
-  listed_from old mid records prefix h looks (Ok all) are = items_from old mid records prefix all.items h looks are
-  listed_from old mid records prefix h looks (Err e) are = tt
+  -- a prefix without a listing
+  no_listing : {R : Type 0} (G : Ghosts R) (start new : Store F) (prefix : List ℕ) (error : PrefixError) → (error ≡ no_list.Memory) ⊎ IsRefusedPrefix start.namespace prefix error → IsNoListing honest means faults G start new prefix error
+  no_listing G start new prefix no_list.Memory why = tt
+  no_listing G start new prefix no_list.EmptyPrefix (inl none) = cc
+  no_listing G start new prefix no_list.EmptyPrefix (inr refused) = refused
+  no_listing G start new prefix no_list.PrefixNotClean (inl none) = cc
+  no_listing G start new prefix no_list.PrefixNotClean (inr refused) = refused
+  no_listing G start new prefix (no_list.PackedOpen error) (inl none) = cc
+  no_listing G start new prefix (no_list.PackedOpen error) (inr refused) = absurd refused
+
+  -- a listing among the records that were read before it, without a fault
+  pub listed_from : {R : Type 0} (G : Ghosts R) (old mid new : Store F) (prefix : List ℕ) (Are : List Record → Type 0) → LooksUp honest means old mid → faults (files_of mid) ≡ faults (files_of old) →
+      (honest → (records : List Record) → AreRecordsIn means old records → Are records) → (r : Result (Vec (Result Reference Error) Global) PrefixError) →
+      ListsAmong honest means faults mid new prefix Are r → ListsIn honest means faults G old new prefix r
+  listed_from G old mid new prefix Are looks count read (Ok all) (taken, among) = (
+    subst (λ (n : Option Namespace). IsAcceptedPrefix n prefix) looks.same.namespace taken,
+    λ h records are. items_from old mid (faults (files_of old)) (faults (files_of new)) records prefix all.items h looks count (among h records (read h records are)),
+  )
+  listed_from G old mid new prefix Are looks count read (Err error) why =
+      no_listing G old new prefix error (subst (λ (n : Option Namespace). (error ≡ no_list.Memory) ⊎ IsRefusedPrefix n prefix error) looks.same.namespace why)
 
   -- what was read for a prefix is held for it, as it is lent
   pub read_for : (old mid : Store F) (prefix : List ℕ) (found : Option Buffer) (lent : Option (Bor Buffer)) (records : List Record) → LooksUp honest means old mid →

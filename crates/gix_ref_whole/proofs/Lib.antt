@@ -1,4 +1,5 @@
 pub mod Committed
+pub mod DueLemmas
 pub mod EditedListings
 pub mod FoundNames
 pub mod ListedNames

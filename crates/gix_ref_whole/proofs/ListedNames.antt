@@ -17,12 +17,12 @@ use Rattle.gix_ref_theory.specs.Lookups.{is_there}
 use Rattle.gix_ref_theory.specs.Readings.{Store, Reading, reading_among, reading_by, reading_of_loose, reading_of_id, reading_of_record}
 use Rattle.gix_ref_theory.specs.Readings.Reading.{Is, Fault, Absent}
 use Rattle.gix_ref_theory.specs.Views.{View}
-use Rattle.gix_ref_lookup.specs.Lookups.{meaning_in, name_asked, Among}
+use Rattle.gix_ref_lookup.specs.Lookups.{meaning_in, Among}
 use Rattle.gix_ref_lookup.specs.declared.settings.Settings.{Settings}
 use Rattle.gix_ref_listing.specs.Items.{IsItem, IsUnread}
 use Rattle.gix_ref_listing.specs.Listings.{Listed}
 use Rattle.gix_ref_listing.specs.Listings.Listed.{Walked, InPacked}
-use Rattle.gix_ref_listing.specs.LooseListings.{IsFront, IsLooseListed}
+use Rattle.gix_ref_listing.specs.LooseListings.{IsFileListed, IsFront, IsLooseListed}
 use Rattle.gix_ref_listing.specs.OwnRecords.{Own}
 use Rattle.gix_ref_listing.specs.WholeListings.{IsInStore, IsListing, IsLooseOf, IsNameItem, IsOf, Rises, key_in, listed_key}
 use Rattle.gix_ref_listing.specs.declared.error.Error.{Error}
@@ -30,7 +30,7 @@ use Rattle.gix_ref_listing.specs.declared.found.Found.TheVariants.{File, Unliste
 use Rattle.gix_ref_listing.specs.declared.error.Error.TheVariants.{Traversal, ReadFileContents, ReferenceCreation, PackedReference, Memory}
 use Rattle.gix_ref_lookup.specs.declared.find.error.ReadError.TheVariants.{File as file_error, DeviceName}
 use Rattle.gix_ref_lookup.proofs.LooseLemmas.{refused_none}
-use Rattle.gix_ref_whole.specs.ListedReadings.{IsFaultOf, IsAllowed, IsItemOf, IsListable}
+use Rattle.gix_ref_whole.specs.ListedReadings.{AreComposed, IsFaultOf, IsAllowed, IsItemOf, IsListable}
 use Rattle.gix_ref_whole.proofs.OwnPlaces.{own_key, own_place, place_of_own_key}
 
 -- ---- lists
@@ -113,7 +113,7 @@ there_anyway : (prohibited : Bool) (reads : Reading) → is_there reads ≡ true
 there_anyway true reads h = refl
 there_anyway false reads h = h
 
-module _ (settings : Settings) (plainly : settings.precompose_unicode ≡ false) (view : View) (records : List Record) where
+module _ (settings : Settings) (view : View) (composed : AreComposed settings view) (records : List Record) where
   abbrev s : Store
   s = meaning_in settings
 
@@ -123,13 +123,16 @@ module _ (settings : Settings) (plainly : settings.precompose_unicode ≡ false)
   allowed : (name : List ℕ) → IsAllowed s name → reads name ≡ reading_by s (s.key name) (view (s.place name)) records
   allowed name may = cond-false (s.is_prohibited (s.place name)) Fault (reading_by s (s.key name) (view (s.place name)) records) may
 
-  asked_plainly : (name : List ℕ) → name_asked settings.precompose_unicode name ≡ name
-  asked_plainly name = ap (λ b. name_asked b name) plainly
-
   -- a name with a file at its own place is listed for it
   loose_listed : (prefix name : List ℕ) → IsPartialName name → BeginsWith name prefix → (front : List ℕ) × IsFront settings front × (s.place name ≡ front ++ name) → IsSome (view (s.place name)) → IsLooseListed settings view prefix name
   loose_listed prefix name valid begins (front, of, own) there =
-      (front, of, record { placed = record { valid = valid; begins = begins; own = own }; composed = asked_plainly name; there = subst (λ p. IsSome (view p)) own there })
+      let at : IsSome (view (front ++ name)) = subst (λ p. IsSome (view p)) own there in
+      (front, of, record { placed = record { valid = valid; begins = begins; own = own }; composed = composed front name of at; there = at })
+
+  -- the name that is listed is that of the file
+  at_place : (prefix name path : List ℕ) → IsFileListed settings view prefix name path → s.place name ≡ path
+  at_place prefix name path file =
+      file.placed.own ∙ (ap (λ d. file.front ++ d) (file.asked ∙ composed file.front file.disk file.of (subst (λ p. IsSome (view p)) file.at file.there)) ∙ sym file.at)
 
   module _ (prefix : List ℕ) (listed : List Listed) (is : IsListing settings view records prefix listed) where
     -- each name that reads something is given
@@ -154,7 +157,7 @@ module _ (settings : Settings) (plainly : settings.precompose_unicode ≡ false)
     one_there : (one : Listed) → IsNameItem one → IsInStore settings view records prefix one → is_there (reads (listed_key one)) ≡ true
     one_there (Walked (key, Unlisted path e)) name found = absurd name
     one_there (Walked (key, File n path)) name (named, file) =
-        let at : s.place key.items ≡ path.items = file.placed.own ∙ (ap (λ d. file.front ++ d) (file.asked ∙ asked_plainly file.disk) ∙ sym file.at) in
+        let at = at_place prefix key.items path.items file in
         there_anyway (s.is_prohibited (s.place key.items)) (reading_by s (s.key key.items) (view (s.place key.items)) records)
         (by_file s (s.key key.items) (view (s.place key.items)) records (subst (λ p. IsSome (view p)) (sym at) file.there))
     one_there (InPacked own) name (there, has) =
@@ -168,17 +171,19 @@ module _ (settings : Settings) (plainly : settings.precompose_unicode ≡ false)
     pub only_given : AllByRecursion IsNameItem listed → AllByRecursion (λ one. is_there (reads (listed_key one)) ≡ true) listed
     only_given names = all_there listed names is.only
 
-    -- a file that holds no target reads a fault
-    fault_of : (honest : Type 0) → honest → (before now : ℕ) (name key path : List ℕ) (e : Error) → s.place key ≡ path → IsUnread honest settings.kind s view before now name path e → IsFaultOf (reads key) e
-    fault_of honest h before now name key path (ReadFileContents (file_error source) p) at unread = tt
-    fault_of honest h before now name key path (ReadFileContents DeviceName p) at unread = tt
-    fault_of honest h before now name key path Memory at unread = tt
-    fault_of honest h before now name key path (Traversal source p) at unread = unread
-    fault_of honest h before now name key path (PackedReference line number) at unread = unread
-    fault_of honest h before now name key path (ReferenceCreation source p) at unread =
+    -- a file that holds no target reads a fault; and one that is there could not be read only where a call of files failed
+    fault_of : (honest : Type 0) → honest → (before now : ℕ) (name key path : List ℕ) (e : Error) → s.place key ≡ path → name ≡ key → IsSome (view path) → IsUnread honest settings.kind s view before now name path e →
+        IsFaultOf s before now key (reads key) e
+    fault_of honest h before now name key path (ReadFileContents (file_error source) p) at named there (inl failed) = (failed.0, failed.2 ∙ sym at)
+    fault_of honest h before now name key path (ReadFileContents (file_error source) p) at named there (inr gone) = absurd (none_there (subst (λ (f : Option (List ℕ)). IsSome f) (gone.0 h) there))
+    fault_of honest h before now name key path (ReadFileContents DeviceName p) at named there unread = (ap s.is_prohibited at ∙ unread.0, unread.1 ∙ sym at)
+    fault_of honest h before now name key path Memory at named there unread = tt
+    fault_of honest h before now name key path (Traversal source p) at named there unread = unread
+    fault_of honest h before now name key path (PackedReference line number) at named there unread = unread
+    fault_of honest h before now name key path (ReferenceCreation source p) at named there unread =
         let undecoded = unread.1 h in
         let none = refused_none settings.kind undecoded.0 source undecoded.2 undecoded.3 in
-        by (s.is_prohibited (s.place key)) (ap (λ f. reading_by s (s.key key) f records) (ap view at ∙ undecoded.1) ∙ ap (reading_of_loose s) none)
+        (by (s.is_prohibited (s.place key)) (ap (λ f. reading_by s (s.key key) f records) (ap view at ∙ undecoded.1) ∙ ap (reading_of_loose s) none), unread.0 ∙ named)
       where
         by : (prohibited : Bool) → reading_by s (s.key key) (view (s.place key)) records ≡ Fault → (if prohibited then Fault else reading_by s (s.key key) (view (s.place key)) records) ≡ Fault
         by true is = refl
@@ -186,15 +191,15 @@ module _ (settings : Settings) (plainly : settings.precompose_unicode ≡ false)
 
     -- and each reference has the target that it reads
     pub one_target : (honest : Type 0) → honest → AllByRecursion IsNameItem listed → (before now : ℕ) (one : Listed) (item : Result Reference Error) → IsNameItem one → Among (λ l. one ≡ l) listed → IsInStore settings view records prefix one →
-        IsItem honest settings view before now one item → IsItemOf s reads one item
+        IsItem honest settings view before now one item → IsItemOf s reads before now one item
     one_target honest h names before now (Walked (key, Unlisted path source)) (Err e) is_name within found item = absurd is_name
     one_target honest h names before now (Walked (key, File n path)) (Err e) is_name within (named, file) item =
-        fault_of honest h before now (full_bytes n) key.items path.items e (file.placed.own ∙ (ap (λ d. file.front ++ d) (file.asked ∙ asked_plainly file.disk) ∙ sym file.at)) item
-    one_target honest h names before now (InPacked own) (Err e) is_name within found item = subst (IsFaultOf (reads own.name)) (sym item) tt
+        fault_of honest h before now (full_bytes n) key.items path.items e (at_place prefix key.items path.items file) named file.there item
+    one_target honest h names before now (InPacked own) (Err e) is_name within found item = subst (IsFaultOf s before now own.name (reads own.name)) (sym item) tt
     one_target honest h names before now (Walked (key, Unlisted path e)) (Ok r) is_name within found item = absurd item
     one_target honest h names before now (Walked (key, File n path)) (Ok r) is_name within (named, file) item =
         let name : full_bytes r.name ≡ key.items = ap full_bytes item.0 ∙ named in
-        let at : s.place key.items ≡ path.items = file.placed.own ∙ (ap (λ d. file.front ++ d) (file.asked ∙ asked_plainly file.disk) ∙ sym file.at) in
+        let at = at_place prefix key.items path.items file in
         let loose = item.1 h in (
           name,
           subst (λ n. IsAllowed s n → reads n ≡ Is (target_value r.target)) (sym name)

@@ -10,6 +10,8 @@ use Rattle.gix_ref_theory.specs.Readings.{Store, Reading, reading, records_of_fi
 use Rattle.gix_ref_theory.specs.Readings.Reading.{Is, Fault, Absent}
 use Rattle.gix_ref_theory.specs.Views.{View}
 use Rattle.gix_ref_lookup.specs.Lookups.{Answers, IsSound, name_asked}
+use Rattle.gix_ref_lookup.specs.declared.find.error.Error.{Error as FindError}
+use Rattle.gix_ref_lookup.specs.declared.find.error.Error.TheVariants.{Memory}
 use Rattle.gix_ref_lookup.specs.declared.find.existing.Error.{Error as Missing}
 use Rattle.gix_ref_lookup.specs.declared.find.existing.Error.TheVariants.{Find, NotFound}
 
@@ -37,8 +39,16 @@ AnswersName s view name (Is target) None = ⊥
 AnswersName s view name Fault found = ⊥
 AnswersName s view name Absent found = Answers (lookup s view (records_of_file s (view s.packed_path)) (further name) (remote_head name)) found
 
+-- Why a lookup of such a name has an error: there was no memory; or, where the name reads a target, a call of files failed. Where it
+-- reads a fault, that is one; where it reads nothing, one of the further names may have one.
+abbrev pub FailsAs : (failed : Type 0) → Reading → FindError → Type 0
+FailsAs failed reading Memory = Unit {0}
+FailsAs failed (Is target) error = failed
+FailsAs failed Fault error = Unit {0}
+FailsAs failed Absent error = Unit {0}
+
 -- and so as the result of `find`; the error of a lookup is a fault of files, a file that cannot be decoded, or want of memory
-abbrev pub IsFoundAs : Store → View → List ℕ → Reading → Result Reference Missing → Type 0
-IsFoundAs s view name reading (Ok r) = AnswersName s view name reading (Some r)
-IsFoundAs s view name reading (Err (NotFound partial)) = AnswersName s view name reading None
-IsFoundAs s view name reading (Err (Find error)) = IsSound error
+abbrev pub IsFoundAs : Store → View → List ℕ → (failed : Type 0) → Reading → Result Reference Missing → Type 0
+IsFoundAs s view name failed reading (Ok r) = AnswersName s view name reading (Some r)
+IsFoundAs s view name failed reading (Err (NotFound partial)) = AnswersName s view name reading None
+IsFoundAs s view name failed reading (Err (Find error)) = IsSound error × FailsAs failed reading error

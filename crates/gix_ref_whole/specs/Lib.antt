@@ -1,4 +1,5 @@
 pub mod EditedReadings
+pub mod FoundReferences
 pub mod ListedItems
 pub mod ListedReadings
 pub mod Outside

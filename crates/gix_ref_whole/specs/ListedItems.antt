@@ -1,14 +1,22 @@
 -- The items of a whole listing of a store.
-use Rattle.std.specs.Prelude.{◌≡◌, ◌++◌, ℕ, Bool, List, [], Option, None, Result, is_some, option_to_list}
+use Rattle.std.specs.Prelude.{◌≡◌, ◌⊎◌, ◌++◌, ℕ, Bool, List, [], Option, None, Result, Ok, Err, Vec, is_some, option_to_list}
+use Rattle.std.specs.List.{AllByRecursion}
+use Rattle.std.specs.declared.alloc.Global.{Global}
 use Rattle.std.specs.Iterator.{Yields}
 use Rattle.gix_ref_base.specs.PackedRecords.{Record}
-use Rattle.gix_ref_files.specs.Files.{Meaning}
+use Rattle.gix_ref_files.specs.Files.{Meaning, HasRisen}
+use Rattle.gix_ref_files.specs.declared.files.ReadAt.{Ghosts}
+use Rattle.gix_ref_packed.specs.OpenFiles.{CountsRefusal}
 use Rattle.gix_ref_records.specs.declared.raw.Reference.{Reference}
 use Rattle.gix_ref_listing.specs.Listings.{Listed}
-use Rattle.gix_ref_listing.specs.WholeListings.{IsListing}
+use Rattle.gix_ref_listing.specs.CleanPrefixes.{IsAcceptedPrefix, IsRefusedPrefix}
+use Rattle.gix_ref_listing.specs.WholeListings.{IsListing, IsNameItem}
 use Rattle.gix_ref_listing.specs.declared.error.Error.{Error}
+use Rattle.gix_ref_listing.specs.declared.prefix.Error.{Error as PrefixError}
+use Rattle.gix_ref_listing.specs.declared.prefix.Error.TheVariants.{PackedOpen, Memory}
 use Rattle.gix_ref_store.specs.Listings.{AreFirst, NextItem}
-use Rattle.gix_ref_store.specs.Lookup.{settings_of, view_in}
+use Rattle.gix_ref_store.specs.Lookup.{AreRecordsIn, RefusesBuffer, settings_of, view_in}
+use Rattle.gix_ref_store.specs.Store.{files_of}
 use Rattle.gix_ref_store.specs.declared.file.iter.LooseThenPacked.{LooseThenPacked}
 use Rattle.gix_ref_store.specs.declared.file.iter.Remaining.{Remaining}
 use Rattle.gix_ref_store.specs.declared.file.store.Store.{Store}
@@ -27,10 +35,32 @@ module _ {F : Type 0} (honest : Type 0) (means : F → Meaning) (faults : F → 
     pub gives : Yields (NextItem honest means faults) s items last
     pub ends : NextItem honest means faults last None t
 
-  -- These are the items of the listing of a prefix in a store, made between these counts of faults.
-  pub record AreItemsIn (store : Store F) (records : List Record) (prefix : List ℕ) (items : List (Result Reference Error)) : Type 0 where
+  -- These are the items of the listing of a prefix in a store, all of them, while the count of faults went from `before` to `now`. A folder
+  -- that could not be listed is among them only where that rose.
+  pub record AreItemsIn (store : Store F) (before now : ℕ) (records : List Record) (prefix : List ℕ) (items : List (Result Reference Error)) : Type 0 where
     pub listed : List Listed
     pub is : IsListing (settings_of store) (view_in means store) records prefix listed
-    pub before : ℕ
-    pub now : ℕ
+    pub names : AllByRecursion IsNameItem listed ⊎ HasRisen before now
     pub first : AreFirst honest means faults (settings_of store) (view_in means store) before now listed [] items
+
+  -- A listing of a prefix of the store `start`, which leaves `new`, among the records that `Are` accepts: the items; or the prefix has no
+  -- listing, or there was no memory.
+  abbrev pub ListsAmong : (start new : Store F) → (prefix : List ℕ) → (Are : List Record → Type 0) → Result (Vec (Result Reference Error) Global) PrefixError → Type 0
+  ListsAmong start new prefix Are (Ok all) =
+      IsAcceptedPrefix start.namespace prefix
+      × (honest → (records : List Record) → Are records → AreItemsIn start (faults (files_of start)) (faults (files_of new)) records prefix all.items)
+  ListsAmong start new prefix Are (Err error) = (error ≡ Memory) ⊎ IsRefusedPrefix start.namespace prefix error
+
+  -- why there is no listing: `packed-refs` is not opened, by a call of files that failed or for its text; the prefix has none; no memory
+  abbrev pub IsNoListing : {R : Type 0} (G : Ghosts R) → (start new : Store F) → (prefix : List ℕ) → PrefixError → Type 0
+  IsNoListing G start new prefix (PackedOpen error) =
+      honest → RefusesBuffer means start error × CountsRefusal G.faults (faults (files_of start)) (faults (files_of new)) error
+  IsNoListing G start new prefix Memory = Unit {0}
+  IsNoListing G start new prefix error = IsRefusedPrefix start.namespace prefix error
+
+  -- and a listing among the records of its `packed-refs`
+  abbrev pub ListsIn : {R : Type 0} (G : Ghosts R) → (start new : Store F) → (prefix : List ℕ) → Result (Vec (Result Reference Error) Global) PrefixError → Type 0
+  ListsIn G start new prefix (Ok all) =
+      IsAcceptedPrefix start.namespace prefix
+      × (honest → (records : List Record) → AreRecordsIn means start records → AreItemsIn start (faults (files_of start)) (faults (files_of new)) records prefix all.items)
+  ListsIn G start new prefix (Err error) = IsNoListing G start new prefix error

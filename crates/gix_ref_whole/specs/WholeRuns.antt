@@ -1,10 +1,13 @@
 -- A transaction that was committed to a store, and what is read, found and listed in the store then.
-use Rattle.std.specs.Prelude.{◌≡◌, ℕ, List, true, false, Option, Result, codes}
+use Rattle.std.specs.Prelude.{◌≡◌, ◌⊎◌, ℕ, List, true, Option, Result, Vec, IfOk, codes, length}
+use Rattle.std.specs.declared.alloc.Global.{Global}
 use Rattle.std.specs.List.{AllByRecursion}
 use Rattle.gix_ref_hash.specs.Bytes.{BeginsWith}
 use Rattle.gix_ref_files.specs.Disk.{Lost}
-use Rattle.gix_ref_files.specs.Files.{Meaning, Leaves, Loses}
+use Rattle.gix_ref_files.specs.Files.{Meaning, HasRisen, Leaves, Loses, HasRisenBy}
 use Rattle.gix_ref_files.specs.Tree.{Path, Tree}
+use Rattle.gix_ref_files.specs.declared.files.ReadAt.{Ghosts}
+use Rattle.gix_ref_packed.specs.OpenFiles.{HasReadFault}
 use Rattle.gix_ref_theory.specs.OnRealTrees.{view_of}
 use Rattle.gix_ref_theory.specs.Readings.{Reading, reading}
 use Rattle.gix_ref_records.specs.declared.raw.Reference.{Reference}
@@ -12,17 +15,27 @@ use Rattle.gix_ref_log.specs.declared.actor.SignatureRef.{SignatureRef}
 use Rattle.gix_ref_edits.specs.declared.transaction.RefEdit.{RefEdit}
 use Rattle.gix_ref_lookup.specs.declared.find.existing.Error.{Error as Missing}
 use Rattle.gix_ref_listing.specs.declared.error.Error.{Error as ItemError}
+use Rattle.gix_ref_listing.specs.declared.prefix.Error.{Error as PrefixError}
+use Rattle.gix_ref_transaction.specs.CarriedEdits.{AreCarried}
 use Rattle.gix_ref_transaction.specs.CommittedEdits.{planned}
 use Rattle.gix_ref_transaction.specs.OwnLocks.{is_in, paths_of}
+use Rattle.gix_ref_transaction.specs.PrepareSteps.{old_targets, updates}
 use Rattle.gix_ref_transaction.specs.declared.edit.Edit.{Edit}
+use Rattle.gix_ref_commit.specs.CommittedTrees.{AreCommitted}
 use Rattle.gix_ref_commit.specs.declared.error.Error.{Error as CommitError}
-use Rattle.gix_ref_store.specs.CommitResult.{EveryStopFrom, FailsFor}
-use Rattle.gix_ref_store.specs.Lookup.{composes_in, view_in}
+use Rattle.gix_ref_store.specs.CommitLines.{LinesPass, lines_due}
+use Rattle.gix_ref_store.specs.CommittedFolders.{KeepsFolders}
+use Rattle.gix_ref_store.specs.CommitResult.{EveryStopFrom, FailsFor, NoBadLineFrom, ReadsPacked}
+use Rattle.gix_ref_store.specs.Lookup.{LooksUp, composes_in, settings_of, view_in}
 use Rattle.gix_ref_store.specs.Prepared.{HasGoodRecords, IsAtRest, PreparesGiven, RefusesGiven, SplitsGiven, disk_in, locks_in, tree_of}
 use Rattle.gix_ref_store.specs.Store.{files_of, folders, meaning_of}
 use Rattle.gix_ref_store.specs.declared.file.store.Store.{Store}
+use Rattle.gix_ref_store.specs.declared.file.transaction.outcome.Done.{Done}
+use Rattle.gix_ref_store.specs.declared.file.transaction.packed_refs.PackedRefs.TheVariants.{DeletionsOnly}
 use Rattle.gix_ref_whole.specs.EditedReadings.{IsAskedFirst, IsFoundAs, reading_after}
-use Rattle.gix_ref_whole.specs.ListedReadings.{IsNoFolder, ListsReadings}
+use Rattle.gix_ref_whole.specs.FoundReferences.{FindsIn}
+use Rattle.gix_ref_whole.specs.ListedItems.{ListsIn}
+use Rattle.gix_ref_whole.specs.ListedReadings.{AreComposed, IsNoFolder, ListsReadings}
 use Rattle.gix_ref_whole.specs.Outside.{IsLock, IsOneOf, OutsideIsAsBefore}
 use Rattle.gix_ref_whole.specs.declared.error.Error.{Error}
 use Rattle.gix_ref_whole.specs.declared.error.Error.TheVariants.{Prepare, Commit}
@@ -46,8 +59,7 @@ module _ {F : Type 0} (honest : Type 0) (means : F → Meaning) (faults : F → 
 
   -- Edits that were committed: of the store `old` they made `new`, and these locks stay. They are the split list of those that were given,
   -- of the composed names where the store composes names; where it does not, and none follows a symbolic reference, they are the given
-  -- ones. Where `packed-refs` was well formed or missing, it is so again,
-  -- and each reference reads as edited.
+  -- ones. Where `packed-refs` was well formed or missing, it is so again, and each reference reads as edited.
   pub record ReadsEdited (old new : Store F) (given : List RefEdit) (left : List Path) : Type 0 where
     pub split : List RefEdit
     pub splits : SplitsGiven honest means faults old given split
@@ -69,18 +81,76 @@ module _ {F : Type 0} (honest : Type 0) (means : F → Meaning) (faults : F → 
     -- and a loss of power meanwhile leaves all outside of the namespace
     pub losses : honest → HasGoodRecords means old → IsAtRest means old → LossesOutside old new
 
-  -- And a lookup of a full name after them finds what the name reads as edited.
-  pub record FindsEdited (old new : Store F) (given : List RefEdit) (left : List Path) (name : List ℕ) (found : Result Reference Missing) : Type 0 where
-    pub made : ReadsEdited old new given left
-    pub finds : honest → HasGoodRecords means old → IsAskedFirst (meaning_of old) (composes_in true old) name →
-        IsFoundAs (meaning_of old) (view_in means new) name (reads_after old made.split name) found
+  -- A commit of edits that were prepared, and what it returned: the edits as they were prepared, each with what was found of it in the
+  -- files before, and the mode that a transaction begins with. Of the files before it made the edited ones, and each log gained the line
+  -- that is due by them, or none; each due line could be made. No folder is gone but those in the way of a write and those above what was
+  -- deleted; where a record was removed each line of `packed-refs` is one; and for each lock that stays a call of files failed.
+  pub record HasCommitted {T : Type 0} (old new : Store F) (committer : Option SignatureRef) (given : List RefEdit) (done : Done T) : Type 0 where
+    pub mid : Store F
+    pub packed : Option Path
+    pub held : List Edit
+    pub prepared : PreparesGiven honest means faults old mid given packed held
+    pub edits : done.edits.items ≡ updates held
+    pub mode : done.packed_refs ≡ DeletionsOnly
+    pub carried : honest → HasGoodRecords means old → AreCarried prepared.split (old_targets (meaning_of old) (tree_of means old) prepared.split) done.edits.items
+    pub committed : honest → HasGoodRecords means old →
+        AreCommitted (meaning_of old) prepared.split (lines_due means old committer held) (tree_of means old) (paths_of done.locks_left.items) (tree_of means new)
+    pub passed : LinesPass honest means mid committer held
+    pub folders : KeepsFolders honest means faults mid new committer packed held
+    pub read : ReadsPacked honest means faults mid packed held
+    pub named : HasRisenBy (length (paths_of done.locks_left.items)) (faults (files_of mid)) (faults (files_of new))
 
-  -- And a listing of the names with a prefix below `refs/` gives just those that read something as edited, each with its target, unless a
-  -- folder could not be listed. Names are not composed.
-  pub record ListsEdited (old new : Store F) (given : List RefEdit) (left : List Path) (prefix : List ℕ) (items : List (Result Reference ItemError)) : Type 0 where
+  -- What `make` says of edits that it committed: both are of one split list.
+  pub record MakesEdited {T : Type 0} (old new : Store F) (committer : Option SignatureRef) (given : List RefEdit) (done : Done T) : Type 0 where
+    pub kept : KeepsEdited old new given (paths_of done.locks_left.items)
+    pub commits : HasCommitted old new committer given done
+    pub same : kept.made.split ≡ commits.prepared.split
+
+  -- a call of files failed from the store `start` to `new`, or a read of an open file did
+  abbrev pub HasFault : {R : Type 0} (G : Ghosts R) → (start new : Store F) → Type 0
+  HasFault G start new = HasRisen (faults (files_of start)) (faults (files_of new)) ⊎ HasReadFault G.faults
+
+  -- And a lookup after them, in the store `start` that the commit left, says what every lookup says; and of a full name it finds what that
+  -- reads as edited.
+  pub record FindsEdited {R : Type 0} (G : Ghosts R) (old start new : Store F) (given : List RefEdit) (left : List Path) (name : List ℕ) (found : Result Reference Missing) : Type 0 where
     pub made : ReadsEdited old new given left
-    pub lists : honest → HasGoodRecords means old → BeginsWith prefix (codes "refs/") → old.precompose_unicode ≡ false → AllByRecursion IsNoFolder items →
-        ListsReadings (meaning_of old) (reads_after old made.split) prefix items
+    pub lookup : FindsIn honest means faults G start new name found
+    pub finds : honest → HasGoodRecords means old → IsAskedFirst (meaning_of old) (composes_in true old) name →
+        IsFoundAs (meaning_of old) (view_in means new) name (HasFault G start new) (reads_after old made.split name) found
+
+  -- in the store that the commit left
+  abbrev pub FindsAfter : {R T : Type 0} (G : Ghosts R) → (old new : Store F) → Option SignatureRef → List RefEdit → Done T → List ℕ → Result Reference Missing → Type 0
+  FindsAfter G old new committer given done name found =
+      (start : Store F) × MakesEdited old start committer given done × FindsEdited G old start new given (paths_of done.locks_left.items) name found
+
+  -- What the items of a listing of the names with a prefix below `refs/` are, from the store `start` to `new`: just the names that read
+  -- something as edited, each with its target, or why it is not given; unless a folder could not be listed. The files have composed
+  -- names, where the store composes names.
+  abbrev pub ListsNames : (old start new : Store F) → (split : List RefEdit) → (prefix : List ℕ) → List (Result Reference ItemError) → Type 0
+  ListsNames old start new split prefix items =
+      honest → HasGoodRecords means old → BeginsWith prefix (codes "refs/") → AreComposed (settings_of old) (view_in means new) → AllByRecursion IsNoFolder items →
+      ListsReadings (meaning_of old) (reads_after old split) (faults (files_of start)) (faults (files_of new)) prefix items
+
+  -- And a listing after them, in the store `start` that the commit left, says what every listing says; and it gives the edited references.
+  pub record ListsEdited {R : Type 0} (G : Ghosts R) (old start new : Store F) (given : List RefEdit) (left : List Path) (prefix : List ℕ) (items : Result (Vec (Result Reference ItemError) Global) PrefixError) : Type 0 where
+    pub made : ReadsEdited old new given left
+    pub listing : ListsIn honest means faults G start new prefix items
+    pub changes : LooksUp honest means start new
+    pub lists : IfOk items (λ all. ListsNames old start new made.split prefix all.items)
+
+  -- in the store that the commit left
+  abbrev pub ListsAfter : {R T : Type 0} (G : Ghosts R) → (old new : Store F) → Option SignatureRef → List RefEdit → Done T → (prefix : List ℕ) → Result (Vec (Result Reference ItemError) Global) PrefixError → Type 0
+  ListsAfter G old new committer given done prefix items =
+      (start : Store F) × MakesEdited old start committer given done × ListsEdited G old start new given (paths_of done.locks_left.items) prefix items
+
+  -- And both: the listing begins in the store that the lookup left.
+  pub record ReadsAfter {R T : Type 0} (G : Ghosts R) (old new : Store F) (committer : Option SignatureRef) (given : List RefEdit) (done : Done T) (name prefix : List ℕ) (found : Result Reference Missing)
+      (items : Result (Vec (Result Reference ItemError) Global) PrefixError) : Type 0 where
+    pub start : Store F
+    pub mid : Store F
+    pub made : MakesEdited old start committer given done
+    pub finds : FindsEdited G old start mid given (paths_of done.locks_left.items) name found
+    pub lists : ListsEdited G old mid new given (paths_of done.locks_left.items) prefix items
 
   -- A commit that failed of edits that were prepared, and the locks that stay.
   pub record HasFailed (old new : Store F) (committer : Option SignatureRef) (given : List RefEdit) (error : CommitError) (left : List Path) : Type 0 where
@@ -89,7 +159,10 @@ module _ {F : Type 0} (honest : Type 0) (means : F → Meaning) (faults : F → 
     pub held : List Edit
     pub prepared : PreparesGiven honest means faults old mid given packed held
     pub fails : FailsFor honest means faults mid new committer packed held error
+    pub sound : NoBadLineFrom honest means faults mid packed held error
+    pub named : HasRisenBy (length left) (faults (files_of mid)) (faults (files_of new))
     pub stops : EveryStopFrom honest means faults mid new committer packed held left
+    pub folders : KeepsFolders honest means faults mid new committer packed held
     -- outside of the namespace all is as it was, but for locks, at every stop and after every loss of power
     pub outside : honest → HasGoodRecords means old → StopsOutside old new prepared.split
     pub losses : honest → HasGoodRecords means old → IsAtRest means old → LossesOutside old new

@@ -2,8 +2,7 @@
 ghost use Rattle.std.specs.Prelude.{IfOk, IfErr};
 ghost use Rattle.gix_ref_name.specs.Names.{partial_ref_bytes};
 ghost use Rattle.gix_ref_packed.specs.OpenFiles.{HasReadFault};
-ghost use Rattle.gix_ref_transaction.specs.OwnLocks.{paths_of};
-ghost use Rattle.gix_ref_whole.specs.WholeRuns.{FindsEdited, IsNotMade};
+ghost use Rattle.gix_ref_whole.specs.WholeRuns.{FindsAfter, IsNotMade};
 
 use crate::error::Error;
 use crate::make::make;
@@ -26,7 +25,8 @@ pub struct Found {
     pub found: Result<Reference, existing::Error>,
 }
 
-/// Prepares the edits, commits them, and looks the name up: a full name that is looked up as itself has what the edits made of it.
+/// Prepares the edits, commits them, and looks the name up in the store that the commit left: a full name that is looked up as itself
+/// has what the edits made of it.
 ///
 /// `Prepare` where the edits are refused, and `Commit` where their commit fails; then nothing is looked up.
 pub fn commit_then_find<F: Files>(
@@ -36,8 +36,9 @@ pub fn commit_then_find<F: Files>(
     committer: Option<SignatureRef<'_>>,
     name: PartialNameRef<'_>,
 ) -> Result<Found, Error>
-    ensures found { IfOk result (λ r. FindsEdited F.honest F.means F.faults store.old store.new
-        edits.items (paths_of r.done.locks_left.items) (partial_ref_bytes name.entry) r.found) }
+    ensures found { IfOk result (λ r. FindsAfter F.honest F.means F.faults F.Reader.ReadAt
+        store.old store.new committer.entry edits.items r.done (partial_ref_bytes name.entry)
+        r.found) }
     ensures not_made { IfErr result (IsNotMade F.honest F.means F.faults
         (HasReadFault F.Reader.faults) store.old store.new committer.entry edits.items) }
 {

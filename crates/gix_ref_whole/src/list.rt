@@ -1,12 +1,10 @@
 //! A listing after a transaction.
-ghost use Rattle.std.specs.Prelude.{◌≡◌, ◌<◌, List, true, IfOk, IfErr};
-ghost use Rattle.gix_ref_base.specs.PackedRecords.{Record};
+ghost use Rattle.std.specs.Prelude.{◌≡◌, ◌<◌, true, IfOk, IfErr};
 ghost use Rattle.gix_ref_packed.specs.OpenFiles.{HasReadFault};
-ghost use Rattle.gix_ref_transaction.specs.OwnLocks.{paths_of};
 ghost use Rattle.gix_ref_store.specs.Listings.{AreHeldFor, items_left, store_of};
-ghost use Rattle.gix_ref_store.specs.Lookup.{AreRecordsIn, LooksUp};
-ghost use Rattle.gix_ref_whole.specs.ListedItems.{TakesNext, GivesAll, AreItemsIn};
-ghost use Rattle.gix_ref_whole.specs.WholeRuns.{ListsEdited, IsNotMade};
+ghost use Rattle.gix_ref_store.specs.Lookup.{LooksUp};
+ghost use Rattle.gix_ref_whole.specs.ListedItems.{TakesNext, GivesAll, ListsAmong, ListsIn};
+ghost use Rattle.gix_ref_whole.specs.WholeRuns.{ListsAfter, IsNotMade};
 
 use crate::error::Error;
 use crate::make::make;
@@ -71,10 +69,8 @@ fn list_among<F: Files>(
     prefix: &[u8],
     packed: Option<&Buffer>,
 ) -> Result<Vec<Result<Reference, loose_then_packed::Error>>, iter::Error>
-    ensures lists { F.honest → (records : List Record) →
-        AreHeldFor store.old prefix.now packed.entry records →
-        IfOk result (λ all. AreItemsIn F.honest F.means F.faults store.old records prefix.now
-        all.items) }
+    ensures lists { ListsAmong F.honest F.means F.faults store.old store.new prefix.now
+        (AreHeldFor store.old prefix.now packed.entry) result }
     ensures unchanged { LooksUp F.honest F.means store.old store.new }
 {
     match store.iter_prefixed_packed(alloc, prefix, packed) {
@@ -96,9 +92,8 @@ pub(crate) fn list<F: Files>(
     store: &mut Store<F>,
     prefix: &[u8],
 ) -> Result<Vec<Result<Reference, loose_then_packed::Error>>, iter::Error>
-    ensures lists { F.honest → (records : List Record) → AreRecordsIn F.means store.old records →
-        IfOk result (λ all. AreItemsIn F.honest F.means F.faults store.old records prefix.now
-        all.items) }
+    ensures lists { ListsIn F.honest F.means F.faults F.Reader.ReadAt store.old store.new prefix.now
+        result }
     ensures unchanged { LooksUp F.honest F.means store.old store.new }
 {
     match store.open_packed_prefixed(alloc, prefix) {
@@ -108,9 +103,10 @@ pub(crate) fn list<F: Files>(
 }
 
 /// Prepares the edits, commits them, and lists the names that begin with the prefix: below `refs/` just those that read something
-/// once the edits are made, by ascending names, each with its target.
+/// once the edits are made, by ascending names, each with its target, or with an error in its place.
 ///
-/// `Prepare` where the edits are refused, and `Commit` where their commit fails; then nothing is listed.
+/// `Prepare` where the edits are refused, and `Commit` where their commit fails; then nothing is listed. `items` is an error where
+/// the prefix has no listing, `packed-refs` cannot be opened, or there was no memory.
 pub fn commit_then_list<F: Files>(
     alloc: Global,
     store: &mut Store<F>,
@@ -118,9 +114,8 @@ pub fn commit_then_list<F: Files>(
     committer: Option<SignatureRef<'_>>,
     prefix: &[u8],
 ) -> Result<Listed, Error>
-    ensures listed { IfOk result (λ r. IfOk r.items (λ all. ListsEdited F.honest F.means F.faults
-        store.old store.new edits.items (paths_of r.done.locks_left.items) prefix.now
-        all.items)) }
+    ensures listed { IfOk result (λ r. ListsAfter F.honest F.means F.faults F.Reader.ReadAt
+        store.old store.new committer.entry edits.items r.done prefix.now r.items) }
     ensures not_made { IfErr result (IsNotMade F.honest F.means F.faults
         (HasReadFault F.Reader.faults) store.old store.new committer.entry edits.items) }
 {

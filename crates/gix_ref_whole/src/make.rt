@@ -1,9 +1,8 @@
 //! Edits from their preparation to their commit.
 ghost use Rattle.std.specs.Prelude.{IfOk, IfErr};
 ghost use Rattle.gix_ref_packed.specs.OpenFiles.{HasReadFault};
-ghost use Rattle.gix_ref_transaction.specs.OwnLocks.{paths_of};
 ghost use Rattle.gix_ref_store.specs.Store.{IsSameStore};
-ghost use Rattle.gix_ref_whole.specs.WholeRuns.{KeepsEdited, IsNotMade};
+ghost use Rattle.gix_ref_whole.specs.WholeRuns.{MakesEdited, IsNotMade};
 
 use crate::error::Error;
 use gix_ref_edits::transaction::RefEdit;
@@ -13,7 +12,8 @@ use gix_ref_store::file::Store;
 use gix_ref_store::file::transaction::Done;
 use std::alloc::Global;
 
-/// Prepares the edits and commits them: each reference then reads as edited, and does so after every later loss of power.
+/// Prepares the edits and commits them: each reference then reads as edited, and does so after every later loss of power. Returns what
+/// `Prepared::commit` returns: the edits as they were prepared, and the locks that could not be removed.
 ///
 /// `Prepare` where the edits are refused, and `Commit` where their commit fails.
 pub fn make<F: Files>(
@@ -22,8 +22,8 @@ pub fn make<F: Files>(
     edits: Vec<RefEdit>,
     committer: Option<SignatureRef<'_>>,
 ) -> Result<Done, Error>
-    ensures made { IfOk result (λ done. KeepsEdited F.honest F.means F.faults store.old store.new
-        edits.items (paths_of done.locks_left.items)) }
+    ensures made { IfOk result (MakesEdited F.honest F.means F.faults store.old store.new
+        committer.entry edits.items) }
     ensures not_made { IfErr result (IsNotMade F.honest F.means F.faults
         (HasReadFault F.Reader.faults) store.old store.new committer.entry edits.items) }
     ensures same { IsSameStore store.old store.new }

@@ -2,8 +2,7 @@
 ghost use Rattle.std.specs.Prelude.{IfOk, IfErr};
 ghost use Rattle.gix_ref_name.specs.Names.{partial_ref_bytes};
 ghost use Rattle.gix_ref_packed.specs.OpenFiles.{HasReadFault};
-ghost use Rattle.gix_ref_transaction.specs.OwnLocks.{paths_of};
-ghost use Rattle.gix_ref_whole.specs.WholeRuns.{FindsEdited, ListsEdited, IsNotMade};
+ghost use Rattle.gix_ref_whole.specs.WholeRuns.{ReadsAfter, IsNotMade};
 
 use crate::error::Error;
 use crate::list::list;
@@ -42,11 +41,9 @@ pub fn commit_then_read<F: Files>(
     name: PartialNameRef<'_>,
     prefix: &[u8],
 ) -> Result<Read, Error>
-    ensures found { IfOk result (λ r. FindsEdited F.honest F.means F.faults store.old store.new
-        edits.items (paths_of r.done.locks_left.items) (partial_ref_bytes name.entry) r.found) }
-    ensures listed { IfOk result (λ r. IfOk r.items (λ all. ListsEdited F.honest F.means F.faults
-        store.old store.new edits.items (paths_of r.done.locks_left.items) prefix.now
-        all.items)) }
+    ensures read { IfOk result (λ r. ReadsAfter F.honest F.means F.faults F.Reader.ReadAt
+        store.old store.new committer.entry edits.items r.done (partial_ref_bytes name.entry)
+        prefix.now r.found r.items) }
     ensures not_made { IfErr result (IsNotMade F.honest F.means F.faults
         (HasReadFault F.Reader.faults) store.old store.new committer.entry edits.items) }
 {

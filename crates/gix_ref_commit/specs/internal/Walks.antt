@@ -1,14 +1,17 @@
 -- The search for empty folders.
-use Rattle.std.specs.Prelude.{◌≡◌, ◌≢◌, ◌⊎◌, ℕ, List, ◌∷◌, ◌++◌, Bool, false, None}
+use Rattle.std.specs.Prelude.{◌≡◌, ◌≢◌, ◌⊎◌, ℕ, List, [], ◌∷◌, ◌++◌, AllPairs, Bool, Contains, IsSome, false, true, map, None}
 use Rattle.std.specs.List.{All}
+use Rattle.gix_ref_base.specs.Layout.{LiesIn}
+use Rattle.gix_ref_files.specs.Calls.{IsEntryName, entry_name}
 use Rattle.gix_ref_files.specs.Files.{HasRisen}
 use Rattle.gix_ref_files.specs.Settled.{IsIn}
-use Rattle.gix_ref_files.specs.Tree.{Tree, Path}
+use Rattle.gix_ref_files.specs.Tree.{Tree, Path, is_folder}
+use Rattle.gix_ref_files.specs.declared.files.Entry.{Entry as FolderEntry}
 use Rattle.gix_ref_files.specs.declared.files.FileError.{FileError}
 use Rattle.gix_ref_files.specs.declared.files.FileError.TheVariants.{Memory as no_memory}
 use Rattle.gix_ref_files.specs.declared.steps.Cause.TheVariants.{File}
 use Rattle.gix_ref_lookup.specs.declared.folders.Dirs.{Dirs}
-use Rattle.gix_ref_commit.specs.Cleared.{HoldsMore, IsAtOrBelow, roots_of, written_at}
+use Rattle.gix_ref_commit.specs.Cleared.{HoldsMore, HoldsOnly, IsAtOrBelow, roots_of, written_at}
 use Rattle.gix_ref_commit.specs.Entries.{Entry, bare}
 use Rattle.gix_ref_files.specs.Steps.{step_of}
 use Rattle.gix_ref_files.specs.declared.steps.Planned.{Planned}
@@ -32,6 +35,26 @@ OnlyMore dirs path old new = (more : List Path) × (new ≡ old ++ more) × AreF
 -- the search ended because more than empty folders is there
 abbrev pub StopsFor : Dirs → Tree → (path : Path) → (all : Bool) → Type 0
 StopsFor dirs T path all = all ≡ false → HoldsMore dirs T path
+
+-- the folder of an entry was added, and the entry is no file
+abbrev pub AddsFolder : (folder : Path) → FolderEntry → (old new : List Path) → Type 0
+AddsFolder folder entry old new = (entry.is_folder ≡ true) × (new ≡ old ++ (folder ++ 47 ∷ entry_name entry) ∷ [])
+
+-- and so of all entries
+abbrev pub AddsAll : (folder : Path) → List FolderEntry → (old new : List Path) → Type 0
+AddsAll folder entries old new = All (λ entry. entry.is_folder ≡ true) entries × (new ≡ old ++ map (λ entry. folder ++ 47 ∷ entry_name entry) entries)
+
+-- All that is in a folder was added, and is folders.
+pub record AddsFolders (T : Tree) (folder : Path) (old new : List Path) : Type 0 where
+  pub names : List (List ℕ)
+  pub are_names : All IsEntryName names
+  pub added : new ≡ old ++ map (λ name. folder ++ 47 ∷ name) names
+  pub each : is_folder (T folder) ≡ true → (name : List ℕ) → IsEntryName name → IsSome (T (folder ++ 47 ∷ name)) → (is_folder (T (folder ++ 47 ∷ name)) ≡ true) × Contains names name
+
+-- Of the folders that were found each holds only others of them, and none lies in a later one.
+pub record AreWhole (T : Tree) (folders : List Path) : Type 0 where
+  pub all : All (HoldsOnly T folders) folders
+  pub outer_first : AllPairs (λ earlier later. LiesIn earlier later → ⊥) folders
 
 -- the folder at a path, and then folders in it
 abbrev pub IsWalked : Dirs → (path : Path) → List Path → Type 0

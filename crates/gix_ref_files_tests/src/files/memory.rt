@@ -275,6 +275,42 @@ fn steps_run_to_the_first_that_fails(rt: HostRuntime) -> Result<(), Fail> {
     Ok(())
 }
 
+/// A step whose sync fails is done, and the run ends there.
+#[test]
+fn a_sync_that_fails_ends_a_run_behind_its_step(rt: HostRuntime) -> Result<(), Fail> {
+    let mut memory = Memory::new(rt.alloc());
+    let plan = [
+        Planned {
+            action: Action::MakeFolders { path: b"d" },
+            settle: Settle::Nothing,
+            about: (),
+        },
+        Planned {
+            action: Action::Create { path: b"d/a" },
+            settle: Settle::Nothing,
+            about: (),
+        },
+        Planned {
+            action: Action::Rename {
+                from: b"d/a",
+                to: b"d/b",
+            },
+            settle: Settle::UpTo { root: 1 },
+            about: (),
+        },
+    ];
+    memory.fail_at(4);
+    assert_eq!(rt;
+        run_steps(&mut memory, &plan),
+        Err(Ended {
+            at: 2,
+            cause: Cause::Sync(FAULT)
+        })
+    );
+    assert_eq!(rt; memory.get(b"d/b"), Some(b"".as_slice()));
+    Ok(())
+}
+
 #[test]
 fn a_missing_log_is_made_and_appended_to(rt: HostRuntime) -> Result<(), Fail> {
     let alloc = rt.alloc();

@@ -1,14 +1,14 @@
 //! The commit of a transaction of `packed-refs`: the new text goes into the lock, which is synced and then renamed to the file; or, where no
 //! record is left, the file is removed.
-ghost use Rattle.std.specs.Prelude.{◌≡◌, ◌≤◌, OnOk, IfOk, IfErr, map, true, vec_items};
+ghost use Rattle.std.specs.Prelude.{◌≡◌, ◌≤◌, ◌⊎◌, OnOk, IfOk, IfErr, map, true, false, vec_items};
 ghost use Rattle.gix_ref_files.specs.Calls.{Renaming, Unchanged};
 ghost use Rattle.gix_ref_files.specs.Disk.{folder_of, folder_synced};
 ghost use Rattle.gix_ref_files.specs.DiskCalls.{RemovingFileOn, RenamingOn, SyncingOn};
 ghost use Rattle.gix_ref_files.specs.Files.{Leaves, Passes, disk_of};
 ghost use Rattle.gix_ref_files.specs.Lock.{lock_of};
-ghost use Rattle.gix_ref_files.specs.Tree.{is_folder, moved};
+ghost use Rattle.gix_ref_files.specs.Tree.{is_file, is_folder, moved};
 ghost use Rattle.gix_ref_packed_transaction.specs.PackedLosses.{IsReadyOn, SettlesFrom};
-ghost use Rattle.gix_ref_packed_transaction.specs.PackedTransactions.{IsLockEmpty, IsMadeOf, IsOldOrRewritten, IsRewritten, IsStuckBuffer, OnlyLockChanges, OnlyLockGoes};
+ghost use Rattle.gix_ref_packed_transaction.specs.PackedTransactions.{IsLockEmpty, IsMadeOf, IsOldOrRewritten, IsReadBuffer, IsRewritten, IsStuckBuffer, OnlyLockChanges, OnlyLockGoes};
 ghost use Rattle.gix_ref_packed_transaction.specs.internal.Keeping.{IsMoved, KeepsSettled};
 ghost use Rattle.gix_ref_packed_transaction.specs.internal.LockSteps.{IsUnlocked, IsWhyNotPut};
 
@@ -32,6 +32,7 @@ pub(crate) fn rewritten(
     keys: &[Vec<u8>],
 ) -> Result<Rewrite, Error>
     ensures made { IfOk result (IsMadeOf kind buffer.now (map vec_items keys.now)) }
+    ensures read { OnOk result (IsReadBuffer kind buffer.now) }
     ensures refused { IfErr result (IsStuckBuffer kind buffer.now) }
 {
     match buffer {
@@ -124,8 +125,13 @@ fn move_lock<F: Files>(files: &mut F, lock: &LockFile) -> Result<(), Error>
     }
 }
 
-/// Puts a text into the lock, which is empty, and the lock in the place of the file.
-fn put_text<F: Files>(files: &mut F, lock: &LockFile, text: &Vec<u8>) -> Result<(), Error>
+/// Puts a text into the lock, which is empty, and the lock in the place of the file. `renamed` is true once the lock was renamed.
+fn put_text<F: Files>(
+    files: &mut F,
+    lock: &LockFile,
+    text: &Vec<u8>,
+    renamed: &mut bool,
+) -> Result<(), Error>
     ensures done { F.honest → IsLockEmpty lock.now (F.means files.old).tree → OnOk result
         (IsRewritten (Rewrite.Text text.now) lock.now (F.means files.old).tree
         (F.means files.new).tree) }
@@ -139,20 +145,24 @@ fn put_text<F: Files>(files: &mut F, lock: &LockFile, text: &Vec<u8>) -> Result<
         (SettlesFrom lock.now (disk_of (F.means files.old)) (disk_of (F.means files.new))) }
     ensures why { IfErr result (IsWhyNotPut F.honest lock.now (F.faults files.old)
         (F.faults files.new) (F.means files.new).tree) }
+    ensures renamed { F.honest → renamed.new ≡ true → (renamed.old ≡ true)
+        ⊎ (is_file ((F.means files.new).tree (lock_of lock.now)) ≡ false) }
     ensures no_fewer { F.faults files.old ≤ F.faults files.new }
 {
     if let Err(error) = write_text(files, lock, text) {
         return Err(Error::Io(error));
     }
     move_lock(files, lock)?;
+    *renamed = true;
     settle(files, lock)
 }
 
-/// Carries a rewrite out, and removes the lock or renames it.
+/// Carries a rewrite out, and removes the lock or renames it. `renamed` is true once it was renamed.
 pub(crate) fn put_rewrite<F: Files>(
     files: &mut F,
     lock: &LockFile,
     rewrite: &Rewrite,
+    renamed: &mut bool,
 ) -> Result<(), Error>
     ensures done { F.honest → IsLockEmpty lock.now (F.means files.old).tree → OnOk result
         (IsRewritten rewrite.now lock.now (F.means files.old).tree (F.means files.new).tree) }
@@ -166,11 +176,13 @@ pub(crate) fn put_rewrite<F: Files>(
         (SettlesFrom lock.now (disk_of (F.means files.old)) (disk_of (F.means files.new))) }
     ensures why { IfErr result (IsWhyNotPut F.honest lock.now (F.faults files.old)
         (F.faults files.new) (F.means files.new).tree) }
+    ensures renamed { F.honest → renamed.new ≡ true → (renamed.old ≡ true)
+        ⊎ (is_file ((F.means files.new).tree (lock_of lock.now)) ≡ false) }
     ensures no_fewer { F.faults files.old ≤ F.faults files.new }
 {
     match rewrite {
         Rewrite::Unchanged => unlock(files, lock),
         Rewrite::Removed => remove_both(files, lock),
-        Rewrite::Text(text) => put_text(files, lock, text),
+        Rewrite::Text(text) => put_text(files, lock, text, renamed),
     }
 }

@@ -8,7 +8,7 @@ use crate::file::store::Store;
 use crate::raw::Reference;
 use gix_ref_files::files::Files;
 use gix_ref_lookup::find::composed::find_reference;
-use gix_ref_lookup::find::records::Records;
+pub use gix_ref_lookup::find::records::Records;
 pub use gix_ref_lookup::find::{Error, ReadError, existing};
 use gix_ref_lookup::loose;
 use gix_ref_name::name::PartialNameRef;

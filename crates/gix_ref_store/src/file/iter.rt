@@ -9,7 +9,7 @@ use gix_ref_files::files::Files;
 use gix_ref_listing::item::{next_item, next_record};
 use gix_ref_listing::list::list;
 use gix_ref_listing::merge::Merge;
-use gix_ref_listing::own_records::OwnRecord;
+pub use gix_ref_listing::own_records::OwnRecord;
 pub use gix_ref_listing::prefix::Error;
 use gix_ref_listing::prefix::check_prefix;
 use gix_ref_listing::pseudo::list_pseudo;

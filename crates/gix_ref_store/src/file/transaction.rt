@@ -2,7 +2,7 @@
 ghost use Rattle.std.specs.Prelude.{◌≡◌, ◌≤◌, ◌⊎◌, [], OnOk, IfOk, IfErr, vec_len, length};
 ghost use Rattle.std.specs.Vec.{vec_capacity};
 ghost use Rattle.std.specs.Borrow.{sem, RestsIfErr};
-ghost use Rattle.gix_ref_files.specs.Files.{HasRisen};
+ghost use Rattle.gix_ref_files.specs.Files.{HasRisenBy};
 ghost use Rattle.gix_ref_packed.specs.OpenFiles.{HasReadFault};
 ghost use Rattle.gix_ref_transaction.specs.OwnLocks.{paths_of};
 ghost use Rattle.gix_ref_store.specs.Prepared.{RefusesGiven, PreparesGiven, RollsBackFrom, HasRoom};
@@ -179,36 +179,44 @@ impl<F: Files, T: Find> Transaction<'_, F, PackedRefs<T>> {
 impl<F: Files, T: Find> Prepared<'_, F, Plan<T>> {
     ghost use Rattle.gix_ref_store.specs.CommitLines.{LinesPass};
     ghost use Rattle.gix_ref_store.specs.CommittedFolders.{KeepsFolders};
-    ghost use Rattle.gix_ref_store.specs.CommitResult.{left_of, mode_of, EveryStopFrom, EveryLossFrom, SettlesFrom, CommitsFrom, FailsFor, NoBadLineFrom};
+    ghost use Rattle.gix_ref_store.specs.CommitResult.{left_of, mode_of, EveryStopFrom, EveryLossFrom, SettlesFrom, CommitsFrom, FailsFor, NoBadLineFrom, ReadsPacked};
     ghost use Rattle.gix_ref_transaction.specs.PrepareSteps.{held_locks};
     ghost use Rattle.gix_ref_store.specs.PreparedFields.{held_edits, held_packed, prepared_edits, prepared_mode};
     ghost use Rattle.gix_ref_store.specs.Store.{files_of, IsSameStore};
 
-    /// Carries the edits out: for each update, in the order of the edits, makes the folders of its log and adds the line that is due,
-    /// and renames its lock to its place; removes the logs of deletions; renames the lock of `packed-refs`, with a text without the
-    /// records of deleted references, to its place, or removes that file, where no record is left; removes the loose files of
-    /// deletions; and removes the other locks. What becomes of each log and of `packed-refs` is decided before the first of these, and
-    /// the new text is in the lock by then. Which lines are due is said by `Options::write_reflog` and the edits; `committer` is
-    /// written in each, trimmed, and may be `None` where no line is due (`git reflog`). Empty folders in the way of a loose file or of a
-    /// log are removed before it is written, unless it was seen that none is there, and those above deleted references and logs at the end,
-    /// whether the steps failed or not, but for `logs`, `refs` and the folders right below `refs`.
+    /// Carries the edits out, in this order (`commit` of `git update-ref`):
+    ///
+    /// 1. decides which log lines are due (`Options::write_reflog` and the edits; `git reflog`), what becomes of `packed-refs`, whose new
+    ///    text is put into its lock, and which empty folders are in the way of a write;
+    /// 2. for each update, in the order of the edits: makes the folders of its log and adds its line, and renames its lock to its place;
+    /// 3. removes the logs of deletions;
+    /// 4. renames the lock of `packed-refs` to its place, without the records of deleted references, or removes that file, where no
+    ///    record is left; and removes the loose files of deletions;
+    /// 5. removes the other locks, and tries the empty folders above deleted references and logs, whether a step failed or not, but for
+    ///    `logs`, `refs` and the folders right below `refs`.
+    ///
+    /// Empty folders in the way of a write are removed right before it, unless it was seen that none is there. `committer` is written in
+    /// each line, trimmed, and may be `None` where no line is due.
     ///
     /// At every stop on the way, and after every loss of power, each reference reads as before or as edited, no deletion shows
-    /// before every update, and updates show in their order: texts are synced before they are renamed, a line before the rename of its
-    /// reference, and the folders above a path before the next step. A commit that succeeds leaves all synced. Beside the syncs it costs
-    /// one call of files for each reference, and a look more where no loose file was seen; one for each log that is removed; two for each
-    /// line, or three where its log is made; one for each other lock, and one for each folder above a deletion that is tried. Where a
-    /// deleted reference has a record, `packed-refs` is read and written once. (`commit` of `git update-ref --stdin`)
+    /// before every update, and updates show in their order. A commit that succeeds leaves all synced. Beside the syncs it costs one call
+    /// of files for each reference, and one more where no loose file was seen; one for each log that is removed; two for each line, or
+    /// three where its log is made; one for each other lock; and one for each folder above a deletion that is tried. `packed-refs` is read
+    /// and written once, where a deleted reference has a record.
     ///
-    /// `CreateOrUpdateRefLog` where a line is due that cannot be made, where a file is in the path of its log, or where a call of
-    /// files failed as the log was looked for, its folders were made or the line was added. `LockCommit`, `DeleteReflog`,
-    /// `PackedTransactionCommit` and `DeleteReference` where a call of files failed in that step, or a sync after it;
-    /// `FolderInPlace` where a folder that holds a file is at the place of a reference, of its log, or of `packed-refs`, or any folder
-    /// that came there after a look had found a file, or nothing at a log. The steps before that one are done then, and the locks are
-    /// removed but for those that are named. `Append` and `LockCommit` also where such a folder could not be listed, and then nothing
-    /// is done but the removal of locks. `PackedTransactionCommit` also where `packed-refs` could not be read or has a line that is no
-    /// record, and `Memory` where there was none for the plan; then, as where a line was refused, nothing is done but the removal of
-    /// locks.
+    /// Where the first part fails, nothing but locks has changed:
+    /// - `CreateOrUpdateRefLog`: a line is due that cannot be made, a file is in the path of its log, or it could not be looked for;
+    /// - `PackedTransactionCommit`: `packed-refs` could not be read, or has a line that is no record;
+    /// - `Append`, `LockCommit`, `PackedTransactionCommit`: a folder in the way of that write could not be looked for or listed;
+    /// - `Memory`: there was none for the plan.
+    ///
+    /// Later, the steps before the one that failed are done, and none after it is begun:
+    /// - `CreateOrUpdateRefLog`, `LockCommit`, `DeleteReflog`, `PackedTransactionCommit`, `DeleteReference`: a call of files failed in that
+    ///   step, or a sync after it, and then the step is done;
+    /// - `FolderInPlace`: a folder that holds a file is at the place of a reference, of its log, or of `packed-refs`, or any folder that
+    ///   came there after a look had found a file, or nothing at a log.
+    ///
+    /// A lock that was renamed is not removed, since another may hold it by then; each other lock is removed or named in `locks_left`.
     pub fn commit(
         self,
         alloc: Global,
@@ -224,6 +232,8 @@ impl<F: Files, T: Find> Prepared<'_, F, Plan<T>> {
         ensures failed { IfErr result (λ f. FailsFor F.honest F.means F.faults self.entry.store.now
             self.exit.0.now committer.entry (held_packed self.entry.plan)
             (held_edits self.entry.plan) f.error) }
+        ensures read { OnOk result (ReadsPacked F.honest F.means F.faults self.entry.store.now
+            (held_packed self.entry.plan) (held_edits self.entry.plan)) }
         ensures sound { IfErr result (λ f. NoBadLineFrom F.honest F.means F.faults
             self.entry.store.now (held_packed self.entry.plan) (held_edits self.entry.plan)
             f.error) }
@@ -233,11 +243,12 @@ impl<F: Files, T: Find> Prepared<'_, F, Plan<T>> {
         ensures lost { EveryLossFrom F.honest F.means F.faults self.entry.store.now self.exit.0.now
             committer.entry (held_packed self.entry.plan) (held_edits self.entry.plan) }
         ensures folders { KeepsFolders F.honest F.means F.faults self.entry.store.now
-            self.exit.0.now (held_packed self.entry.plan) (held_edits self.entry.plan) }
+            self.exit.0.now committer.entry (held_packed self.entry.plan)
+            (held_edits self.entry.plan) }
         ensures settled { OnOk result (SettlesFrom F.honest F.means F.faults self.entry.store.now
             self.exit.0.now (held_packed self.entry.plan) (held_edits self.entry.plan)) }
-        ensures named { (left_of result ≡ []) ⊎ HasRisen (F.faults (files_of self.entry.store.now))
-            (F.faults (files_of self.exit.0.now)) }
+        ensures named { HasRisenBy (length (left_of result))
+            (F.faults (files_of self.entry.store.now)) (F.faults (files_of self.exit.0.now)) }
         ensures same { IsSameStore self.entry.store.now self.exit.0.now }
     {
         let Prepared { store, plan } = self;

@@ -1,7 +1,7 @@
 //! All locks of a transaction, or none.
 ghost use Rattle.std.specs.Prelude.{◌≡◌, ◌≤◌, ◌<◌, ◌+◌, ◌⊎◌, ℕ, List, [], None, true, OnOk, IfOk, IfErr, map, vec_len};
 ghost use Rattle.std.specs.Vec.{vec_capacity};
-ghost use Rattle.gix_ref_files.specs.Files.{disk_of, Leaves, HasRisen};
+ghost use Rattle.gix_ref_files.specs.Files.{disk_of, Leaves, HasRisenBy};
 ghost use Rattle.gix_ref_files.specs.Lock.{lock_of};
 ghost use Rattle.gix_ref_files.specs.Settled.{IsWholeAt};
 ghost use Rattle.gix_ref_files.specs.Tree.{Path};
@@ -117,7 +117,7 @@ fn lock_all_or_none<F: Files>(
     ensures once { IfErr result (λ failure. (q : Path) → times q (paths_of
         failure.locks_left.items) ≤ times q (locks_of (setting_of settings.now)
         (updates edits.items))) }
-    ensures named { IfErr result (λ failure. (failure.locks_left.items ≡ []) ⊎ HasRisen
+    ensures named { IfErr result (λ failure. HasRisenBy (vec_len failure.locks_left)
         (F.faults files.old) (F.faults files.new)) }
     ensures leaves { F.honest → Leaves (F.means files.old) (F.means files.new)
         (AddsLocks (locks_of (setting_of settings.now) (updates edits.items))
@@ -203,7 +203,7 @@ fn find_and_lock<F: Files>(
     ensures once { IfErr result (λ failure. (q : Path) → times q (paths_of
         failure.locks_left.items) ≤ times q (locks_of (setting_of settings.now)
         (updates edits.items))) }
-    ensures named { IfErr result (λ failure. (failure.locks_left.items ≡ []) ⊎ HasRisen
+    ensures named { IfErr result (λ failure. HasRisenBy (vec_len failure.locks_left)
         (F.faults files.old) (F.faults files.new)) }
     ensures leaves { F.honest → Leaves (F.means files.old) (F.means files.new)
         (AddsLocks (locks_of (setting_of settings.now) (updates edits.items))
@@ -286,7 +286,7 @@ pub fn lock_edits<F: Files>(
     ensures once { IfErr result (λ failure. (q : Path) → times q (paths_of
         failure.locks_left.items) ≤ times q (possible_locks (setting_of settings.now)
         (updates edits.items))) }
-    ensures named { IfErr result (λ failure. (failure.locks_left.items ≡ []) ⊎ HasRisen
+    ensures named { IfErr result (λ failure. HasRisenBy (vec_len failure.locks_left)
         (F.faults files.old) (F.faults files.new)) }
     ensures leaves { F.honest → Leaves (F.means files.old) (F.means files.new)
         (AddsLocks (own_locks (setting_of settings.now) (F.means files.old).tree

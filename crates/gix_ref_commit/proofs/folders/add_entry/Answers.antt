@@ -1,4 +1,4 @@
-use Rattle.std.proofs.Common.{◌∙◌, ◌∷◌, [], inr, ap}
+use Rattle.std.proofs.Common.{◌∙◌, ◌∷◌, ◌++◌, [], ℕ, List, inr, ap}
 use Rattle.std.proofs.lemmas.List.{map-append}
 use Rattle.gix_ref_transaction.specs.OwnLocks.{paths_of}
 use Rattle.gix_ref_commit.proofs.Walking.{file_holds, one_more_folder, store_holds}
@@ -17,3 +17,11 @@ returns-clause-more c =
     (ap paths_of c.in_ok-push.ensures.items ∙ map-append (λ v. v.items) c.args.found.now.items (c.in_ok-path.path ∷ []))
     (inr (c.deref.result.now, c.in_ok-path.ensures))
     (λ within. c.leads_to_store.ensures.outside c.if-leads_to_store.false (rw c.deref-2.ensures.value within))
+
+pub returns-clause-adds : goal.returns-clause-adds
+returns-clause-adds c all = (
+  c.if-not-entry.false,
+  ap paths_of c.in_ok-push.ensures.items
+      ∙ (map-append (λ v. v.items) c.args.found.now.items (c.in_ok-path.path ∷ [])
+      ∙ ap (λ (p : List ℕ). paths_of c.args.found.now.items ++ p ∷ []) (c.in_ok-path.ensures ∙ ap (λ (n : List ℕ). c.args.folder.now ++ 47 ∷ n) c.deref.ensures.value)),
+)

@@ -4,6 +4,7 @@ use Rattle.gix_ref_files.specs.DiskCalls.{Untouched}
 use Rattle.gix_ref_files.specs.Files.{disk_of, Leaves, Passes}
 use Rattle.gix_ref_transaction.specs.OwnLocks.{paths_of}
 use Rattle.gix_ref_commit.specs.internal.Walks.{IsWalked}
+use Rattle.gix_ref_commit.proofs.Whole.{IsSearched}
 use Rattle.gix_ref_commit.proofs.folders.walk.Given as goal
 
 -- folders at the path and in it were found, and nothing has changed
@@ -12,5 +13,6 @@ invariant-loop-next g l = record {
   walked : IsWalked l.dirs l.top (paths_of l.found.items);
   leaves : g.F.Files.honest → Leaves (g.F.Files.means l.fn.files) (g.F.Files.means l.files) (Unchanged (g.F.Files.means l.fn.files).tree);
   passes : g.F.Files.honest → Passes (g.F.Files.means l.fn.files) (g.F.Files.means l.files) (Untouched (disk_of (g.F.Files.means l.fn.files)));
+  searched : g.F.Files.honest → IsSearched (g.F.Files.means l.fn.files).tree (paths_of l.found.items) l.next;
   no_fewer : g.F.Files.faults l.fn.files ≤ g.F.Files.faults l.files;
 }

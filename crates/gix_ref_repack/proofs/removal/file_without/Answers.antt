@@ -1,9 +1,9 @@
-use Rattle.std.proofs.Common.{◌≡◌, ◌∙◌, true, false, map, vec_items, subst}
+use Rattle.std.proofs.Common.{◌≡◌, ◌∙◌, true, false, map, vec_items, subst, inl}
 use Rattle.gix_ref_files.specs.Tree.{Path, is_file, bytes_of}
 use Rattle.gix_ref_packed.specs.Buffers.{IsRefusedFile, Opened}
 use Rattle.gix_ref_lookup.specs.Lookups.{meaning_in}
 use Rattle.gix_ref_repack.specs.Removals.{IsWithout}
-use Rattle.gix_ref_repack.proofs.Opening.{holds, memory_only, none_found, sound}
+use Rattle.gix_ref_repack.proofs.Opening.{file_is_read, holds, memory_only, none_found, sound}
 use Rattle.gix_ref_repack.proofs.removal.file_without.Goals as goal
 
 pub returns-in-Ok-Some-clause-rewritten : goal.returns-in-Ok-Some-clause-rewritten
@@ -30,3 +30,18 @@ returns-clause-rewritten g c h rs are sorted =
     let at = c.deref.ensures.value ∙ c.in_ok-path.ensures in
     rw c.refused.ensures (sound kind (tree (meaning_in c.args.settings.now).packed_path) rs c.in-Err.error are
     (subst (λ (p : Path). IsRefusedFile kind (tree p) c.in-Err.error) at (c.in-Err.ensures.refused h)))
+
+pub returns-in-Ok-Some-clause-whole : goal.returns-in-Ok-Some-clause-whole
+returns-in-Ok-Some-clause-whole g c h =
+    let tree = (g.F.Files.means c.args.files.now).tree in
+    let kind = c.args.settings.now.kind in
+    let at = c.deref.ensures.value ∙ c.in_ok-path.ensures in
+    let o = rw c.in-Ok-Some.field-0-is at (c.in-Ok-Some.ensures.opened h) in
+    let opened = subst (λ (p : Path). Opened kind (bytes_of (tree p)) c.in-Ok-Some.buffer) at o.1 in
+    file_is_read kind _ c.in-Ok-Some.buffer c.without.result opened c.without.ensures.whole
+
+pub returns-in-Ok-None-clause-whole : goal.returns-in-Ok-None-clause-whole
+returns-in-Ok-None-clause-whole g c h =
+    let tree = (g.F.Files.means c.args.files.now).tree in
+    let at = c.deref.ensures.value ∙ c.in_ok-path.ensures in
+    inl (subst (λ (p : Path). is_file (tree p) ≡ false) at (rw c.in-Ok-None.field-0-is at (c.in-Ok-None.ensures.opened h)))

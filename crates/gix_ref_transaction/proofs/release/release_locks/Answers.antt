@@ -1,4 +1,4 @@
-use Rattle.std.proofs.Common.{◌≡◌, ◌≤◌, ◌<◌, ◌+◌, ◌⊎◌, inl, inr, ⊎_elim, ℕ, List, [], ◌∷◌, ◌++◌, Bool, true, false, not, ◌&&◌, if◌then◌else◌, refl, sym, ◌∙◌, ap, subst, arith, reverse, vec_len, length, append_assoc}
+use Rattle.std.proofs.Common.{◌≡◌, ◌≤◌, ◌<◌, ◌+◌, inr, ⊎_elim, ℕ, List, [], ◌∷◌, ◌++◌, Bool, true, false, not, ◌&&◌, if◌then◌else◌, refl, sym, ◌∙◌, ap, subst, arith, reverse, vec_len, length, append_assoc}
 use Rattle.std.specs.Prelude.{nat_lt, nat_eq}
 use Rattle.std.specs.Bool.{OnFalse}
 use Rattle.std.proofs.lemmas.Bool.{eqb-true, eqb-false}
@@ -12,28 +12,14 @@ use Rattle.gix_ref_transaction.specs.CommitRenames.{lock_at, log_at, path_in, pl
 use Rattle.gix_ref_transaction.specs.PrepareSteps.{lock_paths, updates}
 use Rattle.gix_ref_transaction.specs.declared.edit.Edit.{Edit}
 use Rattle.gix_ref_transaction.proofs.Adds.{clash}
+use Rattle.gix_ref_transaction.proofs.Faults.{risen_by_lock}
 use Rattle.gix_ref_transaction.proofs.Removing.{leaves_then, removes_more, named_cases, named_here, named_kept, named_once}
 use Rattle.gix_ref_transaction.proofs.Renames.{flag_there, log_there, lock_there, lock_within, place_there, released}
 use Rattle.gix_ref_transaction.proofs.release.release_locks.Goals as goal
 
-rose_on : {A : Type 0} (a b d : ℕ) → b ≤ d → A ⊎ HasRisen a b → A ⊎ HasRisen a d
-rose_on a b d le (inl none) = inl none
-rose_on a b d le (inr (inl more)) = inr (inl (omega (arith, le, more)))
-rose_on a b d le (inr (inr full)) = inr (inr (omega (arith, le, full)))
-
-rose_before : (a b d : ℕ) → a ≤ b → HasRisen b d → HasRisen a d
-rose_before a b d le (inl more) = inl (omega (arith, le, more))
-rose_before a b d le (inr full) = inr full
-
 -- all of them, parted at the one that is released
 parted : (all edits rest : List Edit) (own : Edit) (tail : List Edit) → all ≡ edits ++ tail → edits ≡ rest ++ own ∷ [] → all ≡ rest ++ own ∷ tail
 parted all edits rest own tail whole split = whole ∙ (ap (λ (l : List Edit). l ++ tail) split ∙ append_assoc rest (own ∷ []) tail)
-
--- the count rose where a lock could not be removed
-counted_then : {X : Type 0} (b : Bool) (left left' before : X) (f m n : ℕ) → f ≤ m → m ≤ n → (b ≡ true → left' ≡ left) → (b ≡ false → HasRisen m n) → (left ≡ before) ⊎ HasRisen f m → (left' ≡ before) ⊎ HasRisen f n
-counted_then true left left' before f m n le le' same rose (inl is) = inl (same refl ∙ is)
-counted_then true left left' before f m n le le' same rose (inr more) = rose_on f m n le' (inr more)
-counted_then false left left' before f m n le le' same rose x = inr (rose_before f m n le (rose refl))
 
 gone_here : {P : Type 0} (b : Bool) → (b ≡ true → P) → (b ≡ false → ⊥) → P
 gone_here true done left = done refl
@@ -75,8 +61,8 @@ loop-edit-preserved g c =
     let named : paths_of c.add.new.self.left.items ≡ names ++ (if removed then [] else lock ∷ []) = c.add.ensures.left in
     record {
       no_fewer = omega (arith, x.no_fewer, c.release-removed.ensures.no_fewer);
-      counted = counted_then removed c.loop-edit.remains.left.items c.add.new.self.left.items c.args.remains.left.items _ _ _ x.no_fewer c.release-removed.ensures.no_fewer c.add.ensures.same
-          (λ kept. subst (λ b. OnFalse b (HasRisen (g.F.Files.faults c.loop-edit.files) (g.F.Files.faults c.release-removed.new.files))) kept c.release-removed.ensures.counted) x.counted;
+      counted = λ base so_far. risen_by_lock removed (vec_len c.loop-edit.remains.left) (vec_len c.add.new.self.left) base _ _ c.release-removed.ensures.no_fewer c.add.ensures.len (λ is. omega (arith, c.add.new.self.left.ok, c.loop-edit.remains.left.ok, ap length (c.add.ensures.same is)))
+          (λ kept. subst (λ b. OnFalse b (HasRisen (g.F.Files.faults c.loop-edit.files) (g.F.Files.faults c.release-removed.new.files))) kept c.release-removed.ensures.counted) (x.counted base so_far);
       room = omega (arith, x.room, c.in-Some.ensures.len, c.add.ensures.len, c.add.ensures.room);
       room_for_edits = omega (arith, x.room_for_edits, c.in-Some.ensures.len, c.add.ensures.len_of_edits, c.add.ensures.room_for_edits);
       len = omega (arith, x.len, c.in-Some.ensures.len, c.add.ensures.len);

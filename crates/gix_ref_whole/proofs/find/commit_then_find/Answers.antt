@@ -6,5 +6,11 @@ use Rattle.gix_ref_whole.proofs.find.commit_then_find.Goals as goal
 pub returns-in-Ok-clause-found : goal.returns-in-Ok-clause-found
 returns-in-Ok-clause-found g c =
     let F = g.F.Files in
-    found_edited F.honest F.means F.faults c.args.store.now c.make.new.store c.find-found.new.self c.args.edits.items (paths_of c.in-Ok.done.locks_left.items) c.in-Ok.ensures.made.made c.in-Ok.ensures.same
-    c.find-found.ensures.unchanged (partial_ref_bytes c.args.name) c.find-found.result c.find-found.ensures.found c.find-found.ensures.sound
+    let start = c.make.new.store in
+    let find = c.find-found.ensures in (
+      start,
+      c.in-Ok.ensures.made,
+      found_edited F.honest F.means F.faults c.args.store.now start c.find-found.new.self c.args.edits.items (paths_of c.in-Ok.done.locks_left.items) c.in-Ok.ensures.made.kept.made c.in-Ok.ensures.same
+          find.unchanged g.F.Reader.ReadAt (partial_ref_bytes c.args.name) c.find-found.result
+          record { finds = find.found; misses = find.sound; hits = find.hit; fails = find.failed; counts = find.no_fault; changes = find.unchanged },
+    )

@@ -1,10 +1,12 @@
-use Rattle.std.proofs.Common.{rules, List, ap, subst}
+use Rattle.std.proofs.Common.{◌∙◌, rules, List, ap, subst, sym, length}
+use Rattle.gix_ref_files.specs.Files.{HasRisenBy}
 use Rattle.gix_ref_files.specs.Tree.{Path}
 use Rattle.gix_ref_transaction.specs.OwnLocks.{paths_of}
-use Rattle.gix_ref_store.specs.CommitResult.{left_of, EveryStopFrom}
+use Rattle.gix_ref_store.specs.CommitResult.{left_of, mode_of, EveryStopFrom}
 use Rattle.gix_ref_store.specs.Prepared.{PreparesGiven}
-use Rattle.gix_ref_whole.specs.WholeRuns.{HasFailed, KeepsEdited}
-use Rattle.gix_ref_whole.proofs.Committed.{at_same, keeps, losses_same, same_on, stops_same}
+use Rattle.gix_ref_store.specs.Store.{files_of}
+use Rattle.gix_ref_whole.specs.WholeRuns.{HasFailed, MakesEdited}
+use Rattle.gix_ref_whole.proofs.Committed.{at_same, carried_before, committed_before, keeps, keeps_split, losses_same, same_on, stops_same}
 use Rattle.gix_ref_whole.proofs.make.make.Goals as goal
 
 pub returns-in-Err-commit-clause-not_made : goal.returns-in-Err-commit-clause-not_made
@@ -21,6 +23,8 @@ returns-in-Err-commit-clause-not_made g c =
     let left = paths_of failed.locks_left.items in
     let stops : EveryStopFrom F.honest F.means F.faults mid new c.args.committer packed held left =
     subst (λ (l : List Path). EveryStopFrom F.honest F.means F.faults mid new c.args.committer packed held l) (ap left_of c.in-Err-commit.is) c.commit.ensures.ended in
+    let named : HasRisenBy (length left) (F.faults (files_of mid)) (F.faults (files_of new)) =
+    subst (λ (l : List Path). HasRisenBy (length l) (F.faults (files_of mid)) (F.faults (files_of new))) (ap left_of c.in-Err-commit.is) c.commit.ensures.named in
     at_same (λ now. HasFailed F.honest F.means F.faults old now c.args.committer edits failed.error left) {x = c.store-in-Ok-1.given.0} {y = new} (search rules)
     (record {
       mid = mid;
@@ -28,7 +32,10 @@ returns-in-Err-commit-clause-not_made g c =
       held = held;
       prepared = from;
       fails = c.in-Err-commit.ensures.failed;
+      sound = c.in-Err-commit.ensures.sound;
+      named = named;
       stops = stops;
+      folders = c.commit.ensures.folders;
       outside = stops_same F.honest F.means F.faults old mid new edits c.args.committer packed held left from stops;
       losses = losses_same F.honest F.means F.faults old mid new edits c.args.committer packed held left from stops c.commit.ensures.lost;
     })
@@ -46,6 +53,27 @@ returns-in-Ok-commit-clause-made g c =
     let from : PreparesGiven F.honest F.means F.faults old mid edits packed held = rw c.transaction.ensures.value at c.in-Ok.ensures.prepared in
     let stops : EveryStopFrom F.honest F.means F.faults mid new c.args.committer packed held left =
     subst (λ (l : List Path). EveryStopFrom F.honest F.means F.faults mid new c.args.committer packed held l) (ap left_of c.in-Ok-commit.is) c.commit.ensures.ended in
-    at_same (λ now. KeepsEdited F.honest F.means F.faults old now edits left) {x = c.store-in-Ok-1.given.0} {y = new} (search rules)
-    (keeps F.honest F.means F.faults old mid new edits c.args.committer packed held left from stops (same_on old mid new from.prepared.held.same c.commit.ensures.same) c.in-Ok-commit.ensures.committed
-    c.in-Ok-commit.ensures.settled c.commit.ensures.lost)
+    let mode = ap mode_of (sym c.in-Ok-commit.is) ∙ (c.commit.ensures.packed_refs ∙ (c.in-Ok.ensures.packed_refs ∙ c.transaction.ensures.packed_refs)) in
+    let named : HasRisenBy (length left) (F.faults (files_of mid)) (F.faults (files_of new)) =
+    subst (λ (l : List Path). HasRisenBy (length l) (F.faults (files_of mid)) (F.faults (files_of new))) (ap left_of c.in-Ok-commit.is) c.commit.ensures.named in
+    at_same (λ now. MakesEdited F.honest F.means F.faults old now c.args.committer edits c.in-Ok-commit.done) {x = c.store-in-Ok-1.given.0} {y = new} (search rules)
+    (record {
+      kept = keeps F.honest F.means F.faults old mid new edits c.args.committer packed held left from stops (same_on old mid new from.prepared.held.same c.commit.ensures.same) c.in-Ok-commit.ensures.committed
+          c.in-Ok-commit.ensures.settled c.commit.ensures.lost;
+      commits = record {
+        mid = mid;
+        packed = packed;
+        held = held;
+        prepared = from;
+        edits = c.in-Ok-commit.ensures.edits;
+        mode = mode;
+        carried = λ h good. carried_before F.honest F.means F.faults old mid new edits c.args.committer packed held left from stops h good c.in-Ok-commit.done.edits.items c.in-Ok-commit.ensures.edits;
+        committed = λ h good. committed_before F.honest F.means F.faults old mid new edits c.args.committer packed held left from stops c.in-Ok-commit.ensures.committed h good;
+        passed = c.in-Ok-commit.ensures.passed;
+        read = c.in-Ok-commit.ensures.read;
+        folders = c.commit.ensures.folders;
+        named = named;
+      };
+      same = keeps_split F.honest F.means F.faults old mid new edits c.args.committer packed held left from stops (same_on old mid new from.prepared.held.same c.commit.ensures.same) c.in-Ok-commit.ensures.committed
+          c.in-Ok-commit.ensures.settled c.commit.ensures.lost;
+    })

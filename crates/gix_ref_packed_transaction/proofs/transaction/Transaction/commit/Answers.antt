@@ -19,14 +19,14 @@ returns-clause-leaves g c honest empty =
     let made = subst (λ (keys : List (Vec ℕ Global)). IsMadeOf (transaction_kind t) (records_of t) (map vec_items keys) rewrite) c.deref.ensures.value c.in-Ok.ensures.made in
     let put = c.put_rewrite.ensures.leaves honest empty in
     weaken
-    (joins put (weaken (c.release-in-Err-put_rewrite.ensures.leaves honest) (λ T goes. off_lock before (transaction_place t) rewrite _ T put.tree goes.0)))
+    (joins put (weaken (c.release-in-Err-2.ensures.leaves honest) (λ T goes. off_lock before (transaction_place t) rewrite _ T put.tree goes.0)))
     (λ T was. left_rewritten (transaction_kind t) (records_of t) (removed_keys t) (transaction_place t) before rewrite made T was)
 
 pub returns-clause-why : goal.returns-clause-why
 returns-clause-why g c =
     let t = c.args.self in
-    subst (SaysWhyPacked g.F.Files.honest (transaction_kind t) (records_of t) (transaction_place t) (g.F.Files.faults c.args.files.now) (g.F.Files.faults c.release-in-Err-put_rewrite.new.files) (g.F.Files.means c.release-in-Err-put_rewrite.new.files).tree) (sym c.release-in-Err-put_rewrite.ensures.error)
-    (why_after g.F.Files.honest (transaction_kind t) (records_of t) (transaction_place t) _ _ _ _ _ _ c.release-in-Err-put_rewrite.ensures.no_fewer (λ honest. (c.release-in-Err-put_rewrite.ensures.leaves honest).tree) c.in-Err-put_rewrite.ensures.why)
+    subst (SaysWhyPacked g.F.Files.honest (transaction_kind t) (records_of t) (transaction_place t) (g.F.Files.faults c.args.files.now) (g.F.Files.faults c.release-in-Err-2.new.files) (g.F.Files.means c.release-in-Err-2.new.files).tree) (sym c.release-in-Err-2.ensures.error)
+    (why_after g.F.Files.honest (transaction_kind t) (records_of t) (transaction_place t) _ _ _ _ _ _ c.release-in-Err-2.ensures.no_fewer (λ honest. (c.release-in-Err-2.ensures.leaves honest).tree) c.in-Err-put_rewrite.ensures.why)
 
 pub returns-in-Err-clause-kept : goal.returns-in-Err-clause-kept
 returns-in-Err-clause-kept g c honest unbegun = (c.release.ensures.leaves honest).tree
@@ -35,7 +35,7 @@ pub returns-clause-kept : goal.returns-clause-kept
 returns-clause-kept g c honest unbegun =
     absurd (begun g.F.Files.honest (transaction_place c.args.self) (g.F.Files.faults c.args.files.now) (g.F.Files.faults c.put_rewrite.new.files) (g.F.Files.means c.put_rewrite.new.files).tree
     c.in-Err-put_rewrite.error c.in-Err-put_rewrite.ensures.why
-    (subst IsUnbegun c.release-in-Err-put_rewrite.ensures.error unbegun))
+    (subst IsUnbegun c.release-in-Err-2.ensures.error unbegun))
 
 pub returns-in-Err-clause-lost : goal.returns-in-Err-clause-lost
 returns-in-Err-clause-lost g c honest ready =
@@ -50,6 +50,14 @@ returns-in-Ok-put_rewrite-clause-lost g c honest ready =
     let made = subst (λ (keys : List (Vec ℕ Global)). IsMadeOf (transaction_kind t) (records_of t) (map vec_items keys) rewrite) c.deref.ensures.value c.in-Ok.ensures.made in
     losses _ (λ E keeps T lost. lost_of rewrite (transaction_place t) D (transaction_kind t) (records_of t) (removed_keys t) made E T keeps lost) (c.put_rewrite.ensures.passes honest ready)
 
+pub returns-in-Err-put_rewrite-clause-lost : goal.returns-in-Err-put_rewrite-clause-lost
+returns-in-Err-put_rewrite-clause-lost g c honest ready =
+    let t = c.args.self in
+    let D = disk_of (g.F.Files.means c.args.files.now) in
+    let rewrite = c.in-Ok.rewrite in
+    let made = subst (λ (keys : List (Vec ℕ Global)). IsMadeOf (transaction_kind t) (records_of t) (map vec_items keys) rewrite) c.deref.ensures.value c.in-Ok.ensures.made in
+    losses _ (λ E keeps T lost. lost_of rewrite (transaction_place t) D (transaction_kind t) (records_of t) (removed_keys t) made E T keeps lost) (c.put_rewrite.ensures.passes honest ready)
+
 pub returns-clause-lost : goal.returns-clause-lost
 returns-clause-lost g c honest ready =
     let t = c.args.self in
@@ -58,4 +66,4 @@ returns-clause-lost g c honest ready =
     let made = subst (λ (keys : List (Vec ℕ Global)). IsMadeOf (transaction_kind t) (records_of t) (map vec_items keys) rewrite) c.deref.ensures.value c.in-Ok.ensures.made in
     let put = c.put_rewrite.ensures.passes honest ready in
     losses _ (λ E keeps T lost. lost_of rewrite (transaction_place t) D (transaction_kind t) (records_of t) (removed_keys t) made E T keeps lost)
-    (passes_joins put (passes_weaken (c.release-in-Err-put_rewrite.ensures.passes honest) (λ E unlocks. keeps_unlock rewrite (transaction_place t) D _ E unlocks put.disk)))
+    (passes_joins put (passes_weaken (c.release-in-Err-2.ensures.passes honest) (λ E unlocks. keeps_unlock rewrite (transaction_place t) D _ E unlocks put.disk)))

@@ -1,12 +1,12 @@
-use Rattle.std.proofs.Common.{subst, sym, ap, ◌∙◌, ℕ, List, Some}
+use Rattle.std.proofs.Common.{◌≡◌, false, inr, subst, sym, ap, ◌∙◌, ℕ, List, Some}
 use Rattle.gix_ref_files.specs.Lock.{lock_of}
-use Rattle.gix_ref_files.specs.Tree.{put}
+use Rattle.gix_ref_files.specs.Tree.{Tree, is_file, put}
 use Rattle.gix_ref_files.specs.Tree.Content.{File}
 use Rattle.gix_ref_files.proofs.Moments.{joins, weaken, passes_joins, passes_weaken}
 use Rattle.gix_ref_files.specs.Files.{disk_of}
 use Rattle.gix_ref_files.specs.Settled.{IsWholeAt}
 use Rattle.gix_ref_packed_transaction.specs.PackedTransactions.{IsOldOrRewritten}
-use Rattle.gix_ref_packed_transaction.proofs.LockSteps.{when_ok, on_ok, filling, renaming, is_renamed}
+use Rattle.gix_ref_packed_transaction.proofs.LockSteps.{lock_moved, when_ok, on_ok, filling, renaming, is_renamed}
 use Rattle.gix_ref_packed_transaction.proofs.Losses.{folder_there, keeps_fill, keeps_first, keeps_renaming, keeps_settling, lock_file, settles_renamed}
 use Rattle.gix_ref_packed_transaction.proofs.transaction.commit.put_text.Goals as goal
 use Rattle.gix_ref_rewrite.specs.declared.outcome.Rewrite.TheVariants.{Text}
@@ -68,3 +68,8 @@ returns-clause-settled g c honest ready =
     let whole = subst (λ (bytes : List ℕ). IsWholeAt (disk_of (g.F.Files.means c.write_text.new.files)) (lock_of place) bytes) c.deref.ensures.value (c.in_default.ensures.whole honest ready.lock) in
     let second = keeps_renaming place D _ c.args.text.now whole first _ (c.move_lock.ensures.passes honest).disk in
     on_ok c.settle.result (settles_renamed place D _ c.args.text.now whole first _ _ (c.in_ok-move_lock.ensures.moved_on honest)) (c.settle.ensures.synced honest (folder_there t place D _ second))
+
+pub returns-clause-renamed : goal.returns-clause-renamed
+returns-clause-renamed g c honest is =
+    let place = c.args.lock.now in
+    inr (subst (λ (T : Tree). is_file (T (lock_of place)) ≡ false) (sym ((c.settle.ensures.leaves honest).tree ∙ c.in_ok-move_lock.ensures.moved honest)) (lock_moved place (g.F.Files.means c.write_text.new.files).tree))

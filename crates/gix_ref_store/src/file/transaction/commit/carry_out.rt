@@ -1,9 +1,9 @@
 //! A commit from its decisions to the release of its locks, from a store.
-ghost use Rattle.std.specs.Prelude.{◌≡◌, ◌⊎◌, [], OnOk, IfOk, IfErr};
-ghost use Rattle.gix_ref_files.specs.Files.{HasRisen};
+ghost use Rattle.std.specs.Prelude.{◌≡◌, ◌⊎◌, [], OnOk, IfOk, IfErr, length};
+ghost use Rattle.gix_ref_files.specs.Files.{HasRisenBy};
 ghost use Rattle.gix_ref_transaction.specs.OwnLocks.{paths_of};
 ghost use Rattle.gix_ref_transaction.specs.PrepareSteps.{updates};
-ghost use Rattle.gix_ref_store.specs.CommitResult.{EveryStopFrom, EveryLossFrom, SettlesFrom, CommitsFrom, FailsFor, NoBadLineFrom};
+ghost use Rattle.gix_ref_store.specs.CommitResult.{EveryStopFrom, EveryLossFrom, SettlesFrom, CommitsFrom, FailsFor, NoBadLineFrom, ReadsPacked};
 ghost use Rattle.gix_ref_store.specs.CommitLines.{LinesPass};
 ghost use Rattle.gix_ref_store.specs.CommittedFolders.{KeepsFolders};
 ghost use Rattle.gix_ref_store.specs.Decisions.{left_in};
@@ -56,11 +56,13 @@ impl<F: Files> Store<F> {
             packed edits.items (left_in result) }
         ensures lost { EveryLossFrom F.honest F.means F.faults self.old self.new committer.entry
             packed edits.items }
-        ensures folders { KeepsFolders F.honest F.means F.faults self.old self.new packed
-            edits.items }
+        ensures folders { KeepsFolders F.honest F.means F.faults self.old self.new committer.entry
+            packed edits.items }
         ensures settled { OnOk result (SettlesFrom F.honest F.means F.faults self.old self.new
             packed edits.items) }
-        ensures named { (left_in result ≡ []) ⊎ HasRisen (F.faults (files_of self.old))
+        ensures read { OnOk result (ReadsPacked F.honest F.means F.faults self.old packed
+            edits.items) }
+        ensures named { HasRisenBy (length (left_in result)) (F.faults (files_of self.old))
             (F.faults (files_of self.new)) }
         ensures same { self.new ≡ with_files self.old (files_of self.new) }
     {

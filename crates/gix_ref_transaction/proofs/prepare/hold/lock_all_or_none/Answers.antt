@@ -1,3 +1,4 @@
+use Rattle.gix_ref_transaction.proofs.Faults.{risen_by_none_left}
 use Rattle.std.proofs.Common.{◌≡◌, ⊎_elim, ℕ, List, [], true, false, take, refl, sym, ◌∙◌, ap, subst, arith, Vec}
 use Rattle.std.specs.declared.alloc.Global.{Global}
 use Rattle.gix_ref_files.specs.Files.{Leaves}
@@ -110,3 +111,8 @@ returns-in-Err-clause-once g c q =
     let none : times q (paths_of c.args.remains.left.items) ≡ 0 = ap (λ (l : List (Vec ℕ Global)). times q (paths_of l)) c.requires.none in
     let first : times q (lock_paths c.truncate.new.self.items) ≡ times q (locks_of s (take n edits)) = ap (times q) same in
     omega (arith, none, first, c.release_locks-remains.ensures.once q, times_first s q n edits)
+
+pub returns-in-Err-clause-named : goal.returns-in-Err-clause-named
+returns-in-Err-clause-named g c =
+    c.release_locks-remains.ensures.counted (g.F.Files.faults c.args.files.now)
+    (risen_by_none_left c.args.remains.left _ _ c.requires.none c.take_locks.ensures.no_fewer)

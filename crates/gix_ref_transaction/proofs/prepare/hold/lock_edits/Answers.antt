@@ -1,3 +1,4 @@
+use Rattle.gix_ref_transaction.proofs.Faults.{risen_by_before}
 use Rattle.std.proofs.Common.{◌≡◌, ◌+◌, inl, inr, ⊎_elim, ℕ, List, [], ◌∷◌, Option, true, map, sym, ap, subst, arith, Vec, Global}
 use Rattle.gix_ref_files.specs.Files.{disk_of, Leaves}
 use Rattle.gix_ref_files.specs.Lock.{lock_of}
@@ -177,3 +178,8 @@ returns-in-Err-find_and_lock-clause-unread g c h =
     let off = off_lock s old.tree mid.tree c.in-Ok.packed c.in-Ok.ensures.place (c.in-Ok.ensures.takes h) in
     subst (λ (packed : Option (List ℕ)). IsFindCause s kind packed (updates c.args.edits.items) c.in-Err-find_and_lock.failure.error) (same_packed s kind old.tree mid.tree off c.requires.apart.packed_lock)
     (c.in-Err-find_and_lock.ensures.unread h)
+
+pub returns-in-Err-find_and_lock-clause-named : goal.returns-in-Err-find_and_lock-clause-named
+returns-in-Err-find_and_lock-clause-named g c =
+    c.release_packed.ensures.counted (g.F.Files.faults c.args.files.now)
+    (risen_by_before _ _ _ _ c.take_packed.ensures.no_fewer c.in-Err-find_and_lock.ensures.named)

@@ -1,4 +1,4 @@
-use Rattle.std.proofs.Common.{◌≡◌, ◌∙◌, ◌++◌, ◌<◌, List, None, false, length, sym, ap, subst, arith}
+use Rattle.std.proofs.Common.{◌≡◌, ◌∙◌, ◌<◌, List, None, false, length, sym, ap, subst, arith}
 use Rattle.std.specs.Prelude.{if◌then◌else◌}
 use Rattle.std.specs.List.{flat_map}
 use Rattle.std.proofs.lemmas.List.{length-map}
@@ -10,7 +10,7 @@ use Rattle.gix_ref_lookup.specs.declared.folders.Dirs.{Dirs}
 use Rattle.gix_ref_edits.specs.declared.transaction.RefEdit.{RefEdit}
 use Rattle.gix_ref_transaction.specs.CommitRenames.{log_at, path_in, place_at}
 use Rattle.gix_ref_transaction.specs.OwnLocks.{paths_of, OnlyRemoves, RemovesLocks}
-use Rattle.gix_ref_transaction.specs.PrepareSteps.{held_locks, packed_places, updates}
+use Rattle.gix_ref_transaction.specs.PrepareSteps.{held_locks, updates}
 use Rattle.gix_ref_transaction.specs.declared.edit.Edit.{Edit}
 use Rattle.gix_ref_commit.specs.Cleared.{AllInWay, FoldersGo, LosesNoMore, OnlyFolders, all_removed, commit_entries, folder_lists}
 use Rattle.gix_ref_commit.specs.Entries.{bare_steps, done_of, planned_entries, steps_in}
@@ -21,7 +21,7 @@ use Rattle.gix_ref_commit.proofs.Alike.{updates_alike}
 use Rattle.gix_ref_commit.proofs.Outcomes.{logs_are}
 use Rattle.gix_ref_theory.specs.OnRealTrees.{view_of}
 use Rattle.gix_ref_store.specs.CommitLines.{line_rules}
-use Rattle.gix_ref_store.specs.CommittedFolders.{deleted_by, written_by}
+use Rattle.gix_ref_store.specs.CommittedFolders.{deleted_by, outcomes_in, written_in}
 use Rattle.gix_ref_store.specs.Prepared.{tree_of}
 use Rattle.gix_ref_store.specs.Store.{meaning_of, with_files}
 use Rattle.gix_ref_store.specs.declared.file.store.Store.{Store}
@@ -382,7 +382,7 @@ returns-in-Err-clause-folders g c h empty =
     let start = c.args.self.now in
     let held = c.args.edits.items in
     let packed = c.args.packed in
-    no_folder_gone start.dirs packed (packed_places packed ++ flat_map (written_by (meaning_of start)) held) (flat_map (deleted_by (meaning_of start)) held) (held_locks packed c.decide.new.edits.items) (F.means start.files).tree (F.means c.decide.new.self.files).tree (F.means c.release_all-remains.new.files).tree
+    no_folder_gone start.dirs packed (written_in F.honest F.means F.faults start c.args.committer packed held) (flat_map (deleted_by (meaning_of start)) held) (held_locks packed c.decide.new.edits.items) (F.means start.files).tree (F.means c.decide.new.self.files).tree (F.means c.release_all-remains.new.files).tree
     empty (c.decide.ensures.leaves h empty).tree (c.release_all-remains.ensures.leaves h).tree
 
 pub returns-in-Err-publish-clause-folders : goal.returns-in-Err-publish-clause-folders
@@ -412,8 +412,8 @@ returns-in-Err-publish-clause-folders g c h empty =
     (subst (λ ps. FoldersGo c.publish.new.self.dirs (paths_of ps) released.tree tidied.tree) c.tried.ensures (c.remove_empty_folders.ensures.leaves h).tree) in
     let tidies : FoldersGo start.dirs (all_removed ran.items) released.tree tidied.tree =
     subst (λ (paths : List Path). FoldersGo start.dirs paths released.tree tidied.tree) removed (tried_go start.dirs u c.deref-in-Err-publish.result.now released.tree tidied.tree tried) in
-    folders_stay (meaning_of start) start.dirs held ran.items packed rewrite (folder_lists ways) first.tree decided.tree mid.tree released.tree tidied.tree (held_locks (if renamed then None else packed) ran.items)
-    c.decide.ensures.alike (logs_are (line_rules start c.args.committer) (view_of first.tree) 0 held ran.items (c.in-Ok.ensures.logs h)) empty (c.decide.ensures.leaves h empty).tree (c.in-Ok.ensures.in_way h) left releases.tree tidies
+    folders_stay (meaning_of start) start.dirs held ran.items packed rewrite (folder_lists ways) first.tree decided.tree mid.tree released.tree tidied.tree (held_locks (if renamed then None else packed) ran.items) (outcomes_in F.honest F.means F.faults start c.args.committer held)
+    c.decide.ensures.alike (logs_are (line_rules start c.args.committer) (view_of first.tree) 0 held ran.items (c.in-Ok.ensures.logs h)) (c.in-Ok.ensures.logs h) empty (c.decide.ensures.leaves h empty).tree (c.in-Ok.ensures.in_way h) left releases.tree tidies
 
 pub returns-clause-folders : goal.returns-clause-folders
 returns-clause-folders g c h empty =
@@ -439,5 +439,13 @@ returns-clause-folders g c h empty =
     let tidies : FoldersGo start.dirs (all_removed ran.items) released.tree tidied.tree =
     subst (λ (paths : List Path). FoldersGo start.dirs paths released.tree tidied.tree) removed
     (subst (λ (d : Dirs). FoldersGo d (paths_of c.deref-3.result.now) released.tree tidied.tree) still (c.remove_empty_folders-2.ensures.leaves h).tree) in
-    folders_stay (meaning_of start) start.dirs held ran.items packed rewrite (folder_lists ways) first.tree decided.tree mid.tree released.tree tidied.tree (held_locks (if renamed then None else packed) ran.items)
-    c.decide.ensures.alike (logs_are (line_rules start c.args.committer) (view_of first.tree) 0 held ran.items (c.in-Ok.ensures.logs h)) empty (c.decide.ensures.leaves h empty).tree (c.in-Ok.ensures.in_way h) left releases.tree tidies
+    folders_stay (meaning_of start) start.dirs held ran.items packed rewrite (folder_lists ways) first.tree decided.tree mid.tree released.tree tidied.tree (held_locks (if renamed then None else packed) ran.items) (outcomes_in F.honest F.means F.faults start c.args.committer held)
+    c.decide.ensures.alike (logs_are (line_rules start c.args.committer) (view_of first.tree) 0 held ran.items (c.in-Ok.ensures.logs h)) (c.in-Ok.ensures.logs h) empty (c.decide.ensures.leaves h empty).tree (c.in-Ok.ensures.in_way h) left releases.tree tidies
+
+pub done-done-requires : goal.done-done-requires
+done-done-requires g c =
+    let F = g.F.Files in
+    let ran = c.decide.new.edits in
+    subst (λ n. AllOfEdits n c.in-Err-publish.unfinished) (omega (arith, ran.ok, c.len.ensures))
+    (all_of_edits F.honest c.decide.new.self.dirs ran.items c.args.packed c.in-Ok.decided.rewrite c.in-Ok.decided.ways.items (F.means c.decide.new.self.files).tree (F.means c.publish.new.self.files).tree c.in-Err-publish.unfinished
+    (rw c.deref-2.ensures.value at (rw c.deref.ensures.value at c.in-Err-publish.ensures.ended)))

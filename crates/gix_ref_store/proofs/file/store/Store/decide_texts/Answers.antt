@@ -10,7 +10,7 @@ use Rattle.gix_ref_transaction.specs.PrepareSteps.{AreEmpty, packed_places}
 use Rattle.gix_ref_transaction.specs.declared.edit.Edit.{Edit}
 use Rattle.gix_ref_lines.specs.AskedEdits.{all_but_logs, asked, but_log}
 use Rattle.gix_ref_lines.specs.LineCauses.{AllPass}
-use Rattle.gix_ref_repack.specs.Refusals.{IsRefusedRewrite}
+use Rattle.gix_ref_repack.specs.Refusals.{IsReadFile, IsRefusedRewrite}
 use Rattle.gix_ref_store.specs.CommitLines.{line_rules}
 use Rattle.gix_ref_store.specs.Decisions.{IsUndecided}
 use Rattle.gix_ref_store.specs.Store.{kind_of, meaning_of, with_files}
@@ -38,8 +38,11 @@ returns-in-Ok-clause-repacked g c =
     let held = c.args.edits.now in
     let alike = taken held.len c.decide_logs.new.edits _ held.items c.deref.result.now c.deref.ensures.value (omega (arith, held.ok)) (c.decide_logs.ensures.but_logs ∙ ap all_but_logs c.deref_mut.ensures.value) in
     repacked_by F.honest F.means F.faults start c.args.packed.now held.items c.deref.result.now c.in-Ok.new_packed.rewrite alike
-    (λ h apart rs are ids. c.in-Ok.ensures.repacked h apart rs
-    (subst (λ (T : Tree). ArePackedRecords (kind_of start) (view_of T (meaning_of start).packed_path) rs) (sym (c.decide_logs.ensures.leaves h).tree) are) ids)
+    (record {
+      made = λ h apart rs are ids. c.in-Ok.ensures.repacked h apart rs
+          (subst (λ (T : Tree). ArePackedRecords (kind_of start) (view_of T (meaning_of start).packed_path) rs) (sym (c.decide_logs.ensures.leaves h).tree) are) ids;
+      read = λ h some removes. subst (λ (T : Tree). IsReadFile (kind_of start) (T (meaning_of start).packed_path)) (c.decide_logs.ensures.leaves h).tree (c.in-Ok.ensures.whole h some removes);
+    })
 
 pub returns-in-Ok-clause-passes : goal.returns-in-Ok-clause-passes
 returns-in-Ok-clause-passes g c h empty =

@@ -1,11 +1,11 @@
-use Rattle.std.proofs.Common.{inl, inr, ⊎_elim, map, refl, sym, ap}
+use Rattle.std.proofs.Common.{⊎_elim, map, refl, sym}
 use Rattle.std.specs.Prelude.{bytes_eq}
 use Rattle.gix_ref_files.specs.Lock.{lock_of}
 use Rattle.gix_ref_transaction.specs.OwnLocks.{paths_of}
 use Rattle.gix_ref_transaction.specs.PrepareSteps.{held_locks, lock_paths, packed_places}
 use Rattle.gix_ref_transaction.proofs.Adds.{any_cases}
 use Rattle.gix_ref_store.proofs.PreparedLosses.{removing_loses}
-use Rattle.gix_ref_store.proofs.Releasing.{all_gone}
+use Rattle.gix_ref_store.proofs.Releasing.{all_gone, paths_risen}
 use Rattle.gix_ref_store.proofs.file.transaction.Prepared+F+Plan+T.rollback.Goals as goal
 
 pub returns-clause-rolled : goal.returns-clause-rolled
@@ -22,7 +22,7 @@ returns-clause-rolled g c =
           (any_cases (λ r. bytes_eq r q) (map lock_of (packed_places plan.packed)) (lock_paths held) within);
       ours = e.ours;
       once = e.once;
-      named = ⊎_elim (λ none. inl (ap paths_of none)) (λ risen. inr risen) e.named;
+      named = paths_risen c.release_all-remains.result.left _ _ e.named;
       leaves = e.leaves;
       removes = e.passes;
       lost = λ h places own. removing_loses F.means _ _ (held_locks plan.packed held) places (e.passes h) own;
