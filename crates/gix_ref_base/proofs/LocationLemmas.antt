@@ -13,7 +13,7 @@ use Rattle.gix_ref_name.specs.declared.name.category.Category.{Category}
 use Rattle.gix_ref_name.specs.declared.name.category.Category.TheVariants.{Tag, LocalBranch, RemoteBranch, Note, PseudoRef, MainPseudoRef, MainRef, LinkedPseudoRef, LinkedRef, Bisect, Rewritten, WorktreePrivate}
 use Rattle.gix_ref_hash.proofs.ByteLemmas.{IsApart as IsOtherByte, apart, no_byte}
 use Rattle.gix_ref_base.specs.Layout.{Layout, HasPaths, IsSafe, RefPaths, common_log, git_log, in_common, in_git, is_private_ref, linked_log, packed_key, ref_paths, paths_in, paths_of_others}
-use Rattle.gix_ref_base.specs.Locations.{Location, cut_at_slash, is_safe, rest_after, paths_at, paths_of, location, location_by, location_in_linked, location_of_linked, location_of_main, location_unless}
+use Rattle.gix_ref_base.specs.Locations.{Location, cut_at_slash, is_safe, rest_after, paths_at, row_of, location, location_by, location_in_linked, location_of_linked, location_of_main, location_unless}
 use Rattle.gix_ref_base.specs.Locations.Location.{ThisWorktree, LinkedWorktree, MainWorktree, Common}
 
 abbrev pub head : List ℕ → ℕ
@@ -162,8 +162,8 @@ has_spot name x h = first (location_by ThisWorktree name) refl h
 
 -- The location of a name of each category.
 
-paths_by_location : (f : Layout) (name : List ℕ) (x : Location) → location name ≡ Some x → paths_at f name ≡ paths_of f x
-paths_by_location f name x h = ap (λ o. paths_of f (unwrap_or o (Common name))) h
+paths_by_location : (f : Layout) (name : List ℕ) (x : Location) → location name ≡ Some x → paths_at f name ≡ row_of f x
+paths_by_location f name x h = ap (λ o. row_of f (unwrap_or o (Common name))) h
 
 spot_pseudo : (name : List ℕ) → list_all is_pseudo_byte name ≡ true → location name ≡ Some (ThisWorktree name)
 spot_pseudo name h =
@@ -186,16 +186,16 @@ spot_linked name w s e none = ap location e ∙ ap location_in_linked (cut-appen
 in_group : (n s word : List ℕ) → n ≡ codes "refs/" ++ s → (b : BeginsWith s word) → n ≡ codes "refs/" ++ (word ++ b.0)
 in_group n s word e b = e ∙ ap (λ t. codes "refs/" ++ t) b.1
 
-choice : (f : Layout) (name : List ℕ) (b : Bool) (p q : Location) → paths_of f (unwrap_or (if b then Some p else Some q) (Common name)) ≡ (if b then paths_of f p else paths_of f q)
+choice : (f : Layout) (name : List ℕ) (b : Bool) (p q : Location) → row_of f (unwrap_or (if b then Some p else Some q) (Common name)) ≡ (if b then row_of f p else row_of f q)
 choice f name true p q = refl
 choice f name false p q = refl
 
-main_choice : (f : Layout) (s : List ℕ) (b : Bool) → (if b then paths_of f (MainWorktree s) else paths_of f (Common s)) ≡ ref_paths (in_common f s) (common_log f s) (if b then None else packed_key f s)
+main_choice : (f : Layout) (s : List ℕ) (b : Bool) → (if b then row_of f (MainWorktree s) else row_of f (Common s)) ≡ ref_paths (in_common f s) (common_log f s) (if b then None else packed_key f s)
 main_choice f s true = refl
 main_choice f s false = refl
 
 linked_choice : (f : Layout) (n w s : List ℕ) (b : Bool) → n ≡ codes "worktrees/" ++ (w ++ 47 ∷ s) →
-    (if b then paths_of f (LinkedWorktree w s) else paths_of f (Common s)) ≡ (if b then ref_paths (in_common f n) (linked_log f w s) None else ref_paths (in_common f s) (common_log f s) (packed_key f s))
+    (if b then row_of f (LinkedWorktree w s) else row_of f (Common s)) ≡ (if b then ref_paths (in_common f n) (linked_log f w s) None else ref_paths (in_common f s) (common_log f s) (packed_key f s))
 linked_choice f n w s true e = ap (λ z. ref_paths (in_common f z) (linked_log f w s) None) (sym e)
 linked_choice f n w s false e = refl
 
@@ -209,11 +209,11 @@ paths_are_in f n Bisect s h = subst (λ m. paths_at f m ≡ ref_paths (in_git f 
 paths_are_in f n Rewritten s h = subst (λ m. paths_at f m ≡ ref_paths (in_git f m) (git_log f m) None) (sym (in_group n s (codes "rewritten/") h.0 h.1)) refl
 paths_are_in f n WorktreePrivate s h = subst (λ m. paths_at f m ≡ ref_paths (in_git f m) (git_log f m) None) (sym (in_group n s (codes "worktree/") h.0 h.1)) refl
 paths_are_in f n MainRef s h =
-    ap (λ o. paths_of f (unwrap_or o (Common n))) (spot_main n s h.0 ∙ spot_by_ref MainWorktree s h.1)
+    ap (λ o. row_of f (unwrap_or o (Common n))) (spot_main n s h.0 ∙ spot_by_ref MainWorktree s h.1)
     ∙ (choice f n (is_private_ref s) (MainWorktree s) (Common s) ∙ main_choice f s (is_private_ref s))
 paths_are_in f n MainPseudoRef s h = paths_by_location f n (MainWorktree s) (spot_main n s h.0 ∙ spot_by_pseudo MainWorktree s h.1)
 paths_are_in f n (LinkedRef w) s h =
-    ap (λ o. paths_of f (unwrap_or o (Common n))) (spot_linked n w.now s h.0 h.1 ∙ spot_by_ref (LinkedWorktree w.now) s h.2)
+    ap (λ o. row_of f (unwrap_or o (Common n))) (spot_linked n w.now s h.0 h.1 ∙ spot_by_ref (LinkedWorktree w.now) s h.2)
     ∙ (choice f n (is_private_ref s) (LinkedWorktree w.now s) (Common s) ∙ linked_choice f n w.now s (is_private_ref s) h.0)
 paths_are_in f n (LinkedPseudoRef w) s h =
     paths_by_location f n (LinkedWorktree w.now s) (spot_linked n w.now s h.0 h.1 ∙ spot_by_pseudo (LinkedWorktree w.now) s h.2)
@@ -253,10 +253,10 @@ pub paths_are_table : (f : Layout) (name : List ℕ) (r : RefPaths) → HasPaths
 paths_are_table f name r (inl h) = paths_are_in f name h.0 h.1 h.2 ∙ sym h.3
 paths_are_table f name r (inr h) = by (location name) refl ∙ sym h.1
   where
-    by : (o : Option Location) → location name ≡ o → paths_of f (unwrap_or o (Common name)) ≡ paths_of_others f name
+    by : (o : Option Location) → location name ≡ o → row_of f (unwrap_or o (Common name)) ≡ paths_of_others f name
     by None e = refl
     by (Some x) e = elim (spot_category name x (has_spot name x e)) [
-      | inl s ↦ ap (paths_of f) s.0
+      | inl s ↦ ap (row_of f) s.0
       | inr c ↦ absurd (h.0 c.0 c.1 c.2)
     ]
 
@@ -358,7 +358,7 @@ has_paths f name = by (location name) refl
     ]
 
     by : (o : Option Location) → location name ≡ o → HasPaths f name (paths_at f name)
-    by None e = inr (λ c s h. false≢true (sym (ap is_some e) ∙ safe_is_tested name (inr (c, s, h))), ap (λ o. paths_of f (unwrap_or o (Common name))) e)
+    by None e = inr (λ c s h. false≢true (sym (ap is_some e) ∙ safe_is_tested name (inr (c, s, h))), ap (λ o. row_of f (unwrap_or o (Common name))) e)
     by (Some x) e = elim (spot_category name x (has_spot name x e)) [
       | inl s ↦ shared (e ∙ ap Some s.0) s.1
       | inr c ↦ of_category c.0 c.1 c.2
@@ -368,9 +368,9 @@ has_paths f name = by (location name) refl
 
 -- the name is safe, and these are its paths
 abbrev pub IsFound : List ℕ → Location → Type 0
-IsFound name x = (is_safe name ≡ true) × ((f : Layout) → paths_at f name ≡ paths_of f x)
+IsFound name x = (is_safe name ≡ true) × ((f : Layout) → paths_at f name ≡ row_of f x)
 
-pub found_category : (name n : List ℕ) (c : Category) (s : List ℕ) (x : Location) → n ≡ name → HasCategory name c s → ((f : Layout) → paths_in f c n s ≡ paths_of f x) → IsFound name x
+pub found_category : (name n : List ℕ) (c : Category) (s : List ℕ) (x : Location) → n ≡ name → HasCategory name c s → ((f : Layout) → paths_in f c n s ≡ row_of f x) → IsFound name x
 found_category name n c s x same h row =
     (safe_is_tested name (inr (c, s, h)), λ f. paths_are_in f name c s h ∙ (ap (λ (m : List ℕ). paths_in f c m s) (sym same) ∙ row f))
 
@@ -390,9 +390,9 @@ not_found name n same none apart = elim (cases_Bool (is_safe name)) [
 ]
 
 -- a name that is not safe is shared as it is
-pub unsafe_paths : (name n : List ℕ) → n ≡ name → is_safe name ≡ false → (f : Layout) → paths_at f name ≡ paths_of f (Common n)
+pub unsafe_paths : (name n : List ℕ) → n ≡ name → is_safe name ≡ false → (f : Layout) → paths_at f name ≡ row_of f (Common n)
 unsafe_paths name n same unsafe f = by (location name) refl
   where
-    by : (o : Option Location) → location name ≡ o → paths_of f (unwrap_or (location name) (Common name)) ≡ paths_of f (Common n)
-    by None e = ap (λ o. paths_of f (unwrap_or o (Common name))) e ∙ ap (λ (m : List ℕ). paths_of f (Common m)) (sym same)
+    by : (o : Option Location) → location name ≡ o → row_of f (unwrap_or (location name) (Common name)) ≡ row_of f (Common n)
+    by None e = ap (λ o. row_of f (unwrap_or o (Common name))) e ∙ ap (λ (m : List ℕ). row_of f (Common m)) (sym same)
     by (Some x) e = absurd (false≢true (sym unsafe ∙ ap is_some e))

@@ -59,15 +59,15 @@ abbrev pub is_safe : List ℕ → Bool
 is_safe name = is_some (location name)
 
 -- the row of a location
-abbrev pub paths_of : Layout → Location → RefPaths
-paths_of f (Common n) = ref_paths (in_common f n) (common_log f n) (packed_key f n)
-paths_of f (ThisWorktree n) = ref_paths (in_git f n) (git_log f n) None
-paths_of f (MainWorktree s) = ref_paths (in_common f s) (common_log f s) None
-paths_of f (LinkedWorktree w s) = ref_paths (in_common f (codes "worktrees/" ++ (w ++ 47 ∷ s))) (linked_log f w s) None
+abbrev pub row_of : Layout → Location → RefPaths
+row_of f (Common n) = ref_paths (in_common f n) (common_log f n) (packed_key f n)
+row_of f (ThisWorktree n) = ref_paths (in_git f n) (git_log f n) None
+row_of f (MainWorktree s) = ref_paths (in_common f s) (common_log f s) None
+row_of f (LinkedWorktree w s) = ref_paths (in_common f (codes "worktrees/" ++ (w ++ 47 ∷ s))) (linked_log f w s) None
 
 -- the row of any name
 abbrev pub paths_at : Layout → List ℕ → RefPaths
-paths_at f name = paths_of f (unwrap_or (location name) (Common name))
+paths_at f name = row_of f (unwrap_or (location name) (Common name))
 
 -- the layout without a namespace: its folders do not matter to a key
 abbrev pub no_namespace : Layout

@@ -17,9 +17,9 @@ abbrev pub category_cmp : Category → Category → Ordering
 category_cmp a b = ordering_then (nat_cmp (code_of a) (code_of b)) (slice_cmp nat_cmp (worktree_of a) (worktree_of b))
 
 -- the place of a kind among the kinds
-abbrev pub kind_rank : Kind → ℕ
-kind_rank Object = 0
-kind_rank Symbolic = 1
+abbrev pub target_kind_rank : Kind → ℕ
+target_kind_rank Object = 0
+target_kind_rank Symbolic = 1
 
 -- objects come first, by their ids; then names, by their bytes
 abbrev pub target_cmp : TargetValue → TargetValue → Ordering

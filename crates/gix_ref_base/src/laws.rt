@@ -7,7 +7,7 @@ ghost use Rattle.gix_ref_name.specs.Names.{full_ref_bytes, full_bytes, partial_r
 ghost use Rattle.gix_ref_name.specs.Namespaces.{namespace_bytes};
 ghost use Rattle.gix_ref_name.specs.Categories.{SameCategory};
 ghost use Rattle.gix_ref_base.specs.Targets.{target_value, target_ref_value};
-ghost use Rattle.gix_ref_base.specs.Orders.{category_cmp, kind_rank, target_cmp};
+ghost use Rattle.gix_ref_base.specs.Orders.{category_cmp, target_kind_rank, target_cmp};
 
 use crate::target::{Kind, Target, TargetRef};
 use gix_ref_name::name::{Category, FullName, FullNameRef, PartialName, PartialNameRef};
@@ -100,7 +100,7 @@ pub fn order_categories(a: Category<'_>, b: Category<'_>) -> Ordering
 
 /// Objects come before symbolic targets.
 pub fn order_target_kinds(a: Kind, b: Kind) -> Ordering
-    ensures { result ≡ nat_cmp (kind_rank a) (kind_rank b) }
+    ensures { result ≡ nat_cmp (target_kind_rank a) (target_kind_rank b) }
 {
     a.cmp(&b)
 }

@@ -5,7 +5,7 @@ ghost use Rattle.std.specs.Option.{option_map};
 ghost use Rattle.gix_ref_name.specs.Names.{full_ref_bytes};
 ghost use Rattle.gix_ref_name.specs.Categories.{HasCategory};
 ghost use Rattle.gix_ref_base.specs.Layout.{Layout, below, paths_in, is_private_ref};
-ghost use Rattle.gix_ref_base.specs.Locations.{is_safe, paths_at, paths_of, key_outside, NoFrontOfCategory};
+ghost use Rattle.gix_ref_base.specs.Locations.{is_safe, paths_at, row_of, key_outside, NoFrontOfCategory};
 ghost use Rattle.gix_ref_base.specs.Locations.Location.{Common as CommonName};
 ghost use Rattle.gix_ref_base.specs.RefLayout.{location_value};
 
@@ -39,7 +39,7 @@ fn is_private(short: &[u8]) -> bool
 fn location_in<'a>(category: Category<'a>, name: &'a [u8], short: &'a [u8]) -> Location<'a>
     requires { HasCategory name.now category short.now }
     ensures { (f : Layout) → paths_in f category.entry name.now short.now
-        ≡ paths_of f (location_value result) }
+        ≡ row_of f (location_value result) }
 {
     match category {
         Category::Tag | Category::LocalBranch | Category::RemoteBranch | Category::Note => {
@@ -74,7 +74,7 @@ pub fn location_of(name: FullNameRef<'_>) -> Option<Location<'_>>
     ensures { MatchOption result (is_safe (full_ref_bytes name.entry) ≡ false)
         (λ at. (is_safe (full_ref_bytes name.entry) ≡ true)
         × ((f : Layout) → paths_at f (full_ref_bytes name.entry)
-        ≡ paths_of f (location_value at))) }
+        ≡ row_of f (location_value at))) }
 {
     if let Some((category, short)) = name.category_and_short_name() {
         return Some(location_in(category, name.to_path(), short));
@@ -110,7 +110,7 @@ fn is_elsewhere(name: &[u8]) -> bool
 /// names, and then no category need be looked for.
 fn is_shared(name: &[u8]) -> bool
     ensures { OnTrue result ((f : Layout) →
-        paths_at f name.now ≡ paths_of f (CommonName name.now)) }
+        paths_at f name.now ≡ row_of f (CommonName name.now)) }
 {
     match strip_front(name, b"refs/") {
         Some(rest) => is_shared_below_refs(rest),
@@ -121,7 +121,7 @@ fn is_shared(name: &[u8]) -> bool
 /// The location of any name: one that is not safe is shared, under the same name. As `location_of` for safe names.
 pub fn location_or_common(name: FullNameRef<'_>) -> Location<'_>
     ensures { (f : Layout) → paths_at f (full_ref_bytes name.entry)
-        ≡ paths_of f (location_value result) }
+        ≡ row_of f (location_value result) }
 {
     if is_shared(name.to_path()) {
         return Location::Common(name.to_path());
@@ -222,7 +222,7 @@ impl<'a> RefLayout<'a> {
     ghost use Rattle.std.specs.Bool.{OnTrue};
     ghost use Rattle.std.specs.Option.{option_map};
     ghost use Rattle.gix_ref_name.specs.Names.{full_ref_bytes};
-    ghost use Rattle.gix_ref_base.specs.Locations.{paths_at, paths_of};
+    ghost use Rattle.gix_ref_base.specs.Locations.{paths_at, row_of};
     ghost use Rattle.gix_ref_base.specs.RefLayout.{layout_of, location_value};
 
     /// The path of the loose file of a name (`gitrepository-layout`). The error says that there was no memory for it.
@@ -284,7 +284,7 @@ impl<'a> RefLayout<'a> {
     /// The path of the loose file of a location.
     fn loose_in(self, alloc: Global, location: Location<'_>) -> Result<Vec<u8>, AllocError>
         ensures { IfOk result (λ path.
-            path.items ≡ (paths_of (layout_of self.entry) (location_value location.entry)).place) }
+            path.items ≡ (row_of (layout_of self.entry) (location_value location.entry)).place) }
     {
         match location {
             Location::Common(name) | Location::MainWorktree(name) => {
@@ -301,7 +301,7 @@ impl<'a> RefLayout<'a> {
     /// The path of the log of a location.
     fn log_in(self, alloc: Global, location: Location<'_>) -> Result<Vec<u8>, AllocError>
         ensures { IfOk result (λ path.
-            path.items ≡ (paths_of (layout_of self.entry) (location_value location.entry)).log) }
+            path.items ≡ (row_of (layout_of self.entry) (location_value location.entry)).log) }
     {
         match location {
             Location::Common(name) | Location::MainWorktree(name) => {
@@ -320,7 +320,7 @@ impl<'a> RefLayout<'a> {
     /// The key of a location.
     fn key_in(self, alloc: Global, location: Location<'_>) -> Result<Option<Vec<u8>>, AllocError>
         ensures { IfOk result (λ key.
-            option_map vec_items key ≡ (paths_of (layout_of self.entry) (location_value
+            option_map vec_items key ≡ (row_of (layout_of self.entry) (location_value
             location.entry)).key) }
     {
         match location {

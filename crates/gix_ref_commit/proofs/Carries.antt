@@ -42,7 +42,7 @@ module _ (locked staying : List Path) where
 
   -- on a disk
   pub on_disks : (Counts : Path → Type 0) → ((p : Path) → IsOwnLock locked p → Counts p → ⊥) → (texts : View) (plan : List Synced) (writes : List Write) →
-      Carries texts plan writes → disk.CarryOut Counts staying texts plan writes
+      Carries texts plan writes → disk.CarryOutSynced Counts staying texts plan writes
   on_disks Counts own texts [] writes h = h
   on_disks Counts own texts (With (Line p bytes) syncs ∷ plan) writes (rest, alien, is, settles, later) =
       (rest, is, settles, on_disks Counts own (changed_at p None texts) plan rest later)

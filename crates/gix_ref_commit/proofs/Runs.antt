@@ -406,6 +406,6 @@ module _ (dirs : Dirs) (namespace : Option Namespace) (kind : Kind) (prohibits :
     run = record { merged = merged; prepared = prepared; locks = alike; steps_are_planned = on_tree }
 
     -- and so on its disk
-    pub on_disk : disk.CarryOut (IsSpokenOf locked D) staying texts (steps_in all_entries) (plan s DeletionsOnly view edits merged)
-    on_disk = subst (λ (ws : List Write). disk.CarryOut (IsSpokenOf locked D) staying texts (steps_in all_entries) ws) (sym plan_are)
+    pub on_disk : disk.CarryOutSynced (IsSpokenOf locked D) staying texts (steps_in all_entries) (plan s DeletionsOnly view edits merged)
+    on_disk = subst (λ (ws : List Write). disk.CarryOutSynced (IsSpokenOf locked D) staying texts (steps_in all_entries) ws) (sym plan_are)
         (carries.on_disks locked staying (IsSpokenOf locked D) (λ p own spoken. spoken.0 own) texts (steps_in all_entries) (own_plan view ran packed rewrite) carried)

@@ -14,7 +14,7 @@ use Rattle.gix_ref_files.specs.declared.files.Entry.{Entry as FolderEntry}
 use Rattle.gix_ref_lookup.specs.declared.folders.Dirs.{Dirs}
 use Rattle.gix_ref_transaction.specs.OwnLocks.{paths_of}
 use Rattle.gix_ref_commit.specs.Cleared.{AreAllFolders, HoldsOnly}
-use Rattle.gix_ref_commit.specs.internal.Walks.{AddsAll, AddsFolder, AddsFolders, AreWhole, IsWalked}
+use Rattle.gix_ref_commit.specs.internal.Walks.{AddsAll, AddsFolder, AddsFolders, AreClosedFolders, IsWalked}
 use Rattle.gix_ref_commit.proofs.Walking.{all_reverse}
 
 pub less_or_not : (a b : ℕ) → (a < b) ⊎ (b ≤ a)
@@ -168,13 +168,13 @@ walk_goes T mid folder found now all next v same lt at is tree s adds =
     s (subst (λ (U : Tree). AddsFolders U folder (paths_of found) all) tree adds)
 
 -- each was looked at
-pub search_ends : (T : Tree) (found : List Path) (next : ℕ) → length found ≤ next → IsSearched T found next → AreWhole T found
+pub search_ends : (T : Tree) (found : List Path) (next : ℕ) → length found ≤ next → IsSearched T found next → AreClosedFolders T found
 search_ends T found next le s = record {
   all = λ k d lt. s.closed k d (omega (arith, le, lt)) lt;
   outer_first = λ i j d lt within lies. absurd (omega (arith, s.rising i j d lt within, ap slashes lies.1, slashes-below (get_or found j d) lies.0));
 }
 
-pub walk_ends : (T : Tree) (found : List (Vec ℕ Global)) (next : ℕ) → length found ≤ next → IsSearched T (paths_of found) next → AreWhole T (paths_of found)
+pub walk_ends : (T : Tree) (found : List (Vec ℕ Global)) (next : ℕ) → length found ≤ next → IsSearched T (paths_of found) next → AreClosedFolders T (paths_of found)
 walk_ends T found next le s = search_ends T (paths_of found) next (omega (arith, le, length-map found (λ (p : Vec ℕ Global). p.items))) s
 
 -- What was added of a folder.
@@ -227,7 +227,7 @@ pairs_reverse R (x ∷ xs) all =
     (pairs_reverse R xs (λ i j d lt within. all (suc i) (suc j) d (omega (arith, lt)) (omega (arith, within))))
     (all_reverse (λ y. R y x) xs (λ k d lt. all 0 (suc k) d (omega arith) (omega (arith, lt)))))
 
-pub all_folders : (dirs : Dirs) (T : Tree) (top : Path) (found folders : List Path) → IsWalked dirs top found → AreWhole T found → folders ≡ reverse found → AreAllFolders T top folders
+pub all_folders : (dirs : Dirs) (T : Tree) (top : Path) (found folders : List Path) → IsWalked dirs top found → AreClosedFolders T found → folders ≡ reverse found → AreAllFolders T top folders
 all_folders dirs T top found folders (rest, is, are) whole backwards = subst (AreAllFolders T top) (sym backwards) (record {
   last = (reverse rest, ap reverse is ∙ reverse-append (top ∷ []) rest);
   all = λ k d lt. holds_of_more T found (reverse found) (get_or (reverse found) k d) (λ q within. in_reverse q found within) (all_reverse (HoldsOnly T found) found whole.all k d lt);

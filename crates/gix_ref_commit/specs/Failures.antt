@@ -121,14 +121,14 @@ SaysWhyUnlisted edits (Step about (File fault)) error = SaysUnlisted edits about
 SaysWhyUnlisted edits (Step about cause) error = ⊥
 
 -- a call of files failed, for another reason than a want of memory
-abbrev IsFaultOf : (before now : ℕ) → FileError → Type 0
-IsFaultOf before now fault = HasRisen before now × (fault ≢ no_want)
+abbrev IsFileFault : (before now : ℕ) → FileError → Type 0
+IsFileFault before now fault = HasRisen before now × (fault ≢ no_want)
 
 -- Why no folder was listed: a call of files failed, and the error is that of a write of these edits; or memory was refused.
 abbrev pub IsOfListing : List Edit → (before now : ℕ) → Error → Type 0
 IsOfListing edits before now Memory = Unit {0}
 IsOfListing edits before now (CreateOrUpdateRefLog (Append source path)) =
-    IsFaultOf before now source × ((at : ℕ) × (at < length edits) × (line_in (log_at edits at) ≢ None) × (path.items ≡ path_in (log_at edits at)))
-IsOfListing edits before now (LockCommit source name) = IsFaultOf before now source × ((at : ℕ) × (at < length edits) × IsNameAt (updates edits) at name)
-IsOfListing edits before now (PackedTransactionCommit (repack.Io source)) = IsFaultOf before now source
+    IsFileFault before now source × ((at : ℕ) × (at < length edits) × (line_in (log_at edits at) ≢ None) × (path.items ≡ path_in (log_at edits at)))
+IsOfListing edits before now (LockCommit source name) = IsFileFault before now source × ((at : ℕ) × (at < length edits) × IsNameAt (updates edits) at name)
+IsOfListing edits before now (PackedTransactionCommit (repack.Io source)) = IsFileFault before now source
 IsOfListing edits before now other = ⊥

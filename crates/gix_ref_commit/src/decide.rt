@@ -14,7 +14,7 @@ ghost use Rattle.gix_ref_transaction.specs.CommittedEdits.{planned};
 ghost use Rattle.gix_ref_transaction.specs.OwnLocks.{OnlyLocks};
 ghost use Rattle.gix_ref_transaction.specs.PackedCauses.{ids_among};
 ghost use Rattle.gix_ref_transaction.specs.PrepareSteps.{setting_of, updates, ids_in, packed_places, AreEmpty, AreWholeLocks, FillsLock};
-ghost use Rattle.gix_ref_repack.specs.Refusals.{IsCountedRefusal, IsIoOrMemory, IsReadFile, IsRefusedRewrite};
+ghost use Rattle.gix_ref_repack.specs.Refusals.{IsCountedRefusal, IsRepackFault, IsReadFile, IsRefusedRewrite};
 ghost use Rattle.gix_ref_repack.specs.Repacks.{IsRepack, removes_record};
 ghost use Rattle.gix_ref_commit.specs.Cleared.{AllInWay, folder_lists};
 ghost use Rattle.gix_ref_commit.specs.Decided.{FillsPacked, IsFilled};
@@ -62,7 +62,7 @@ fn rewrite_packed<F: Files>(
     ensures sound { F.honest → AreEdits (setting_of settings.now) (planned (updates edits.now)) →
         (rs : List Record) →
         ArePackedRecords settings.now.kind (packed_refs_in settings.now (F.means files.old)) rs →
-        IfErr result IsIoOrMemory }
+        IfErr result IsRepackFault }
     ensures whole { F.honest → list_any removes_record edits.now ≡ true → OnOk result
         (IsReadFile settings.now.kind ((F.means files.old).tree
         (setting_of settings.now).packed_path)) }
@@ -109,7 +109,7 @@ pub fn decide_packed<F: Files>(
     ensures sound { F.honest → AreEdits (setting_of settings.now) (planned (updates edits.now)) →
         (rs : List Record) →
         ArePackedRecords settings.now.kind (packed_refs_in settings.now (F.means files.old)) rs →
-        IfErr result IsIoOrMemory }
+        IfErr result IsRepackFault }
     ensures whole { F.honest → packed.now ≢ None → list_any removes_record edits.now ≡ true →
         OnOk result (IsReadFile settings.now.kind ((F.means files.old).tree
         (setting_of settings.now).packed_path)) }

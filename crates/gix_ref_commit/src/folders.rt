@@ -11,7 +11,7 @@ ghost use Rattle.gix_ref_files.specs.Tree.{Tree, Path, fronts};
 ghost use Rattle.gix_ref_transaction.specs.OwnLocks.{paths_of};
 ghost use Rattle.gix_ref_commit.specs.Cleared.{roots_of, folder_lists, ClearsNothing, AllInWay, AreInWay, AreInWayOf, HoldsMore, IsAtOrBelow, IsOfStore, cleared, is_seen, removals, written_at};
 ghost use Rattle.gix_ref_commit.specs.Entries.{entries};
-ghost use Rattle.gix_ref_commit.specs.internal.Walks.{AddsAll, AddsFolder, AddsFolders, AreWhole, FailsBefore, FailsToList, IsCountedFault, IsWalked, OnlyMore, StopsFor};
+ghost use Rattle.gix_ref_commit.specs.internal.Walks.{AddsAll, AddsFolder, AddsFolders, AreClosedFolders, FailsBefore, FailsToList, IsCountedFault, IsWalked, OnlyMore, StopsFor};
 
 use crate::plan::About;
 use crate::run::Unfinished;
@@ -164,7 +164,7 @@ fn walk<F: Files>(
     requires alone { paths_of found.old.items ≡ top.now ∷ [] }
     ensures walked { IsWalked dirs.now top.now (paths_of found.new.items) }
     ensures stops { F.honest → IfOk result (StopsFor dirs.now (F.means files.old).tree top.now) }
-    ensures whole { F.honest → IfOk result (λ all. all ≡ true → AreWhole (F.means files.old).tree
+    ensures whole { F.honest → IfOk result (λ all. all ≡ true → AreClosedFolders (F.means files.old).tree
         (paths_of found.new.items)) }
     ensures leaves { F.honest → Leaves (F.means files.old) (F.means files.new)
         (Unchanged (F.means files.old).tree) }

@@ -8,7 +8,7 @@ use Rattle.gix_ref_name.specs.Names.{partial_ref_bytes}
 use Rattle.gix_ref_edits.specs.declared.transaction.RefEdit.{RefEdit}
 use Rattle.gix_ref_edits.specs.declared.transaction.ext.error.SplitError.{SplitError}
 use Rattle.gix_ref_edits.specs.declared.transaction.ext.error.SplitError.TheVariants.{Find, TooManySplits, DoubledName, Memory}
-use Rattle.gix_ref_edits.specs.LookUps.{LookUp, LooksUp, AnswersBy, referent_of}
+use Rattle.gix_ref_edits.specs.LookUps.{LookUp, CallsInOrder, AnswersBy, referent_of}
 use Rattle.gix_ref_edits.specs.EditValues.{EditValue}
 use Rattle.gix_ref_edits.specs.SplitErrors.{IsSplitFault}
 use Rattle.gix_ref_edits.specs.SplitResults.{HasSplits, HasTooManySplits}
@@ -16,7 +16,7 @@ use Rattle.gix_ref_edits.specs.SplitResults.{HasSplits, HasTooManySplits}
 module _ {F E : Type 0} (step : F → PartialNameRef → Result (Option Target) E → F → Type 0) (P : F → Type 0)
     (keeps : (s : F) (asked : PartialNameRef) (result : Result (Option Target) E) (t : F) → P s → step s asked result t → P t) where
   -- a fact that each call keeps
-  pub lookups_keep : (s : F) (lookups : List LookUp) (t : F) → P s → LooksUp step s lookups t → P t
+  pub lookups_keep : (s : F) (lookups : List LookUp) (t : F) → P s → CallsInOrder step s lookups t → P t
   lookups_keep s [] t holds is = subst P is holds
   lookups_keep s (lookup ∷ lookups) t holds called =
       lookups_keep called.0 lookups t (keeps s called.1.asked (Ok called.1.target) called.0 holds called.1.called) called.2
@@ -39,7 +39,7 @@ module _ {F E : Type 0} (step : F → PartialNameRef → Result (Option Target) 
   -- calls that each answer as `find` says
   pub lookups_answer : (find : List ℕ → Option (List ℕ))
       → ((s : F) (asked : PartialNameRef) (target : Option Target) (t : F) → P s → step s asked (Ok target) t → find (partial_ref_bytes asked) ≡ referent_of target)
-      → (s : F) (lookups : List LookUp) (t : F) → P s → LooksUp step s lookups t → AnswersBy find lookups
+      → (s : F) (lookups : List LookUp) (t : F) → P s → CallsInOrder step s lookups t → AnswersBy find lookups
   lookups_answer find answers s [] t holds called = All-nil (λ lookup. find lookup.name ≡ lookup.referent)
   lookups_answer find answers s (lookup ∷ lookups) t holds called =
       let first = called.1 in

@@ -10,11 +10,11 @@ use Rattle.gix_ref_edits.specs.declared.transaction.RefEdit.{RefEdit}
 use Rattle.gix_ref_edits.specs.declared.transaction.ext.error.SplitError.{SplitError}
 use Rattle.gix_ref_edits.specs.declared.transaction.ext.error.SplitError.TheVariants.{Find, TooManySplits, DoubledName, Memory}
 use Rattle.gix_ref_edits.specs.EditValues.{EditValue, edit_value}
-use Rattle.gix_ref_edits.specs.LookUps.{LookUp, Answers, LooksUp, HasLookedUp, HasFailed, lookups_of}
+use Rattle.gix_ref_edits.specs.LookUps.{LookUp, Answers, CallsInOrder, HasLookedUp, LookUpFailed, lookups_of}
 use Rattle.gix_ref_edits.specs.SplitLists.{looked_up, child_list, referent, after_round, children}
 use Rattle.gix_ref_edits.specs.MadeEntries.{MadeEntry, place_list, parent_places}
 use Rattle.gix_ref_edits.specs.SplitErrors.{IsSplitFault}
-use Rattle.gix_ref_edits.specs.internal.Rounds.{IsRound, HasRound, IsFault, HasSplitLevel}
+use Rattle.gix_ref_edits.specs.internal.Rounds.{IsRound, HasRound, IsLookUpFault, HasSplitLevel}
 
 pub all_front : {X : Type 0} (P : X → Type 0) (xs ys : List X) → All P (xs ++ ys) → All P xs
 all_front P [] ys all = All-nil P
@@ -84,7 +84,7 @@ module _ {F E : Type 0} (step : F → PartialNameRef → Result (Option Target) 
   }
 
   -- a call that failed after others
-  pub fails_later : (s t u : F) (lookups : List LookUp) (error : E) → LooksUp step s lookups t → HasFailed step t u error → HasFailed step s u error
+  pub fails_later : (s t u : F) (lookups : List LookUp) (error : E) → CallsInOrder step s lookups t → LookUpFailed step t u error → LookUpFailed step s u error
   fails_later s t u lookups error first fault = record {
     lookups = lookups ++ fault.lookups;
     between = fault.between;
@@ -93,23 +93,23 @@ module _ {F E : Type 0} (step : F → PartialNameRef → Result (Option Target) 
     failed = fault.failed;
   }
 
-  pub looked_up_later : (s t u : F) (lookups : List LookUp) → LooksUp step s lookups t → HasLookedUp step t u → HasLookedUp step s u
+  pub looked_up_later : (s t u : F) (lookups : List LookUp) → CallsInOrder step s lookups t → HasLookedUp step t u → HasLookedUp step s u
   looked_up_later s t u lookups first rest = record {
     lookups = lookups ++ rest.lookups;
     called = folds_join (Answers step) s lookups t rest.lookups u first rest.called;
   }
 
-  pub looked_up_both : (s t u : F) (lookups more : List LookUp) → LooksUp step s lookups t → LooksUp step t more u → HasLookedUp step s u
+  pub looked_up_both : (s t u : F) (lookups more : List LookUp) → CallsInOrder step s lookups t → CallsInOrder step t more u → HasLookedUp step s u
   looked_up_both s t u lookups more first rest = looked_up_later s t u lookups first (record { lookups = more; called = rest })
 
-  pub faults_later : (s t u : F) (lookups : List LookUp) (error : SplitError E) → LooksUp step s lookups t → IsFault step t u error → IsFault step s u error
+  pub faults_later : (s t u : F) (lookups : List LookUp) (error : SplitError E) → CallsInOrder step s lookups t → IsLookUpFault step t u error → IsLookUpFault step s u error
   faults_later s t u lookups (Find error) first fault = fails_later s t u lookups error first fault
   faults_later s t u lookups (TooManySplits rounds) first fault = fault
   faults_later s t u lookups (DoubledName name) first fault = fault
   faults_later s t u lookups Memory first fault = looked_up_later s t u lookups first fault
 
   pub split_faults_later : (s t u : F) (lookups : List LookUp) (TooMany : Type 0) (Doubled : List ℕ → Type 0) (error : SplitError E)
-      → LooksUp step s lookups t → IsFault step t u error → IsSplitFault step s u TooMany Doubled error
+      → CallsInOrder step s lookups t → IsLookUpFault step t u error → IsSplitFault step s u TooMany Doubled error
   split_faults_later s t u lookups TooMany Doubled (Find error) first fault = fails_later s t u lookups error first fault
   split_faults_later s t u lookups TooMany Doubled (TooManySplits rounds) first fault = absurd fault
   split_faults_later s t u lookups TooMany Doubled (DoubledName name) first fault = absurd fault

@@ -4,7 +4,7 @@ use Rattle.gix_ref_name.specs.declared.name.PartialNameRef.{PartialNameRef}
 use Rattle.gix_ref_base.specs.declared.target.Target.{Target}
 use Rattle.gix_ref_name.specs.Names.{partial_ref_bytes}
 use Rattle.gix_ref_edits.specs.EditValues.{ChangeValue, EditValue}
-use Rattle.gix_ref_edits.specs.LookUps.{LookUp, Answers, HasLookedUp, HasFailed, referent_of, lookups_of}
+use Rattle.gix_ref_edits.specs.LookUps.{LookUp, Answers, HasLookedUp, LookUpFailed, referent_of, lookups_of}
 use Rattle.gix_ref_edits.specs.SplitLists.{looked_up, child_list, after_round, children}
 use Rattle.gix_ref_edits.specs.internal.Rounds.{IsRound, HasRound}
 
@@ -20,7 +20,7 @@ module _ {F E : Type 0} (step : F → PartialNameRef → Result (Option Target) 
   looked_up_once lookup call = record { lookups = lookup ∷ []; called = (later, call, refl) }
 
   pub failed_at_once : (asked : PartialNameRef) (result : Result (Option Target) E) (error : E)
-      → step before asked result later → result ≡ Err error → HasFailed step before later error
+      → step before asked result later → result ≡ Err error → LookUpFailed step before later error
   failed_at_once asked result error called is =
       record { lookups = []; between = before; called = refl; asked = asked; failed = subst (λ r. step before asked r later) is called }
 

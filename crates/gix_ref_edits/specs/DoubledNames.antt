@@ -7,8 +7,8 @@ use Rattle.gix_ref_edits.specs.declared.transaction.RefEdit.{RefEdit}
 use Rattle.gix_ref_edits.specs.RefEdits.{name_of}
 
 -- the names of the edits of entries
-abbrev pub names_of : {T : Type 0} → (T → RefEdit) → List T → List (List ℕ)
-names_of edit_of = map (λ entry. name_of (edit_of entry))
+abbrev pub entry_names : {T : Type 0} → (T → RefEdit) → List T → List (List ℕ)
+entry_names edit_of = map (λ entry. name_of (edit_of entry))
 
 -- the name occurs at least twice
 abbrev pub IsDoubled : List (List ℕ) → List ℕ → Type 0

@@ -26,8 +26,8 @@ pub record Answers {F E : Type 0} (step : F → PartialNameRef → Result (Optio
   pub referent : referent_of target ≡ lookup.referent
 
 -- These calls were made, in order.
-abbrev pub LooksUp : {F E : Type 0} → (F → PartialNameRef → Result (Option Target) E → F → Type 0) → F → List LookUp → F → Type 0
-LooksUp step = FoldsTo (Answers step)
+abbrev pub CallsInOrder : {F E : Type 0} → (F → PartialNameRef → Result (Option Target) E → F → Type 0) → F → List LookUp → F → Type 0
+CallsInOrder step = FoldsTo (Answers step)
 
 -- all of them answered as `find` says
 abbrev pub AnswersBy : (List ℕ → Option (List ℕ)) → List LookUp → Type 0
@@ -40,12 +40,12 @@ lookups_of find edits = map (λ edit. record { name = edit.name; referent = find
 -- The finder is in the state to which some calls that answered led, one after the other.
 pub record HasLookedUp {F E : Type 0} (step : F → PartialNameRef → Result (Option Target) E → F → Type 0) (before later : F) : Type 0 where
   pub lookups : List LookUp
-  pub called : LooksUp step before lookups later
+  pub called : CallsInOrder step before lookups later
 
 -- calls that answered, and then one that failed
-pub record HasFailed {F E : Type 0} (step : F → PartialNameRef → Result (Option Target) E → F → Type 0) (before later : F) (error : E) : Type 0 where
+pub record LookUpFailed {F E : Type 0} (step : F → PartialNameRef → Result (Option Target) E → F → Type 0) (before later : F) (error : E) : Type 0 where
   pub lookups : List LookUp
   pub between : F
-  pub called : LooksUp step before lookups between
+  pub called : CallsInOrder step before lookups between
   pub asked : PartialNameRef
   pub failed : step between asked (Err error) later

@@ -16,15 +16,15 @@ use Rattle.gix_ref_lookup.specs.declared.find.existing.Error.TheVariants.{Find, 
 use Rattle.gix_ref_store.specs.Lookup.{hit_in, FindsBy, MissesBy, HitsIn, MissesIn}
 use Rattle.gix_ref_store.specs.Store as stores
 use Rattle.gix_ref_store.specs.declared.file.store.Store.{Store}
-use Rattle.gix_ref_follow.specs.Following.{At, Finds, IsStep, LeadsWithinLimit, following, is_one_of}
+use Rattle.gix_ref_follow.specs.Following.{At, HitsByName, IsStep, LeadsWithinLimit, following, is_one_of}
 use Rattle.gix_ref_follow.specs.Following.EndOfChain.{Reached, Dangling, Circular, TooDeep}
 use Rattle.gix_ref_follow.specs.declared.peel.to_object.Error.{Error}
 use Rattle.gix_ref_follow.specs.declared.peel.to_object.Error.TheVariants.{Follow, Cycle, DepthLimitExceeded, Memory}
 
 -- the names of references
-abbrev pub names_of : List FullName → List (List ℕ)
-names_of [] = []
-names_of (name ∷ names) = full_bytes name ∷ names_of names
+abbrev pub bytes_of_names : List FullName → List (List ℕ)
+bytes_of_names [] = []
+bytes_of_names (name ∷ names) = full_bytes name ∷ bytes_of_names names
 
 -- a step from a target: an object has none, and the lookup of a symbolic one has a result
 abbrev pub OfStep : TargetValue → (List ℕ → Result Reference Missing → Type 0) → Option (Result Reference Missing) → Type 0
@@ -52,7 +52,7 @@ IsReturn name reached place Memory = Unit {0}
 IsReturn name reached place other = ⊥
 
 -- the step is refused: nothing has the name of the target, the lookup fails, or it leads to a reference of one of these names
-abbrev pub RefusesStep : Finds → (reached : List (List ℕ)) → At → Error → Type 0
+abbrev pub RefusesStep : HitsByName → (reached : List (List ℕ)) → At → Error → Type 0
 RefusesStep find reached at (Follow (NotFound name)) = (at.target ≡ symbolic_name (partial_bytes name)) × (find (partial_bytes name) ≡ None)
 RefusesStep find reached at (Follow (Find error)) = IsSound error
 RefusesStep find reached at (Cycle path) = (next : At) × IsStep find at next × (is_one_of next.name reached ≡ true)
@@ -61,7 +61,7 @@ RefusesStep find reached at Memory = Unit {0}
 
 -- The result of a following that began at the one reference and is now at the other: how the following ends, and there; or, on a
 -- fault or want of memory, a reference on its way.
-abbrev pub Follows : Finds → (start now : At) → Result ObjectId Error → Type 0
+abbrev pub Follows : HitsByName → (start now : At) → Result ObjectId Error → Type 0
 Follows find start now (Ok id) = following find start ≡ Reached now id
 Follows find start now (Err (Follow (NotFound name))) = following find start ≡ Dangling now (partial_bytes name)
 Follows find start now (Err (Follow (Find error))) = IsSound error × LeadsWithinLimit (IsStep find) start now
@@ -71,7 +71,7 @@ Follows find start now (Err Memory) = LeadsWithinLimit (IsStep find) start now
 
 module _ {F : Type 0} (means : F → Meaning) where
   -- what lookups in a store find, among these records
-  abbrev pub finds_in : (asks_records : Bool) → Store F → List Record → Finds
+  abbrev pub finds_in : (asks_records : Bool) → Store F → List Record → HitsByName
   finds_in asks_records store records = hit_in means asks_records store records
 
   -- the lookup of a target in it finds this, among these records

@@ -20,8 +20,8 @@ abbrev pub at_of : Reference → At
 at_of r = record { name = full_bytes r.name; target = target_value r.target; peeled = r.peeled }
 
 -- what a lookup finds under a name
-abbrev pub Finds : Type 0
-Finds = List ℕ → Option Hit
+abbrev pub HitsByName : Type 0
+HitsByName = List ℕ → Option Hit
 
 -- how a following ends, and at which reference
 pub data EndOfChain : Type 0 where
@@ -52,22 +52,22 @@ step_by reached more at name None = Dangling at name
 step_by reached more at name (Some hit) = arrive reached more at hit hit.reading
 
 -- at an object, or one step on
-abbrev pub step_from : Finds → (reached : List (List ℕ)) → (more : At → EndOfChain) → At → TargetValue → EndOfChain
+abbrev pub step_from : HitsByName → (reached : List (List ℕ)) → (more : At → EndOfChain) → At → TargetValue → EndOfChain
 step_from find reached more at (object_id id) = Reached at id
 step_from find reached more at (symbolic_name name) = step_by reached more at name (find name)
 
 -- With so many steps left, behind the references of these names, which earlier steps reached. The last step is taken and then
 -- refused, whatever it reached.
-unfoldable pub follow : Finds → (steps : ℕ) → (reached : List (List ℕ)) → At → EndOfChain
+unfoldable pub follow : HitsByName → (steps : ℕ) → (reached : List (List ℕ)) → At → EndOfChain
 follow find zero reached at = TooDeep at
 follow find (suc steps) reached at = step_from find reached (λ next. follow find steps (reached ++ next.name ∷ []) next) at at.target
 
 -- From a reference: up to four steps lead to an object, and a fifth is refused. The name of the start may come again.
-abbrev pub following : Finds → At → EndOfChain
+abbrev pub following : HitsByName → At → EndOfChain
 following find start = follow find 5 [] start
 
 -- one step leads from a reference with a symbolic target to what its lookup finds
-pub record IsStep (find : Finds) (at next : At) : Type 0 where
+pub record IsStep (find : HitsByName) (at next : At) : Type 0 where
   pub name : List ℕ
   pub hit : Hit
   pub target : at.target ≡ symbolic_name name
@@ -86,7 +86,7 @@ abbrev pub LeadsWithinLimit : {A : Type 0} → (A → A → Type 0) → A → A 
 LeadsWithinLimit Step start end = (steps : ℕ) × (steps ≤ 5) × Leads Step steps start end
 
 -- So many steps lead from one reference to another, to references of these names, none of which an earlier step reached.
-abbrev pub ChainOfSteps : Finds → (steps : ℕ) → (start : At) → (reached : List (List ℕ)) → (end : At) → Type 0
+abbrev pub ChainOfSteps : HitsByName → (steps : ℕ) → (start : At) → (reached : List (List ℕ)) → (end : At) → Type 0
 ChainOfSteps find zero start reached end = (start ≡ end) × (reached ≡ [])
 ChainOfSteps find (suc steps) start reached end =
     (before : At) × (earlier : List (List ℕ)) × ChainOfSteps find steps start earlier before × IsStep find before end

@@ -14,7 +14,7 @@ use Rattle.gix_ref_object.specs.declared.peel.PeelError.TheVariants as peeling_e
 use Rattle.gix_ref_records.specs.declared.raw.Reference.{Reference}
 use Rattle.gix_ref_lookup.specs.declared.find.records.Records.{Records}
 use Rattle.gix_ref_store.specs.declared.file.store.Store.{Store}
-use Rattle.gix_ref_follow.specs.Following.{At, EndOfChain, Finds, LeadsWithinLimit, following}
+use Rattle.gix_ref_follow.specs.Following.{At, EndOfChain, HitsByName, LeadsWithinLimit, following}
 use Rattle.gix_ref_follow.specs.Following.EndOfChain.{Reached}
 use Rattle.gix_ref_follow.specs.Followed.{Follows, HitsNext, IsNotFollowed}
 use Rattle.gix_ref_follow.specs.declared.peel.to_id.Error.{Error}
@@ -41,16 +41,16 @@ by_ending meaning (Reached at id) = by_tags at (tags.peel meaning 1000 id)
 by_ending meaning other = NotFollowed other
 
 -- a reference that was peeled already is followed nowhere
-abbrev pub by_known : Finds → (ObjectId → Stored) → At → Option ObjectId → Peeling
+abbrev pub by_known : HitsByName → (ObjectId → Stored) → At → Option ObjectId → Peeling
 by_known find meaning start (Some id) = Done (peeled_to start id) id
 by_known find meaning start None = by_ending meaning (following find start)
 
 -- from a reference, where lookups find this, and the finder of objects has these
-abbrev pub peeling : Finds → (ObjectId → Stored) → At → Peeling
+abbrev pub peeling : HitsByName → (ObjectId → Stored) → At → Peeling
 peeling find meaning start = by_known find meaning start start.peeled
 
 -- The result of a peeling that began at the one reference and is now at the other.
-abbrev pub Peels : Finds → (ObjectId → Stored) → (start now : At) → Result ObjectId Error → Type 0
+abbrev pub Peels : HitsByName → (ObjectId → Stored) → (start now : At) → Result ObjectId Error → Type 0
 Peels find meaning start now (Ok id) = peeling find meaning start ≡ Done now id
 Peels find meaning start now (Err (FollowToObject error)) = (start.peeled ≡ None) × Follows find start now (Err error)
 Peels find meaning start now (Err (NotFound id name)) =

@@ -10,7 +10,7 @@ ghost use Rattle.gix_ref_lookup.specs.Lookups.{AreHonest};
 ghost use Rattle.gix_ref_store.specs.Lookup.{AreAskedIn, AreStillAskedIn, LooksUp};
 ghost use Rattle.gix_ref_store.specs.Store.{files_of, meaning_of};
 ghost use Rattle.gix_ref_follow.specs.Following.{at_of, is_one_of, IsStep, LeadsWithinLimit};
-ghost use Rattle.gix_ref_follow.specs.Followed.{names_of, OnStep, StepFinds, StepHits, StepFails, IsCycle, IsReturn, RefusesStep, Follows, finds_in, HitsNext, IsNotFollowed};
+ghost use Rattle.gix_ref_follow.specs.Followed.{bytes_of_names, OnStep, StepFinds, StepHits, StepFails, IsCycle, IsReturn, RefusesStep, Follows, finds_in, HitsNext, IsNotFollowed};
 
 use crate::peel::to_object::Error;
 use gix_ref_base::target::Target;
@@ -82,7 +82,7 @@ pub(crate) fn find_next<F: Files>(
 /// Adds a copy of a name.
 #[tactic(auto, using(crate::proofs::Steps::names_append))]
 fn remember(reached: &mut Vec<FullName>, name: &FullName) -> Result<(), AllocError>
-    ensures { OnOk result (names_of reached.new.items ≡ names_of reached.old.items
+    ensures { OnOk result (bytes_of_names reached.new.items ≡ bytes_of_names reached.old.items
         ++ full_bytes name.now ∷ []) }
 {
     reached.push(name.clone()?)?;
@@ -98,12 +98,12 @@ fn arrive<F>(
     reached: &mut Vec<FullName>,
 ) -> Result<(), Error>
     ensures moved { OnOk result (reference.new ≡ next) }
-    ensures first { OnOk result (is_one_of (full_bytes next.name) (names_of reached.old.items)
+    ensures first { OnOk result (is_one_of (full_bytes next.name) (bytes_of_names reached.old.items)
         ≡ false) }
-    ensures reached { OnOk result (names_of reached.new.items ≡ names_of reached.old.items
+    ensures reached { OnOk result (bytes_of_names reached.new.items ≡ bytes_of_names reached.old.items
         ++ full_bytes next.name ∷ []) }
     ensures kept { OnErr result (reference.new ≡ reference.old) }
-    ensures refused { IfErr result (IsReturn (full_bytes next.name) (names_of reached.old.items)
+    ensures refused { IfErr result (IsReturn (full_bytes next.name) (bytes_of_names reached.old.items)
         ((meaning_of store.now).place (full_bytes reference.old.name))) }
 {
     if is_reached(reached, &next.name) {
@@ -130,18 +130,18 @@ fn take_step<F: Files>(
         (at_of
         reference.new)) }
     ensures first { OnOk result (is_one_of (full_bytes reference.new.name)
-        (names_of reached.old.items) ≡ false) }
+        (bytes_of_names reached.old.items) ≡ false) }
     ensures refused { F.honest → (records : List Record) → AreAskedIn F.means store.old asked.old
         records →
         IfErr result (RefusesStep (finds_in F.means asks_records store.old records)
-        (names_of reached.old.items) (at_of reference.old)) }
+        (bytes_of_names reached.old.items) (at_of reference.old)) }
     ensures hit { F.honest → AreHonest asked.old →
         OnOk result (HitsNext F.means asks_records store.old asked.old reference.old
         reference.new) }
     ensures failed { IfErr result (IsNotFollowed F.honest F.means F.faults asks_records store.old
         store.new
         asked.old reference.old) }
-    ensures reached { OnOk result (names_of reached.new.items ≡ names_of reached.old.items
+    ensures reached { OnOk result (bytes_of_names reached.new.items ≡ bytes_of_names reached.old.items
         ++ full_bytes reference.new.name ∷ []) }
     ensures kept { OnErr result (reference.new ≡ reference.old) }
     ensures asked { F.honest → OnOk result

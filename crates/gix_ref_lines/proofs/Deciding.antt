@@ -11,7 +11,7 @@ use Rattle.gix_ref_theory.specs.OnRealTrees.{view_of}
 use Rattle.gix_ref_theory.specs.Views.{View}
 use Rattle.gix_ref_lines.specs.AskedEdits.{asked, asked_edit, asked_from, leaf_after, outcome_of, outcomes_of}
 use Rattle.gix_ref_lines.specs.DueLines.{LogRules, LogOutcome, AskedEdit, log_outcome, log_outcomes, with_log}
-use Rattle.gix_ref_lines.specs.LineCauses.{AllPass, IsRefusal, IsRefusalAt, HasNoCause}
+use Rattle.gix_ref_lines.specs.LineCauses.{AllHaveNoCause, IsRefusal, IsRefusalAt, HasNoCause}
 use Rattle.gix_ref_lines.specs.declared.error.Error.{Error as Refusal}
 use Rattle.gix_ref_lines.specs.declared.error.Error.TheVariants.{CreateOrUpdateRefLog, Memory}
 use Rattle.gix_ref_lines.specs.internal.Decided.{AreDecidedBefore}
@@ -69,6 +69,6 @@ module _ (r : LogRules) (T : Tree) (given : List Edit) (i : ℕ) (edits : List E
             ∙ (sym (append_assoc (outcomes_of (take i edits)) (outcome_of new.log ∷ []) (log_outcomes r files rest))
             ∙ ap (λ (os : List LogOutcome). os ++ log_outcomes r files rest)
             (sym (outcomes_append (take i edits) (new ∷ [])) ∙ ap outcomes_of (sym (take_more_set edits i new (omega (arith, lt, len))))))));
-        passed = λ all. so_far.passed (subst (AllPass r so_far.files) (sym asked_is) (passes, all));
+        passed = λ all. so_far.passed (subst (AllHaveNoCause r so_far.files) (sym asked_is) (passes, all));
         refused = λ error told. so_far.refused error (subst (λ (l : List AskedEdit). IsRefusal r so_far.files l error) (sym asked_is) (refused_later r so_far.files a rest error passes told));
       }

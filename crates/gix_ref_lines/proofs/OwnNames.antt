@@ -2,7 +2,7 @@
 use Rattle.std.proofs.Common.{◌≡◌, ℕ, suc, List, [], ◌∷◌, ◌++◌, refl, sym, ap, ◌∙◌, append_assoc, arith}
 use Rattle.std.specs.Prelude.{codes}
 use Rattle.gix_ref_base.specs.Layout.{Layout, RefPaths}
-use Rattle.gix_ref_base.specs.Locations.{Location, paths_of}
+use Rattle.gix_ref_base.specs.Locations.{Location, row_of}
 use Rattle.gix_ref_base.specs.Locations.Location.{Common, ThisWorktree, MainWorktree, LinkedWorktree}
 use Rattle.gix_ref_lines.specs.MadeLogs.{location_name}
 
@@ -44,10 +44,10 @@ linked_same : (w v s t : List ℕ) → ((n : List ℕ) → 47 ∷ (codes "worktr
 linked_same w v s t all = rest_same (w ++ (47 ∷ codes "logs/")) (v ++ (47 ∷ codes "logs/")) s t
     (λ n. append_assoc w (47 ∷ codes "logs/") (n ++ s) ∙ (behind _ _ (all n) ∙ sym (append_assoc v (47 ∷ codes "logs/") (n ++ t))))
 
-pub own_name_is : (l r : Location) → ((f : Layout) → paths_of f l ≡ paths_of f r) → location_name l ≡ location_name r
+pub own_name_is : (l r : Location) → ((f : Layout) → row_of f l ≡ row_of f r) → location_name l ≡ location_name r
 own_name_is l r same = by l r (λ n. ap (λ (p : RefPaths). p.log) (same (bare n)))
   where
-    by : (l r : Location) → ((n : List ℕ) → (paths_of (bare n) l).log ≡ (paths_of (bare n) r).log) → location_name l ≡ location_name r
+    by : (l r : Location) → ((n : List ℕ) → (row_of (bare n) l).log ≡ (row_of (bare n) r).log) → location_name l ≡ location_name r
     by (Common s) (Common t) logs = plain_same s t (logs [])
     by (Common s) (ThisWorktree t) logs = plain_same s t (logs [])
     by (Common s) (MainWorktree t) logs = plain_same s t (logs [])
@@ -66,7 +66,7 @@ own_name_is l r same = by l r (λ n. ap (λ (p : RefPaths). p.log) (same (bare n
     by (LinkedWorktree w s) (LinkedWorktree v t) logs = linked_same w v s t logs
 
 -- a log is below `logs/`, in some folder
-pub ends_below : (f : Layout) (l : Location) → (folder : List ℕ) × ((paths_of f l).log ≡ folder ++ (codes "/logs/" ++ (f.namespace ++ location_name l)))
+pub ends_below : (f : Layout) (l : Location) → (folder : List ℕ) × ((row_of f l).log ≡ folder ++ (codes "/logs/" ++ (f.namespace ++ location_name l)))
 ends_below f (Common name) = (f.common, refl)
 ends_below f (ThisWorktree name) = (f.git, refl)
 ends_below f (MainWorktree name) = (f.common, refl)

@@ -52,9 +52,9 @@ HasNoCause r files a =
     IfSome (due_ids r files a) (λ ids. CanMake r.committer (message_of a.update.change) × (has_file_in_path files (asked_log r a) ≡ false))
 
 -- all of these pass, each among the files as the lines before it leave them
-abbrev pub AllPass : LogRules → View → List AskedEdit → Type 0
-AllPass r files [] = Unit {0}
-AllPass r files (a ∷ rest) = HasNoCause r files a × AllPass r (with_log r files a) rest
+abbrev pub AllHaveNoCause : LogRules → View → List AskedEdit → Type 0
+AllHaveNoCause r files [] = Unit {0}
+AllHaveNoCause r files (a ∷ rest) = HasNoCause r files a × AllHaveNoCause r (with_log r files a) rest
 
 -- the first that fails does so for this cause
 abbrev pub FirstFails : LogRules → View → List AskedEdit → Error → Type 0

@@ -10,7 +10,7 @@ ghost use Rattle.gix_ref_theory.specs.Views.{View};
 ghost use Rattle.gix_ref_transaction.specs.CommitRenames.{SeesItsLog, SeeLogs, path_in};
 ghost use Rattle.gix_ref_lines.specs.AskedEdits.{asked, asked_edit, all_but_logs, but_log, outcome_of, outcomes_of};
 ghost use Rattle.gix_ref_lines.specs.DueLines.{due_line, log_outcome, log_outcomes, outcome_by, asked_log, rules_of, with_log};
-ghost use Rattle.gix_ref_lines.specs.LineCauses.{AllPass, IsCountedCause, IsRefusal, IsRefusalAt, HasNoCause};
+ghost use Rattle.gix_ref_lines.specs.LineCauses.{AllHaveNoCause, IsCountedCause, IsRefusal, IsRefusalAt, HasNoCause};
 ghost use Rattle.gix_ref_lines.specs.internal.LineSteps.{log_rules, Sees};
 ghost use Rattle.gix_ref_lines.specs.internal.SeenLogs.{due_paths, IsBounded};
 
@@ -184,7 +184,7 @@ pub fn decide_logs<F: Files>(
         (rules_of settings.now write_reflog committer.entry)
         (view_of (F.means files.old).tree) (asked edits.old)) }
     ensures there { F.honest → OnOk result (SeeLogs (F.means files.old).tree edits.new) }
-    ensures passed { F.honest → OnOk result (AllPass
+    ensures passed { F.honest → OnOk result (AllHaveNoCause
         (rules_of settings.now write_reflog committer.entry)
         (view_of (F.means files.old).tree) (asked edits.old)) }
     ensures refused { F.honest → IfErr result (IsRefusal

@@ -7,7 +7,7 @@ use Rattle.std.proofs.Math.Seq.{drop-append_seam}
 use Rattle.std.proofs.lemmas.Slice.Eq.{bytes_eq-Decides, starts_is}
 use Rattle.std.proofs.lemmas.Bool.Decides.{Decides-eqb}
 use Rattle.gix_ref_base.specs.Layout.{Layout}
-use Rattle.gix_ref_base.specs.Locations.{Location, location, paths_of, paths_at, key_outside, no_namespace}
+use Rattle.gix_ref_base.specs.Locations.{Location, location, row_of, paths_at, key_outside, no_namespace}
 use Rattle.gix_ref_base.specs.Locations.Location.{Common, ThisWorktree, MainWorktree, LinkedWorktree}
 use Rattle.gix_ref_grammar.specs.NameGrammar.{partial_error, IsPartialName}
 use Rattle.gix_ref_grammar.specs.declared.name.error.Error.{Error}
@@ -19,7 +19,7 @@ use Rattle.gix_ref_lookup.specs.declared.settings.Settings.{Settings}
 use Rattle.gix_ref_listing.specs.OwnRecords.{own_name}
 use Rattle.gix_ref_theory.specs.Edits.{is_key}
 
-key_by : (f : Layout) (x : Location) → (paths_of f x).key ≡ option_map (λ k. f.namespace ++ k) (paths_of no_namespace x).key
+key_by : (f : Layout) (x : Location) → (row_of f x).key ≡ option_map (λ k. f.namespace ++ k) (row_of no_namespace x).key
 key_by f (Common n) = refl
 key_by f (ThisWorktree n) = refl
 key_by f (MainWorktree n) = refl

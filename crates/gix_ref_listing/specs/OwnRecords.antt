@@ -70,10 +70,10 @@ TakesOwn settings owns None t = (owns ≡ []) × AreAhead settings t []
 TakesOwn settings owns (Some (Ok own)) t = (more : List Own) × (owns ≡ own_of own ∷ more) × AreAhead settings t more
 TakesOwn settings owns (Some (Err e)) t = ⊥
 
-abbrev pub left_of : Option Iter → ℕ
-left_of None = 0
-left_of (Some it) = records_left it
+abbrev pub records_left_of : Option Iter → ℕ
+records_left_of None = 0
+records_left_of (Some it) = records_left it
 
 -- how many items are yet to come at most
 abbrev pub ahead_left : OwnRecords → ℕ
-ahead_left o = option_len o.first + left_of o.records
+ahead_left o = option_len o.first + records_left_of o.records

@@ -116,7 +116,7 @@ impl<'p> OwnRecords<'p> {
     ghost use Rattle.std.specs.Prelude.{◌≡◌, ◌≤◌, ◌+◌, [], List, IfNone, IfSome, None, Some, Ok};
     ghost use Rattle.std.specs.Option.{option_len};
     ghost use Rattle.gix_ref_base.specs.PackedRecords.{Record};
-    ghost use Rattle.gix_ref_listing.specs.OwnRecords.{own_records, Own, YetOf, AreAhead, TakesOwn, ahead_left, left_of};
+    ghost use Rattle.gix_ref_listing.specs.OwnRecords.{own_records, Own, YetOf, AreAhead, TakesOwn, ahead_left, records_left_of};
 
     /// Those of the records that the iterator is yet to give, if there is one.
     pub fn of(settings: Settings<'_>, records: Option<Iter<'p>>) -> OwnRecords<'p>
@@ -135,7 +135,7 @@ impl<'p> OwnRecords<'p> {
     fn load(&mut self, settings: Settings<'_>)
         ensures ahead { (rs : List Record) → YetOf self.old.records rs →
             AreAhead settings.entry self.new (own_records settings.entry rs) }
-        ensures left { ahead_left self.new ≤ left_of self.old.records }
+        ensures left { ahead_left self.new ≤ records_left_of self.old.records }
     {
         self.first = match &mut self.records {
             Some(records) => next_own(settings, records),

@@ -63,14 +63,14 @@ module _ {F : Type 0} (bytes : F → List ℕ) where
   open_items ends s = items_from (length s.buf.now) s.number (take (s.pos + s.end) (bytes s.reader) ++ tail_of ends)
 
   -- the same file through the same buffer
-  pub record SameLog (s t : Reverse F) : Type 0 where
+  pub record SameFileAndBuffer (s t : Reverse F) : Type 0 where
     pub same_reference : t.buf.ghost_name ≡ s.buf.ghost_name
     pub same_bytes : bytes t.reader ≡ bytes s.reader
     pub same_length : length t.buf.now ≡ length s.buf.now
 
   -- the window moves, and all else stays as it is
   pub record OnlyWindowMoves (s t : Reverse F) : Type 0 where
-    pub log : SameLog s t
+    pub log : SameFileAndBuffer s t
     pub stage : t.stage ≡ s.stage
     pub number : t.number ≡ s.number
 
@@ -80,7 +80,7 @@ module _ {F : Type 0} (bytes : F → List ℕ) where
 
 module _ {F : Type 0} (faults : F → ℕ) where
   -- the reader counts a fault that comes; it is never `Memory`
-  pub record Counts {T : Type 0} (r : Result T FileError) (s t : Reverse F) : Type 0 where
+  pub record CountsReaderFault {T : Type 0} (r : Result T FileError) (s t : Reverse F) : Type 0 where
     pub count : faults t.reader ≡ count_after r (faults s.reader)
     pub memory : IsErrOf r faulty.Memory → ⊥
 

@@ -10,7 +10,7 @@ use Rattle.gix_ref_theory.specs.Readings.Reading.{Is}
 use Rattle.gix_ref_records.specs.declared.raw.Reference.{Reference}
 use Rattle.gix_ref_files.specs.declared.files.ReadAt.{Ghosts}
 use Rattle.gix_ref_theory.specs.Views.{View}
-use Rattle.gix_ref_lookup.specs.Lookups.{Answers, Among, IsHit, IsHitOf, IsNamed, IsGivenOf, asked_names, name_asked, name_given, hit_given}
+use Rattle.gix_ref_lookup.specs.Lookups.{ReturnsHit, Among, IsHit, IsHitOf, IsNamed, IsGivenOf, asked_names, name_asked, name_given, hit_given}
 use Rattle.gix_ref_lookup.specs.declared.settings.Settings.{Settings}
 use Rattle.gix_ref_lookup.specs.declared.find.records.Records.{Records as Asked}
 use Rattle.gix_ref_lookup.specs.declared.find.error.Error.{Error}
@@ -34,14 +34,14 @@ given_other asked p name other = go (pointwise nat_eq asked p) refl
 pub named_same : (p : List ℕ) (r : Reference) → IsNamed (name_given p p) r r
 named_same p r = record { name = sym (given_same p (full_bytes r.name)); target = refl; peeled = refl }
 
-pub answers_same : (p : List ℕ) (hit : Option Hit) (found : Option Reference) → Answers hit found → Answers (option_map (hit_given p p) hit) found
+pub answers_same : (p : List ℕ) (hit : Option Hit) (found : Option Reference) → ReturnsHit hit found → ReturnsHit (option_map (hit_given p p) hit) found
 answers_same p None None is = tt
 answers_same p (Some hit) (Some r) is = (is.0 ∙ sym (given_same p hit.name), is.1, is.2)
 answers_same p None (Some r) is = absurd is
 answers_same p (Some hit) None is = absurd is
 
 answers_named : (asked p : List ℕ) → asked ≢ p → (hit : Option Hit) (found given : Reference) → IsNamed decomposed found given →
-    Answers hit (Some found) → Answers (option_map (hit_given asked p) hit) (Some given)
+    ReturnsHit hit (Some found) → ReturnsHit (option_map (hit_given asked p) hit) (Some given)
 answers_named asked p other None found given named is = absurd is
 answers_named asked p other (Some hit) found given named is = (
   named.name ∙ (ap decomposed is.0 ∙ sym (given_other asked p hit.name other)),
@@ -49,7 +49,7 @@ answers_named asked p other (Some hit) found given named is = (
   named.peeled ∙ is.2,
 )
 
-none_given : (form : Hit → Hit) (hit : Option Hit) → Answers hit None → Answers (option_map form hit) None
+none_given : (form : Hit → Hit) (hit : Option Hit) → ReturnsHit hit None → ReturnsHit (option_map form hit) None
 none_given form None is = tt
 none_given form (Some hit) is = absurd is
 
@@ -64,12 +64,12 @@ hit_as_asked composes settings view records p as_is r hit = (
 
 -- what is said of what was found is said of what is given
 pub given_answers : (asked p : List ℕ) → asked ≢ p → (hit : Option Hit) (found given : Result (Option Reference) Error) → IsGivenOf found given →
-    IfOk found (Answers hit) → IfOk given (Answers (option_map (hit_given asked p) hit))
+    IfOk found (ReturnsHit hit) → IfOk given (ReturnsHit (option_map (hit_given asked p) hit))
 given_answers asked p other hit (Ok (Some r)) (Ok (Some g)) named is = answers_named asked p other hit r g named is
 given_answers asked p other hit (Ok (Some r)) (Err e) memory is = tt
 given_answers asked p other hit (Ok (Some r)) (Ok None) none is = absurd none
-given_answers asked p other hit (Ok None) given none is = subst (λ g. IfOk g (Answers (option_map (hit_given asked p) hit))) (sym none) (none_given (hit_given asked p) hit is)
-given_answers asked p other hit (Err e) given failed is = subst (λ g. IfOk g (Answers (option_map (hit_given asked p) hit))) (sym failed) tt
+given_answers asked p other hit (Ok None) given none is = subst (λ g. IfOk g (ReturnsHit (option_map (hit_given asked p) hit))) (sym none) (none_given (hit_given asked p) hit is)
+given_answers asked p other hit (Err e) given failed is = subst (λ g. IfOk g (ReturnsHit (option_map (hit_given asked p) hit))) (sym failed) tt
 
 pub given_some : (asked p : List ℕ) → asked ≢ p → (P Q : Reference → Type 0) (found given : Result (Option Reference) Error) → IsGivenOf found given →
     ((r g : Reference) → P r → IsNamed (name_given asked p) r g → Q g) → IfOk found (λ r. IfSome r P) → IfOk given (λ r. IfSome r Q)

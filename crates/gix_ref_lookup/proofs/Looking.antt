@@ -7,7 +7,7 @@ use Rattle.gix_ref_theory.specs.Readings.{Store, Reading, reading_among}
 use Rattle.gix_ref_theory.specs.Readings.Reading.{Is, Absent, Fault}
 use Rattle.gix_ref_theory.specs.Lookups.{Hit, first_hit, hit, is_there}
 use Rattle.gix_ref_records.specs.declared.raw.Reference.{Reference}
-use Rattle.gix_ref_lookup.specs.Lookups.{Answers, IsCandidate, FailsAt, Among, IsPassed, AreAsked, IsNotRead, CandidateFails, IsHit, IsLooseTarget, AreHonest, AreStillAsked, IsSearched, OfSearched, OfKey, meaning_in, to_list}
+use Rattle.gix_ref_lookup.specs.Lookups.{ReturnsHit, IsCandidate, FailsAt, Among, IsPassed, AreAsked, IsNotRead, CandidateFails, IsHit, IsLooseTarget, AreHonest, AreStillAsked, IsSearched, OfSearched, OfKey, meaning_in, to_list}
 use Rattle.gix_ref_lookup.specs.LooseFiles.{IsUndecodable}
 use Rattle.gix_ref_lookup.specs.StoreLayout.{namespace_text}
 use Rattle.gix_ref_lookup.specs.declared.settings.Settings.{Settings}
@@ -29,9 +29,9 @@ abbrev pub packed_refs_at : Settings → Tree → Option (List ℕ)
 packed_refs_at settings T = view_of T (meaning_in settings).packed_path
 
 -- a candidate that is there is the first hit
-pub hit_here : (s : Store) (view : View) (rs : List Record) (name : List ℕ) (names : List (List ℕ)) (r : Reference) → IsCandidate s view rs name (Some r) → Answers (first_hit s view rs (name ∷ names)) (Some r)
+pub hit_here : (s : Store) (view : View) (rs : List Record) (name : List ℕ) (names : List (List ℕ)) (r : Reference) → IsCandidate s view rs name (Some r) → ReturnsHit (first_hit s view rs (name ∷ names)) (Some r)
 hit_here s view rs name names r is =
-    subst (λ found. Answers found (Some r))
+    subst (λ found. ReturnsHit found (Some r))
     (sym (ap (λ (reading : Reading). if is_there reading then Some (hit s view rs name) else first_hit s view rs names) is.1)) is
 
 -- one that is absent is passed
@@ -120,8 +120,8 @@ still_asked {R} {G} kind file file' first mid last same before after =
     }
 
 -- the result of one candidate alone
-pub answer_one : (s : Store) (view : View) (rs : List Record) (name : List ℕ) (found : Option Reference) → IsCandidate s view rs name found → Answers (first_hit s view rs (name ∷ [])) found
-answer_one s view rs name None absent = subst (λ f. Answers f None) (sym (hit_later s view rs name [] absent)) tt
+pub answer_one : (s : Store) (view : View) (rs : List Record) (name : List ℕ) (found : Option Reference) → IsCandidate s view rs name found → ReturnsHit (first_hit s view rs (name ∷ [])) found
+answer_one s view rs name None absent = subst (λ f. ReturnsHit f None) (sym (hit_later s view rs name [] absent)) tt
 answer_one s view rs name (Some r) is = hit_here s view rs name [] r is
 
 -- where nothing is found, the first candidate and all after it are absent
@@ -170,6 +170,6 @@ among_wider P Q (n ∷ names) wider (inl here) = inl (wider n here)
 among_wider P Q (n ∷ names) wider (inr later) = inr (among_wider P Q names wider later)
 
 -- where a lookup returns `None`, nothing is found
-pub none_found : (found : Option Hit) → Answers found None → found ≡ None
+pub none_found : (found : Option Hit) → ReturnsHit found None → found ≡ None
 none_found None is = refl
 none_found (Some hit) is = absurd is

@@ -9,7 +9,7 @@ use Rattle.gix_ref_theory.specs.OnRealTrees.{file_of}
 use Rattle.gix_ref_packed.specs.declared.packed.file.PackedFile.{PackedFile}
 use Rattle.gix_ref_packed.specs.Buffers.{HoldsRecords, IsRefusedFile, IsRefusedBytes}
 use Rattle.gix_ref_packed.specs.OpenFiles.{OpenedFile, CountsRefusal, HasReadFault, FailsFindByRead, packed_file_text}
-use Rattle.gix_ref_packed.specs.FileSearches.{FailsIn}
+use Rattle.gix_ref_packed.specs.FileSearches.{FailsInFile}
 use Rattle.gix_ref_records.specs.Positions.{CannotRead}
 use Rattle.gix_ref_packed.specs.declared.packed.sorted_file.FindError.{FindError}
 use Rattle.gix_ref_packed.specs.declared.packed.sorted_file.FindError.TheVariants.{Read, Parse}
@@ -61,7 +61,7 @@ not_opened honest faults kind content before now (Io fault) refused (inr failed)
 
 -- what a search failed by is what the lookup says
 pub not_searched : {R : Type 0} (honest : Type 0) (faults : R → ℕ) (unreadable : Type 0) (kind : Kind) (text name : List ℕ) (found : Result (Option Found) FindError) →
-    (honest → IfErr found (FailsIn kind text name)) → IfErr found (FailsFindByRead faults) → (CannotRead kind text name → unreadable) →
+    (honest → IfErr found (FailsInFile kind text name)) → IfErr found (FailsFindByRead faults) → (CannotRead kind text name → unreadable) →
     IfErr (as_found found) (IsNotPacked honest (HasReadFault faults) unreadable (λ error. ⊥))
 not_searched honest faults unreadable kind text name (Ok found) refused failed bad = tt
 not_searched honest faults unreadable kind text name (Err (Read (reading.Io fault))) refused failed bad = λ h. (refused h, failed)

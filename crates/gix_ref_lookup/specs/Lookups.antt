@@ -205,10 +205,10 @@ IsCandidate s view records name (Some r) =
     × (r.peeled ≡ hit_peeled (s.key name) (view (s.place name)) records)
 
 -- what a lookup finds, as a result
-abbrev pub Answers : Option Hit → Option Reference → Type 0
-Answers None None = Unit {0}
-Answers (Some hit) (Some r) = (full_bytes r.name ≡ hit.name) × (hit.reading ≡ Is (target_value r.target)) × (r.peeled ≡ hit.peeled)
-Answers found answer = ⊥
+abbrev pub ReturnsHit : Option Hit → Option Reference → Type 0
+ReturnsHit None None = Unit {0}
+ReturnsHit (Some hit) (Some r) = (full_bytes r.name ≡ hit.name) × (hit.reading ≡ Is (target_value r.target)) × (r.peeled ≡ hit.peeled)
+ReturnsHit found answer = ⊥
 
 -- on any text of `packed-refs`: a candidate has a loose file with this target; or it has none, and a record of its key
 -- that begins a line

@@ -8,7 +8,7 @@ use Rattle.gix_ref_files.specs.Tree.{Tree, Path, IsShaped, no_tree, put, is_fold
 use Rattle.gix_ref_files.specs.Tree.Content.{Folder}
 use Rattle.gix_ref_files.specs.Disk.{Disk}
 use Rattle.gix_ref_files.specs.Files.{AddsDisks}
-use Rattle.gix_ref_memory.specs.Changes.{after, meaning_after, MakingFrontsOn, with_folder_as, with_folders_as}
+use Rattle.gix_ref_memory.specs.Changes.{after_changes, meaning_after, MakingFrontsOn, with_folder_as, with_folders_as}
 use Rattle.gix_ref_memory.specs.Laws.{disk_is_found}
 use Rattle.gix_ref_memory.specs.declared.memory.changes.Change.{Change}
 use Rattle.gix_ref_files.proofs.Puts.{put_at, all_kept}
@@ -23,11 +23,11 @@ from p i = fronts_after (take i p) (drop i p)
 -- so far the fronts are folders, and as many are left to make
 pub record Walk (synced : Bool) (first now : List Change) (p : Path) (most left i : ℕ) : Type 0 where
   pub making : Making synced (meaning_after first) (meaning_after now) (fronts p) (from p i)
-  pub rest : with_folders (after now no_tree) (take left (from p i)) ≡ with_folders (after first no_tree) (take most (fronts p))
+  pub rest : with_folders (after_changes now no_tree) (take left (from p i)) ≡ with_folders (after_changes first no_tree) (take most (fronts p))
   pub disks : with_folders_as synced (disk now) (take left (from p i)) ≡ with_folders_as synced (disk first) (take most (fronts p))
   pub count : most + length (from p i) ≡ left + length (fronts p)
-  pub folders : has_folders (after now no_tree) (take i p) ≡ true
-  pub shape : IsShaped (after first no_tree) → IsShaped (after now no_tree)
+  pub folders : has_folders (after_changes now no_tree) (take i p) ≡ true
+  pub shape : IsShaped (after_changes first no_tree) → IsShaped (after_changes now no_tree)
   pub kept : take (length first) now ≡ first
 
 first_front : (p : Path) → fronts p ≡ from p 1
@@ -44,10 +44,10 @@ walk_begins synced now p most =
     let all = first_front p in
     record {
       making = subst (Making synced (meaning_after now) (meaning_after now) (fronts p)) all (none_made synced (meaning_after now) (fronts p));
-      rest = ap (λ (l : List Path). with_folders (after now no_tree) (take most l)) (sym all);
+      rest = ap (λ (l : List Path). with_folders (after_changes now no_tree) (take most l)) (sym all);
       disks = ap (λ (l : List Path). with_folders_as synced (disk now) (take most l)) (sym all);
       count = ap (λ (l : List Path). most + length l) (sym all);
-      folders = first_folders (after now no_tree) p;
+      folders = first_folders (after_changes now no_tree) p;
       shape = λ shape. shape;
       kept = take-length now;
     }
@@ -65,10 +65,10 @@ walk_on synced first now p most left i some lt is walk =
     let all = from_next p i false lt is in
     record {
       making = subst (Making synced (meaning_after first) (meaning_after now) (fronts p)) all walk.making;
-      rest = ap (λ (l : List Path). with_folders (after now no_tree) (take left l)) (sym all) ∙ walk.rest;
+      rest = ap (λ (l : List Path). with_folders (after_changes now no_tree) (take left l)) (sym all) ∙ walk.rest;
       disks = ap (λ (l : List Path). with_folders_as synced (disk now) (take left l)) (sym all) ∙ walk.disks;
       count = ap (λ (l : List Path). most + length l) (sym all) ∙ walk.count;
-      folders = ap (λ (l : List Path). list_all (λ f. is_folder (after now no_tree f)) l) (fronts_next p i false some lt is) ∙ walk.folders;
+      folders = ap (λ (l : List Path). list_all (λ f. is_folder (after_changes now no_tree f)) l) (fronts_next p i false some lt is) ∙ walk.folders;
       shape = walk.shape;
       kept = walk.kept;
     }
@@ -99,16 +99,16 @@ kept_through first mid now kept more =
 
 -- past a slash, where a folder was made
 pub walk_made : (synced : Bool) (first mid now : List Change) (p : Path) (most left i : ℕ) → 1 ≤ i → i < length p → (get_or p i 0 == 47) ≡ true → Walk synced first mid p most (left + 1) i
-    → after now no_tree ≡ put (after mid no_tree) (take i p) (Some Folder)
-    → (IsShaped (after mid no_tree) → IsShaped (after now no_tree))
+    → after_changes now no_tree ≡ put (after_changes mid no_tree) (take i p) (Some Folder)
+    → (IsShaped (after_changes mid no_tree) → IsShaped (after_changes now no_tree))
     → take (length mid) now ≡ mid
     → disk now ≡ with_folder_as synced (disk mid) (take i p)
     → OneMore synced (meaning_after mid) (meaning_after now) (take i p)
     → Walk synced first now p most left (i + 1)
 walk_made synced first mid now p most left i some lt is walk made shape kept made_on passes =
     let all = from_next p i true lt is in
-    let S = after mid no_tree in
-    let T = after now no_tree in
+    let S = after_changes mid no_tree in
+    let T = after_changes now no_tree in
     let here : is_folder (put S (take i p) (Some Folder) (take i p)) ≡ true = ap is_folder (put_at S (take i p) (Some Folder)) in
     let before : list_all (λ f. is_folder (put S (take i p) (Some Folder) f)) (fronts (take i p)) ≡ true =
     all_kept (λ f. is_folder (S f)) (λ f. is_folder (put S (take i p) (Some Folder) f)) (folder_kept S (take i p)) (fronts (take i p)) walk.folders in

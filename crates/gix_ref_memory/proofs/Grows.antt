@@ -9,7 +9,7 @@ use Rattle.gix_ref_files.specs.Disk.{Disk, DiskItem, no_disk, nothing, with_tree
 use Rattle.gix_ref_files.specs.Files.{disk_of, Passes, AddsDisks}
 use Rattle.gix_ref_files.specs.DiskCalls.{BeforeOrAfterOn, AppendingOn, SyncingOn}
 use Rattle.gix_ref_files.proofs.Moments.{passes_starts, passes_weaken}
-use Rattle.gix_ref_memory.specs.Changes.{stands, changed, after, changed_on, replayed, disk_is, Begun, Found, meaning_after, content_of, found_content, with_item_as}
+use Rattle.gix_ref_memory.specs.Changes.{stands, changed, after_changes, changed_on, replayed, disk_is, Begun, Found, meaning_after, content_of, found_content, with_item_as}
 use Rattle.gix_ref_memory.specs.Laws.{disk_is_found}
 use Rattle.gix_ref_memory.specs.declared.memory.changes.Stored.{Stored}
 use Rattle.gix_ref_memory.specs.declared.memory.changes.Stands.{Stands}
@@ -17,11 +17,11 @@ use Rattle.gix_ref_memory.specs.declared.memory.changes.Change.{Change}
 use Rattle.gix_ref_memory.specs.declared.memory.changes.Change.TheVariants.{Put, Append, Move, SyncFile, SyncFolder}
 
 -- what is at a path in the end
-pub after_is : (changes : List Change) (T : Tree) (q : Path) → after changes T q ≡ stands changes q (T q)
+pub after_is : (changes : List Change) (T : Tree) (q : Path) → after_changes changes T q ≡ stands changes q (T q)
 after_is [] T q = refl
 after_is (change ∷ changes) T q = after_is changes (changed change T) q
 
-pub after_push : (changes : List Change) (change : Change) (T : Tree) → after (changes ++ change ∷ []) T ≡ changed change (after changes T)
+pub after_push : (changes : List Change) (change : Change) (T : Tree) → after_changes (changes ++ change ∷ []) T ≡ changed change (after_changes changes T)
 after_push [] change T = refl
 after_push (first ∷ changes) change T = after_push changes change (changed first T)
 
@@ -75,7 +75,7 @@ pushed changes change P begun whole = record {
 pub record Grew (old now : List Change) (P : Disk → Type 0) (after_it : Disk) : Type 0 where
   pub passes : Passes (meaning_after old) (meaning_after now) P
   pub disk_is : disk now ≡ after_it
-  pub tree_is : after now no_tree ≡ after_it.tree
+  pub tree_is : after_changes now no_tree ≡ after_it.tree
 
 pub grew : (old now : List Change) (change : Change) (P : Disk → Type 0) (E : Disk) → now ≡ old ++ change ∷ [] → ((F : Disk) → Begun change (disk old) F → P F) → changed_on change (disk old) ≡ E → P E → Grew old now P E
 grew old now change P E is begun whole here =
@@ -110,7 +110,7 @@ whole_append D path whole had p old bytes at is stood =
     ∙ ap (λ (node : Option Content). with_tree D (put D.tree p (more node bytes))) stood)
 
 -- an append more
-pub append_more : (old_changes now : List Change) (path whole : Vec ℕ Global) (had : ℕ) (p old bytes : List ℕ) → path.items ≡ p → whole.items ≡ old ++ bytes → had ≡ length old → Some (File old) ≡ after old_changes no_tree p → now ≡ old_changes ++ Append path whole had ∷ [] → Grew old_changes now (AppendingOn (disk old_changes) p bytes) (appended_on (disk old_changes) p bytes)
+pub append_more : (old_changes now : List Change) (path whole : Vec ℕ Global) (had : ℕ) (p old bytes : List ℕ) → path.items ≡ p → whole.items ≡ old ++ bytes → had ≡ length old → Some (File old) ≡ after_changes old_changes no_tree p → now ≡ old_changes ++ Append path whole had ∷ [] → Grew old_changes now (AppendingOn (disk old_changes) p bytes) (appended_on (disk old_changes) p bytes)
 append_more old_changes now path whole had p old bytes at is size stood grown =
     let D = disk old_changes in
     let file : is_file (D.tree p) ≡ true = ap is_file (sym stood) in
@@ -130,7 +130,7 @@ put_more old now Allowed path stored synced p content allowed at is grown =
     (inr (allowed, refl))
 
 -- one file moved
-pub move_more : (old now : List Change) (Allowed : Type 0) (from to bytes : Vec ℕ Global) (n : ℕ) (p q : Path) (stood : List ℕ) → Allowed → from.items ≡ p → to.items ≡ q → bytes.items ≡ stood → Some (File stood) ≡ after old no_tree p → n ≡ (disk old).unsynced.synced p → now ≡ old ++ Move from to bytes n ∷ [] → Grew old now (BeforeOrAfterOn (disk old) Allowed (moved_on (disk old) p q)) (moved_on (disk old) p q)
+pub move_more : (old now : List Change) (Allowed : Type 0) (from to bytes : Vec ℕ Global) (n : ℕ) (p q : Path) (stood : List ℕ) → Allowed → from.items ≡ p → to.items ≡ q → bytes.items ≡ stood → Some (File stood) ≡ after_changes old no_tree p → n ≡ (disk old).unsynced.synced p → now ≡ old ++ Move from to bytes n ∷ [] → Grew old now (BeforeOrAfterOn (disk old) Allowed (moved_on (disk old) p q)) (moved_on (disk old) p q)
 move_more old now Allowed from to bytes n p q stood allowed at_from at_to is there count grown =
     let D = disk old in
     let two : Path → Path → DiskItem → Disk = λ x y item. with_item (with_item D x nothing) y item in
@@ -145,7 +145,7 @@ move_more old now Allowed from to bytes n p q stood allowed at_from at_to is the
     (inr (allowed, refl))
 
 -- a sync more
-pub file_sync_more : (old now : List Change) (path : Vec ℕ Global) (p : Path) → path.items ≡ p → now ≡ old ++ SyncFile path ∷ [] → is_file (after old no_tree p) ≡ true → Grew old now (SyncingOn true (disk old) (file_synced (disk old) p)) (file_synced (disk old) p)
+pub file_sync_more : (old now : List Change) (path : Vec ℕ Global) (p : Path) → path.items ≡ p → now ≡ old ++ SyncFile path ∷ [] → is_file (after_changes old no_tree p) ≡ true → Grew old now (SyncingOn true (disk old) (file_synced (disk old) p)) (file_synced (disk old) p)
 file_sync_more old now path p at grown there =
     grew old now (SyncFile path) (SyncingOn true (disk old) (file_synced (disk old) p)) (file_synced (disk old) p) grown
     (λ F none. inl none) (ap (file_synced (disk old)) at) (inr (refl, refl))
@@ -167,7 +167,7 @@ newest_found (first ∷ changes) change zero D E le begun = inr (newest_found ch
 newest_found (first ∷ changes) change (suc t) D E le begun = newest_found changes change t (changed_on first D) E (omega arith) begun
 
 -- an append adds every beginning of its bytes
-pub append_adds : (old_changes now : List Change) (path whole : Vec ℕ Global) (had : ℕ) (p old bytes : List ℕ) → path.items ≡ p → whole.items ≡ old ++ bytes → had ≡ length old → Some (File old) ≡ after old_changes no_tree p → now ≡ old_changes ++ Append path whole had ∷ [] → AddsDisks (meaning_after old_changes) (meaning_after now) (AppendingOn (disk old_changes) p bytes)
+pub append_adds : (old_changes now : List Change) (path whole : Vec ℕ Global) (had : ℕ) (p old bytes : List ℕ) → path.items ≡ p → whole.items ≡ old ++ bytes → had ≡ length old → Some (File old) ≡ after_changes old_changes no_tree p → now ≡ old_changes ++ Append path whole had ∷ [] → AddsDisks (meaning_after old_changes) (meaning_after now) (AppendingOn (disk old_changes) p bytes)
 append_adds old_changes now path whole had p old bytes at is size stood grown t E le some =
     let D = disk old_changes in
     subst (λ (l : List Change). Found l t no_disk E) (sym grown)
@@ -176,7 +176,7 @@ append_adds old_changes now path whole had p old bytes at is size stood grown t 
     (⊎_elim (λ none. inl none) (λ grows. inr (grows.1.0, grows.1.1 ∙ sym (part_of D path whole had grows.1.0 p old bytes at is size stood))) some)))
 
 -- what an append that isn't made adds
-pub nothing_adds : (changes now : List Change) (p : Path) (bytes : List ℕ) → is_file (after changes no_tree p) ≡ false → now ≡ changes → AddsDisks (meaning_after changes) (meaning_after now) (AppendingOn (disk changes) p bytes)
+pub nothing_adds : (changes now : List Change) (p : Path) (bytes : List ℕ) → is_file (after_changes changes no_tree p) ≡ false → now ≡ changes → AddsDisks (meaning_after changes) (meaning_after now) (AppendingOn (disk changes) p bytes)
 nothing_adds changes now p bytes none is t E le some =
     subst (λ (l : List Change). Found l t no_disk E) (sym is)
     (⊎_elim (λ same. subst (Found changes t no_disk) (sym same) (disk_is_found changes t)) (λ grows. absurd (clash (sym none ∙ grows.0))) some)

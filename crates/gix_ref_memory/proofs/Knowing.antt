@@ -9,7 +9,7 @@ use Rattle.gix_ref_files.specs.Disk.{DiskItem, Disk, no_disk, item_at, nothing, 
 use Rattle.gix_ref_files.specs.Losing.{last_synced, kept, chosen, lost_by, all_synced}
 use Rattle.gix_ref_files.proofs.Losing.{choices}
 use Rattle.gix_ref_files.proofs.Puts.{same_tree, put_at, put_other}
-use Rattle.gix_ref_memory.specs.Changes.{after, changed_on, replayed, disk_is, put_item, with_item_as, content_of, IsChangedPath, place_of}
+use Rattle.gix_ref_memory.specs.Changes.{after_changes, changed_on, replayed, disk_is, put_item, with_item_as, content_of, IsChangedPath, place_of}
 use Rattle.gix_ref_memory.specs.internal.Power.{DiskEntry, no_entry, entered, settled, with_now, entry_after, disk_entry, choice, IsChoice, Names, IsNamedByChange, AreSynced, Fills, IsReachable}
 use Rattle.gix_ref_memory.specs.declared.memory.changes.Change.{Change}
 use Rattle.gix_ref_memory.specs.declared.memory.changes.Change.TheVariants.{Put, Append, Move, SyncFile, SyncFolder}
@@ -184,19 +184,19 @@ fills_more Good A B C old mid new first second wider = record {
   synced = λ s. second.synced (first.synced s);
 }
 
-pub fills_one : (Good : Path → Option Content → Type 0) (old new : List Change) (p : Path) (content : Option Content) → after new no_tree ≡ put (after old no_tree) p content → (AreSynced old → AreSynced new) → Good p content → Fills Good (λ q. p ≡ q) old new
+pub fills_one : (Good : Path → Option Content → Type 0) (old new : List Change) (p : Path) (content : Option Content) → after_changes new no_tree ≡ put (after_changes old no_tree) p content → (AreSynced old → AreSynced new) → Good p content → Fills Good (λ q. p ≡ q) old new
 fills_one Good old new p content is synced good = record {
-  choice = λ q same. subst (λ (x : Path). Good x (after new no_tree x)) same here;
+  choice = λ q same. subst (λ (x : Path). Good x (after_changes new no_tree x)) same here;
   other = λ q. by q (bytes_eq p q) refl;
   synced = synced;
 }
   where
-    here : Good p (after new no_tree p)
-    here = subst (Good p) (sym (ap (λ (T : Tree). T p) is ∙ put_at (after old no_tree) p content)) good
+    here : Good p (after_changes new no_tree p)
+    here = subst (Good p) (sym (ap (λ (T : Tree). T p) is ∙ put_at (after_changes old no_tree) p content)) good
 
-    by : (q : Path) (b : Bool) → bytes_eq p q ≡ b → (after new no_tree q ≡ after old no_tree q) ⊎ Good q (after new no_tree q)
-    by q true eq = inr (subst (λ (x : Path). Good x (after new no_tree x)) ((bytes_eq-Decides p q).0 eq) here)
-    by q false ne = inl (ap (λ (T : Tree). T q) is ∙ put_other (after old no_tree) p q content (λ same. true≢false (sym ((bytes_eq-Decides p q).1 same) ∙ ne)))
+    by : (q : Path) (b : Bool) → bytes_eq p q ≡ b → (after_changes new no_tree q ≡ after_changes old no_tree q) ⊎ Good q (after_changes new no_tree q)
+    by q true eq = inr (subst (λ (x : Path). Good x (after_changes new no_tree x)) ((bytes_eq-Decides p q).0 eq) here)
+    by q false ne = inl (ap (λ (T : Tree). T q) is ∙ put_other (after_changes old no_tree) p q content (λ same. true≢false (sym ((bytes_eq-Decides p q).1 same) ∙ ne)))
 
 -- one change behind others
 pub named_snoc : (changes : List Change) (change : Change) (q : Path) → IsNamedByChange (changes ++ change ∷ []) q → IsNamedByChange changes q ⊎ Names change q
@@ -212,23 +212,23 @@ placed_snoc (first ∷ changes) change q (inl here) = inl (inl here)
 placed_snoc (first ∷ changes) change q (inr later) = ⊎_elim (λ old. inl (inr old)) (λ here. inr here) (placed_snoc changes change q later)
 
 -- once all paths that changes name are filled, all are
-pub all_chosen : (changes left : List Change) (pick : ℕ) → Fills (IsChoice changes pick) (IsNamedByChange changes) [] left → AllChosen changes pick (after left no_tree)
+pub all_chosen : (changes left : List Change) (pick : ℕ) → Fills (IsChoice changes pick) (IsNamedByChange changes) [] left → AllChosen changes pick (after_changes left no_tree)
 all_chosen changes left pick fills q =
     ⊎_elim (λ named_q. fills.choice q named_q)
     (λ calm. ⊎_elim (λ same. record { entry = false; end = false; none = λ zero. (refl, refl); is = same ∙ nothing_left (disk_entry changes q no_entry) calm }) (λ good. good) (fills.other q))
     (named changes q no_entry (refl, refl))
 
-pub all_reached : (entries_ left : List Change) → Fills (IsReachable (after entries_ no_tree)) (IsChangedPath entries_) [] left → after left no_tree ≡ reachable (after entries_ no_tree)
-all_reached entries_ left fills = same_tree (λ q. by q (after entries_ no_tree q) refl)
+pub all_reached : (entries_ left : List Change) → Fills (IsReachable (after_changes entries_ no_tree)) (IsChangedPath entries_) [] left → after_changes left no_tree ≡ reachable (after_changes entries_ no_tree)
+all_reached entries_ left fills = same_tree (λ q. by q (after_changes entries_ no_tree q) refl)
   where
-    unreached : (q : Path) → after entries_ no_tree q ≡ None → None ≡ reachable (after entries_ no_tree) q
-    unreached q none = sub (has_folders (after entries_ no_tree) q)
+    unreached : (q : Path) → after_changes entries_ no_tree q ≡ None → None ≡ reachable (after_changes entries_ no_tree) q
+    unreached q none = sub (has_folders (after_changes entries_ no_tree) q)
       where
-        sub : (b : Bool) → None ≡ (if b then after entries_ no_tree q else None)
+        sub : (b : Bool) → None ≡ (if b then after_changes entries_ no_tree q else None)
         sub true = sym none
         sub false = refl
 
-    by : (q : Path) (c : Option Content) → after entries_ no_tree q ≡ c → after left no_tree q ≡ reachable (after entries_ no_tree) q
+    by : (q : Path) (c : Option Content) → after_changes entries_ no_tree q ≡ c → after_changes left no_tree q ≡ reachable (after_changes entries_ no_tree) q
     by q None none = ⊎_elim (λ same. same ∙ unreached q none) (λ good. good) (fills.other q)
     by q (Some c) some = fills.choice q (placed entries_ q (subst (λ (o : Option Content). Rattle.std.specs.Prelude.IsSome o) (sym some) refl))
 
@@ -276,7 +276,7 @@ synced_put T p content =
     of : (Path → ℕ) → (Path → List DiskItem) → Disk
     of synced past = record { tree = put T p content; unsynced = record { synced = synced; past = past } }
 
-all_puts : (changes : List Change) (T : Tree) → AreSynced changes → replayed changes (all_synced T) ≡ all_synced (after changes T)
+all_puts : (changes : List Change) (T : Tree) → AreSynced changes → replayed changes (all_synced T) ≡ all_synced (after_changes changes T)
 all_puts [] T s = refl
 all_puts (Put path stored false ∷ changes) T s = absurd (true≢false (sym s.0))
 all_puts (Put path stored true ∷ changes) T s = ap (replayed changes) (synced_put T path.items (content_of stored)) ∙ all_puts changes (put T path.items (content_of stored)) s.1
@@ -285,5 +285,5 @@ all_puts (Move from to bytes n ∷ changes) T s = absurd s
 all_puts (SyncFile path ∷ changes) T s = absurd s
 all_puts (SyncFolder path ∷ changes) T s = absurd s
 
-pub is_settled : (changes : List Change) → AreSynced changes → disk changes ≡ all_synced (after changes no_tree)
+pub is_settled : (changes : List Change) → AreSynced changes → disk changes ≡ all_synced (after_changes changes no_tree)
 is_settled changes s = disk_is changes ∙ all_puts changes no_tree s

@@ -5,7 +5,7 @@ use Rattle.std.proofs.lemmas.Slice.Eq.{bytes_eq-Decides}
 use Rattle.std.proofs.lemmas.List.{drop_more}
 use Rattle.gix_ref_files.specs.Tree.{Tree, Path, Content, no_tree}
 use Rattle.gix_ref_files.specs.Tree.Content.{File}
-use Rattle.gix_ref_memory.specs.Changes.{after, changed, stands_after, content_of, place_of, IsChangedPath}
+use Rattle.gix_ref_memory.specs.Changes.{after_changes, changed, stands_after, content_of, place_of, IsChangedPath}
 use Rattle.gix_ref_memory.specs.declared.memory.changes.Change.{Change}
 use Rattle.gix_ref_memory.specs.declared.memory.changes.Change.TheVariants.{Put, Append, Move, SyncFile, SyncFolder}
 
@@ -29,13 +29,13 @@ put_or_stood (Move from to bytes synced) q content some =
 put_or_stood (SyncFile path) q content some = inr some
 put_or_stood (SyncFolder path) q content some = inr some
 
-placed_or_stood : (changes : List Change) (T : Tree) (q : Path) → IsSome (after changes T q) → IsChangedPath changes q ⊎ IsSome (T q)
+placed_or_stood : (changes : List Change) (T : Tree) (q : Path) → IsSome (after_changes changes T q) → IsChangedPath changes q ⊎ IsSome (T q)
 placed_or_stood [] T q some = inr some
 placed_or_stood (change ∷ changes) T q some =
     ⊎_elim (λ later. inl (inr later)) (λ stood. ⊎_elim (λ here. inl (inl here)) (λ before. inr before) (put_or_stood change q (T q) stood)) (placed_or_stood changes (changed change T) q some)
 
 -- what is there, a change put there
-pub placed : (changes : List Change) (q : Path) → IsSome (after changes no_tree q) → IsChangedPath changes q
+pub placed : (changes : List Change) (q : Path) → IsSome (after_changes changes no_tree q) → IsChangedPath changes q
 placed changes q some = ⊎_elim (λ here. here) (λ stood. absurd (nothing stood)) (placed_or_stood changes no_tree q some)
   where
     nothing : IsSome (no_tree q) → ⊥

@@ -56,13 +56,13 @@ abbrev pub changed : Change → Tree → Tree
 changed change T q = stands_after change q (T q)
 
 -- the tree after all of these
-abbrev pub after : List Change → Tree → Tree
-after [] T = T
-after (change ∷ changes) T = after changes (changed change T)
+abbrev pub after_changes : List Change → Tree → Tree
+after_changes [] T = T
+after_changes (change ∷ changes) T = after_changes changes (changed change T)
 
 -- the tree that these changes make
 abbrev pub tree_after : Vec Change Global → Tree
-tree_after changes = after changes.items no_tree
+tree_after changes = after_changes changes.items no_tree
 
 -- the item of what a change puts at a path
 abbrev pub put_item : Option Stored → Bool → DiskItem
@@ -108,7 +108,7 @@ Found (change ∷ changes) (suc t) D E = Found changes t (changed_on change D) E
 -- What these changes mean: the clock is their number.
 abbrev pub meaning_after : List Change → Meaning
 meaning_after changes = record {
-  tree = after changes no_tree;
+  tree = after_changes changes no_tree;
   unsynced = (replayed changes no_disk).unsynced;
   moment = length changes;
   found_since = λ t D. Found changes t no_disk D;
@@ -130,9 +130,9 @@ only_now [] D E now = now
 only_now (change ∷ changes) D E now = only_now changes (changed_on change D) E now
 
 -- the tree of such a disk is that of the changes
-pub replayed_tree : (changes : List Change) (D : Disk) → (replayed changes D).tree ≡ after changes D.tree
+pub replayed_tree : (changes : List Change) (D : Disk) → (replayed changes D).tree ≡ after_changes changes D.tree
 replayed_tree [] D = refl
-replayed_tree (change ∷ changes) D = replayed_tree changes (changed_on change D) ∙ ap (after changes) (one change)
+replayed_tree (change ∷ changes) D = replayed_tree changes (changed_on change D) ∙ ap (after_changes changes) (one change)
   where
     one : (change : Change) → (changed_on change D).tree ≡ changed change D.tree
     one (Put path stored synced) = refl

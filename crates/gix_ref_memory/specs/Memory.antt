@@ -2,7 +2,7 @@
 use Rattle.std.specs.Prelude.{◌≡◌, ℕ, List}
 use Rattle.gix_ref_files.specs.Tree.{Tree, no_tree}
 use Rattle.gix_ref_files.specs.Files.{Meaning, one_more}
-use Rattle.gix_ref_memory.specs.Changes.{after, meaning_after}
+use Rattle.gix_ref_memory.specs.Changes.{after_changes, meaning_after}
 use Rattle.gix_ref_memory.specs.Turns.{turn_of}
 use Rattle.gix_ref_memory.specs.declared.memory.Memory.{Memory}
 use Rattle.gix_ref_memory.specs.declared.memory.changes.Change.{Change}
@@ -18,8 +18,8 @@ abbrev pub past_of : Memory → List Change
 past_of memory = memory.changes.items
 
 -- what is at each path
-abbrev pub tree_of : Memory → Tree
-tree_of memory = after memory.changes.items no_tree
+abbrev pub tree_in : Memory → Tree
+tree_in memory = after_changes memory.changes.items no_tree
 
 -- how many calls of files there were
 abbrev pub calls_of : Memory → ℕ

@@ -1,7 +1,7 @@
 //! Files in memory, which keep every change, and fail or stop at a call that the caller chooses.
 ghost use Rattle.std.specs.Prelude.{◌≡◌};
 ghost use Rattle.gix_ref_files.specs.Tree.{IsShaped, no_tree};
-ghost use Rattle.gix_ref_memory.specs.Changes.{after};
+ghost use Rattle.gix_ref_memory.specs.Changes.{after_changes};
 
 mod births;
 mod changes;
@@ -38,7 +38,7 @@ pub struct Memory {
     alloc: Global,
     changes: Vec<Change>,
     turns: Turns,
-    ghost shaped: { IsShaped (after changes.items no_tree) },
+    ghost shaped: { IsShaped (after_changes changes.items no_tree) },
 }
 
 impl Memory {
@@ -49,7 +49,7 @@ impl Memory {
     ghost use Rattle.gix_ref_files.specs.Losing.{lost_by, all_synced};
     ghost use Rattle.gix_ref_files.specs.Files.{disk_of};
     ghost use Rattle.gix_ref_memory.specs.Changes.{Puts, placed_on};
-    ghost use Rattle.gix_ref_memory.specs.Memory.{meaning, past_of, tree_of, calls_of, faults_of, plan_of, KeepsFiles};
+    ghost use Rattle.gix_ref_memory.specs.Memory.{meaning, past_of, tree_in, calls_of, faults_of, plan_of, KeepsFiles};
     ghost use Rattle.gix_ref_memory.specs.declared.memory.turns.Plan.TheVariants.{Runs, FailsAt, StopsAt};
 
     /// An empty tree, of which no call fails. The allocator is kept for the tree and its record.
@@ -60,7 +60,7 @@ impl Memory {
     /// let store = Store::at(files, b"/r".to_vec(alloc)?, Kind::Sha1)?;
     /// ```
     pub fn new(alloc: Global) -> Self
-        ensures tree { tree_of result ≡ no_tree }
+        ensures tree { tree_in result ≡ no_tree }
         ensures calls { calls_of result ≡ 0 }
         ensures faults { faults_of result ≡ 0 }
         ensures plan { plan_of result ≡ Runs }
@@ -87,8 +87,8 @@ impl Memory {
     /// files.put(b"/r/HEAD", b"ref: refs/heads/main\n")?; // makes the folder `/r` too
     /// ```
     pub fn put(&mut self, path: &[u8], bytes: &[u8]) -> Result<bool, FileError>
-        ensures answer { IfOk result (Puts (tree_of self.old) path.now bytes.now
-            (tree_of self.new)) }
+        ensures answer { IfOk result (Puts (tree_in self.old) path.now bytes.now
+            (tree_in self.new)) }
         ensures disk { IfOk result (λ put. disk_of (meaning self.new) ≡ (if put then
             placed_on (disk_of (meaning self.old)) path.now bytes.now
             else disk_of (meaning self.old))) }
@@ -111,8 +111,8 @@ impl Memory {
     /// files.get(b"/r/HEAD") // Some(b"ref: refs/heads/main\n")
     /// ```
     pub fn get(&self, path: &[u8]) -> Option<&[u8]>
-        ensures found { IfSome result (λ bytes. tree_of self.now path.now ≡ Some (File bytes.now)) }
-        ensures none { IfNone result (is_file (tree_of self.now path.now) ≡ false) }
+        ensures found { IfSome result (λ bytes. tree_in self.now path.now ≡ Some (File bytes.now)) }
+        ensures none { IfNone result (is_file (tree_in self.now path.now) ≡ false) }
     {
         match find(&self.changes, path) {
             Some(Stands::FileOf(bytes)) => Some(bytes),
@@ -167,11 +167,11 @@ impl Memory {
     /// files.lose_power(0)?; // of `more` four question marks are left
     /// ```
     pub fn lose_power(&mut self, pick: u64) -> Result<(), FileError>
-        ensures lost { OnOk result (Lost (disk_of (meaning self.old)) (tree_of self.new)) }
-        ensures none { pick ≡ 0 → OnOk result (tree_of self.new
+        ensures lost { OnOk result (Lost (disk_of (meaning self.old)) (tree_in self.new)) }
+        ensures none { pick ≡ 0 → OnOk result (tree_in self.new
             ≡ lost_by (λ p. false) (λ p. false) (disk_of (meaning self.old))) }
         ensures settled { OnOk result
-            (disk_of (meaning self.new) ≡ all_synced (tree_of self.new)) }
+            (disk_of (meaning self.new) ≡ all_synced (tree_in self.new)) }
         ensures plan { OnOk result (plan_of self.new ≡ Runs) }
         ensures memory { OnErr result (result ≡ Err FileError.Memory) }
         ensures failed { OnErr result (past_of self.new ≡ past_of self.old) }
@@ -210,7 +210,7 @@ impl Files for Memory {
     ghost use Rattle.gix_ref_files.specs.Calls.{Unchanged, emptied, Opens, Creates, Creating, MakesFolders, MakingFolders, is_in_the_way, Appends, Appending, Renames, Renaming, IsMovable, RemovesFile, RemovingFile, RemovesFolder, RemovingFolder, Lists};
     ghost use Rattle.gix_ref_memory.specs.Laws.{tree_is_left, only_tree, disk_is_found, only_disk};
     ghost use Rattle.gix_ref_memory.specs.Turns.{KeepsTurn, NeverFails, LacksMemory, CannotGrow, CannotCreate, CannotRename, AsBefore, InOneStep, IsDone};
-    ghost use Rattle.gix_ref_memory.specs.Memory.{meaning, tree_of, faults_of, next_turn, Counts};
+    ghost use Rattle.gix_ref_memory.specs.Memory.{meaning, tree_in, faults_of, next_turn, Counts};
     ghost use Rattle.gix_ref_memory.specs.Reader.{reader_bytes, reader_calls, reader_faults, reader_plan};
     ghost use Rattle.gix_ref_memory.specs.Memory.{calls_of, plan_of};
 
@@ -233,15 +233,15 @@ impl Files for Memory {
     ghost shaped = { λ m honest. m.shaped };
 
     fn kind(&mut self, path: &[u8]) -> Result<Node, FileError>
-        ensures answer { IfOk result (λ node. node ≡ node_at (tree_of self.old) path.now) }
+        ensures answer { IfOk result (λ node. node ≡ node_at (tree_in self.old) path.now) }
         ensures leaves { Leaves (meaning self.old) (meaning self.new)
-            (Unchanged (tree_of self.old)) }
+            (Unchanged (tree_in self.old)) }
         ensures passes { Passes (meaning self.old) (meaning self.new)
             (Untouched (disk_of (meaning self.old))) }
         ensures count { faults_of self.new ≡ count_after result (faults_of self.old) }
         ensures memory { IsErrOf result FileError.Memory → ⊥ }
         ensures turn { KeepsTurn NeverFails NeverFails (next_turn self.old) result
-            (tree_of self.old) (tree_of self.new) (AsBefore (tree_of self.old)) }
+            (tree_in self.old) (tree_in self.new) (AsBefore (tree_in self.old)) }
         ensures counts { Counts self.old self.new }
     {
         if self.turns.next() != Turn::Go {
@@ -256,17 +256,17 @@ impl Files for Memory {
     }
 
     fn read(&mut self, _alloc: Global, path: &[u8], buf: &mut Vec<u8>) -> Result<Node, FileError>
-        ensures answer { IfOk result (λ node. node ≡ node_at (tree_of self.old) path.now) }
+        ensures answer { IfOk result (λ node. node ≡ node_at (tree_in self.old) path.now) }
         ensures bytes { IfOk result (λ node. node ≡ Node.File →
-            buf.new.items ≡ bytes_of (tree_of self.old path.now)) }
+            buf.new.items ≡ bytes_of (tree_in self.old path.now)) }
         ensures emptied { emptied result buf.new.items }
         ensures leaves { Leaves (meaning self.old) (meaning self.new)
-            (Unchanged (tree_of self.old)) }
+            (Unchanged (tree_in self.old)) }
         ensures passes { Passes (meaning self.old) (meaning self.new)
             (Untouched (disk_of (meaning self.old))) }
         ensures count { faults_of self.new ≡ count_after result (faults_of self.old) }
         ensures turn { KeepsTurn LacksMemory NeverFails (next_turn self.old) result
-            (tree_of self.old) (tree_of self.new) (AsBefore (tree_of self.old)) }
+            (tree_in self.old) (tree_in self.new) (AsBefore (tree_in self.old)) }
         ensures counts { Counts self.old self.new }
     {
         buf.clear();
@@ -285,15 +285,15 @@ impl Files for Memory {
     }
 
     fn open(&mut self, alloc: Global, path: &[u8]) -> Result<Option<MemoryReader>, FileError>
-        ensures answer { IfOk result (λ reader. Opens (Unit {0}) reader_bytes (tree_of self.old)
+        ensures answer { IfOk result (λ reader. Opens (Unit {0}) reader_bytes (tree_in self.old)
             path.now reader) }
         ensures leaves { Leaves (meaning self.old) (meaning self.new)
-            (Unchanged (tree_of self.old)) }
+            (Unchanged (tree_in self.old)) }
         ensures passes { Passes (meaning self.old) (meaning self.new)
             (Untouched (disk_of (meaning self.old))) }
         ensures count { faults_of self.new ≡ count_after result (faults_of self.old) }
         ensures turn { KeepsTurn LacksMemory NeverFails (next_turn self.old) result
-            (tree_of self.old) (tree_of self.new) (AsBefore (tree_of self.old)) }
+            (tree_in self.old) (tree_in self.new) (AsBefore (tree_in self.old)) }
         ensures counts { Counts self.old self.new }
         // The reader counts its calls on from the call that opened it, by the same plan.
         ensures reader_calls { IfOk result
@@ -320,14 +320,14 @@ impl Files for Memory {
     }
 
     fn list(&mut self, alloc: Global, path: &[u8]) -> Result<Option<Vec<Entry>>, FileError>
-        ensures answer { IfOk result (Lists (tree_of self.old) path.now) }
+        ensures answer { IfOk result (Lists (tree_in self.old) path.now) }
         ensures leaves { Leaves (meaning self.old) (meaning self.new)
-            (Unchanged (tree_of self.old)) }
+            (Unchanged (tree_in self.old)) }
         ensures passes { Passes (meaning self.old) (meaning self.new)
             (Untouched (disk_of (meaning self.old))) }
         ensures count { faults_of self.new ≡ count_after result (faults_of self.old) }
         ensures turn { KeepsTurn LacksMemory NeverFails (next_turn self.old) result
-            (tree_of self.old) (tree_of self.new) (AsBefore (tree_of self.old)) }
+            (tree_in self.old) (tree_in self.new) (AsBefore (tree_in self.old)) }
         ensures counts { Counts self.old self.new }
     {
         if self.turns.next() != Turn::Go {
@@ -343,19 +343,19 @@ impl Files for Memory {
     }
 
     fn create_new(&mut self, path: &[u8]) -> Result<Create, FileError>
-        ensures answer { IfOk result (Creates (tree_of self.old) path.now (tree_of self.new)) }
-        ensures failed { OnErr result (tree_of self.new ≡ tree_of self.old) }
+        ensures answer { IfOk result (Creates (tree_in self.old) path.now (tree_in self.new)) }
+        ensures failed { OnErr result (tree_in self.new ≡ tree_in self.old) }
         ensures leaves { Leaves (meaning self.old) (meaning self.new)
-            (Creating (tree_of self.old) path.now) }
+            (Creating (tree_in self.old) path.now) }
         ensures disk { IfOk result (λ create. disk_of (meaning self.new)
             ≡ after_create (disk_of (meaning self.old)) path.now create) }
         ensures passes { Passes (meaning self.old) (meaning self.new)
             (CreatingOn (disk_of (meaning self.old)) path.now) }
         ensures count { faults_of self.new ≡ count_after result (faults_of self.old) }
         ensures memory { IsErrOf result FileError.Memory → ⊥ }
-        ensures turn { KeepsTurn (CannotCreate (tree_of self.old) path.now) NeverFails
-            (next_turn self.old) result (tree_of self.old) (tree_of self.new)
-            (AsBefore (tree_of self.old)) }
+        ensures turn { KeepsTurn (CannotCreate (tree_in self.old) path.now) NeverFails
+            (next_turn self.old) result (tree_in self.old) (tree_in self.new)
+            (AsBefore (tree_in self.old)) }
         ensures counts { Counts self.old self.new }
     {
         if self.turns.next() != Turn::Go {
@@ -369,11 +369,11 @@ impl Files for Memory {
     }
 
     fn make_folders(&mut self, path: &[u8]) -> Result<bool, FileError>
-        ensures answer { IfOk result (MakesFolders (tree_of self.old) path.now (tree_of self.new)) }
+        ensures answer { IfOk result (MakesFolders (tree_in self.old) path.now (tree_in self.new)) }
         ensures leaves { Leaves (meaning self.old) (meaning self.new)
-            (MakingFolders (tree_of self.old) path.now) }
+            (MakingFolders (tree_in self.old) path.now) }
         ensures adds { OnOk result (Adds (meaning self.old) (meaning self.new)
-            (MakingFolders (tree_of self.old) path.now)) }
+            (MakingFolders (tree_in self.old) path.now)) }
         ensures disk { IfOk result (λ made. disk_of (meaning self.new)
             ≡ after_folders (disk_of (meaning self.old)) path.now made) }
         ensures passes { Passes (meaning self.old) (meaning self.new)
@@ -383,9 +383,9 @@ impl Files for Memory {
         ensures count { faults_of self.new ≡ count_after result (faults_of self.old) }
         ensures memory { IsErrOf result FileError.Memory → ⊥ }
         ensures turn { KeepsTurn CannotGrow CannotGrow (next_turn self.old) result
-            (tree_of self.old) (tree_of self.new)
-            (λ n T. IsDone (tree_of self.old) (is_in_the_way (tree_of self.old) path.now ≡ false)
-            (with_folders (tree_of self.old) (take n (folders_to path.now))) T) }
+            (tree_in self.old) (tree_in self.new)
+            (λ n T. IsDone (tree_in self.old) (is_in_the_way (tree_in self.old) path.now ≡ false)
+            (with_folders (tree_in self.old) (take n (folders_to path.now))) T) }
         ensures counts { Counts self.old self.new }
     {
         match self.turns.next() {
@@ -402,12 +402,12 @@ impl Files for Memory {
     }
 
     fn append(&mut self, path: &[u8], bytes: &[u8]) -> Result<bool, FileError>
-        ensures answer { IfOk result (Appends (tree_of self.old) path.now bytes.now
-            (tree_of self.new)) }
+        ensures answer { IfOk result (Appends (tree_in self.old) path.now bytes.now
+            (tree_in self.new)) }
         ensures leaves { Leaves (meaning self.old) (meaning self.new)
-            (Appending (tree_of self.old) path.now bytes.now) }
+            (Appending (tree_in self.old) path.now bytes.now) }
         ensures adds { OnOk result (Adds (meaning self.old) (meaning self.new)
-            (Appending (tree_of self.old) path.now bytes.now)) }
+            (Appending (tree_in self.old) path.now bytes.now)) }
         ensures disk { IfOk result (λ there. disk_of (meaning self.new)
             ≡ after_append (disk_of (meaning self.old)) path.now bytes.now there) }
         ensures passes { Passes (meaning self.old) (meaning self.new)
@@ -417,7 +417,7 @@ impl Files for Memory {
         ensures count { faults_of self.new ≡ count_after result (faults_of self.old) }
         ensures memory { IsErrOf result FileError.Memory → ⊥ }
         ensures turn { KeepsTurn CannotGrow CannotGrow (next_turn self.old) result
-            (tree_of self.old) (tree_of self.new) (λ n T. T ≡ appended (tree_of self.old) path.now
+            (tree_in self.old) (tree_in self.new) (λ n T. T ≡ appended (tree_in self.old) path.now
             (take n bytes.now)) }
         ensures counts { Counts self.old self.new }
     {
@@ -435,20 +435,20 @@ impl Files for Memory {
     }
 
     fn rename(&mut self, from: &[u8], to: &[u8]) -> Result<Rename, FileError>
-        ensures answer { IfOk result (Renames (tree_of self.old) from.now to.now
-            (tree_of self.new)) }
+        ensures answer { IfOk result (Renames (tree_in self.old) from.now to.now
+            (tree_in self.new)) }
         ensures leaves { Leaves (meaning self.old) (meaning self.new)
-            (Renaming (tree_of self.old) from.now to.now) }
+            (Renaming (tree_in self.old) from.now to.now) }
         ensures disk { IfOk result (λ rename. disk_of (meaning self.new)
             ≡ after_rename (disk_of (meaning self.old)) from.now to.now rename) }
         ensures passes { Passes (meaning self.old) (meaning self.new)
             (RenamingOn (disk_of (meaning self.old)) from.now to.now) }
         ensures count { faults_of self.new ≡ count_after result (faults_of self.old) }
         ensures memory { IsErrOf result FileError.Memory → ⊥ }
-        ensures turn { KeepsTurn (CannotRename (tree_of self.old) from.now to.now) CannotGrow
-            (next_turn self.old) result (tree_of self.old) (tree_of self.new)
-            (InOneStep (tree_of self.old) (IsMovable (tree_of self.old) from.now to.now)
-            (moved (tree_of self.old) from.now to.now)) }
+        ensures turn { KeepsTurn (CannotRename (tree_in self.old) from.now to.now) CannotGrow
+            (next_turn self.old) result (tree_in self.old) (tree_in self.new)
+            (InOneStep (tree_in self.old) (IsMovable (tree_in self.old) from.now to.now)
+            (moved (tree_in self.old) from.now to.now)) }
         ensures counts { Counts self.old self.new }
     {
         match self.turns.next() {
@@ -466,9 +466,9 @@ impl Files for Memory {
     }
 
     fn remove_file(&mut self, path: &[u8]) -> Result<bool, FileError>
-        ensures answer { IfOk result (RemovesFile (tree_of self.old) path.now (tree_of self.new)) }
+        ensures answer { IfOk result (RemovesFile (tree_in self.old) path.now (tree_in self.new)) }
         ensures leaves { Leaves (meaning self.old) (meaning self.new)
-            (RemovingFile (tree_of self.old) path.now) }
+            (RemovingFile (tree_in self.old) path.now) }
         ensures disk { IfOk result (λ removed. disk_of (meaning self.new)
             ≡ after_removal (disk_of (meaning self.old)) path.now removed) }
         ensures passes { Passes (meaning self.old) (meaning self.new)
@@ -476,9 +476,9 @@ impl Files for Memory {
         ensures count { faults_of self.new ≡ count_after result (faults_of self.old) }
         ensures memory { IsErrOf result FileError.Memory → ⊥ }
         ensures turn { KeepsTurn CannotGrow CannotGrow (next_turn self.old) result
-            (tree_of self.old) (tree_of self.new)
-            (InOneStep (tree_of self.old) (is_file (tree_of self.old path.now) ≡ true)
-            (removed (tree_of self.old) path.now)) }
+            (tree_in self.old) (tree_in self.new)
+            (InOneStep (tree_in self.old) (is_file (tree_in self.old path.now) ≡ true)
+            (removed (tree_in self.old) path.now)) }
         ensures counts { Counts self.old self.new }
     {
         match self.turns.next() {
@@ -495,10 +495,10 @@ impl Files for Memory {
     }
 
     fn remove_folder(&mut self, path: &[u8]) -> Result<bool, FileError>
-        ensures answer { IfOk result (RemovesFolder (tree_of self.old) path.now
-            (tree_of self.new)) }
+        ensures answer { IfOk result (RemovesFolder (tree_in self.old) path.now
+            (tree_in self.new)) }
         ensures leaves { Leaves (meaning self.old) (meaning self.new)
-            (RemovingFolder (tree_of self.old) path.now) }
+            (RemovingFolder (tree_in self.old) path.now) }
         ensures disk { IfOk result (λ removed. disk_of (meaning self.new)
             ≡ after_removal (disk_of (meaning self.old)) path.now removed) }
         ensures passes { Passes (meaning self.old) (meaning self.new)
@@ -506,9 +506,9 @@ impl Files for Memory {
         ensures count { faults_of self.new ≡ count_after result (faults_of self.old) }
         ensures memory { IsErrOf result FileError.Memory → ⊥ }
         ensures turn { KeepsTurn CannotGrow CannotGrow (next_turn self.old) result
-            (tree_of self.old) (tree_of self.new)
-            (InOneStep (tree_of self.old) (IsEmptyFolder (tree_of self.old) path.now)
-            (removed (tree_of self.old) path.now)) }
+            (tree_in self.old) (tree_in self.new)
+            (InOneStep (tree_in self.old) (IsEmptyFolder (tree_in self.old) path.now)
+            (removed (tree_in self.old) path.now)) }
         ensures counts { Counts self.old self.new }
     {
         match self.turns.next() {
@@ -525,18 +525,18 @@ impl Files for Memory {
     }
 
     fn sync_file(&mut self, path: &[u8]) -> Result<bool, FileError>
-        ensures answer { Syncs (is_file (tree_of self.old path.now)) (disk_of (meaning self.old))
+        ensures answer { Syncs (is_file (tree_in self.old path.now)) (disk_of (meaning self.old))
             (file_synced (disk_of (meaning self.old)) path.now)
             (disk_of (meaning self.new)) result }
         ensures leaves { Leaves (meaning self.old) (meaning self.new)
-            (Unchanged (tree_of self.old)) }
+            (Unchanged (tree_in self.old)) }
         ensures passes { Passes (meaning self.old) (meaning self.new)
-            (SyncingOn (is_file (tree_of self.old path.now)) (disk_of (meaning self.old))
+            (SyncingOn (is_file (tree_in self.old path.now)) (disk_of (meaning self.old))
             (file_synced (disk_of (meaning self.old)) path.now)) }
         ensures count { faults_of self.new ≡ count_after result (faults_of self.old) }
         ensures memory { IsErrOf result FileError.Memory → ⊥ }
         ensures turn { KeepsTurn CannotGrow NeverFails (next_turn self.old) result
-            (tree_of self.old) (tree_of self.new) (AsBefore (tree_of self.old)) }
+            (tree_in self.old) (tree_in self.new) (AsBefore (tree_in self.old)) }
         ensures counts { Counts self.old self.new }
     {
         if self.turns.next() != Turn::Go {
@@ -549,18 +549,18 @@ impl Files for Memory {
     }
 
     fn sync_folder(&mut self, path: &[u8]) -> Result<bool, FileError>
-        ensures answer { Syncs (is_folder (tree_of self.old path.now)) (disk_of (meaning self.old))
+        ensures answer { Syncs (is_folder (tree_in self.old path.now)) (disk_of (meaning self.old))
             (folder_synced (disk_of (meaning self.old)) path.now)
             (disk_of (meaning self.new)) result }
         ensures leaves { Leaves (meaning self.old) (meaning self.new)
-            (Unchanged (tree_of self.old)) }
+            (Unchanged (tree_in self.old)) }
         ensures passes { Passes (meaning self.old) (meaning self.new)
-            (SyncingOn (is_folder (tree_of self.old path.now)) (disk_of (meaning self.old))
+            (SyncingOn (is_folder (tree_in self.old path.now)) (disk_of (meaning self.old))
             (folder_synced (disk_of (meaning self.old)) path.now)) }
         ensures count { faults_of self.new ≡ count_after result (faults_of self.old) }
         ensures memory { IsErrOf result FileError.Memory → ⊥ }
         ensures turn { KeepsTurn CannotGrow NeverFails (next_turn self.old) result
-            (tree_of self.old) (tree_of self.new) (AsBefore (tree_of self.old)) }
+            (tree_in self.old) (tree_in self.new) (AsBefore (tree_in self.old)) }
         ensures counts { Counts self.old self.new }
     {
         if self.turns.next() != Turn::Go {

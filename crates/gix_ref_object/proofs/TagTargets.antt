@@ -13,16 +13,16 @@ use Rattle.gix_ref_hash.specs.declared.hash.ObjectId.{ObjectId}
 use Rattle.gix_ref_hash.specs.declared.hash.ObjectId.TheVariants as ids
 use Rattle.gix_ref_hash.specs.Ids.{kind_len, id_kind, id_bytes, IsHex, ReadsId}
 use Rattle.gix_ref_hash.proofs.IdLemmas.{reads_whole}
-use Rattle.gix_ref_object.specs.Peeling.{id_with, id_of_hex, tag_target}
+use Rattle.gix_ref_object.specs.Peeling.{id_decoded, id_of_hex, tag_target}
 
 -- ---- hex digits
-read_with : (kind : Kind) (id : ObjectId) → 2 * kind_len kind ≡ 2 * kind_len (id_kind id) → id_with kind (Ok (id_bytes id)) ≡ Some id
+read_with : (kind : Kind) (id : ObjectId) → 2 * kind_len kind ≡ 2 * kind_len (id_kind id) → id_decoded kind (Ok (id_bytes id)) ≡ Some id
 read_with kinds.Sha1 (ids.Sha1 bytes) e = refl
 read_with kinds.Sha1 (ids.Sha256 bytes) e = absurd (omega (arith, e))
 read_with kinds.Sha256 (ids.Sha1 bytes) e = absurd (omega (arith, e))
 read_with kinds.Sha256 (ids.Sha256 bytes) e = refl
 
-none_with : (kind : Kind) (e : FromHexError) → id_with kind (Err e) ≡ None
+none_with : (kind : Kind) (e : FromHexError) → id_decoded kind (Err e) ≡ None
 none_with kinds.Sha1 e = refl
 none_with kinds.Sha256 e = refl
 
@@ -33,22 +33,22 @@ reads_hex kinds.Sha1 digits bytes len read =
 reads_hex kinds.Sha256 digits bytes len read =
     inr (reads_whole digits (ids.Sha256 bytes) (record { len = len; digits = read })).0
 
-of_length : (kind : Kind) (digits : List ℕ) → length digits ≡ 2 * kind_len kind → id_of_hex kind digits ≡ id_with kind (decode_of digits)
+of_length : (kind : Kind) (digits : List ℕ) → length digits ≡ 2 * kind_len kind → id_of_hex kind digits ≡ id_decoded kind (decode_of digits)
 of_length kind digits len =
-    ap (λ (b : Bool). if b then id_with kind (decode_of digits) else None) (eq-eqb (length digits) (2 * kind_len kind) len)
+    ap (λ (b : Bool). if b then id_decoded kind (decode_of digits) else None) (eq-eqb (length digits) (2 * kind_len kind) len)
 
 pub id_read : (kind : Kind) (digits : List ℕ) (r : Option ObjectId) → length digits ≡ 2 * kind_len kind → MatchOption r (IsHex digits → ⊥) (ReadsId digits) → r ≡ id_of_hex kind digits
 id_read kind digits (Some id) len h =
-    sym (of_length kind digits len ∙ ap (id_with kind) h.digits ∙ read_with kind id (sym len ∙ h.len))
+    sym (of_length kind digits len ∙ ap (id_decoded kind) h.digits ∙ read_with kind id (sym len ∙ h.len))
 id_read kind digits None len h = sym (of_length kind digits len ∙ go (decode_of digits) refl)
   where
-    go : (r : Result (List ℕ) FromHexError) → decode_of digits ≡ r → id_with kind r ≡ None
+    go : (r : Result (List ℕ) FromHexError) → decode_of digits ≡ r → id_decoded kind r ≡ None
     go (Ok bytes) read = absurd (h (reads_hex kind digits bytes len read))
     go (Err e) read = none_with kind e
 
 pub id_of_others : (kind : Kind) (digits : List ℕ) → length digits ≢ 2 * kind_len kind → None ≡ id_of_hex kind digits
 id_of_others kind digits other =
-    sym (ap (λ (b : Bool). if b then id_with kind (decode_of digits) else None) (ne_eqb (length digits) (2 * kind_len kind) other))
+    sym (ap (λ (b : Bool). if b then id_decoded kind (decode_of digits) else None) (ne_eqb (length digits) (2 * kind_len kind) other))
 
 -- ---- the front of a tag
 front_is : (bytes : List ℕ) (b : Bool) → starts_with nat_eq bytes (codes "object ") ≡ b → ((rest : List ℕ) → bytes ≢ codes "object " ++ rest) → b ≡ false

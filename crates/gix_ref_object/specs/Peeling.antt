@@ -15,14 +15,14 @@ use Rattle.gix_ref_object.specs.Objects.{Stored}
 use Rattle.gix_ref_object.specs.Objects.Stored.{Object, Absent, Faulty}
 
 -- the id of a kind with these bytes
-abbrev pub id_with : HashKind → Result (List ℕ) FromHexError → Option ObjectId
-id_with kinds.Sha1 (Ok bytes) = Some (ids.Sha1 bytes)
-id_with kinds.Sha256 (Ok bytes) = Some (ids.Sha256 bytes)
-id_with kind (Err error) = None
+abbrev pub id_decoded : HashKind → Result (List ℕ) FromHexError → Option ObjectId
+id_decoded kinds.Sha1 (Ok bytes) = Some (ids.Sha1 bytes)
+id_decoded kinds.Sha256 (Ok bytes) = Some (ids.Sha256 bytes)
+id_decoded kind (Err error) = None
 
 -- the id of a kind with these hex digits
 abbrev pub id_of_hex : HashKind → List ℕ → Option ObjectId
-id_of_hex kind digits = if length digits == 2 * kind_len kind then id_with kind (decode_of digits) else None
+id_of_hex kind digits = if length digits == 2 * kind_len kind then id_decoded kind (decode_of digits) else None
 
 -- the id of the kind in the front of a tag: `object `, the hex digits of the id, LF
 unfoldable pub tag_target : HashKind → List ℕ → Option ObjectId

@@ -4,16 +4,16 @@ use Rattle.std.specs.Cmp.Lexicographic.{pointwise}
 use Rattle.gix_ref_hash.specs.declared.hash.Kind.{Kind}
 use Rattle.gix_ref_records.specs.declared.packed.window.Found.{Found}
 use Rattle.gix_ref_base.specs.PackedRecords.{Record, record_named}
-use Rattle.gix_ref_records.specs.RecordGrammar.{Takes, NoRecord, TakesForm, Records, Forms, Ascending, Peeled, PeeledForm}
+use Rattle.gix_ref_records.specs.RecordGrammar.{Takes, NoRecord, TakesForm, Records, Forms, Ascending, OptionalPeeledLine, PeeledForm}
 use Rattle.gix_ref_records.specs.Positions.{HitsAt, FindsAt, IsUnreadable, IsReadable, IsObject, IsDamaged, IsMalformed, IsNotMalformed}
 use Rattle.gix_ref_packed.specs.declared.packed.sorted_file.FindError.TheVariants.{Parse}
-use Rattle.gix_ref_packed.specs.FileSearches.{FindsIn}
+use Rattle.gix_ref_packed.specs.FileSearches.{FindsInFile}
 use Rattle.gix_ref_records.specs.Windows.{IsFound, AreFound, FrontIs, HitsRecord}
 use Rattle.gix_ref_records.proofs.OneReading.{same_form}
 use Rattle.gix_ref_records.proofs.RecordPlaces.{form_of, forms_of}
 use Rattle.gix_ref_records.proofs.Halves.{hit_named, not_malformed}
 
-peeled_of : (k : Kind) (t : List ℕ) (o : Option (List ℕ)) (rest : List ℕ) → IsObject k o → PeeledForm t o rest → Peeled k t o rest
+peeled_of : (k : Kind) (t : List ℕ) (o : Option (List ℕ)) (rest : List ℕ) → IsObject k o → PeeledForm t o rest → OptionalPeeledLine k t o rest
 peeled_of k t None rest id f = f
 peeled_of k t (Some object) rest id f =
     record { after = f.2.after; whole = f.1 ∙ ap (λ a. 94 ∷ a) f.2.cut.whole; id = id; newline = f.2.newline }
@@ -28,7 +28,7 @@ read_form k t r rest readable f = record {
   peeled = peeled_of k f.after r.object rest readable.object f.peeled;
 }
 
-object_of : (k : Kind) (t : List ℕ) (o : Option (List ℕ)) (rest : List ℕ) → Peeled k t o rest → IsObject k o
+object_of : (k : Kind) (t : List ℕ) (o : Option (List ℕ)) (rest : List ℕ) → OptionalPeeledLine k t o rest → IsObject k o
 object_of k t None rest f = tt
 object_of k t (Some object) rest f = f.id
 
@@ -77,7 +77,7 @@ module _ (k : Kind) (t u wanted n : List ℕ) (s : ℕ) (same : u ≡ t) (named 
     bad = subst (λ (x : List ℕ). NoRecord k (drop s x)) same front;
   }
 
-  pub found_finds : (f : Found) → HitsAt k t wanted s → ((rs : List Record) → Forms k t rs → Ascending rs → FindsAt k t rs wanted s) → FrontIs k (drop s u) (Some f) → FindsIn k t n (Ok (Some f))
+  pub found_finds : (f : Found) → HitsAt k t wanted s → ((rs : List Record) → Forms k t rs → Ascending rs → FindsAt k t rs wanted s) → FrontIs k (drop s u) (Some f) → FindsInFile k t n (Ok (Some f))
   found_finds f hit finds front = record {
     hit = found_hits f hit front;
     none = tt;
@@ -86,7 +86,7 @@ module _ (k : Kind) (t u wanted n : List ℕ) (s : ℕ) (same : u ≡ t) (named 
     forms = λ rs h up. found_is rs f (finds rs h up) front;
   }
 
-  pub bad_finds : HitsAt k t wanted s → ((rs : List Record) → Forms k t rs → Ascending rs → FindsAt k t rs wanted s) → FrontIs k (drop s u) None → FindsIn k t n (Err Parse)
+  pub bad_finds : HitsAt k t wanted s → ((rs : List Record) → Forms k t rs → Ascending rs → FindsAt k t rs wanted s) → FrontIs k (drop s u) None → FindsInFile k t n (Err Parse)
   bad_finds hit finds front = record {
     hit = tt;
     none = tt;
@@ -96,7 +96,7 @@ module _ (k : Kind) (t u wanted n : List ℕ) (s : ℕ) (same : u ≡ t) (named 
   }
 
 module _ (k : Kind) (t wanted n : List ℕ) (named : wanted ≡ n) where
-  pub none_finds : IsNotMalformed k t → ((rs : List Record) → Forms k t rs → Ascending rs → record_named wanted rs ≡ None) → FindsIn k t n (Ok None)
+  pub none_finds : IsNotMalformed k t → ((rs : List Record) → Forms k t rs → Ascending rs → record_named wanted rs ≡ None) → FindsInFile k t n (Ok None)
   none_finds line none = record { hit = tt; none = line; refused = tt; records = λ rs h up. there rs (forms_of k t rs h) up; forms = there }
     where
       there : (rs : List Record) → Forms k t rs → Ascending rs → AreFound (record_named n rs) None
@@ -104,7 +104,7 @@ module _ (k : Kind) (t wanted n : List ℕ) (named : wanted ≡ n) where
           let is : record_named n rs ≡ None = ap (λ x. record_named x rs) (sym named) ∙ none rs h up in
           subst (λ (o : Option Record). AreFound o None) (sym is) tt
 
-pub malformed_finds : (k : Kind) (t n : List ℕ) → IsMalformed k t → FindsIn k t n (Err Parse)
+pub malformed_finds : (k : Kind) (t n : List ℕ) → IsMalformed k t → FindsInFile k t n (Err Parse)
 malformed_finds k t n bad = record {
   hit = tt;
   none = tt;

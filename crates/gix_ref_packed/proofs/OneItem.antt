@@ -8,7 +8,7 @@ use Rattle.gix_ref_packed.specs.declared.packed.iter.error.Error.TheVariants.{He
 use Rattle.gix_ref_base.specs.PackedRecords.{Record}
 use Rattle.gix_ref_records.specs.RecordGrammar.{Takes, Records}
 use Rattle.gix_ref_records.specs.Views.{record_of}
-use Rattle.gix_ref_packed.specs.Items.{Unread, GivesItem, unread, has_prefix}
+use Rattle.gix_ref_packed.specs.Items.{Unread, GivesPackedItem, unread, has_prefix}
 use Rattle.gix_ref_packed.specs.YetToGive.{IsYet, asked_records, NextGivesTheFirst, FaultsAreLines, EndedStaysEnded}
 use Rattle.gix_ref_records.proofs.OneReading.{same_record}
 use Rattle.gix_ref_packed.proofs.ItemRuns.{none_taken, asked_more, asked_end, all_asked}
@@ -18,7 +18,7 @@ abbrev Left : Unread → List Record → Type 0
 Left s left = Records s.kind s.text left
 
 -- where it gave nothing, none is asked for
-none_asked : (s : Unread) (left : List Record) → Left s left → (t : Unread) → GivesItem s None t → asked_records s.prefix left ≡ []
+none_asked : (s : Unread) (left : List Record) → Left s left → (t : Unread) → GivesPackedItem s None t → asked_records s.prefix left ≡ []
 none_asked s [] h t gave = refl
 none_asked s (r ∷ rs) h t gave =
     ⊎_elim (λ (none : s.text ≡ []). absurd (none_taken s.kind s.text r h.0 none h.1))
@@ -33,7 +33,7 @@ record GaveFirst (s : Unread) (x : Reference) (left : List Record) (t : Unread) 
   still : Left t others
   asked : asked_records s.prefix left ≡ record_of x ∷ asked_records t.prefix others
 
-gave_first : (s : Unread) (x : Reference) (left : List Record) → Left s left → (t : Unread) → GivesItem s (Some (Ok x)) t → GaveFirst s x left t
+gave_first : (s : Unread) (x : Reference) (left : List Record) → Left s left → (t : Unread) → GivesPackedItem s (Some (Ok x)) t → GaveFirst s x left t
 gave_first s x [] h t gave = absurd (none_taken s.kind s.text (record_of x) t.text h gave.0)
 gave_first s x (r ∷ rs) h t gave =
     let same = same_record s.kind s.text (record_of x) t.text r h.0 gave.0 h.1 in
@@ -46,7 +46,7 @@ gave_first s x (r ∷ rs) h t gave =
     }
 
 -- records have no fault
-no_fault : (s : Unread) (e : Error) (left : List Record) → Left s left → (t : Unread) → GivesItem s (Some (Err e)) t → ⊥
+no_fault : (s : Unread) (e : Error) (left : List Record) → Left s left → (t : Unread) → GivesPackedItem s (Some (Err e)) t → ⊥
 no_fault s (bad_line line number) [] h t gave = gave.0 h
 no_fault s (bad_line line number) (r ∷ rs) h t gave = gave.1 r h.0 h.1
 no_fault s (bad_header line) left h t gave = gave
@@ -69,7 +69,7 @@ faults_are_lines s t (bad_line line number) step = tt
 faults_are_lines s t (bad_header line) step = step
 
 -- nothing is given of an empty text
-nothing_more : (t : Unread) (item : Option (Result Reference Error)) (u : Unread) → t.text ≡ [] → GivesItem t item u → item ≡ None
+nothing_more : (t : Unread) (item : Option (Result Reference Error)) (u : Unread) → t.text ≡ [] → GivesPackedItem t item u → item ≡ None
 nothing_more t None u none gave = refl
 nothing_more t (Some (Ok x)) u none gave = absurd (none_taken t.kind t.text (record_of x) u.text none gave.0)
 nothing_more t (Some (Err (bad_line line number))) u none gave = absurd (gave.0 none)

@@ -11,7 +11,7 @@ use Rattle.std.proofs.lemmas.List.Elements.{All-head, All-tail, All-cons, All-ni
 use Rattle.gix_ref_hash.specs.declared.hash.Kind.{Kind}
 use Rattle.gix_ref_hash.specs.Bytes.{StopsAt}
 use Rattle.gix_ref_base.specs.PackedRecords.{Record}
-use Rattle.gix_ref_records.specs.RecordGrammar.{Takes, Peeled, Records, Below, Rising, is_caret}
+use Rattle.gix_ref_records.specs.RecordGrammar.{Takes, OptionalPeeledLine, Records, Below, Rising, is_caret}
 use Rattle.gix_ref_records.specs.OpenedText.{Fronts}
 use Rattle.gix_ref_records.specs.Prefixes.{IsListStart, SplitsAt, records_prefixed}
 use Rattle.gix_ref_packed.specs.FilePrefixes.{IsPast, HoldsPrefixed, Encloses, HoldsPrefix, PrefixedBuffersHold}
@@ -67,7 +67,7 @@ others k t (x ∷ xs) u (y ∷ ys) v f h less =
 
 -- a record without a peeled line is followed by no line with `^`
 no_peeled : (k : Kind) (t : List ℕ) (r : Record) (rest : List ℕ) → Takes k t r rest → r.object ≡ None → StopsAt is_caret rest
-no_peeled k t r rest f none = (subst (λ (o : Option (List ℕ)). Peeled k f.after o rest) none f.peeled).1
+no_peeled k t r rest f none = (subst (λ (o : Option (List ℕ)). OptionalPeeledLine k f.after o rest) none f.peeled).1
 
 stops_front : (n : ℕ) (t : List ℕ) → StopsAt is_caret t → StopsAt is_caret (take n t)
 stops_front n [] h = subst (StopsAt is_caret) (sym (take_all n [] (omega arith))) tt

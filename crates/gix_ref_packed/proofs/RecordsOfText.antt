@@ -16,7 +16,7 @@ use Rattle.gix_ref_grammar.specs.declared.name.error.Error.{Error}
 use Rattle.gix_ref_grammar.specs.NameGrammar.{full_error}
 use Rattle.gix_ref_base.specs.PackedRecords.{Record}
 use Rattle.gix_ref_records.specs.declared.packed.decode.options.Header.{Header}
-use Rattle.gix_ref_records.specs.RecordGrammar.{Newline, Line, Peeled, Takes, Records, in_line}
+use Rattle.gix_ref_records.specs.RecordGrammar.{Newline, Line, OptionalPeeledLine, Takes, Records, in_record_line}
 use Rattle.gix_ref_records.specs.OpenedText.{Heads, PackedText}
 use Rattle.gix_ref_records.specs.Positions.{IsReadable, IsObject}
 use Rattle.gix_ref_packed.specs.RecordsOfText.{begins_lf, begins_hash, longer, text_lines, behind_header, is_hex_of, is_line_of, digits_in, line_name, behind_caret, first_object, add_line, add_lines, line_records, read_records, RecordsAreComputed}
@@ -42,7 +42,7 @@ neither true y h = absurd (cc)
 neither false true h = absurd (cc)
 neither false false h = (refl, refl)
 
-byte_in_line : (b : ℕ) (rest : List ℕ) → in_line b ≡ true → text_lines (b ∷ rest) ≡ option_and_then (longer b) (text_lines rest)
+byte_in_line : (b : ℕ) (rest : List ℕ) → in_record_line b ≡ true → text_lines (b ∷ rest) ≡ option_and_then (longer b) (text_lines rest)
 byte_in_line b rest passes =
     let no = neither (b == 10) (b == 13) passes in
     ap (λ x. cond x (in_front [] (text_lines rest)) (cond (b == 13) (cond (begins_lf rest) (text_lines rest) None) (option_and_then (longer b) (text_lines rest)))) no.0
@@ -51,11 +51,11 @@ byte_in_line b rest passes =
 line_cut : (t l r : List ℕ) → Line t l r → text_lines t ≡ in_front l (text_lines r)
 line_cut t l r f = ap text_lines f.cut.whole ∙ go l f.cut.front_passes
   where
-    go : (l : List ℕ) → AllPass in_line l → text_lines (l ++ f.after) ≡ in_front l (text_lines r)
+    go : (l : List ℕ) → AllPass in_record_line l → text_lines (l ++ f.after) ≡ in_front l (text_lines r)
     go [] h = lines_end f.after r f.newline
     go (b ∷ l) h =
-        byte_in_line b (l ++ f.after) (All-head (λ x. in_line x ≡ true) b l h)
-        ∙ ap (option_and_then (longer b)) (go l (All-tail (λ x. in_line x ≡ true) b l h))
+        byte_in_line b (l ++ f.after) (All-head (λ x. in_record_line x ≡ true) b l h)
+        ∙ ap (option_and_then (longer b)) (go l (All-tail (λ x. in_record_line x ≡ true) b l h))
         ∙ add_byte b l (text_lines r)
 
 -- ---- bytes of a line
@@ -68,21 +68,21 @@ not_digit c none b digit = go (b == c) refl
     go false is = is
     go true is = let same : b ≡ c = eqb-true b c is in let bad : is_hex_digit c ≡ true = subst (λ (x : ℕ). is_hex_digit x ≡ true) same digit in absurd (cc)
 
-digit_in_line : (b : ℕ) → is_hex_digit b ≡ true → in_line b ≡ true
+digit_in_line : (b : ℕ) → is_hex_digit b ≡ true → in_record_line b ≡ true
 digit_in_line b digit =
     ap (λ x. not (x || (b == 13))) (not_digit 10 refl b digit) ∙ ap (λ x. not x) (not_digit 13 refl b digit)
 
-digits_in_line : (d : List ℕ) → AllPass is_hex_digit d → AllPass in_line d
-digits_in_line [] h = All-nil (λ b. in_line b ≡ true)
-digits_in_line (b ∷ d) h = All-cons (λ x. in_line x ≡ true) b d (digit_in_line b (All-head (λ x. is_hex_digit x ≡ true) b d h)) (digits_in_line d (All-tail (λ x. is_hex_digit x ≡ true) b d h))
+digits_in_line : (d : List ℕ) → AllPass is_hex_digit d → AllPass in_record_line d
+digits_in_line [] h = All-nil (λ b. in_record_line b ≡ true)
+digits_in_line (b ∷ d) h = All-cons (λ x. in_record_line x ≡ true) b d (digit_in_line b (All-head (λ x. is_hex_digit x ≡ true) b d h)) (digits_in_line d (All-tail (λ x. is_hex_digit x ≡ true) b d h))
 
 -- a line with more in front of it
-pub wider : (t p a l r : List ℕ) → t ≡ p ++ a → AllPass in_line p → Line a l r → Line t (p ++ l) r
+pub wider : (t p a l r : List ℕ) → t ≡ p ++ a → AllPass in_record_line p → Line a l r → Line t (p ++ l) r
 wider t p a l r whole passes f = record {
   after = f.after;
   cut = record {
     whole = whole ∙ ap (λ x. p ++ x) f.cut.whole ∙ sym (append_assoc p l f.after);
-    front_passes = All-append (λ b. in_line b ≡ true) p l passes f.cut.front_passes;
+    front_passes = All-append (λ b. in_record_line b ≡ true) p l passes f.cut.front_passes;
     stops = f.cut.stops;
   };
   newline = f.newline;
@@ -106,20 +106,20 @@ lines_of_records rs = flat_map lines_of_record rs
 record_line_cut : (k : Kind) (t : List ℕ) (r : Record) (rest : List ℕ) (f : Takes k t r rest) → Line t (record_line r) f.after
 record_line_cut k t r rest f =
     wider t r.target (32 ∷ f.line.after) (32 ∷ r.name) f.after f.line.whole (digits_in_line r.target f.id.digits)
-    (wider (32 ∷ f.line.after) (32 ∷ []) f.line.after r.name f.after refl (All-cons (λ b. in_line b ≡ true) 32 [] refl (All-nil (λ b. in_line b ≡ true))) f.line.line)
+    (wider (32 ∷ f.line.after) (32 ∷ []) f.line.after r.name f.after refl (All-cons (λ b. in_record_line b ≡ true) 32 [] refl (All-nil (λ b. in_record_line b ≡ true))) f.line.line)
 
 pub empty_line : (t r : List ℕ) → Newline t r → Line t [] r
-empty_line t r n = record { after = t; cut = record { whole = refl; front_passes = All-nil (λ b. in_line b ≡ true); stops = stops n }; newline = n }
+empty_line t r n = record { after = t; cut = record { whole = refl; front_passes = All-nil (λ b. in_record_line b ≡ true); stops = stops n }; newline = n }
   where
-    stops : Newline t r → StopsAt in_line t
-    stops (inl lf) = subst (StopsAt in_line) (sym lf) refl
-    stops (inr crlf) = subst (StopsAt in_line) (sym crlf) refl
+    stops : Newline t r → StopsAt in_record_line t
+    stops (inl lf) = subst (StopsAt in_record_line) (sym lf) refl
+    stops (inr crlf) = subst (StopsAt in_record_line) (sym crlf) refl
 
-peeled_cut : (k : Kind) (t : List ℕ) (o : Option (List ℕ)) (rest : List ℕ) (ls : List (List ℕ)) → Peeled k t o rest → text_lines rest ≡ Some ls → text_lines t ≡ Some (object_lines o ++ ls)
+peeled_cut : (k : Kind) (t : List ℕ) (o : Option (List ℕ)) (rest : List ℕ) (ls : List (List ℕ)) → OptionalPeeledLine k t o rest → text_lines rest ≡ Some ls → text_lines t ≡ Some (object_lines o ++ ls)
 peeled_cut k t None rest ls f is = ap text_lines f.0 ∙ is
 peeled_cut k t (Some object) rest ls f is =
     let digits = digits_in_line object f.id.digits in
-    let line = wider t (94 ∷ object) f.after [] rest f.whole (All-cons (λ b. in_line b ≡ true) 94 object refl digits) (empty_line f.after rest f.newline) in
+    let line = wider t (94 ∷ object) f.after [] rest f.whole (All-cons (λ b. in_record_line b ≡ true) 94 object refl digits) (empty_line f.after rest f.newline) in
     line_cut t ((94 ∷ object) ++ []) rest line ∙ ap (in_front ((94 ∷ object) ++ [])) is ∙ ap (λ l. Some (l ∷ ls)) (append-nil (94 ∷ object))
 
 records_cut : (k : Kind) (t : List ℕ) (rs : List Record) → Records k t rs → text_lines t ≡ Some (lines_of_records rs)
@@ -232,7 +232,7 @@ heading_cut k t None rest rs f h =
     ap (λ x. option_and_then behind_header (text_lines x)) f.0 ∙ ap (option_and_then behind_header) (records_cut k rest rs h) ∙ no_header k rs (all_readable k rest rs h)
 heading_cut k t (Some head) rest rs f h =
     let front = codes "# pack-refs with: " in
-    let line = wider t front f.after f.line rest f.whole (AllPass-from_list_all in_line front refl) f.is_line in
+    let line = wider t front f.after f.line rest f.whole (AllPass-from_list_all in_record_line front refl) f.is_line in
     ap (option_and_then behind_header) (line_cut t (front ++ f.line) rest line ∙ ap (in_front (front ++ f.line)) (records_cut k rest rs h))
     ∙ ap (λ x. cond x (Some (lines_of_records rs)) (cond (begins_hash (front ++ f.line)) None (Some ((front ++ f.line) ∷ lines_of_records rs))))
     ((starts_is Decides-eqb (front ++ f.line) front (starts_with nat_eq (front ++ f.line) front) refl).1 f.line refl)

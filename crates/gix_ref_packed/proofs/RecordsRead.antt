@@ -15,7 +15,7 @@ use Rattle.gix_ref_grammar.specs.declared.name.error.Error.{Error}
 use Rattle.gix_ref_grammar.specs.NameGrammar.{IsFullName, full_error}
 use Rattle.gix_ref_base.specs.PackedRecords.{Record}
 use Rattle.gix_ref_records.specs.declared.packed.decode.options.Header.{Header}
-use Rattle.gix_ref_records.specs.RecordGrammar.{Newline, Line, Peeled, Records, in_line, is_caret}
+use Rattle.gix_ref_records.specs.RecordGrammar.{Newline, Line, OptionalPeeledLine, Records, in_record_line, is_caret}
 use Rattle.gix_ref_records.specs.HeaderGrammar.{said, silent, words}
 use Rattle.gix_ref_records.specs.OpenedText.{PackedText, is_hash}
 use Rattle.gix_ref_packed.specs.RecordsOfText.{begins_lf, begins_hash, longer, text_lines, behind_header, is_hex_of, is_line_of, digits_in, line_name, behind_caret, first_object, add_line, add_lines, line_records, read_records, TextsAreRead}
@@ -73,15 +73,15 @@ cut_cr b (c ∷ rest) ([] ∷ ls) is lf cut = (cut.0, empty_line (b ∷ c ∷ re
 cut_cr b (c ∷ rest) ((x ∷ l) ∷ ls) is lf cut =
     let ten : c ≡ 10 = eqb-true c 10 lf in
     let same : x ≡ 10 = cc (cut.1.cut.whole, ten) in
-    let passes : in_line 10 ≡ true = subst (λ (y : ℕ). in_line y ≡ true) same (All-head (λ y. in_line y ≡ true) x l cut.1.cut.front_passes) in absurd (cc)
+    let passes : in_record_line 10 ≡ true = subst (λ (y : ℕ). in_record_line y ≡ true) same (All-head (λ y. in_record_line y ≡ true) x l cut.1.cut.front_passes) in absurd (cc)
 
-cut_byte : (b : ℕ) (rest : List ℕ) (o : Option (List (List ℕ))) (ls : List (List ℕ)) → in_line b ≡ true → option_and_then (longer b) o ≡ Some ls → ((xs : List (List ℕ)) → o ≡ Some xs → Cut rest xs) → Cut (b ∷ rest) ls
+cut_byte : (b : ℕ) (rest : List ℕ) (o : Option (List (List ℕ))) (ls : List (List ℕ)) → in_record_line b ≡ true → option_and_then (longer b) o ≡ Some ls → ((xs : List (List ℕ)) → o ≡ Some xs → Cut rest xs) → Cut (b ∷ rest) ls
 cut_byte b rest None ls passes h more = absurd (cc)
 cut_byte b rest (Some []) ls passes h more = absurd (cc)
 cut_byte b rest (Some (l ∷ xs)) ls passes h more =
     let cut = more (l ∷ xs) refl in
     subst (Cut (b ∷ rest)) (value_is ((b ∷ l) ∷ xs) ls h)
-    (cut.0, wider (b ∷ rest) (b ∷ []) rest l cut.0 refl (All-cons (λ x. in_line x ≡ true) b [] passes (All-nil (λ x. in_line x ≡ true))) cut.1, cut.2)
+    (cut.0, wider (b ∷ rest) (b ∷ []) rest l cut.0 refl (All-cons (λ x. in_record_line x ≡ true) b [] passes (All-nil (λ x. in_record_line x ≡ true))) cut.1, cut.2)
 
 cut_all : (t : List ℕ) (ls : List (List ℕ)) → text_lines t ≡ Some ls → Cut t ls
 cut_all [] ls h = subst (Cut []) (value_is [] ls h) refl
@@ -119,14 +119,14 @@ no_caret (b ∷ line) after d n whole none = go (is_caret b) refl none
 
 -- what the lines give: an object of the record before them, and records
 abbrev Follows : Kind → List ℕ → Option (List ℕ) → List Record → Type 0
-Follows k t o rs = (rest : List ℕ) × Peeled k t o rest × Records k rest rs
+Follows k t o rs = (rest : List ℕ) × OptionalPeeledLine k t o rest × Records k rest rs
 
 object_read : (k : Kind) (t line r digits : List ℕ) (o : Option (List ℕ)) (ss rs : List Record) → Line t line r → Follows k r o ss → line ≡ 94 ∷ digits → cond (is_hex_of k digits && is_none o) (Some ss) None ≡ Some rs → Follows k t (Some digits) rs
 object_read k t line r digits o ss rs f more is h =
     let test = passed (is_hex_of k digits && is_none o) (Some ss) rs h in
     let parts = both _ _ test.0 in
     let last : o ≡ None = nothing o parts.1 in
-    let ends : Peeled k r None more.0 = subst (λ (x : Option (List ℕ)). Peeled k r x more.0) last more.1 in
+    let ends : OptionalPeeledLine k r None more.0 = subst (λ (x : Option (List ℕ)). OptionalPeeledLine k r x more.0) last more.1 in
     let rest : Records k r ss = subst (λ (u : List ℕ). Records k u ss) (sym ends.0) more.2 in (
       r,
       record { after = f.after; whole = f.cut.whole ∙ ap (λ x. x ++ f.after) is; id = hex_back k digits parts.0; newline = f.newline },
@@ -179,7 +179,7 @@ first_read : (k : Kind) (ls : List (List ℕ)) (t : List ℕ) (rs : List Record)
 first_read k ls t rs cut h =
     let test = passed (is_none (first_object ls)) (add_lines k ls) rs h in
     let found = lines_read k ls t rs cut test.1 in
-    let none : Peeled k t None found.0 = subst (λ (o : Option (List ℕ)). Peeled k t o found.0) (nothing (first_object ls) test.0) found.1 in
+    let none : OptionalPeeledLine k t None found.0 = subst (λ (o : Option (List ℕ)). OptionalPeeledLine k t o found.0) (nothing (first_object ls) test.0) found.1 in
     subst (λ (u : List ℕ). Records k u rs) (sym none.0) found.2
 
 no_hash : (line after r : List ℕ) → Newline after r → begins_hash line ≡ false → StopsAt is_hash (line ++ after)
@@ -187,9 +187,9 @@ no_hash [] after r (inl lf) none = subst (StopsAt is_hash) (sym lf) refl
 no_hash [] after r (inr crlf) none = subst (StopsAt is_hash) (sym crlf) refl
 no_hash (b ∷ line) after r n none = none
 
-behind : (p a : List ℕ) → AllPass in_line (p ++ a) → AllPass in_line a
+behind : (p a : List ℕ) → AllPass in_record_line (p ++ a) → AllPass in_record_line a
 behind [] a h = h
-behind (b ∷ p) a h = behind p a (All-tail (λ x. in_line x ≡ true) b (p ++ a) h)
+behind (b ∷ p) a h = behind p a (All-tail (λ x. in_record_line x ≡ true) b (p ++ a) h)
 
 module _ (k : Kind) (t : List ℕ) (rs : List Record) where
   header_read : (line r : List ℕ) (ls : List (List ℕ)) → Line t line r → Cut r ls → starts_with nat_eq line (codes "# pack-refs with: ") ≡ true → line_records k ls ≡ Some rs → (h : Option Header) × PackedText k t h rs
@@ -206,7 +206,7 @@ module _ (k : Kind) (t : List ℕ) (rs : List Record) where
             whole = f.cut.whole ∙ ap (λ x. x ++ f.after) whole ∙ append_assoc front rest f.after;
             is_line = record {
               after = f.after;
-              cut = record { whole = refl; front_passes = behind front rest (subst (AllPass in_line) whole f.cut.front_passes); stops = f.cut.stops };
+              cut = record { whole = refl; front_passes = behind front rest (subst (AllPass in_record_line) whole f.cut.front_passes); stops = f.cut.stops };
               newline = f.newline;
             };
             says = refl;

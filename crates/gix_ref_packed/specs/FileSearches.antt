@@ -20,9 +20,9 @@ IsNoChange Memory = Unit {0}
 IsNoChange Changed = ⊥
 
 -- why a record is not found on any text of a file that stays the same
-abbrev pub FailsIn : Kind → List ℕ → List ℕ → FindError → Type 0
-FailsIn kind text name (Read error) = IsNoChange error
-FailsIn kind text name Parse = CannotRead kind text name
+abbrev pub FailsInFile : Kind → List ℕ → List ℕ → FindError → Type 0
+FailsInFile kind text name (Read error) = IsNoChange error
+FailsInFile kind text name Parse = CannotRead kind text name
 
 -- the file could not be read
 abbrev pub IsReadFault : FindError → Type 0
@@ -35,13 +35,13 @@ IsFaultOr unreadable (Read error) = Unit {0}
 IsFaultOr unreadable Parse = unreadable
 
 -- What a search for one full name in a file returns.
-pub record FindsIn (kind : Kind) (text name : List ℕ) (result : Result (Option Found) FindError) : Type 0 where
+pub record FindsInFile (kind : Kind) (text name : List ℕ) (result : Result (Option Found) FindError) : Type 0 where
   -- on any text a hit is a record of that name at the start of a line
   pub hit : IfOk result (λ found. IfSome found (HitsRecord kind text name))
   -- a text of malformed lines alone is never taken for one without the name
   pub none : IfOk result (λ found. IfNone found (IsNotMalformed kind text))
   -- why it fails on any text
-  pub refused : IfErr result (FailsIn kind text name)
+  pub refused : IfErr result (FailsInFile kind text name)
   -- among ascending records it is the record of the name, or `None` where no record has it
   pub records : (rs : List Record) → Records kind text rs → Ascending rs → MatchResult result (AreFound (record_named name rs)) IsReadFault
   -- so it is where ids and names are not checked, but for a record of the name that cannot be read

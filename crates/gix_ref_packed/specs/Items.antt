@@ -49,18 +49,18 @@ abbrev pub IsAlike : Unread → Unread → Type 0
 IsAlike s t = (t.kind ≡ s.kind) × (t.prefix ≡ s.prefix)
 
 -- One item, by what is to be read before it and after it: the record there, or the line, where it is no record.
-abbrev pub GivesItem : Unread → Option (Result Reference Error) → Unread → Type 0
-GivesItem s None t = HasNoMore s × (t.text ≡ [])
-GivesItem s (Some (Ok r)) t =
+abbrev pub GivesPackedItem : Unread → Option (Result Reference Error) → Unread → Type 0
+GivesPackedItem s None t = HasNoMore s × (t.text ≡ [])
+GivesPackedItem s (Some (Ok r)) t =
     Takes s.kind s.text (record_of r) t.text × (has_prefix s.prefix (record_of r).name ≡ true) × (t.number ≡ s.number + lines_of (record_of r)) × IsAlike s t
-GivesItem s (Some (Err (bad_line line number))) t =
+GivesPackedItem s (Some (Err (bad_line line number))) t =
     (s.text ≢ []) × NoRecord s.kind s.text × CutsAtFeed s.text line.now t.text × (number ≡ s.number) × (t.number ≡ s.number + 1) × IsAlike s t
-GivesItem s (Some (Err (bad_header line))) t = ⊥
+GivesPackedItem s (Some (Err (bad_header line))) t = ⊥
 
 -- the items of a run; `Ended` holds where it went on to the end
 abbrev pub AreItems : Type 0 → Unread → List (Result Reference Error) → Type 0
 AreItems Ended s [] = Ended → HasNoMore s
-AreItems Ended s (x ∷ items) = (t : Unread) × GivesItem s (Some x) t × AreItems Ended t items
+AreItems Ended s (x ∷ items) = (t : Unread) × GivesPackedItem s (Some x) t × AreItems Ended t items
 
 -- the items of a run are these records, without a fault
 abbrev pub AreRecords : Type 0 → List Record → List (Result Reference Error) → Type 0
@@ -90,7 +90,7 @@ unread_from b prefix start =
 
 -- one call of `next`
 abbrev pub ItemStep : Iter → Option (Result Reference Error) → Iter → Type 0
-ItemStep s r t = GivesItem (unread s) r (unread t)
+ItemStep s r t = GivesPackedItem (unread s) r (unread t)
 
 -- why a text has no items
 abbrev pub IsHeaderError : List ℕ → Error → Type 0

@@ -16,7 +16,7 @@ use Rattle.gix_ref_repack.specs.declared.error.Error.TheVariants.{Commit, Iterat
 use Rattle.gix_ref_rewrite.specs.declared.outcome.Rewrite.{Rewrite}
 use Rattle.gix_ref_rewrite.specs.declared.outcome.Rewrite.TheVariants.{Unchanged, Removed, Text}
 use Rattle.gix_ref_transaction.specs.PrepareSteps.{FillsLock}
-use Rattle.gix_ref_packed_transaction.specs.PackedTransactions.{AreDistinct, IsMadeOf, IsOldOrRewritten, IsRewritten, IsUnbegun, OnlyAt, OnlyLockChanges, OnlyLockGoes, HoldsRewrite, IsLeft, SaysWhyPacked}
+use Rattle.gix_ref_packed_transaction.specs.PackedTransactions.{AreDistinct, IsMadeOf, IsOldOrRewritten, IsRewritten, IsUnbegun, OnlyAt, OnlyLockChanges, OnlyLockGoes, HoldsRewrite, IsBeforeOrRewritten, SaysWhyPacked}
 use Rattle.gix_ref_packed_transaction.specs.internal.LockSteps.{IsUnlocked, IsWhyNotPut}
 
 pub lock_elsewhere : (place : Path) → place ≢ lock_of place
@@ -98,10 +98,10 @@ made_of kind keys (Some other) buffer is (Ok rewrite) made = λ rs holds apart. 
 
 -- what a commit leaves that has failed
 module _ (kind : Kind) (records : Option Buffer) (keys : List (List ℕ)) (place : Path) (before : Tree) where
-  pub left_as_before : (T : Tree) → OnlyLockChanges place before T → IsLeft kind records keys place before T
+  pub left_as_before : (T : Tree) → OnlyLockChanges place before T → IsBeforeOrRewritten kind records keys place before T
   left_as_before T only = (λ q not_place not_lock. only q not_lock, inl (only place (lock_elsewhere place)))
 
-  pub left_rewritten : (rewrite : Rewrite) → IsMadeOf kind records keys rewrite → (T : Tree) → IsOldOrRewritten rewrite place before T → IsLeft kind records keys place before T
+  pub left_rewritten : (rewrite : Rewrite) → IsMadeOf kind records keys rewrite → (T : Tree) → IsOldOrRewritten rewrite place before T → IsBeforeOrRewritten kind records keys place before T
   left_rewritten rewrite made T (only, inl same) = (only, inl same)
   left_rewritten rewrite made T (only, inr holds) = (only, inr (rewrite, made, holds))
 

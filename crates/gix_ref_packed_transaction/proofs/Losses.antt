@@ -20,7 +20,7 @@ use Rattle.gix_ref_rewrite.specs.declared.outcome.Rewrite.{Rewrite}
 use Rattle.gix_ref_rewrite.specs.declared.outcome.Rewrite.TheVariants.{Unchanged, Removed, Text}
 use Rattle.gix_ref_transaction.specs.PrepareSteps.{FillingOn}
 use Rattle.gix_ref_packed_transaction.specs.PackedTransactions.{IsMadeOf}
-use Rattle.gix_ref_packed_transaction.specs.PackedLosses.{BecomesFile, IsLostOf, IsReadyOn, OnlyLockIsLost, SettlesFrom, folders_at}
+use Rattle.gix_ref_packed_transaction.specs.PackedLosses.{BecomesFile, IsLostOf, IsReadyOn, OnlyLockIsLost, SettlesPackedRefs, folders_at}
 use Rattle.gix_ref_packed_transaction.specs.internal.Keeping.{IsMoved, KeepsSettled}
 use Rattle.gix_ref_packed_transaction.proofs.LockSteps.{lock_elsewhere}
 
@@ -103,7 +103,7 @@ module _ (rewrite : Rewrite) (place : Path) (D : Disk) where
   )
 
   -- what is settled as this file is settled as what is there
-  pub settles_as : (E : Disk) (file : Option (List ℕ)) → KeepsSettled rewrite place D E → IsSettledAt E file place → SettlesFrom place D E
+  pub settles_as : (E : Disk) (file : Option (List ℕ)) → KeepsSettled rewrite place D E → IsSettledAt E file place → SettlesPackedRefs place D E
   settles_as E file keeps settled = (keeps.others, subst (λ (f : Option (List ℕ)). IsSettledAt E f place) (sym (stands_settled E file place settled)) settled)
 
 -- and what the removal of the lock leaves settled
@@ -119,7 +119,7 @@ none_removed_at T U p true removes is = absurd (true≢false is)
 none_removed_at T U p false removes is = removes.0
 
 -- Where the file stays as it is.
-pub settles_unchanged : (place : Path) (D E : Disk) → IsReadyOn place D → RemovingFileOn D (lock_of place) E → SettlesFrom place D E
+pub settles_unchanged : (place : Path) (D E : Disk) → IsReadyOn place D → RemovingFileOn D (lock_of place) E → SettlesPackedRefs place D E
 settles_unchanged place D E ready unlocking =
     settles_as Unchanged place D E (file_of (D.tree place)) (keeps_unlock Unchanged place D D E unlocking (keeps_first Unchanged place D ready)) (settled_unlocked place D E (file_of (D.tree place)) unlocking ready.file)
 
@@ -158,7 +158,7 @@ module _ (place : Path) (D : Disk) (ready : IsReadyOn place D) where
   keeps_removed E F there removing settling = keeps_settling Removed place D E F there settling (keeps_removal E removing)
 
   pub settles_removed : (removed : Bool) → (removed ≡ false → is_file (D.tree place) ≡ false) → (E F G : Disk) → E ≡ after_removal D place removed → RemovingFileOn D place E → F ≡ folder_synced E (folder_of place) →
-      RemovingFileOn F (lock_of place) G → SettlesFrom place D G
+      RemovingFileOn F (lock_of place) G → SettlesPackedRefs place D G
   settles_removed removed none E F G is removing settled unlocking =
       settles_as Removed place D G None
       (keeps_unlock Removed place D F G unlocking (subst (KeepsSettled Removed place D) (sym settled) (keeps_sync Removed place D (OfFolder (folder_of place)) E (keeps_removal E removing))))
@@ -200,10 +200,10 @@ module _ (place : Path) (D E : Disk) (t : Vec ℕ Global) (whole : IsWholeAt E (
         way = λ bytes is. stays_fewer F (folder_synced F (folder_of place)) (synced_may (OfFolder (folder_of place)) F) (fronts place) (keeps_moved movable).folders.1;
       }
 
-  pub settles_renamed : (F G : Disk) → IsMoved place E F → G ≡ folder_synced F (folder_of place) → SettlesFrom place D G
+  pub settles_renamed : (F G : Disk) → IsMoved place E F → G ≡ folder_synced F (folder_of place) → SettlesPackedRefs place D G
   settles_renamed F G (movable, moved) settled =
       let at : G ≡ folder_synced (moved_on E (lock_of place) place) (folder_of place) = settled ∙ ap (λ (X : Disk). folder_synced X (folder_of place)) moved in
-      subst (SettlesFrom place D) (sym at)
+      subst (SettlesPackedRefs place D) (sym at)
       (settles_as (Text t) place D (folder_synced (moved_on E (lock_of place) place) (folder_of place)) (Some t.items)
       (keeps_sync (Text t) place D (OfFolder (folder_of place)) (moved_on E (lock_of place) place) (keeps_moved movable)) (text_settled movable))
 

@@ -43,8 +43,8 @@ IsLostOf kind records keys place D T =
     ⊎ ((rewrite : Rewrite) × IsMadeOf kind records keys rewrite × BecomesFile rewrite (file_of (D.tree place)) (file_of (T place))))
 
 -- A commit that succeeds settles `packed-refs`: each later loss of power leaves it as it is then, and the others too.
-abbrev pub SettlesFrom : (place : Path) → (D E : Disk) → Type 0
-SettlesFrom place D E = OthersSettled place D E × IsSettledAt E (file_of (E.tree place)) place
+abbrev pub SettlesPackedRefs : (place : Path) → (D E : Disk) → Type 0
+SettlesPackedRefs place D E = OthersSettled place D E × IsSettledAt E (file_of (E.tree place)) place
 
 -- A loss of power in a rollback: each file that was settled is as before, but for the lock.
 abbrev pub OnlyLockIsLost : (place : Path) → Disk → Tree → Type 0

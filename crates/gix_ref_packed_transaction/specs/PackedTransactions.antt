@@ -91,12 +91,12 @@ pub record IsRewritten (rewrite : Rewrite) (place : Path) (before T : Tree) : Ty
   pub only : OnlyAt place before T
 
 module _ (kind : Kind) (records : Option Buffer) (keys : List (List ℕ)) (place : Path) where
-  abbrev pub Commits : (before T : Tree) → Type 0
-  Commits before T = (rewrite : Rewrite) × IsMadeOf kind records keys rewrite × IsRewritten rewrite place before T
+  abbrev pub CommitsRewrite : (before T : Tree) → Type 0
+  CommitsRewrite before T = (rewrite : Rewrite) × IsMadeOf kind records keys rewrite × IsRewritten rewrite place before T
 
   -- a stop in it, or a failure, leaves `packed-refs` as before or as it is then, and nothing else has changed but its lock
-  abbrev pub IsLeft : (before T : Tree) → Type 0
-  IsLeft before T =
+  abbrev pub IsBeforeOrRewritten : (before T : Tree) → Type 0
+  IsBeforeOrRewritten before T =
       OnlyAt place before T
       × ((T place ≡ before place) ⊎ ((rewrite : Rewrite) × IsMadeOf kind records keys rewrite × HoldsRewrite rewrite (before place) (T place)))
 

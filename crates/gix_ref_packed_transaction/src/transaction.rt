@@ -82,8 +82,8 @@ pub struct Failed {
 
 impl Transaction {
     ghost use Rattle.gix_ref_packed_transaction.specs.declared.transaction.prepare.Error.TheVariants.{Memory as no_memory};
-    ghost use Rattle.gix_ref_packed_transaction.specs.PackedLosses.{IsLostOf, IsReadyOn, OnlyLockIsLost, SettlesFrom};
-    ghost use Rattle.gix_ref_packed_transaction.specs.PackedTransactions.{records_of, transaction_place, transaction_kind, removed_keys, deleted_names, Commits, IsLeft, IsLockEmpty, IsReadBuffer, IsUnbegun, SaysWhyPacked};
+    ghost use Rattle.gix_ref_packed_transaction.specs.PackedLosses.{IsLostOf, IsReadyOn, OnlyLockIsLost, SettlesPackedRefs};
+    ghost use Rattle.gix_ref_packed_transaction.specs.PackedTransactions.{records_of, transaction_place, transaction_kind, removed_keys, deleted_names, CommitsRewrite, IsBeforeOrRewritten, IsLockEmpty, IsReadBuffer, IsUnbegun, SaysWhyPacked};
 
     /// A transaction of the file whose lock is held, and whose records these are: `None` where there is no such file. The ids of the file
     /// are of the kind. Not public in gix-ref.
@@ -148,11 +148,11 @@ impl Transaction {
     pub fn commit<F: Files>(self, alloc: Global, files: &mut F) -> Result<(), Failed>
         ensures committed { F.honest → IsLockEmpty (transaction_place self) (F.means
             files.old).tree →
-            OnOk result (Commits (transaction_kind self) (records_of self) (removed_keys self)
+            OnOk result (CommitsRewrite (transaction_kind self) (records_of self) (removed_keys self)
             (transaction_place self) (F.means files.old).tree (F.means files.new).tree) }
         ensures read { OnOk result (IsReadBuffer (transaction_kind self) (records_of self)) }
         ensures leaves { F.honest → IsLockEmpty (transaction_place self) (F.means files.old).tree →
-            Leaves (F.means files.old) (F.means files.new) (IsLeft (transaction_kind self)
+            Leaves (F.means files.old) (F.means files.new) (IsBeforeOrRewritten (transaction_kind self)
             (records_of self) (removed_keys self) (transaction_place self) (F.means
             files.old).tree) }
         ensures lost { F.honest → IsReadyOn (transaction_place self) (disk_of (F.means files.old)) →
@@ -161,7 +161,7 @@ impl Transaction {
             (disk_of (F.means files.old))) }
         ensures settled { F.honest → IsReadyOn (transaction_place self) (disk_of (F.means
             files.old)) →
-            OnOk result (SettlesFrom (transaction_place self) (disk_of (F.means files.old))
+            OnOk result (SettlesPackedRefs (transaction_place self) (disk_of (F.means files.old))
             (disk_of (F.means files.new))) }
         ensures why { IfErr result (λ f. SaysWhyPacked F.honest (transaction_kind self)
             (records_of self)

@@ -12,7 +12,7 @@ use Rattle.gix_ref_records.specs.declared.raw.Reference.{Reference}
 use Rattle.gix_ref_listing.specs.declared.error.Error.{Error}
 use Rattle.gix_ref_store.specs.Store.{files_of}
 use Rattle.gix_ref_store.specs.Lookup.{LooksUp}
-use Rattle.gix_ref_store.specs.Listings.{NextItem, count_in, store_of}
+use Rattle.gix_ref_store.specs.Listings.{NextItem, count_in, store_listed}
 use Rattle.gix_ref_store.specs.declared.file.iter.LooseThenPacked.{LooseThenPacked}
 use Rattle.gix_ref_store.specs.declared.file.iter.Remaining.{Remaining}
 use Rattle.gix_ref_program.specs.ListPrinting.{item_text, list_text, next_text, PrintsAll, PrintsNext}
@@ -35,7 +35,7 @@ module _ {F : Type 0} (honest : Type 0) (means : F → Meaning) (faults : F → 
   pub record Follows (first it : LooseThenPacked F Remaining) : Type 0 where
     pub same_reference : it.store.ghost_name ≡ first.store.ghost_name
     pub rises : count_in honest means faults first ≤ count_in honest means faults it
-    pub unchanged : LooksUp honest means (store_of first) (store_of it)
+    pub unchanged : LooksUp honest means (store_listed first) (store_listed it)
 
   -- and what is printed of the items in between
   pub record AreSoFar (first it : LooseThenPacked F Remaining) (out now : Option (List ℕ)) (text : List ℕ) (status : ℕ) : Type 0 where
@@ -55,7 +55,7 @@ module _ {F : Type 0} (honest : Type 0) (means : F → Meaning) (faults : F → 
       same_reference = refl;
       rises = omega arith;
       unchanged = record {
-        leaves = λ h. starts (means (files_of (store_of it))) _ refl;
+        leaves = λ h. starts (means (files_of (store_listed it))) _ refl;
         same = record { dirs = refl; namespace = refl; of_kind = refl; reflogs = refl; composes = refl; prohibits = refl; threshold = refl };
       };
     };
@@ -65,7 +65,7 @@ module _ {F : Type 0} (honest : Type 0) (means : F → Meaning) (faults : F → 
   on first it next item follows step = record {
     same_reference = step.same_reference ∙ follows.same_reference;
     rises = omega (arith, follows.rises, step.gives.rises);
-    unchanged = looks_on honest means faults (store_of first) (store_of it) (store_of next) follows.unchanged record { leaves = step.gives.leaves; same = step.same_store };
+    unchanged = looks_on honest means faults (store_listed first) (store_listed it) (store_listed next) follows.unchanged record { leaves = step.gives.leaves; same = step.same_store };
   }
 
   pub more : (first it next : LooseThenPacked F Remaining) (out before now : Option (List ℕ)) (text left : List ℕ) (status after : ℕ) (item : Result Reference Error) →

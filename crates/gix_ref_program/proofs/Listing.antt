@@ -26,13 +26,13 @@ use Rattle.gix_ref_listing.specs.declared.prefix.Error.TheVariants as no_list
 use Rattle.gix_ref_listing.proofs.FolderWalks.{unchanged_on}
 use Rattle.gix_ref_store.specs.Store.{files_of}
 use Rattle.gix_ref_store.specs.Lookup.{LooksUp, AreRecordsIn, settings_of, view_in}
-use Rattle.gix_ref_store.specs.Listings.{Lists, AreFirst, AreHeldFor, IsReadFor, count_in, store_of}
+use Rattle.gix_ref_store.specs.Listings.{IteratesListing, AreFirst, AreHeldFor, IsNoListing, IsReadFor, count_in, store_listed}
 use Rattle.gix_ref_store.proofs.ListingRuns.{same_settings}
 use Rattle.gix_ref_store.specs.declared.file.store.Store.{Store}
 use Rattle.gix_ref_store.specs.declared.file.iter.LooseThenPacked.{LooseThenPacked}
 use Rattle.gix_ref_store.specs.declared.file.iter.Remaining.{Remaining}
 use Rattle.gix_ref_program.specs.ListPrinting.{PrintsAll}
-use Rattle.gix_ref_program.specs.Runs.{Ran, Prints, AreListed, ListRan, ListRanAmong, IsNoListing}
+use Rattle.gix_ref_program.specs.Runs.{Ran, Prints, AreListed, ListRan, ListRanAmong}
 use Rattle.gix_ref_program.specs.Runs.Ran.{Said, Listed, Logged}
 use Rattle.gix_ref_program.specs.declared.outcome.Outcome.TheVariants as outcomes
 use Rattle.gix_ref_program.specs.declared.refusal.Refusal.TheVariants as refusals
@@ -74,8 +74,8 @@ module _ {F : Type 0} (honest : Type 0) (means : F → Meaning) (faults : F → 
 
   -- the items of a listing are printed
   pub printed_all : {E : Type 0} (old new : Store F) (prefix : List ℕ) (Are : List Record → Type 0) (it t : LooseThenPacked F Remaining) (out now : Option (List ℕ)) (status : Result ℕ E) →
-      IsAcceptedPrefix old.namespace prefix → (honest → (records : List Record) → Are records → Lists honest means faults old records prefix it) →
-      count_in honest means faults it ≤ count_in honest means faults t → store_of t ≡ new →
+      IsAcceptedPrefix old.namespace prefix → (honest → (records : List Record) → Are records → IteratesListing honest means faults old records prefix it) →
+      count_in honest means faults it ≤ count_in honest means faults t → store_listed t ≡ new →
       IfOk status (PrintsAll honest means faults it t out now) → Prints (ListRanAmong honest means faults old new prefix Are) out now status
   printed_all old new prefix Are it t out now (Ok s) taken lists rises is all = record {
     ran = Listed true all.items;

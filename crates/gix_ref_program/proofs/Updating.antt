@@ -20,7 +20,7 @@ use Rattle.gix_ref_store.specs.Store.{files_of, folders, meaning_of}
 use Rattle.gix_ref_store.specs.declared.file.store.Store.{Store}
 use Rattle.gix_ref_store.specs.declared.file.transaction.outcome.Done.{Done}
 use Rattle.gix_ref_store.specs.declared.file.transaction.outcome.Failed.{Failed}
-use Rattle.gix_ref_program.specs.Updates.{AreTried, HasFailed, IsBegun, IsMade, IsStopOf, IsLossOf, IsUpdateError, error_of}
+use Rattle.gix_ref_program.specs.Updates.{AreTried, UpdateFailed, IsBegun, UpdateMade, IsStopOf, IsLossOf, IsUpdateError, error_of}
 use Rattle.gix_ref_program.specs.declared.update.UpdateError.{UpdateError}
 use Rattle.gix_ref_program.specs.declared.update.UpdateError.TheVariants.{Commit}
 
@@ -81,9 +81,9 @@ module _ {F : Type 0} (honest : Type 0) (means : F → Meaning) (faults : F → 
 
   pub done : {T : Type 0} (answer : Result (Done T) (Failed T)) (error : Option UpdateError) (left : List Path) → error ≡ error_of answer → left ≡ left_of answer →
       IfOk answer (λ d. CommitsFrom honest means faults mid new committer packed held (paths_of d.locks_left.items)) → OnOk answer (LinesPass honest means mid committer held) → KeepsFolders honest means faults mid new committer packed held → EveryStopFrom honest means faults mid new committer packed held (left_of answer) →
-      HasRisenBy (length (left_of answer)) (faults (files_of mid)) (faults (files_of new)) → error ≡ None → IsMade honest means faults old new committer edits left
+      HasRisenBy (length (left_of answer)) (faults (files_of mid)) (faults (files_of new)) → error ≡ None → UpdateMade honest means faults old new committer edits left
   done (Ok d) error left told same commits passed kept ends counted none =
-      subst (λ l. IsMade honest means faults old new committer edits l) (sym same)
+      subst (λ l. UpdateMade honest means faults old new committer edits l) (sym same)
       (record { begun = begun; commits = commits; lines = passed; folders = kept; stops = ends; named = rises (paths_of d.locks_left.items) counted })
   done (Err f) error left told same commits passed kept ends counted none = absurd (differ (Commit f.error) (sym told ∙ none))
 
@@ -104,7 +104,7 @@ module _ {F : Type 0} (honest : Type 0) (means : F → Meaning) (faults : F → 
   told read (Ok d) error left is same fails sound kept ends counted = subst (λ r. IfSome r (λ u. IsUpdateError honest means faults read old new committer edits u left)) (sym is) tt
   told read (Err f) error left is same fails sound kept ends counted =
       subst (λ r. IfSome r (λ u. IsUpdateError honest means faults read old new committer edits u left)) (sym is)
-      (subst (λ l. HasFailed honest means faults old new committer edits f.error l) (sym same)
+      (subst (λ l. UpdateFailed honest means faults old new committer edits f.error l) (sym same)
       (record { begun = begun; fails = fails; sound = sound; folders = kept; stops = ends; named = rises (paths_of f.locks_left.items) counted }))
 
   pub stops : (left : List Path) → EveryStopFrom honest means faults mid new committer packed held left → honest →

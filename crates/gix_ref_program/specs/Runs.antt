@@ -23,12 +23,12 @@ use Rattle.gix_ref_lookup.specs.Lookups.{IsSound}
 use Rattle.gix_ref_lookup.specs.declared.settings.Settings.{Settings}
 use Rattle.gix_ref_theory.specs.Views.{View}
 use Rattle.gix_ref_lookup.specs.declared.find.records.Records.TheVariants.{Unopened}
-use Rattle.gix_ref_store.specs.Lookup.{AreRecordsIn, FindsAmong, HitsIn, FailsIn, RefusesBuffer, settings_of, view_in}
+use Rattle.gix_ref_store.specs.Lookup.{AreRecordsIn, FindsAmong, HitsIn, FailsIn, settings_of, view_in}
 use Rattle.gix_ref_store.specs.Prepared.{tree_of}
 use Rattle.gix_ref_store.specs.Store.{files_of, folders, kind_of}
 use Rattle.gix_ref_store.specs.Reflogs.{reflog_at, IsNoReflog}
-use Rattle.gix_ref_store.specs.Listings.{prefix_of_all, AreFirst}
-use Rattle.gix_ref_packed.specs.OpenFiles.{CountsRefusal, HasReadFault}
+use Rattle.gix_ref_store.specs.Listings.{prefix_of_all, AreFirst, IsNoListing}
+use Rattle.gix_ref_packed.specs.OpenFiles.{HasReadFault}
 use Rattle.gix_ref_records.specs.declared.raw.Reference.{Reference}
 use Rattle.gix_ref_listing.specs.CleanPrefixes.{IsAcceptedPrefix, IsRefusedPrefix}
 use Rattle.gix_ref_listing.specs.Listings.{Listed as ListedName}
@@ -49,7 +49,7 @@ use Rattle.gix_ref_edits.specs.declared.transaction.LogChange.{LogChange}
 use Rattle.gix_ref_edits.specs.declared.transaction.RefEdit.{RefEdit}
 use Rattle.gix_ref_edits.specs.declared.transaction.RefLog.TheVariants.{AndReference}
 use Rattle.gix_ref_program.specs.Outcomes.{printed, status_of}
-use Rattle.gix_ref_program.specs.Updates.{IsMade, IsUpdateError, IsStopOf}
+use Rattle.gix_ref_program.specs.Updates.{UpdateMade, IsUpdateError, IsStopOf}
 use Rattle.gix_ref_program.specs.ListPrinting.{list_text}
 use Rattle.gix_ref_program.specs.LogPrinting.{log_text, AreLogItems}
 use Rattle.gix_ref_program.specs.Printed.{items_status}
@@ -196,7 +196,7 @@ IsUnopened line refusal = IsBadFolder line.dir refusal ⊎ ((is_clean line.dir �
 
 module _ {F : Type 0} where
   -- names are used as they are written, and no component is prohibited
-  pub record IsPlain (store : Store F) : Type 0 where
+  pub record IsPlainStore (store : Store F) : Type 0 where
     pub composes : store.precompose_unicode ≡ false
     pub prohibits : store.prohibit_windows_device_names ≡ false
 
@@ -208,7 +208,7 @@ module _ {F : Type 0} where
     pub common : (folders store).common ≡ dir
     pub of_kind : kind_of store ≡ kind
     pub logs : store.write_reflog ≡ write_reflog
-    pub plain : IsPlain store
+    pub plain : IsPlainStore store
 
   -- the store of a line, which writes log lines where there is a committer
   pub record IsOpened (files : F) (line : LineAsked) (store : Store F) : Type 0 where
@@ -219,7 +219,7 @@ module _ {F : Type 0} where
     pub namespace : (folders store).namespace ≡ namespace_of line.namespace
     pub of_kind : kind_of store ≡ line.kind
     pub logs : store.write_reflog ≡ write_reflog_of line.committer
-    pub plain : IsPlain store
+    pub plain : IsPlainStore store
 
   -- what the names of a listing begin with
   abbrev pub prefix_asked : Store F → Option (List ℕ) → List ℕ
@@ -227,14 +227,14 @@ module _ {F : Type 0} where
   prefix_asked store (Some prefix) = prefix
 
   -- A reflog is refused: it is not read, or its name breaks a rule.
-  abbrev pub LogOutcome : (old new : Store F) → (name : List ℕ) → Outcome → Type 0
-  LogOutcome old new name (outcomes.Refused (refusals.Log error) locks) = IsNoReflog old name error × (locks.items ≡ [])
-  LogOutcome old new name (outcomes.Refused (refusals.Name error) locks) = (full_error name ≡ Some error) × (new ≡ old) × (locks.items ≡ [])
-  LogOutcome old new name outcome = ⊥
+  abbrev pub RefusesReflog : (old new : Store F) → (name : List ℕ) → Outcome → Type 0
+  RefusesReflog old new name (outcomes.Refused (refusals.Log error) locks) = IsNoReflog old name error × (locks.items ≡ [])
+  RefusesReflog old new name (outcomes.Refused (refusals.Name error) locks) = (full_error name ≡ Some error) × (new ≡ old) × (locks.items ≡ [])
+  RefusesReflog old new name outcome = ⊥
 
   -- A reflog: it is refused; or its items are printed, newest first.
   abbrev pub LogRan : (honest : Type 0) (means : F → Meaning) → (old new : Store F) → (name : List ℕ) → Ran → Type 0
-  LogRan honest means old new name (Said outcome) = LogOutcome old new name outcome
+  LogRan honest means old new name (Said outcome) = RefusesReflog old new name outcome
   LogRan honest means old new name (Listed whole items) = ⊥
   LogRan honest means old new name (Logged whole items) =
       (full_error name ≡ None) × (honest → AreLogItems (reflog_at means old name) whole items) × EndsAtError items
@@ -242,7 +242,7 @@ module _ {F : Type 0} where
   module _ (honest : Type 0) (means : F → Meaning) (faults : F → ℕ) where
     -- An edit: it is committed, but for locks that stay; or it was not made, and locks may stay; or there was no memory for it.
     abbrev pub EditOutcome : (read : Type 0) → (old new : Store F) → Option SignatureRef → RefEdit → Outcome → Type 0
-    EditOutcome read old new committer edit (outcomes.Updated locks) = IsMade honest means faults old new committer (edit ∷ []) (paths_of locks.items)
+    EditOutcome read old new committer edit (outcomes.Updated locks) = UpdateMade honest means faults old new committer (edit ∷ []) (paths_of locks.items)
     EditOutcome read old new committer edit (outcomes.Refused (refusals.Update error) locks) =
         IsUpdateError honest means faults read old new committer (edit ∷ []) error (paths_of locks.items)
     EditOutcome read old new committer edit (outcomes.Refused refusals.Memory locks) = (new ≡ old) × (locks.items ≡ [])
@@ -297,16 +297,9 @@ module _ {F : Type 0} where
         × (honest → (records : List Record) → Are records → AreListed (settings_of old) (view_in means old) (faults (files_of old)) (faults (files_of new)) records prefix whole items)
     ListRanAmong old new prefix Are ran = ⊥
 
-    -- why there is no listing: `packed-refs` is not opened, as a fault or its text has it; or the prefix has none; no memory
-    abbrev pub IsNoListing : {R : Type 0} (G : Ghosts R) → (old new : Store F) → (prefix : List ℕ) → PrefixError → Type 0
-    IsNoListing G old new prefix (no_list.PackedOpen error) =
-        honest → RefusesBuffer means old error × CountsRefusal G.faults (faults (files_of old)) (faults (files_of new)) error
-    IsNoListing G old new prefix no_list.Memory = Unit {0}
-    IsNoListing G old new prefix error = IsRefusedPrefix old.namespace prefix error
-
     -- A listing: it is refused; or its items are printed.
     abbrev pub ListRan : {R : Type 0} (G : Ghosts R) → (old new : Store F) → (prefix : List ℕ) → Ran → Type 0
-    ListRan G old new prefix (Said (outcomes.Refused (refusals.List error) locks)) = IsNoListing G old new prefix error × (locks.items ≡ [])
+    ListRan G old new prefix (Said (outcomes.Refused (refusals.List error) locks)) = IsNoListing honest means faults G old new prefix error × (locks.items ≡ [])
     ListRan G old new prefix (Listed whole items) =
         IsAcceptedPrefix old.namespace prefix
         × (honest → (records : List Record) → AreRecordsIn means old records → AreListed (settings_of old) (view_in means old) (faults (files_of old)) (faults (files_of new)) records prefix whole items)

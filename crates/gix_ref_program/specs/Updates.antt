@@ -66,7 +66,7 @@ module _ {F : Type 0} (honest : Type 0) (means : F → Meaning) (faults : F → 
 
   -- An update that was made: its edits were prepared and committed. Of the transaction's locks only those stay that are named, and one is
   -- named only where a fault came.
-  pub record IsMade (old new : Store F) (committer : Option SignatureRef) (edits : List RefEdit) (left : List Path) : Type 0 where
+  pub record UpdateMade (old new : Store F) (committer : Option SignatureRef) (edits : List RefEdit) (left : List Path) : Type 0 where
     pub begun : IsBegun old edits
     pub commits : CommitsFrom honest means faults begun.mid new committer begun.packed begun.held left
     -- no due line was passed over, and no folder is gone but those in the way of what was written, and those above what was deleted
@@ -76,7 +76,7 @@ module _ {F : Type 0} (honest : Type 0) (means : F → Meaning) (faults : F → 
     pub named : HasRisenBy (length left) (faults (files_of old)) (faults (files_of new))
 
   -- An update whose commit failed for this error; the locks that stay are as above.
-  pub record HasFailed (old new : Store F) (committer : Option SignatureRef) (edits : List RefEdit) (error : commits.Error) (left : List Path) : Type 0 where
+  pub record UpdateFailed (old new : Store F) (committer : Option SignatureRef) (edits : List RefEdit) (error : commits.Error) (left : List Path) : Type 0 where
     pub begun : IsBegun old edits
     pub fails : FailsFor honest means faults begun.mid new committer begun.packed begun.held error
     pub sound : NoBadLineFrom honest means faults begun.mid begun.packed begun.held error
@@ -88,4 +88,4 @@ module _ {F : Type 0} (honest : Type 0) (means : F → Meaning) (faults : F → 
   -- these locks; or its commit failed.
   abbrev pub IsUpdateError : (read : Type 0) → (old new : Store F) → Option SignatureRef → List RefEdit → UpdateError → (left : List Path) → Type 0
   IsUpdateError read old new committer edits (Prepare error) left = RefusesGiven honest read means faults old new edits error left
-  IsUpdateError read old new committer edits (Commit error) left = HasFailed old new committer edits error left
+  IsUpdateError read old new committer edits (Commit error) left = UpdateFailed old new committer edits error left

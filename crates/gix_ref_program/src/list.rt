@@ -3,7 +3,7 @@ ghost use Rattle.std.specs.Prelude.{◌≡◌, ◌≤◌, ◌<◌, ◌++◌, IfO
 ghost use Rattle.std.specs.Io.KnownBytes.{Keeps, append_known};
 ghost use Rattle.std.specs.Result.{is_err};
 ghost use Rattle.gix_ref_store.specs.Lookup.{LooksUp};
-ghost use Rattle.gix_ref_store.specs.Listings.{count_in, items_left, store_of};
+ghost use Rattle.gix_ref_store.specs.Listings.{count_in, items_ahead, store_listed};
 ghost use Rattle.gix_ref_program.specs.ListPrinting.{fault_word, item_text, PrintsAll, PrintsNext, PushesRecord};
 
 use crate::block::{push_fault, write_block};
@@ -79,9 +79,9 @@ fn print_next<F: Files, W: Write>(
         (W.contents out.old) (append_known (W.contents out.new) text.new.items) text.old.items) }
     ensures rises { count_in F.honest F.means F.faults items.old
         ≤ count_in F.honest F.means F.faults items.new }
-    ensures unchanged { LooksUp F.honest F.means (store_of items.old) (store_of items.new) }
+    ensures unchanged { LooksUp F.honest F.means (store_listed items.old) (store_listed items.new) }
     ensures left { IfOk result (λ fault.
-        IfSome fault (λ _. items_left items.new < items_left items.old)) }
+        IfSome fault (λ _. items_ahead items.new < items_ahead items.old)) }
 {
     if let Some(own) = items.next_record() {
         push_record(text, own)?;
@@ -109,7 +109,7 @@ pub fn print_items<F: Files, W: Write>(
         (W.contents out.old) (W.contents out.new)) }
     ensures rises { count_in F.honest F.means F.faults items.old
         ≤ count_in F.honest F.means F.faults items.new }
-    ensures unchanged { LooksUp F.honest F.means (store_of items.old) (store_of items.new) }
+    ensures unchanged { LooksUp F.honest F.means (store_listed items.old) (store_listed items.new) }
 {
     let mut text = Vec::new(alloc);
     let mut status = 0;

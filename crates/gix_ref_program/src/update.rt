@@ -3,10 +3,10 @@ ghost use Rattle.std.specs.Prelude.{◌≡◌, None, IfSome};
 ghost use Rattle.gix_ref_files.specs.Files.{Leaves, Loses};
 ghost use Rattle.gix_ref_packed.specs.OpenFiles.{HasReadFault};
 ghost use Rattle.gix_ref_transaction.specs.OwnLocks.{paths_of};
-ghost use Rattle.gix_ref_store.specs.CommitResult.{left_of, mode_of};
+ghost use Rattle.gix_ref_store.specs.CommitResult.{left_of, mode_handed_back};
 ghost use Rattle.gix_ref_store.specs.Prepared.{HasGoodRecords, IsAtRest};
 ghost use Rattle.gix_ref_store.specs.Store.{files_of, IsSameStore};
-ghost use Rattle.gix_ref_program.specs.Updates.{IsMade, IsStopOf, IsLossOf, IsUpdateError, error_of};
+ghost use Rattle.gix_ref_program.specs.Updates.{UpdateMade, IsStopOf, IsLossOf, IsUpdateError, error_of};
 
 use gix_ref_edits::transaction::RefEdit;
 use gix_ref_files::files::Files;
@@ -50,7 +50,7 @@ pub fn update<F: Files>(
     committer: Option<SignatureRef<'_>>,
     edits: Vec<RefEdit>,
 ) -> UpdateReport
-    ensures done { result.error ≡ None → IsMade F.honest F.means F.faults store.old store.new
+    ensures done { result.error ≡ None → UpdateMade F.honest F.means F.faults store.old store.new
         committer.entry edits.items (paths_of result.locks_left.items) }
     ensures error { IfSome result.error (λ error. IsUpdateError F.honest F.means F.faults
         (HasReadFault F.Reader.faults) store.old store.new committer.entry edits.items error
@@ -89,7 +89,7 @@ pub fn update<F: Files>(
 /// The report of a commit by its result.
 fn report_of_commit(answer: Result<Done, Failed>) -> UpdateReport
     ensures error { result.error ≡ error_of answer }
-    ensures packed_refs { result.packed_refs ≡ mode_of answer }
+    ensures packed_refs { result.packed_refs ≡ mode_handed_back answer }
     ensures left { paths_of result.locks_left.items ≡ left_of answer }
 {
     match answer {

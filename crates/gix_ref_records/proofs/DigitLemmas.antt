@@ -6,11 +6,11 @@ use denote.Ref.{Bor}
 use Rattle.gix_ref_hash.specs.declared.hash.Kind.{Kind}
 use Rattle.gix_ref_hash.specs.Ids.{kind_len, IsHexOf}
 use Rattle.gix_ref_hash.proofs.IdDigits.{kind_text}
-use Rattle.gix_ref_records.specs.RecordGrammar.{Peeled}
+use Rattle.gix_ref_records.specs.RecordGrammar.{OptionalPeeledLine}
 use Rattle.gix_ref_records.specs.IdDigits.{is_id_if_any}
 use Rattle.gix_ref_records.proofs.OneReading.{same_front}
 
-pub peeled_text : (k : Kind) (t : List ℕ) (o : Option (Bor (List ℕ))) (rest : List ℕ) → Peeled k t (option_map (λ (b : Bor (List ℕ)). b.now) o) rest → is_id_if_any o ≡ true
+pub peeled_text : (k : Kind) (t : List ℕ) (o : Option (Bor (List ℕ))) (rest : List ℕ) → OptionalPeeledLine k t (option_map (λ (b : Bor (List ℕ)). b.now) o) rest → is_id_if_any o ≡ true
 peeled_text k t None rest f = refl
 peeled_text k t (Some b) rest f = kind_text k b.now f.id
 

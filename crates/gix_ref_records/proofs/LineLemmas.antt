@@ -5,7 +5,7 @@ use Rattle.std.proofs.lemmas.List.{get_or-take, get_or-drop, drop_all}
 use Rattle.std.proofs.lemmas.List.Elements.{All-from_get_or}
 use Rattle.gix_ref_hash.specs.Bytes.{Spans}
 use Rattle.gix_ref_hash.proofs.ByteLemmas.{spans_at, spans_all}
-use Rattle.gix_ref_records.specs.RecordGrammar.{Newline, Line, in_line}
+use Rattle.gix_ref_records.specs.RecordGrammar.{Newline, Line, in_record_line}
 use Rattle.gix_ref_records.proofs.OneReading.{no_newline, no_line}
 
 -- LF or CR
@@ -24,16 +24,16 @@ front_of_none p t i within none =
     let below : k < i = omega arith in
     not_true (p (get_or (take i t) k 0)) (λ is. none k (omega arith) below (ap p (sym (get_or-take i t k 0 below)) ∙ is)))
 
-pub cut_at : (t : List ℕ) (i : ℕ) → i < length t → ((k : ℕ) → 0 ≤ k → k < i → ends (get_or t k 0) ≡ true → ⊥) → ends (get_or t i 0) ≡ true → Spans in_line t (take i t) (drop i t)
+pub cut_at : (t : List ℕ) (i : ℕ) → i < length t → ((k : ℕ) → 0 ≤ k → k < i → ends (get_or t k 0) ≡ true → ⊥) → ends (get_or t i 0) ≡ true → Spans in_record_line t (take i t) (drop i t)
 cut_at t i within none here =
     let low : i ≤ length t = omega arith in
-    spans_at in_line t i within (front_of_none ends t i low none) (ap not here)
+    spans_at in_record_line t i within (front_of_none ends t i low none) (ap not here)
 
 -- a text without them has no line
 pub unended : (t : List ℕ) → ((k : ℕ) → 0 ≤ k → k < length t → ends (get_or t k 0) ≡ true → ⊥) → (a r : List ℕ) → Line t a r → ⊥
 unended t none =
     let all : length t ≤ length t = omega arith in
-    let cut = spans_all in_line t (length t) (length t) all all (front_of_none ends t (length t) all none) in
+    let cut = spans_all in_record_line t (length t) (length t) all all (front_of_none ends t (length t) all none) in
     no_line t _ _ cut (subst (λ (u : List ℕ). (r : List ℕ) → Newline u r → ⊥) (sym (drop_all (length t) t all)) no_newline)
 
 -- no LF in a part says none in the text

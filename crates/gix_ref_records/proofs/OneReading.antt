@@ -8,7 +8,7 @@ use Rattle.gix_ref_hash.specs.Bytes.{StopsAt, Spans}
 use Rattle.gix_ref_grammar.specs.NameGrammar.{IsFullName, full_error, partial_error}
 use Rattle.gix_ref_hash.proofs.ByteLemmas.{same_span}
 use Rattle.gix_ref_base.specs.PackedRecords.{Record}
-use Rattle.gix_ref_records.specs.RecordGrammar.{Newline, Line, RecordLine, Peeled, PeeledForm, Takes, TakesForm, in_line, is_caret}
+use Rattle.gix_ref_records.specs.RecordGrammar.{Newline, Line, RecordLine, OptionalPeeledLine, PeeledForm, Takes, TakesForm, in_record_line, is_caret}
 
 abbrev is_lf : List ℕ → Bool
 is_lf [] = false
@@ -26,7 +26,7 @@ no_newline r (inr a) = cc
 
 pub same_line : (t a r b s : List ℕ) → Line t a r → Line t b s → (a ≡ b) × (r ≡ s)
 same_line t a r b s f g =
-    let cut = same_span in_line t a b f.after g.after f.cut g.cut in
+    let cut = same_span in_record_line t a b f.after g.after f.cut g.cut in
     let rest = subst (λ (u : List ℕ). Newline u r) cut.1 f.newline in
     (cut.0, same_newline g.after r s rest g.newline)
 
@@ -44,7 +44,7 @@ same_record_line k t d n r e m s f g =
     let line = same_line g.after n r m s (subst (λ (u : List ℕ). Line u n r) after f.line) g.line in
     (front.0, line.0, line.1)
 
-pub same_peeled : (k : Kind) (t : List ℕ) (o : Option (List ℕ)) (a : List ℕ) (p : Option (List ℕ)) (b : List ℕ) → Peeled k t o a → Peeled k t p b → (o ≡ p) × (a ≡ b)
+pub same_peeled : (k : Kind) (t : List ℕ) (o : Option (List ℕ)) (a : List ℕ) (p : Option (List ℕ)) (b : List ℕ) → OptionalPeeledLine k t o a → OptionalPeeledLine k t p b → (o ≡ p) × (a ≡ b)
 same_peeled k t None a None b f g = (refl, sym f.0 ∙ g.0)
 same_peeled k t None a (Some y) b f g =
     let stop : true ≡ false = subst (StopsAt is_caret) (sym f.0 ∙ g.whole) f.1 in absurd (cc)
@@ -59,7 +59,7 @@ same_peeled k t (Some x) a (Some y) b f g =
 pub same_record : (k : Kind) (t : List ℕ) (r : Record) (a : List ℕ) (s : Record) (b : List ℕ) → Takes k t r a → Takes k t s b → (r ≡ s) × (a ≡ b)
 same_record k t r a s b f g =
     let shape = same_record_line k t r.target r.name f.after s.target s.name g.after f.line g.line in
-    let peeled = same_peeled k g.after r.object a s.object b (subst (λ (u : List ℕ). Peeled k u r.object a) shape.2 f.peeled) g.peeled in
+    let peeled = same_peeled k g.after r.object a s.object b (subst (λ (u : List ℕ). OptionalPeeledLine k u r.object a) shape.2 f.peeled) g.peeled in
     let all : r ≡ s = λ i. record { name = shape.1 i; target = shape.0 i; object = peeled.0 i } in
     (all, peeled.1)
 
@@ -88,11 +88,11 @@ unfolding full_error partial_error
 some_name n valid empty = let none : full_error [] ≡ None = subst IsFullName empty valid in cc
 
 -- what refuses a part of a record refuses the record
-pub no_line : (t line after : List ℕ) → Spans in_line t line after → ((rest : List ℕ) → Newline after rest → ⊥) → (a r : List ℕ) → Line t a r → ⊥
+pub no_line : (t line after : List ℕ) → Spans in_record_line t line after → ((rest : List ℕ) → Newline after rest → ⊥) → (a r : List ℕ) → Line t a r → ⊥
 no_line t line after cut none a r f =
-    let same = same_span in_line t a line f.after after f.cut cut in none r (subst (λ (u : List ℕ). Newline u r) same.1 f.newline)
+    let same = same_span in_record_line t a line f.after after f.cut cut in none r (subst (λ (u : List ℕ). Newline u r) same.1 f.newline)
 
-pub no_end : (k : Kind) (t line object after : List ℕ) → t ≡ 94 ∷ line → IsHexOf k object → line ≡ object ++ after → ((rest : List ℕ) → Newline after rest → ⊥) → (o : Option (List ℕ)) (r : List ℕ) → Peeled k t o r → ⊥
+pub no_end : (k : Kind) (t line object after : List ℕ) → t ≡ 94 ∷ line → IsHexOf k object → line ≡ object ++ after → ((rest : List ℕ) → Newline after rest → ⊥) → (o : Option (List ℕ)) (r : List ℕ) → OptionalPeeledLine k t o r → ⊥
 no_end k t line object after whole id cut none None r f =
     let stop : true ≡ false = subst (StopsAt is_caret) (sym f.0 ∙ whole) f.1 in cc
 no_end k t line object after whole id cut none (Some x) r f =
@@ -100,7 +100,7 @@ no_end k t line object after whole id cut none (Some x) r f =
     let front = same_front x f.after object after (f.id.len ∙ sym id.len) both in
     none r (subst (λ (u : List ℕ). Newline u r) front.1 f.newline)
 
-pub no_id : (k : Kind) (t line : List ℕ) → t ≡ 94 ∷ line → ((digits rest : List ℕ) → IsHexOf k digits → line ≡ digits ++ rest → ⊥) → (o : Option (List ℕ)) (r : List ℕ) → Peeled k t o r → ⊥
+pub no_id : (k : Kind) (t line : List ℕ) → t ≡ 94 ∷ line → ((digits rest : List ℕ) → IsHexOf k digits → line ≡ digits ++ rest → ⊥) → (o : Option (List ℕ)) (r : List ℕ) → OptionalPeeledLine k t o r → ⊥
 no_id k t line whole none None r f = let stop : true ≡ false = subst (StopsAt is_caret) (sym f.0 ∙ whole) f.1 in cc
 no_id k t line whole none (Some x) r f = let both : line ≡ x ++ f.after = cc (f.whole, whole) in none x f.after f.id both
 
@@ -108,10 +108,10 @@ pub no_caret : (t : List ℕ) → ((rest : List ℕ) → t ≢ 94 ∷ rest) → 
 no_caret [] none = tt
 no_caret (b ∷ t) none = ⊎_elim (λ (same : b ≡ 94). absurd (none t (ap (λ x. x ∷ t) same))) (λ (other : b ≡ 94 → ⊥). ne_eqb b 94 other) (cases_eq b 94)
 
-pub no_record : (k : Kind) (t d n after : List ℕ) → RecordLine k t d n after → (IsHexOf k d → IsFullName n → (o : Option (List ℕ)) (rest : List ℕ) → Peeled k after o rest → ⊥) → (r : Record) (rest : List ℕ) → Takes k t r rest → ⊥
+pub no_record : (k : Kind) (t d n after : List ℕ) → RecordLine k t d n after → (IsHexOf k d → IsFullName n → (o : Option (List ℕ)) (rest : List ℕ) → OptionalPeeledLine k after o rest → ⊥) → (r : Record) (rest : List ℕ) → Takes k t r rest → ⊥
 no_record k t d n after shape none r rest f =
     let same = same_record_line k t r.target r.name f.after d n after f.line shape in
-    none (subst (IsHexOf k) same.0 f.id) (subst IsFullName same.1 f.valid) r.object rest (subst (λ (u : List ℕ). Peeled k u r.object rest) same.2 f.peeled)
+    none (subst (IsHexOf k) same.0 f.id) (subst IsFullName same.1 f.valid) r.object rest (subst (λ (u : List ℕ). OptionalPeeledLine k u r.object rest) same.2 f.peeled)
 
 pub no_record_line : (k : Kind) (t d after : List ℕ) → t ≡ d ++ 32 ∷ after → length d ≡ 2 * kind_len k → ((name rest : List ℕ) → Line after name rest → ⊥) → (e n r : List ℕ) → RecordLine k t e n r → ⊥
 no_record_line k t d after whole len none e n r f =

@@ -15,7 +15,7 @@ use Rattle.std.proofs.lemmas.List.{get_or_default, take_all, drop_at, drop-take,
 use Rattle.std.proofs.lemmas.List.Elements.{All-head, All-tail, All-cons, All-nil}
 use Rattle.gix_ref_hash.specs.declared.hash.Kind.{Kind}
 use Rattle.gix_ref_hash.specs.Ids.{kind_len}
-use Rattle.gix_ref_records.specs.RecordGrammar.{Newline, in_line}
+use Rattle.gix_ref_records.specs.RecordGrammar.{Newline, in_record_line}
 use Rattle.gix_ref_records.specs.Positions.{NameAt, Compares, IsPlain, Orders, OrdersIfNamed}
 use Rattle.gix_ref_records.proofs.OneReading.{same_record_line, spaced}
 
@@ -58,11 +58,11 @@ quick k text part wanted n l o plain len some is inside short other cmp name at 
     let same : take l (drop (n + 1) part) ≡ take l (name ++ end.0 ∷ end.2) = ap (take l) cut ∙ sym (take-append-le l (take m line.after) (drop m line.after) (let same = ap length cut in omega arith)) ∙ ap (take l) (take-append-drop m line.after) ∙ ap (take l) named in
     sym (ended l name wanted end.0 end.2 end.1 plain short o other (ap (λ t. slice_cmp nat_cmp t (take l wanted)) (sym same) ∙ cmp))
 
-plain_in_line : (name : List ℕ) → IsPlain name → AllPass in_line name
-plain_in_line [] plain = All-nil (λ b. in_line b ≡ true)
+plain_in_line : (name : List ℕ) → IsPlain name → AllPass in_record_line name
+plain_in_line [] plain = All-nil (λ b. in_record_line b ≡ true)
 plain_in_line (b ∷ name) plain =
     let high : 13 < b = All-head (λ x. 13 < x) b name plain in
-    All-cons (λ x. in_line x ≡ true) b name (λ i. not (ne_eqb b 10 (λ e. absurd (omega arith)) i || ne_eqb b 13 (λ e. absurd (omega arith)) i)) (plain_in_line name (All-tail (λ x. 13 < x) b name plain))
+    All-cons (λ x. in_record_line x ≡ true) b name (λ i. not (ne_eqb b 10 (λ e. absurd (omega arith)) i || ne_eqb b 13 (λ e. absurd (omega arith)) i)) (plain_in_line name (All-tail (λ x. 13 < x) b name plain))
 
 -- the wanted name and LF are in a name's place
 pub whole_name : (k : Kind) (text part wanted : List ℕ) (n l : ℕ) → IsPlain wanted → n ≡ 2 * kind_len k → n < length part → get_or part n 0 ≡ 32 → part ≡ take (length part) text

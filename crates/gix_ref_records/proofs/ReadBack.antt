@@ -12,7 +12,7 @@ use Rattle.gix_ref_grammar.specs.NameGrammar.{IsFullName, IsPartialName, is_inva
 use Rattle.gix_ref_grammar.proofs.PartialNames.{rules_of}
 use Rattle.gix_ref_records.specs.declared.packed.decode.options.Header.{Header}
 use Rattle.gix_ref_base.specs.PackedRecords.{Record, object_line, record_text, header_text}
-use Rattle.gix_ref_records.specs.RecordGrammar.{Line, Peeled, Takes, Records, in_line, is_caret}
+use Rattle.gix_ref_records.specs.RecordGrammar.{Line, OptionalPeeledLine, Takes, Records, in_record_line, is_caret}
 use Rattle.gix_ref_records.specs.HeaderGrammar.{TakesHeader, said_by, said, silent, words}
 use Rattle.gix_ref_records.specs.OpenedText.{Heads, is_hash}
 use Rattle.gix_ref_records.specs.Positions.{IsObject, IsReadable}
@@ -29,7 +29,7 @@ partial_of_full : (n : List ℕ) → IsFullName n → IsPartialName n
 unfolding full_error
 partial_of_full n valid = first_none _ _ valid
 
-valid_in_line : (b : ℕ) → is_invalid b ≡ false → in_line b ≡ true
+valid_in_line : (b : ℕ) → is_invalid b ≡ false → in_record_line b ≡ true
 valid_in_line b valid = ⊎_elim
     (λ (lf : b ≡ 10). let bad : is_invalid 10 ≡ false = subst (λ (x : ℕ). is_invalid x ≡ false) lf valid in absurd (cc))
     (λ (not_lf : b ≡ 10 → ⊥). ⊎_elim
@@ -43,19 +43,19 @@ valid_in_line b valid = ⊎_elim
     go false true p q = absurd (q refl)
     go false false p q = refl
 
-in_one_line : (n : List ℕ) → find is_invalid n ≡ None → AllPass in_line n
-in_one_line [] h = All-nil (λ b. in_line b ≡ true)
+in_one_line : (n : List ℕ) → find is_invalid n ≡ None → AllPass in_record_line n
+in_one_line [] h = All-nil (λ b. in_record_line b ≡ true)
 in_one_line (b ∷ n) h = go (is_invalid b) refl h (in_one_line n)
   where
-    go : (x : Bool) → is_invalid b ≡ x → cond x (Some b) (find is_invalid n) ≡ None → (find is_invalid n ≡ None → AllPass in_line n) → AllPass in_line (b ∷ n)
+    go : (x : Bool) → is_invalid b ≡ x → cond x (Some b) (find is_invalid n) ≡ None → (find is_invalid n ≡ None → AllPass in_record_line n) → AllPass in_record_line (b ∷ n)
     go true is k more = absurd (cc)
-    go false is k more = All-cons (λ x. in_line x ≡ true) b n (valid_in_line b is) (more k)
+    go false is k more = All-cons (λ x. in_record_line x ≡ true) b n (valid_in_line b is) (more k)
 
 -- the name of a record is in one line
-pub name_in_line : (n : List ℕ) → IsFullName n → AllPass in_line n
+pub name_in_line : (n : List ℕ) → IsFullName n → AllPass in_record_line n
 name_in_line n valid = in_one_line n (rules_of n (partial_of_full n valid)).0.valid
 
-object_back : (k : Kind) (o : Option (List ℕ)) (x : List ℕ) → IsObject k o → StopsAt is_caret x → Peeled k (object_line o ++ x) o x
+object_back : (k : Kind) (o : Option (List ℕ)) (x : List ℕ) → IsObject k o → StopsAt is_caret x → OptionalPeeledLine k (object_line o ++ x) o x
 object_back k None x digits stops = (refl, stops)
 object_back k (Some object) x digits stops = record {
   after = 10 ∷ x;
@@ -101,7 +101,7 @@ header_back rest = record {
   whole = refl;
   is_line = record {
     after = 10 ∷ rest;
-    cut = record { whole = refl; front_passes = AllPass-from_list_all in_line (codes "peeled fully-peeled sorted ") refl; stops = refl };
+    cut = record { whole = refl; front_passes = AllPass-from_list_all in_record_line (codes "peeled fully-peeled sorted ") refl; stops = refl };
     newline = inl refl;
   };
   says = refl;

@@ -7,7 +7,7 @@ use Rattle.gix_ref_hash.specs.declared.hash.Kind.TheVariants as kinds
 use Rattle.gix_ref_hash.specs.Ids.{kind_len}
 use Rattle.gix_ref_hash.specs.Bytes.{StopsAt}
 use Rattle.gix_ref_base.specs.PackedRecords.{Record}
-use Rattle.gix_ref_records.specs.RecordGrammar.{Newline, Line, Peeled, Takes, NoRecord, Records, in_line, is_caret}
+use Rattle.gix_ref_records.specs.RecordGrammar.{Newline, Line, OptionalPeeledLine, Takes, NoRecord, Records, in_record_line, is_caret}
 use Rattle.gix_ref_records.specs.declared.packed.decode.options.Header.{Header}
 use Rattle.gix_ref_records.specs.HeaderGrammar.{TakesHeader}
 use Rattle.gix_ref_records.specs.OpenedText.{Fronts, lines_with, lines_of, line_count}
@@ -18,9 +18,9 @@ newline_end : (a rest : List ℕ) → Newline a rest → (e : List ℕ) × (a �
 newline_end a rest (inl lf) = (10 ∷ [], lf, λ x. inl refl, lit≤ tt)
 newline_end a rest (inr crlf) = (13 ∷ 10 ∷ [], crlf, λ x. inr refl, lit≤ tt)
 
-newline_stops : (a rest : List ℕ) → Newline a rest → StopsAt in_line a
-newline_stops a rest (inl lf) = subst (StopsAt in_line) (sym lf) refl
-newline_stops a rest (inr crlf) = subst (StopsAt in_line) (sym crlf) refl
+newline_stops : (a rest : List ℕ) → Newline a rest → StopsAt in_record_line a
+newline_stops a rest (inl lf) = subst (StopsAt in_record_line) (sym lf) refl
+newline_stops a rest (inr crlf) = subst (StopsAt in_record_line) (sym crlf) refl
 
 pub line_front : (after name rest : List ℕ) → Line after name rest → (l : List ℕ) × (after ≡ l ++ rest) × ((x : List ℕ) → Line (l ++ x) name x) × (length l ≤ length name + 2)
 line_front after name rest f =
@@ -37,7 +37,7 @@ line_front after name rest f =
       omega arith,
     )
 
-peeled_front : (k : Kind) (after : List ℕ) (o : Option (List ℕ)) (rest : List ℕ) → Peeled k after o rest → (second : List ℕ) × (after ≡ second ++ rest) × ((x : List ℕ) → (o ≡ None → StopsAt is_caret x) → Peeled k (second ++ x) o x)
+peeled_front : (k : Kind) (after : List ℕ) (o : Option (List ℕ)) (rest : List ℕ) → OptionalPeeledLine k after o rest → (second : List ℕ) × (after ≡ second ++ rest) × ((x : List ℕ) → (o ≡ None → StopsAt is_caret x) → OptionalPeeledLine k (second ++ x) o x)
 peeled_front k after None rest f = ([], f.0, λ x stops. (refl, stops refl))
 peeled_front k after (Some object) rest f =
     let e = newline_end f.after rest f.newline in (

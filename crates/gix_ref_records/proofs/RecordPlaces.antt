@@ -11,7 +11,7 @@ use Rattle.gix_ref_hash.specs.declared.hash.Kind.TheVariants as kinds
 use Rattle.gix_ref_hash.specs.Ids.{kind_len, IsHexOf}
 use Rattle.gix_ref_hash.specs.Bytes.{StopsAt}
 use Rattle.gix_ref_base.specs.PackedRecords.{Record}
-use Rattle.gix_ref_records.specs.RecordGrammar.{Newline, Line, Peeled, PeeledForm, Takes, TakesForm, Records, Forms, in_line, is_caret}
+use Rattle.gix_ref_records.specs.RecordGrammar.{Newline, Line, OptionalPeeledLine, PeeledForm, Takes, TakesForm, Records, Forms, in_record_line, is_caret}
 use Rattle.gix_ref_records.specs.Positions.{LineOf, RecordOf, BeginsLine}
 use Rattle.gix_ref_records.proofs.OneReading.{some_name as some_full_name}
 
@@ -43,9 +43,9 @@ hex_no_lf d k h i x lt same =
     let hex : is_hex_digit (get_or d i x) ≡ true = h.digits i x lt in
     let bad : is_hex_digit 10 ≡ true = subst (λ (b : ℕ). is_hex_digit b ≡ true) same hex in cc
 
-line_no_lf : (l : List ℕ) → All (λ b. in_line b ≡ true) l → NoLf l
+line_no_lf : (l : List ℕ) → All (λ b. in_record_line b ≡ true) l → NoLf l
 line_no_lf l passes i x lt same =
-    let bad : in_line 10 ≡ true = subst (λ (b : ℕ). in_line b ≡ true) same (passes i x lt) in cc
+    let bad : in_record_line 10 ≡ true = subst (λ (b : ℕ). in_record_line b ≡ true) same (passes i x lt) in cc
 
 one_no_lf : (b : ℕ) → (b == 10) ≡ false → NoLf (b ∷ [])
 one_no_lf b other zero x lt same = let e : (b == 10) ≡ true = eq-eqb b 10 same in cc
@@ -123,10 +123,10 @@ some_digits : (k : Kind) (n : ℕ) → n ≡ 2 * kind_len k → 0 < n
 some_digits kinds.Sha1 n e = omega arith
 some_digits kinds.Sha256 n e = omega arith
 
-hex_in_line : (d : List ℕ) (k : Kind) → IsHexOf k d → AllPass in_line d
+hex_in_line : (d : List ℕ) (k : Kind) → IsHexOf k d → AllPass in_record_line d
 hex_in_line d k h i x lt = go (get_or d i x) (h.digits i x lt)
   where
-    go : (b : ℕ) → is_hex_digit b ≡ true → in_line b ≡ true
+    go : (b : ℕ) → is_hex_digit b ≡ true → in_record_line b ≡ true
     go b hex = ⊎_elim
         (λ (lf : b ≡ 10). let bad : is_hex_digit 10 ≡ true = subst (λ (x : ℕ). is_hex_digit x ≡ true) lf hex in absurd (cc))
         (λ (not_lf : b ≡ 10 → ⊥). ⊎_elim
@@ -140,11 +140,11 @@ hex_in_line d k h i x lt = go (get_or d i x) (h.digits i x lt)
         neither false true p q = absurd (q refl)
         neither false false p q = refl
 
-newline_stops : (a rest : List ℕ) → Newline a rest → StopsAt in_line a
-newline_stops a rest (inl lf) = subst (StopsAt in_line) (sym lf) refl
-newline_stops a rest (inr crlf) = subst (StopsAt in_line) (sym crlf) refl
+newline_stops : (a rest : List ℕ) → Newline a rest → StopsAt in_record_line a
+newline_stops a rest (inl lf) = subst (StopsAt in_record_line) (sym lf) refl
+newline_stops a rest (inr crlf) = subst (StopsAt in_record_line) (sym crlf) refl
 
-peeled_form : (k : Kind) (after : List ℕ) (o : Option (List ℕ)) (rest : List ℕ) → Peeled k after o rest → PeeledForm after o rest
+peeled_form : (k : Kind) (after : List ℕ) (o : Option (List ℕ)) (rest : List ℕ) → OptionalPeeledLine k after o rest → PeeledForm after o rest
 peeled_form k after None rest f = f
 peeled_form k after (Some object) rest f = (
   object ++ f.after,
@@ -286,10 +286,10 @@ later_record text front rest s o n f plain at is =
     (λ (more : line.0 ≡ 0 → ⊥).
     let before : at.line - 1 ≡ length front + (line.0 - 1) = omega arith in
     let start = past text front rest s (at.line - 1) (line.0 - 1) f.ends f.whole goes.2 before in
-    (start.0, start.1, record { line = line.0; in_line = line.2; goes = inl (sym moved ∙ goes.0, omega arith, start.2) }))
+    (start.0, start.1, record { line = line.0; in_record_line = line.2; goes = inl (sym moved ∙ goes.0, omega arith, start.2) }))
     (cases_eq line.0 0))
     (λ (stays : (get_or text at.line 0 ≡ 94 → at.line ≡ 0) × (s ≡ at.line)).
-    (line.0, stays.1 ∙ split, record { line = line.0; in_line = line.2; goes = inr (λ caret. let first = stays.0 (moved ∙ caret) in omega arith, refl) }))
+    (line.0, stays.1 ∙ split, record { line = line.0; in_record_line = line.2; goes = inr (λ caret. let first = stays.0 (moved ∙ caret) in omega arith, refl) }))
     at.goes
 
 -- the record that a byte is in

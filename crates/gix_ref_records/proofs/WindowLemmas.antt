@@ -11,7 +11,7 @@ use denote.Ref.{Bor}
 use Rattle.gix_ref_hash.specs.declared.hash.ObjectId.{ObjectId}
 use Rattle.gix_ref_records.specs.IdDigits.{ReadsIfAny}
 use Rattle.gix_ref_base.specs.PackedRecords.{Record}
-use Rattle.gix_ref_records.specs.RecordGrammar.{RecordLine, Peeled, Takes, in_line, is_caret}
+use Rattle.gix_ref_records.specs.RecordGrammar.{RecordLine, OptionalPeeledLine, Takes, in_record_line, is_caret}
 use Rattle.gix_ref_records.specs.Positions.{LineOf, SameLine, NameAt}
 use Rattle.gix_ref_records.specs.Windows.{IsWindow, ReadsOption}
 use Rattle.gix_ref_records.proofs.RecordBytes.{line_front, lines_taken}
@@ -77,8 +77,8 @@ newline_far k t part d n r len end f is sized within newline = ⊎_elim
     get_or-drop (len + 1) part end 0 ∙ ap (λ p. get_or p (len + 1 + end) 0) is ∙ get_or-take (length part) t (len + 1 + end) 0 (omega arith)
     ∙ ap (λ u. get_or u (len + 1 + end) 0) f.whole ∙ ap (λ i. get_or (d ++ 32 ∷ f.after) i 0) (place at)
     ∙ get_or-append-add d (32 ∷ f.after) (1 + end) 0 ∙ behind ∙ ap (λ u. get_or u end 0) f.line.cut.whole ∙ get_or_append_left n f.line.after 0 end inside in
-    let passes : in_line (get_or n end 0) ≡ true = f.line.cut.front_passes end 0 inside in
-    let here : in_line (get_or (drop (len + 1) part) end 0) ≡ true = subst (λ (b : ℕ). in_line b ≡ true) (sym same) passes in
+    let passes : in_record_line (get_or n end 0) ≡ true = f.line.cut.front_passes end 0 inside in
+    let here : in_record_line (get_or (drop (len + 1) part) end 0) ≡ true = subst (λ (b : ℕ). in_record_line b ≡ true) (sym same) passes in
     let bad : not true ≡ true = ap not (sym newline) ∙ here in absurd (cc))
     (λ (far : length d + length n + 3 ≤ length part). far)
     (cases_lt (length part) (length d + length n + 3))
@@ -159,6 +159,6 @@ record_wider k t part r rest f is some =
     longer [] b some stops = absurd (some refl)
     longer (x ∷ a) b some stops = stops
 
-    stops_at : (o : Option (List ℕ)) (after rest : List ℕ) → o ≡ None → Peeled k after o rest → StopsAt is_caret rest
+    stops_at : (o : Option (List ℕ)) (after rest : List ℕ) → o ≡ None → OptionalPeeledLine k after o rest → StopsAt is_caret rest
     stops_at None after rest none f = f.1
     stops_at (Some object) after rest none f = absurd (cc)

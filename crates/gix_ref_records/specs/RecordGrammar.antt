@@ -15,13 +15,13 @@ abbrev pub Newline : List ℕ → List ℕ → Type 0
 Newline text rest = (text ≡ 10 ∷ rest) ⊎ (text ≡ 13 ∷ 10 ∷ rest)
 
 -- neither LF nor CR
-abbrev pub in_line : ℕ → Bool
-in_line b = not ((b == 10) || (b == 13))
+abbrev pub in_record_line : ℕ → Bool
+in_record_line b = not ((b == 10) || (b == 13))
 
 -- a line without its newline, and the rest; a CR alone is in no line
 pub record Line (text line rest : List ℕ) : Type 0 where
   pub after : List ℕ
-  pub cut : Spans in_line text line after
+  pub cut : Spans in_record_line text line after
   pub newline : Newline after rest
 
 -- as many bytes as an id has digits, a space and a name, none of them checked
@@ -42,9 +42,9 @@ pub record PeeledLine (kind : Kind) (text object rest : List ℕ) : Type 0 where
   pub newline : Newline after rest
 
 -- a line that begins with `^` belongs to the record before it
-abbrev pub Peeled : Kind → List ℕ → Option (List ℕ) → List ℕ → Type 0
-Peeled kind text None rest = (text ≡ rest) × StopsAt is_caret rest
-Peeled kind text (Some object) rest = PeeledLine kind text object rest
+abbrev pub OptionalPeeledLine : Kind → List ℕ → Option (List ℕ) → List ℕ → Type 0
+OptionalPeeledLine kind text None rest = (text ≡ rest) × StopsAt is_caret rest
+OptionalPeeledLine kind text (Some object) rest = PeeledLine kind text object rest
 
 -- a record at the front of a text, and the rest
 pub record Takes (kind : Kind) (text : List ℕ) (r : Record) (rest : List ℕ) : Type 0 where
@@ -52,7 +52,7 @@ pub record Takes (kind : Kind) (text : List ℕ) (r : Record) (rest : List ℕ) 
   pub line : RecordLine kind text r.target r.name after
   pub id : IsHexOf kind r.target
   pub valid : IsFullName r.name
-  pub peeled : Peeled kind after r.object rest
+  pub peeled : OptionalPeeledLine kind after r.object rest
 
 -- a line that begins with `^` belongs to the record before it; what follows the `^` is not checked
 abbrev pub PeeledForm : List ℕ → Option (List ℕ) → List ℕ → Type 0

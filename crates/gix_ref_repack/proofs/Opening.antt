@@ -14,7 +14,7 @@ use Rattle.gix_ref_packed.proofs.WellFormedLemmas.{opened_holds}
 use Rattle.gix_ref_lookup.specs.Lookups.{ArePackedRecords, IsFaultOrMemory}
 use Rattle.gix_ref_lookup.specs.Lookups as lookups
 use Rattle.gix_ref_lookup.proofs.Opening.{opens_sound}
-use Rattle.gix_ref_repack.specs.Refusals.{IsIoOrMemory, IsReadFile, IsReadText, of_opening}
+use Rattle.gix_ref_repack.specs.Refusals.{IsRepackFault, IsReadFile, IsReadText, repack_of_opening}
 use Rattle.gix_ref_repack.specs.declared.error.Error.{Error}
 use Rattle.gix_ref_repack.specs.declared.error.Error.TheVariants.{Memory}
 use Rattle.gix_ref_repack.specs.Removals.{finds_some}
@@ -37,19 +37,19 @@ none_found kind (Some Folder) rs keys are no_file = ap (finds_some keys) are ∙
 none_found kind None rs keys are no_file = ap (finds_some keys) are ∙ finds_none keys
 
 -- a well-formed file is opened, but for a fault or want of memory
-pub sound : (kind : Kind) (content : Option Content) (rs : List Record) (error : OpenError) → ArePackedRecords kind (file_of content) rs → IsRefusedFile kind content error → IsIoOrMemory (of_opening error)
+pub sound : (kind : Kind) (content : Option Content) (rs : List Record) (error : OpenError) → ArePackedRecords kind (file_of content) rs → IsRefusedFile kind content error → IsRepackFault (repack_of_opening error)
 sound kind content rs error are refused = by error (opens_sound kind content rs error are refused)
   where
-    by : (e : OpenError) → IsFaultOrMemory (lookups.of_opening e) → IsIoOrMemory (of_opening e)
+    by : (e : OpenError) → IsFaultOrMemory (lookups.of_opening e) → IsRepackFault (repack_of_opening e)
     by (unread fault) is = tt
     by open_memory is = tt
     by HeaderParsing is = is
     by (Iter line) is = is
 
 -- want of memory is one of the two
-pub memory_only : {X : Type 0} (P : X → Type 0) (r : Result X Error) → MatchResult r P (λ error. error ≡ Memory) → MatchResult r P IsIoOrMemory
+pub memory_only : {X : Type 0} (P : X → Type 0) (r : Result X Error) → MatchResult r P (λ error. error ≡ Memory) → MatchResult r P IsRepackFault
 memory_only P (Ok x) is = is
-memory_only P (Err e) is = subst IsIoOrMemory (sym is) tt
+memory_only P (Err e) is = subst IsRepackFault (sym is) tt
 
 -- what is read of an opened file is read of the file
 pub file_is_read : {X : Type 0} (kind : Kind) (content : Option Content) (b : Buffer) (r : Result X Error) → Opened kind (bytes_of content) b → OnOk r (IsReadText kind (buffer_text b)) → OnOk r (IsReadFile kind content)

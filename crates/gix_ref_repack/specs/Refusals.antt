@@ -16,11 +16,11 @@ use Rattle.gix_ref_repack.specs.declared.error.Error.{Error}
 use Rattle.gix_ref_repack.specs.declared.error.Error.TheVariants.{Commit, Iteration, Io, Memory}
 
 -- how a fault of opening is reported
-abbrev pub of_opening : OpenError → Error
-of_opening HeaderParsing = Iteration 1
-of_opening (Iter line) = Iteration line
-of_opening (unread error) = Io error
-of_opening open_memory = Memory
+abbrev pub repack_of_opening : OpenError → Error
+repack_of_opening HeaderParsing = Iteration 1
+repack_of_opening (Iter line) = Iteration line
+repack_of_opening (unread error) = Io error
+repack_of_opening open_memory = Memory
 
 -- how a fault of a rewrite is reported
 abbrev pub of_rewrite : RewriteError → Error
@@ -28,10 +28,10 @@ of_rewrite (rewriting.Iteration line) = Iteration line
 of_rewrite rewriting.Memory = Memory
 
 -- a fault of files, or no memory
-abbrev pub IsIoOrMemory : Error → Type 0
-IsIoOrMemory (Io error) = Unit {0}
-IsIoOrMemory Memory = Unit {0}
-IsIoOrMemory other = ⊥
+abbrev pub IsRepackFault : Error → Type 0
+IsRepackFault (Io error) = Unit {0}
+IsRepackFault Memory = Unit {0}
+IsRepackFault other = ⊥
 
 -- `Io` is returned only where the count of faults rose, and never for want of memory; `Commit` is not returned
 abbrev pub IsCountedRefusal : ℕ → ℕ → Error → Type 0

@@ -9,7 +9,7 @@ ghost use Rattle.gix_ref_files.specs.DiskCalls.{Untouched};
 ghost use Rattle.gix_ref_files.specs.Files.{disk_of, Leaves, Passes};
 ghost use Rattle.gix_ref_packed.specs.Buffers.{buffer_text, buffer_line, HoldsRecords};
 ghost use Rattle.gix_ref_lookup.specs.Lookups.{meaning_in, packed_refs_in, ArePackedRecords};
-ghost use Rattle.gix_ref_repack.specs.Refusals.{of_opening, of_rewrite, IsCountedRefusal, IsIoOrMemory, IsReadFile, IsReadText, IsRefusedRewrite};
+ghost use Rattle.gix_ref_repack.specs.Refusals.{repack_of_opening, of_rewrite, IsCountedRefusal, IsRepackFault, IsReadFile, IsReadText, IsRefusedRewrite};
 ghost use Rattle.gix_ref_repack.specs.Removals.{AreRemovals, IsStuckIn, IsWithout};
 
 use crate::error::Error;
@@ -26,7 +26,7 @@ use std::alloc::{AllocError, Global};
 
 /// How a fault of opening is reported.
 fn refused(error: open::Error) -> Error
-    ensures { result ≡ of_opening error }
+    ensures { result ≡ repack_of_opening error }
 {
     match error {
         open::Error::HeaderParsing => Error::Iteration { line_number: 1 },
@@ -90,7 +90,7 @@ pub fn file_without<F: Files>(
         ArePackedRecords settings.now.kind (packed_refs_in settings.now (F.means files.old)) rs →
         IsStrictlySortedBy (slice_cmp nat_cmp) (map vec_items keys.now) →
         MatchResult result (IsWithout settings.now.kind (map vec_items keys.now) rs)
-        IsIoOrMemory }
+        IsRepackFault }
     ensures whole { F.honest → OnOk result (IsReadFile settings.now.kind ((F.means files.old).tree
         (meaning_in settings.now).packed_path)) }
     ensures refused { F.honest → IfErr result (IsRefusedRewrite settings.now.kind

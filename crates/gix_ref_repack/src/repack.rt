@@ -10,7 +10,7 @@ ghost use Rattle.gix_ref_theory.specs.Between.{AreEdits};
 ghost use Rattle.gix_ref_transaction.specs.CommittedEdits.{planned};
 ghost use Rattle.gix_ref_transaction.specs.PackedCauses.{ids_among};
 ghost use Rattle.gix_ref_transaction.specs.PrepareSteps.{setting_of, updates, ids_in};
-ghost use Rattle.gix_ref_repack.specs.Refusals.{IsCountedRefusal, IsIoOrMemory, IsReadFile, IsRefusedRewrite};
+ghost use Rattle.gix_ref_repack.specs.Refusals.{IsCountedRefusal, IsRepackFault, IsReadFile, IsRefusedRewrite};
 ghost use Rattle.gix_ref_repack.specs.Repacks.{removes_record, IsRepack};
 
 use crate::error::Error;
@@ -52,7 +52,7 @@ pub fn repack<F: Files>(
     ensures sound { F.honest → AreEdits (setting_of settings.now) (planned (updates edits.now)) →
         (rs : List Record) →
         ArePackedRecords settings.now.kind (packed_refs_in settings.now (F.means files.old)) rs →
-        IfErr result IsIoOrMemory }
+        IfErr result IsRepackFault }
 
     // Of any file, a line that is reported is no record, and where an edit removes a record each line is one. Where no edit removes
     // a record, no file is looked at.

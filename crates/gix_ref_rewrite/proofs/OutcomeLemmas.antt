@@ -7,7 +7,7 @@ use Rattle.std.proofs.lemmas.List.Kept.{AllPairs-cons}
 use Rattle.std.proofs.lemmas.List.Elements.{All-cons, All-nil, All-weaker}
 use Rattle.gix_ref_hash.specs.declared.hash.Kind.{Kind}
 use Rattle.gix_ref_base.specs.PackedRecords.{Record, object_line, record_text, header_text, written_text}
-use Rattle.gix_ref_records.specs.RecordGrammar.{Peeled, Records, Below, Ascending}
+use Rattle.gix_ref_records.specs.RecordGrammar.{OptionalPeeledLine, Records, Below, Ascending}
 use Rattle.gix_ref_records.specs.OpenedText.{IsWellFormed}
 use Rattle.gix_ref_records.specs.Positions.{IsObject, IsReadable}
 use Rattle.gix_ref_records.specs.WrittenText.{written_header}
@@ -44,7 +44,7 @@ distinct_names rs up = λ i j d lt le. apart _ _ (ascending_pairs rs up i j d lt
 
 -- ---- records that can be read
 
-object_read : (k : Kind) (t : List ℕ) (o : Option (List ℕ)) (rest : List ℕ) → Peeled k t o rest → IsObject k o
+object_read : (k : Kind) (t : List ℕ) (o : Option (List ℕ)) (rest : List ℕ) → OptionalPeeledLine k t o rest → IsObject k o
 object_read k t None rest f = tt
 object_read k t (Some object) rest f = f.id
 

@@ -18,7 +18,7 @@ use Rattle.gix_ref_rewrite.specs.declared.ahead.Ahead.{Ahead}
 use Rattle.gix_ref_rewrite.specs.declared.error.Error.{Error}
 use Rattle.gix_ref_rewrite.specs.declared.error.Error.TheVariants.{Iteration, Memory}
 use Rattle.gix_ref_rewrite.specs.Rewrites.{IsStuckAt}
-use Rattle.gix_ref_rewrite.specs.internal.Passing.{Passes, PassesUntil, IsNotAhead}
+use Rattle.gix_ref_rewrite.specs.internal.Passing.{PassesRecords, PassesUntil, IsNotAhead}
 
 fronts_append : (k : Kind) (t : List ℕ) (rs ss : List Record) (mid rest : List ℕ) → Fronts k t rs mid → Fronts k mid ss rest → Fronts k t (rs ++ ss) rest
 fronts_append k t [] ss mid rest f g = subst (λ (u : List ℕ). Fronts k u ss rest) (sym f) g
@@ -28,10 +28,10 @@ pub records_behind : (k : Kind) (t : List ℕ) (rs ss : List Record) (mid : List
 records_behind k t [] ss mid f g = subst (λ (u : List ℕ). Records k u ss) (sym f) g
 records_behind k t (r ∷ rs) ss mid f g = (f.0, f.1, records_behind k f.0 rs ss mid f.2 g)
 
-pub passes_none : (k : Kind) (a : Ahead) → Passes k a [] a
+pub passes_none : (k : Kind) (a : Ahead) → PassesRecords k a [] a
 passes_none k a = record { fronts = refl; number = omega arith; shorter = omega arith }
 
-pub passes_join : (k : Kind) (a b c : Ahead) (rs ss : List Record) → Passes k a rs b → Passes k b ss c → Passes k a (rs ++ ss) c
+pub passes_join : (k : Kind) (a b c : Ahead) (rs ss : List Record) → PassesRecords k a rs b → PassesRecords k b ss c → PassesRecords k a (rs ++ ss) c
 passes_join k a b c rs ss p q =
     let sum = sum_by-append lines_of rs ss in
     let first = p.number in
@@ -45,7 +45,7 @@ passes_join k a b c rs ss p q =
     }
 
 -- a line that is no record behind records that are passed is one of the whole
-pub stuck_behind : (k : Kind) (a b : Ahead) (rs : List Record) (e : Error) → Passes k a rs b → IsStuckAt k b.line b.rest.now e → IsStuckAt k a.line a.rest.now e
+pub stuck_behind : (k : Kind) (a b : Ahead) (rs : List Record) (e : Error) → PassesRecords k a rs b → IsStuckAt k b.line b.rest.now e → IsStuckAt k a.line a.rest.now e
 stuck_behind k a b rs Memory p s = tt
 stuck_behind k a b rs (Iteration line) p s =
     let sum = sum_by-append lines_of rs s.before in

@@ -9,7 +9,7 @@ use Rattle.gix_ref_hash.specs.declared.hash.Kind.{Kind}
 use Rattle.gix_ref_hash.specs.Ids.{IsHexOf}
 use Rattle.gix_ref_hash.specs.Bytes.{Cuts, NoByte}
 use Rattle.gix_ref_base.specs.PackedRecords.{Record, object_line, record_text}
-use Rattle.gix_ref_records.specs.RecordGrammar.{Newline, Peeled, Takes, in_line}
+use Rattle.gix_ref_records.specs.RecordGrammar.{Newline, OptionalPeeledLine, Takes, in_record_line}
 use Rattle.gix_ref_records.specs.OpenedText.{Fronts}
 use Rattle.gix_ref_records.proofs.RecordBytes.{lines_taken, front_is}
 use Rattle.gix_ref_rewrite.specs.internal.Runs.{is_no_cr, without_cr}
@@ -45,8 +45,8 @@ no_cr_passes p fails b passes = ⊎_elim
 digits_kept : (k : Kind) (digits : List ℕ) → IsHexOf k digits → without_cr digits ≡ digits
 digits_kept k digits h = kept is_hex_digit (no_cr_passes is_hex_digit refl) digits h.digits
 
-line_kept : (name : List ℕ) → AllPass in_line name → without_cr name ≡ name
-line_kept name all = kept in_line (no_cr_passes in_line refl) name all
+line_kept : (name : List ℕ) → AllPass in_record_line name → without_cr name ≡ name
+line_kept name all = kept in_record_line (no_cr_passes in_record_line refl) name all
 
 newline_kept : (text rest : List ℕ) → Newline text rest → without_cr text ≡ 10 ∷ without_cr rest
 newline_kept text rest (inl lf) = ap without_cr lf
@@ -55,7 +55,7 @@ newline_kept text rest (inr crlf) = ap without_cr crlf
 part_kept : (part text : List ℕ) → without_cr part ≡ part → without_cr (part ++ text) ≡ part ++ without_cr text
 part_kept part text is = filter-append is_no_cr part text ∙ ap (λ p. p ++ without_cr text) is
 
-peeled_kept : (k : Kind) (text : List ℕ) (o : Option (List ℕ)) (rest : List ℕ) → Peeled k text o rest → without_cr text ≡ object_line o ++ without_cr rest
+peeled_kept : (k : Kind) (text : List ℕ) (o : Option (List ℕ)) (rest : List ℕ) → OptionalPeeledLine k text o rest → without_cr text ≡ object_line o ++ without_cr rest
 peeled_kept k text None rest f = ap without_cr f.0
 peeled_kept k text (Some object) rest f =
     ap without_cr f.whole

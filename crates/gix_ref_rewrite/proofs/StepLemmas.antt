@@ -11,19 +11,19 @@ use Rattle.gix_ref_records.proofs.RecordBytes.{fronts_all}
 use Rattle.gix_ref_rewrite.specs.declared.ahead.Ahead.{Ahead}
 use Rattle.gix_ref_rewrite.specs.declared.applied.Applied.{Applied}
 use Rattle.gix_ref_rewrite.specs.declared.edit.RecordEdit.{RecordEdit}
-use Rattle.gix_ref_rewrite.specs.internal.Passing.{Passes}
+use Rattle.gix_ref_rewrite.specs.internal.Passing.{PassesRecords}
 use Rattle.gix_ref_rewrite.specs.internal.Merging.{put_by, merged_one, merged, alters_one, alters_some}
-use Rattle.gix_ref_rewrite.specs.internal.Applying.{Adds, CopiesUntil, Copies, Applies, Merges}
+use Rattle.gix_ref_rewrite.specs.internal.Applying.{AddsRecords, CopiesUntil, Copies, Applies, Merges}
 use Rattle.gix_ref_rewrite.proofs.PassLemmas.{passes_none, passes_join, records_behind, later_ascends}
 use Rattle.gix_ref_rewrite.proofs.MergeLemmas.{IsOther, merged_below, merged_behind, merged_named, alters_below, alters_behind, alters_named}
 
-pub adds_join : (rs ss : List Record) (a b c : List ℕ) → Adds rs a b → Adds ss b c → Adds (rs ++ ss) a c
+pub adds_join : (rs ss : List Record) (a b c : List ℕ) → AddsRecords rs a b → AddsRecords ss b c → AddsRecords (rs ++ ss) a c
 adds_join rs ss a b c first second =
     second ∙ (ap (λ t. t ++ flat_map record_text ss) first
     ∙ (append_assoc a (flat_map record_text rs) (flat_map record_text ss) ∙ ap (λ t. a ++ t) (sym (flat_map-append record_text rs ss))))
 
 -- the record of the key follows the records below it
-pub applies_named : (k : Kind) (e : RecordEdit) (a b next : Ahead) (old mid new : List ℕ) → Copies k e.key.now a old mid b → Adds (put_by e) mid new → (r : Record) → r.name ≡ e.key.now → Passes k b (r ∷ []) next → Applies k e a old new (record { ahead = next; alters = true })
+pub applies_named : (k : Kind) (e : RecordEdit) (a b next : Ahead) (old mid new : List ℕ) → Copies k e.key.now a old mid b → AddsRecords (put_by e) mid new → (r : Record) → r.name ≡ e.key.now → PassesRecords k b (r ∷ []) next → Applies k e a old new (record { ahead = next; alters = true })
 applies_named k e a b next old mid new copies puts r named passes =
     let p = copies.0 in
     record {
@@ -44,7 +44,7 @@ applies_named k e a b next old mid new copies puts r named passes =
     low rs h up = (copies.0.splits (r ∷ rs) (records_behind k b.rest.now (r ∷ []) rs next.rest.now passes.fronts h) (subst Ascending (append_assoc copies.0.passed (r ∷ []) rs) up)).0
 
 -- no record of the key follows them
-pub applies_other : (k : Kind) (e : RecordEdit) (a b : Ahead) (old mid new : List ℕ) (alters : Bool) → Copies k e.key.now a old mid b → Adds (put_by e) mid new → ((r : Record) (rest : List ℕ) → Takes k b.rest.now r rest → r.name ≢ e.key.now) → alters ≡ is_some e.put → Applies k e a old new (record { ahead = b; alters = alters })
+pub applies_other : (k : Kind) (e : RecordEdit) (a b : Ahead) (old mid new : List ℕ) (alters : Bool) → Copies k e.key.now a old mid b → AddsRecords (put_by e) mid new → ((r : Record) (rest : List ℕ) → Takes k b.rest.now r rest → r.name ≢ e.key.now) → alters ≡ is_some e.put → Applies k e a old new (record { ahead = b; alters = alters })
 applies_other k e a b old mid new alters copies puts other is =
     let p = copies.0 in
     record {
@@ -69,9 +69,9 @@ applies_other k e a b old mid new alters copies puts other is =
 -- The edits before a place were applied: what is left, and what the merge has of it. `old` is the text before them.
 pub record InTurn (k : Kind) (edits : List RecordEdit) (a : Ahead) (old : List ℕ) (place : ℕ) (b : Ahead) (new : List ℕ) (alters : Bool) : Type 0 where
   pub passed : List Record
-  pub passes : Passes k a passed b
+  pub passes : PassesRecords k a passed b
   pub written : List Record
-  pub adds : Adds written old new
+  pub adds : AddsRecords written old new
   pub merges : (rs : List Record) → Records k b.rest.now rs → Ascending (passed ++ rs) → merged edits (passed ++ rs) ≡ written ++ merged (drop place edits) rs
   pub alters_is : (rs : List Record) → Records k b.rest.now rs → Ascending (passed ++ rs) → alters_some edits (passed ++ rs) ≡ (alters || alters_some (drop place edits) rs)
 

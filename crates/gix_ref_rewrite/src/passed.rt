@@ -3,7 +3,7 @@ ghost use Rattle.std.specs.Prelude.{◌≡◌, ◌≢◌, List, [], ◌∷◌, �
 ghost use Rattle.gix_ref_base.specs.PackedRecords.{Record};
 ghost use Rattle.gix_ref_records.specs.RecordGrammar.{Takes};
 ghost use Rattle.gix_ref_rewrite.specs.Rewrites.{IsStuckAt};
-ghost use Rattle.gix_ref_rewrite.specs.internal.Passing.{Passes, PassesUntil};
+ghost use Rattle.gix_ref_rewrite.specs.internal.Passing.{PassesRecords, PassesUntil};
 
 use crate::ahead::Ahead;
 use crate::error::Error;
@@ -32,7 +32,7 @@ pub fn pass_until<'a>(ahead: Ahead<'a>, kind: Kind, left: usize) -> Result<Ahead
 pub fn pass_named<'a>(ahead: Ahead<'a>, kind: Kind, key: &[u8]) -> Option<Ahead<'a>>
     ensures { MatchOption result
         ((r : Record) (rest : List ℕ) → Takes kind ahead.entry.rest.now r rest → r.name ≢ key.now)
-        (λ next. (r : Record) × (r.name ≡ key.now) × Passes kind ahead.entry (r ∷ []) next) }
+        (λ next. (r : Record) × (r.name ≡ key.now) × PassesRecords kind ahead.entry (r ∷ []) next) }
 {
     let Some((reference, after)) = take_record(ahead.rest, kind) else {
         return None;

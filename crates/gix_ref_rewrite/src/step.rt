@@ -2,7 +2,7 @@
 ghost use Rattle.std.specs.Prelude.{◌≡◌, ◌++◌, IfOk, IfErr, OnOk};
 ghost use Rattle.gix_ref_rewrite.specs.Rewrites.{IsStuckAt};
 ghost use Rattle.gix_ref_rewrite.specs.internal.Merging.{put_by};
-ghost use Rattle.gix_ref_rewrite.specs.internal.Applying.{Adds, CopiesUntil, Copies, Applies, Merges};
+ghost use Rattle.gix_ref_rewrite.specs.internal.Applying.{AddsRecords, CopiesUntil, Copies, Applies, Merges};
 
 use crate::ahead::Ahead;
 use crate::applied::Applied;
@@ -49,7 +49,7 @@ fn copy_below<'a>(
 
 /// Adds the record that an edit puts to a text, if it puts one.
 fn push_put(text: &mut Vec<u8>, edit: &RecordEdit<'_>) -> Result<(), AllocError>
-    ensures { OnOk result (Adds (put_by edit.now) text.old.items text.new.items) }
+    ensures { OnOk result (AddsRecords (put_by edit.now) text.old.items text.new.items) }
 {
     match &edit.put {
         Some(new) => push_new(text, edit.key, new),

@@ -46,7 +46,7 @@ use Rattle.gix_ref_theory.specs.Between.{AreEdits}
 use Rattle.gix_ref_theory.specs.OnRealTrees.{view_of}
 use Rattle.gix_ref_transaction.specs.CommittedEdits.{planned}
 use Rattle.gix_ref_transaction.specs.PackedCauses.{ids_among}
-use Rattle.gix_ref_repack.specs.Refusals.{IsCountedRefusal, IsIoOrMemory, IsRefusedRewrite}
+use Rattle.gix_ref_repack.specs.Refusals.{IsCountedRefusal, IsRepackFault, IsRefusedRewrite}
 use Rattle.gix_ref_repack.specs.Repacks.{IsRepack}
 use Rattle.gix_ref_commit.specs.Failures.{AllOfEdits, IsNameAt, IsOfListing, SaysFault, SaysFile, SaysInWay, SaysLogFault, SaysWhy, of_repack}
 use Rattle.gix_ref_commit.specs.LogEffects.{AreLogsOf, IsLogOf}
@@ -66,7 +66,7 @@ use Rattle.gix_ref_commit.proofs.Outcomes.{logs_are}
 use Rattle.gix_ref_commit.proofs.Refilled.{IsWrite, holds_file, new_holds, old_holds, plan_grows}
 use Rattle.gix_ref_commit.proofs.Unlisted.{has_line}
 use Rattle.gix_ref_commit.proofs.Shapes.{AllShaped, HasLine, HasShape, all_shaped, names_edit, shape_at}
-use Rattle.gix_ref_store.specs.CommitResult.{ChangesLocks, EndsByFault, FailsAt, FailsAtWrite, FailsFor, FailsForLog, RefusesLine, IsFault, IsOfBadLine, IsPackedEmpty, MeetsFolder, OnlyItsLocks, RepacksFrom, EndsEarlyAt, IsNotEmptied}
+use Rattle.gix_ref_store.specs.CommitResult.{ChangesLocks, EndsByFault, FailsAtStep, FailsAtWrite, FailsFor, FailsForLog, RefusesLine, IsFaultBetween, IsOfBadLine, IsPackedEmpty, MeetsFolder, OnlyItsLocks, RepacksFrom, EndsEarlyAt, IsNotEmptied}
 use Rattle.gix_ref_store.specs.CommitLines.{LinesPass, line_rules, log_path_at}
 use Rattle.gix_ref_store.specs.Decisions.{IsUndecided}
 use Rattle.gix_ref_store.specs.Prepared.{tree_of}
@@ -94,7 +94,7 @@ only_after locks old mid new passes only locked staying first own here =
 -- An error that a decision returned, by what is said of that of `packed-refs`.
 pub undecided_by : {F : Type 0} (honest : Type 0) (means : F → Meaning) (faults : F → ℕ) (start new : Store F) (committer : Option SignatureRef) (held ran : List Edit) (error : RepackError) → all_but_logs ran ≡ all_but_logs held →
     IsCountedRefusal (faults (files_of start)) (faults (files_of new)) error → (honest → IsRefusedRewrite (kind_of start) (tree_of means start (meaning_of start).packed_path) error) →
-    (honest → AreEdits (meaning_of start) (planned (updates ran)) → (rs : List Record) → ArePackedRecords (kind_of start) (view_of (tree_of means start) (meaning_of start).packed_path) rs → IsIoOrMemory error) → LinesPass honest means start committer held →
+    (honest → AreEdits (meaning_of start) (planned (updates ran)) → (rs : List Record) → ArePackedRecords (kind_of start) (view_of (tree_of means start) (meaning_of start).packed_path) rs → IsRepackFault error) → LinesPass honest means start committer held →
     IsUndecided honest means faults start new committer held (of_repack error)
 undecided_by honest means faults start new committer held ran (repack.Io error) alike counted refused sound passes = counted
 undecided_by honest means faults start new committer held ran (repack.Iteration line) alike counted refused sound passes =
@@ -180,7 +180,7 @@ log_wider a b c MissingCommitter le is = tt
 log_wider a b c SignatureUnwritable le is = tt
 
 fault_wider : {F : Type 0} (honest : Type 0) (means : F → Meaning) (faults : F → ℕ) (start mid new : Store F) (source : FileError) → faults (files_of mid) ≤ faults (files_of new) →
-    IsFault honest means faults start mid source → IsFault honest means faults start new source
+    IsFaultBetween honest means faults start mid source → IsFaultBetween honest means faults start new source
 fault_wider honest means faults start mid new source le is = (risen_wider _ _ _ _ (omega arith) le is.0, is.1)
 
 pub undecided_wider : {F : Type 0} (honest : Type 0) (means : F → Meaning) (faults : F → ℕ) (start mid new : Store F) (committer : Option SignatureRef) (held : List Edit) (error : Error) → faults (files_of mid) ≤ faults (files_of new) →
@@ -308,7 +308,7 @@ module _ {F : Type 0} (honest : Type 0) (means : F → Meaning) (faults : F → 
   unlogged_fails SignatureUnwritable counted refused = refused
 
   -- nor where a folder could not be listed
-  unlisted_fails : (about : ℕ → About) (fault : FileError) (is_named : ℕ → Type 0) → IsFault honest means faults start new fault × ((at : ℕ) × (at < length held) × is_named at) → OnlyItsLocks honest means faults start new packed held →
+  unlisted_fails : (about : ℕ → About) (fault : FileError) (is_named : ℕ → Type 0) → IsFaultBetween honest means faults start new fault × ((at : ℕ) × (at < length held) × is_named at) → OnlyItsLocks honest means faults start new packed held →
       FailsAtWrite honest means faults start new committer packed held about fault is_named
   unlisted_fails about fault is_named is only = (is.0, (is.1.0, is.1.1, is.1.2, inl only))
 
@@ -336,12 +336,12 @@ module _ {F : Type 0} (honest : Type 0) (means : F → Meaning) (faults : F → 
     IsLogAt (Line at) = honest → log ≡ log_path_at start held at
     IsLogAt other = Unit {0}
 
-    log_fault : (about : ℕ → About) (at : ℕ) (fault source : FileError) → source ≡ fault → IsFault honest means faults start new fault → EndsByFault honest means faults start new committer packed held (about at) fault →
-        IsFault honest means faults start new source × EndsByFault honest means faults start new committer packed held (about at) source
+    log_fault : (about : ℕ → About) (at : ℕ) (fault source : FileError) → source ≡ fault → IsFaultBetween honest means faults start new fault → EndsByFault honest means faults start new committer packed held (about at) fault →
+        IsFaultBetween honest means faults start new source × EndsByFault honest means faults start new committer packed held (about at) source
     log_fault about at fault source same isf stop =
-        (subst (IsFault honest means faults start new) (sym same) isf, subst (EndsByFault honest means faults start new committer packed held (about at)) (sym same) stop)
+        (subst (IsFaultBetween honest means faults start new) (sym same) isf, subst (EndsByFault honest means faults start new committer packed held (about at)) (sym same) stop)
 
-    faults_at_log : (a : About) (fault : FileError) (error : LogError) → SaysLogFault a log fault error → IsFault honest means faults start new fault → IsLogAt a → IsOfEdit (length held) a →
+    faults_at_log : (a : About) (fault : FileError) (error : LogError) → SaysLogFault a log fault error → IsFaultBetween honest means faults start new fault → IsLogAt a → IsOfEdit (length held) a →
         EndsByFault honest means faults start new committer packed held a fault → FailsForLog honest means faults start new committer packed held error
     faults_at_log (Folders at) fault (CreateLeadingDirectories (Some source) folder) (same, is) isf logged within stop =
         let on = log_fault Folders at fault source same isf stop in (on.0, inr (⊎_elim (λ file. inl (at, within, (λ h. is ∙ ap folder_of (logged h)), file)) (λ sync. inr (at, within, (λ h. is ∙ ap folder_of (logged h)), sync)) on.1))
@@ -361,7 +361,7 @@ module _ {F : Type 0} (honest : Type 0) (means : F → Meaning) (faults : F → 
     faults_at_log Packed fault error is isf logged within stop = absurd is
     faults_at_log (Removal at) fault error is isf logged within stop = absurd is
 
-    faults_at : (a : About) (fault : FileError) (error : Error) → SaysFault (updates held) log a fault error → IsFault honest means faults start new fault → IsLogAt a → IsOfEdit (length held) a →
+    faults_at : (a : About) (fault : FileError) (error : Error) → SaysFault (updates held) log a fault error → IsFaultBetween honest means faults start new fault → IsLogAt a → IsOfEdit (length held) a →
         EndsByFault honest means faults start new committer packed held a fault → FailsFor honest means faults start new committer packed held error
     faults_at (Folders at) fault (CreateOrUpdateRefLog error) is isf logged within stop = faults_at_log (Folders at) fault error is isf logged within stop
     faults_at (Line at) fault (CreateOrUpdateRefLog error) is isf logged within stop = faults_at_log (Line at) fault error is isf logged within stop
@@ -393,7 +393,7 @@ module _ {F : Type 0} (honest : Type 0) (means : F → Meaning) (faults : F → 
     faults_at (LogRemoval at) fault (PackedTransactionCommit error) is isf logged within stop = absurd is
     faults_at (LogRemoval at) fault (LockCommit source name) is isf logged within stop = absurd is
     faults_at (LogRemoval at) fault (DeleteReference name source) is isf logged within stop = absurd is
-    faults_at (LogRemoval at) fault (DeleteReflog name source) is isf logged within stop = subst (λ (f : FileError). FailsAt honest means faults start new committer packed held LogRemoval f (λ k. IsNameAt (updates held) k name)) (sym is.0) (isf, (at, within, is.1, stop))
+    faults_at (LogRemoval at) fault (DeleteReflog name source) is isf logged within stop = subst (λ (f : FileError). FailsAtStep honest means faults start new committer packed held LogRemoval f (λ k. IsNameAt (updates held) k name)) (sym is.0) (isf, (at, within, is.1, stop))
     faults_at (LogRemoval at) fault (FolderInPlace path) is isf logged within stop = absurd is
     faults_at (LogRemoval at) fault (PreprocessingFailed source) is isf logged within stop = absurd is
     faults_at (LogRemoval at) fault Memory is isf logged within stop = absurd is
@@ -406,7 +406,7 @@ module _ {F : Type 0} (honest : Type 0) (means : F → Meaning) (faults : F → 
     faults_at Packed fault Memory is isf logged within stop = absurd is
     faults_at (Removal at) fault (PackedTransactionCommit error) is isf logged within stop = absurd is
     faults_at (Removal at) fault (LockCommit source name) is isf logged within stop = absurd is
-    faults_at (Removal at) fault (DeleteReference name source) is isf logged within stop = subst (λ (f : FileError). FailsAt honest means faults start new committer packed held Removal f (λ k. IsNameAt (updates held) k name)) (sym is.0) (isf, (at, within, is.1, stop))
+    faults_at (Removal at) fault (DeleteReference name source) is isf logged within stop = subst (λ (f : FileError). FailsAtStep honest means faults start new committer packed held Removal f (λ k. IsNameAt (updates held) k name)) (sym is.0) (isf, (at, within, is.1, stop))
     faults_at (Removal at) fault (DeleteReflog name source) is isf logged within stop = absurd is
     faults_at (Removal at) fault (FolderInPlace path) is isf logged within stop = absurd is
     faults_at (Removal at) fault (PreprocessingFailed source) is isf logged within stop = absurd is

@@ -5,14 +5,14 @@ use Rattle.gix_ref_base.specs.Targets.{target_value}
 use Rattle.gix_ref_theory.specs.Lookups.{Hit}
 use Rattle.gix_ref_theory.specs.Readings.Reading.{Is}
 use Rattle.gix_ref_records.specs.declared.raw.Reference.{Reference}
-use Rattle.gix_ref_lookup.specs.Lookups.{Answers}
+use Rattle.gix_ref_lookup.specs.Lookups.{ReturnsHit}
 use Rattle.gix_ref_lookup.specs.declared.loose.Reference.{Reference as Loose}
 use Rattle.gix_ref_store.specs.Lookup.{AnswersLoose}
 
-pub loose_some : (found : Option Hit) (raw : Reference) (r : Loose) → Answers found (Some raw) → r.name ≡ raw.name → r.target ≡ raw.target → AnswersLoose found (Some r)
+pub loose_some : (found : Option Hit) (raw : Reference) (r : Loose) → ReturnsHit found (Some raw) → r.name ≡ raw.name → r.target ≡ raw.target → AnswersLoose found (Some r)
 loose_some None raw r is name target = absurd is
 loose_some (Some hit) raw r is name target = (ap full_bytes name ∙ is.0, is.1 ∙ ap (λ t. Is (target_value t)) (sym target))
 
-pub loose_none : (found : Option Hit) → Answers found None → AnswersLoose found None
+pub loose_none : (found : Option Hit) → ReturnsHit found None → AnswersLoose found None
 loose_none None is = tt
 loose_none (Some hit) is = absurd is

@@ -11,7 +11,7 @@ use Rattle.gix_ref_theory.specs.OnRealTrees.{view_of}
 use Rattle.gix_ref_transaction.specs.declared.edit.Edit.{Edit}
 use Rattle.gix_ref_lines.specs.AskedEdits.{asked}
 use Rattle.gix_ref_lines.specs.DueLines.{LogRules, due_lines}
-use Rattle.gix_ref_lines.specs.LineCauses.{AllPass}
+use Rattle.gix_ref_lines.specs.LineCauses.{AllHaveNoCause}
 use Rattle.gix_ref_store.specs.Prepared.{tree_of}
 use Rattle.gix_ref_store.specs.Store.{meaning_of}
 use Rattle.gix_ref_store.specs.declared.file.store.Store.{Store}
@@ -32,7 +32,7 @@ lines_due means store committer held = due_lines (line_rules store committer) (v
 -- each line that is due can be made and added: there is a committer, its signature and the message can be written, and no file is in the
 -- path of the log
 abbrev pub LinesPass : {F : Type 0} (honest : Type 0) (means : F → Meaning) → Store F → (committer : Option SignatureRef) → List Edit → Type 0
-LinesPass honest means store committer held = honest → AllPass (line_rules store committer) (view_of (tree_of means store)) (asked held)
+LinesPass honest means store committer held = honest → AllHaveNoCause (line_rules store committer) (view_of (tree_of means store)) (asked held)
 
 -- the path of the log of the edit at this place of the list
 abbrev pub log_path_at : {F : Type 0} → Store F → List Edit → ℕ → Path

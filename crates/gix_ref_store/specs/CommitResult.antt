@@ -60,9 +60,9 @@ module _ {T : Type 0} where
   left_of (Err failed) = paths_of failed.locks_left.items
 
   -- the mode that the result of a commit hands back
-  abbrev pub mode_of : Result (Done T) (Failed T) → PackedRefs T
-  mode_of (Ok done) = done.packed_refs
-  mode_of (Err failed) = failed.packed_refs
+  abbrev pub mode_handed_back : Result (Done T) (Failed T) → PackedRefs T
+  mode_handed_back (Ok done) = done.packed_refs
+  mode_handed_back (Err failed) = failed.packed_refs
 
 -- `packed-refs` has a line that is no record
 abbrev pub IsOfBadLine : Error → Type 0
@@ -145,8 +145,8 @@ module _ {F : Type 0} (honest : Type 0) (means : F → Meaning) (faults : F → 
   OnlyItsLocks start new packed held = honest → IsPackedEmpty start packed → ChangesLocks (held_locks packed held) (tree_of means start) (tree_of means new)
 
   -- a call of files failed, for another reason than a want of memory
-  abbrev pub IsFault : (start new : Store F) → FileError → Type 0
-  IsFault start new fault = HasRisen (faults (files_of start)) (faults (files_of new)) × (fault ≢ no_memory)
+  abbrev pub IsFaultBetween : (start new : Store F) → FileError → Type 0
+  IsFaultBetween start new fault = HasRisen (faults (files_of start)) (faults (files_of new)) × (fault ≢ no_memory)
 
   -- a call of files failed at this step, or a sync after it
   abbrev pub EndsByFault : (start new : Store F) → Option SignatureRef → Option Path → List Edit → About → FileError → Type 0
@@ -154,14 +154,14 @@ module _ {F : Type 0} (honest : Type 0) (means : F → Meaning) (faults : F → 
       EndsEarlyAt start new committer packed held about (File fault) ⊎ EndsEarlyAt start new committer packed held about (Sync fault)
 
   -- a call of files failed at the step about the edit of this name
-  abbrev pub FailsAt : (start new : Store F) → Option SignatureRef → Option Path → List Edit → (ℕ → About) → FileError → (ℕ → Type 0) → Type 0
-  FailsAt start new committer packed held about fault is_named =
-      IsFault start new fault × ((at : ℕ) × (at < length held) × is_named at × EndsByFault start new committer packed held (about at) fault)
+  abbrev pub FailsAtStep : (start new : Store F) → Option SignatureRef → Option Path → List Edit → (ℕ → About) → FileError → (ℕ → Type 0) → Type 0
+  FailsAtStep start new committer packed held about fault is_named =
+      IsFaultBetween start new fault × ((at : ℕ) × (at < length held) × is_named at × EndsByFault start new committer packed held (about at) fault)
 
   -- or no folder in the way of the write of that edit could be listed
   abbrev pub FailsAtWrite : (start new : Store F) → Option SignatureRef → Option Path → List Edit → (ℕ → About) → FileError → (ℕ → Type 0) → Type 0
   FailsAtWrite start new committer packed held about fault is_named =
-      IsFault start new fault
+      IsFaultBetween start new fault
       × ((at : ℕ) × (at < length held) × is_named at × (OnlyItsLocks start new packed held ⊎ EndsByFault start new committer packed held (about at) fault))
 
   -- the run ended at the folders of a log, or at its line, and reports that log
@@ -180,7 +180,7 @@ module _ {F : Type 0} (honest : Type 0) (means : F → Meaning) (faults : F → 
       RefusesLine start new committer packed held (CreateLeadingDirectories None folder)
       ⊎ EndsAtLog start new committer packed held Folders Unexpected (λ log. folder.items ≡ folder_of log)
   FailsForLog start new committer packed held (CreateLeadingDirectories (Some fault) folder) =
-      IsFault start new fault
+      IsFaultBetween start new fault
       × (RefusesLine start new committer packed held (CreateLeadingDirectories (Some fault) folder)
       ⊎ (EndsAtLog start new committer packed held Folders (File fault) (λ log. folder.items ≡ folder_of log)
       ⊎ EndsAtLog start new committer packed held Folders (Sync fault) (λ log. folder.items ≡ folder_of log)))
@@ -226,10 +226,10 @@ module _ {F : Type 0} (honest : Type 0) (means : F → Meaning) (faults : F → 
   abbrev pub FailsFor : (start new : Store F) → Option SignatureRef → Option Path → List Edit → Error → Type 0
   FailsFor start new committer packed held (CreateOrUpdateRefLog error) = FailsForLog start new committer packed held error
   FailsFor start new committer packed held (LockCommit source name) = FailsAtWrite start new committer packed held Rename source (λ at. IsNameAt (updates held) at name)
-  FailsFor start new committer packed held (DeleteReflog name source) = FailsAt start new committer packed held LogRemoval source (λ at. IsNameAt (updates held) at name)
-  FailsFor start new committer packed held (DeleteReference name err) = FailsAt start new committer packed held Removal err (λ at. IsNameAt (updates held) at name)
+  FailsFor start new committer packed held (DeleteReflog name source) = FailsAtStep start new committer packed held LogRemoval source (λ at. IsNameAt (updates held) at name)
+  FailsFor start new committer packed held (DeleteReference name err) = FailsAtStep start new committer packed held Removal err (λ at. IsNameAt (updates held) at name)
   FailsFor start new committer packed held (PackedTransactionCommit (repack.Io fault)) =
-      IsFault start new fault × (OnlyItsLocks start new packed held ⊎ EndsByFault start new committer packed held Packed fault)
+      IsFaultBetween start new fault × (OnlyItsLocks start new packed held ⊎ EndsByFault start new committer packed held Packed fault)
   FailsFor start new committer packed held (PackedTransactionCommit (repack.Iteration line)) =
       (honest → IsBadLine (kind_of start) (tree_of means start (meaning_of start).packed_path) line)
       × LinesPass honest means start committer held

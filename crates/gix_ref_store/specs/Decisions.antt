@@ -18,7 +18,7 @@ use Rattle.gix_ref_commit.specs.declared.error.Error.TheVariants.{CreateOrUpdate
 use Rattle.gix_ref_commit.specs.Failures.{IsNameAt}
 use Rattle.gix_ref_lines.specs.declared.create_or_update.Error.TheVariants.{Append}
 use Rattle.gix_ref_store.specs.CommitLines.{LinesPass, line_rules, log_path_at}
-use Rattle.gix_ref_store.specs.CommitResult.{IsFault}
+use Rattle.gix_ref_store.specs.CommitResult.{IsFaultBetween}
 use Rattle.gix_ref_store.specs.Prepared.{tree_of}
 use Rattle.gix_ref_store.specs.Store.{files_of, kind_of, meaning_of}
 use Rattle.gix_ref_store.specs.declared.file.store.Store.{Store}
@@ -38,13 +38,13 @@ module _ {F : Type 0} (honest : Type 0) (means : F → Meaning) (faults : F → 
   -- or memory was refused.
   abbrev pub IsUndecided : (start new : Store F) → Option SignatureRef → List Edit → Error → Type 0
   IsUndecided start new committer held (CreateOrUpdateRefLog (Append source path)) =
-      IsFault honest means faults start new source × ((at : ℕ) × (at < length held) × (honest → path.items ≡ log_path_at start held at))
+      IsFaultBetween honest means faults start new source × ((at : ℕ) × (at < length held) × (honest → path.items ≡ log_path_at start held at))
   IsUndecided start new committer held (LockCommit source name) =
-      IsFault honest means faults start new source × ((at : ℕ) × (at < length held) × IsNameAt (updates held) at name)
+      IsFaultBetween honest means faults start new source × ((at : ℕ) × (at < length held) × IsNameAt (updates held) at name)
   IsUndecided start new committer held (CreateOrUpdateRefLog error) =
       (honest → FirstFails (line_rules start committer) (view_of (tree_of means start)) (asked held) error)
       × IsCountedError (faults (files_of start)) (faults (files_of new)) error
-  IsUndecided start new committer held (PackedTransactionCommit (repack.Io fault)) = IsFault honest means faults start new fault
+  IsUndecided start new committer held (PackedTransactionCommit (repack.Io fault)) = IsFaultBetween honest means faults start new fault
   IsUndecided start new committer held (PackedTransactionCommit (repack.Iteration line)) =
       (honest → IsBadLine (kind_of start) (tree_of means start (meaning_of start).packed_path) line)
       × (honest → AreEdits (meaning_of start) (planned (updates held)) → (rs : List Record) →

@@ -6,9 +6,12 @@ use Rattle.std.specs.List.{AllByRecursion}
 use Rattle.gix_ref_name.specs.declared.namespace.Namespace.{Namespace}
 use Rattle.gix_ref_base.specs.PackedRecords.{Record}
 use Rattle.gix_ref_files.specs.Files.{Meaning, HasRisen}
+use Rattle.gix_ref_files.specs.declared.files.ReadAt.{Ghosts}
 use Rattle.gix_ref_packed.specs.Buffers.{count_open}
+use Rattle.gix_ref_packed.specs.OpenFiles.{CountsRefusal}
 use Rattle.gix_ref_packed.specs.declared.packed.buffer.Buffer.{Buffer}
 use Rattle.gix_ref_records.specs.declared.raw.Reference.{Reference}
+use Rattle.gix_ref_listing.specs.CleanPrefixes.{IsRefusedPrefix}
 use Rattle.gix_ref_listing.specs.Items.{IsItem, IsRecordItem}
 use Rattle.gix_ref_listing.specs.Listings.{Listed, merge_left}
 use Rattle.gix_ref_listing.specs.OwnRecords.{own_of}
@@ -45,12 +48,12 @@ of_open (opening.Iter line) = PackedOpen (opening.Iter line)
 
 module _ {F : Type 0} where
   -- how many items are yet to come at most
-  abbrev pub items_left : LooseThenPacked F Remaining → ℕ
-  items_left it = merge_left it.rest.merge
+  abbrev pub items_ahead : LooseThenPacked F Remaining → ℕ
+  items_ahead it = merge_left it.rest.merge
 
   -- the store that it lists
-  abbrev pub store_of : LooseThenPacked F Remaining → Store F
-  store_of it = it.store.now
+  abbrev pub store_listed : LooseThenPacked F Remaining → Store F
+  store_listed it = it.store.now
 
   -- the buffer was read for the prefix, and has those of these records; or there is no `packed-refs`
   abbrev pub IsReadFor : Store F → (prefix : List ℕ) → Option Buffer → List Record → Type 0
@@ -116,7 +119,7 @@ module _ {F : Type 0} where
 
     -- An iterator over the listing of a prefix of a store: whatever its calls give are the first items of the listing. A folder that
     -- could not be listed is among them only where the count of faults rose.
-    pub record Lists (store : Store F) (records : List Record) (prefix : List ℕ) (it : LooseThenPacked F Remaining) : Type 0 where
+    pub record IteratesListing (store : Store F) (records : List Record) (prefix : List ℕ) (it : LooseThenPacked F Remaining) : Type 0 where
       pub listed : List Listed
       pub is : IsListing (settings_of store) (view_in means store) records prefix listed
       pub counts : faults (stores.files_of store) ≤ count_in it
@@ -124,9 +127,17 @@ module _ {F : Type 0} where
       pub runs : (items : List (Result Reference Error)) (t : LooseThenPacked F Remaining) → Yields (NextItem) it items t → GivesFirst store listed it t items
 
     -- and so over the listing of its pseudo references
-    pub record ListsPseudo (store : Store F) (it : LooseThenPacked F Remaining) : Type 0 where
+    pub record IteratesPseudo (store : Store F) (it : LooseThenPacked F Remaining) : Type 0 where
       pub listed : List Listed
       pub is : IsPseudoListing (settings_of store) (view_in means store) listed
       pub counts : faults (stores.files_of store) ≤ count_in it
       pub names : AllByRecursion IsNameItem listed ⊎ HasRisen (faults (stores.files_of store)) (count_in it)
       pub runs : (items : List (Result Reference Error)) (t : LooseThenPacked F Remaining) → Yields (NextItem) it items t → GivesFirst store listed it t items
+
+module _ {F : Type 0} (honest : Type 0) (means : F → Meaning) (faults : F → ℕ) where
+  -- Why there is no listing: `packed-refs` is not opened, by a call of files that failed or for its text; the prefix has none; no memory.
+  abbrev pub IsNoListing : {R : Type 0} (G : Ghosts R) → (start new : Store F) → (prefix : List ℕ) → ListError → Type 0
+  IsNoListing G start new prefix (PackedOpen error) =
+      honest → RefusesBuffer means start error × CountsRefusal G.faults (faults (stores.files_of start)) (faults (stores.files_of new)) error
+  IsNoListing G start new prefix Memory = Unit {0}
+  IsNoListing G start new prefix error = IsRefusedPrefix start.namespace prefix error

@@ -17,7 +17,7 @@ use Rattle.gix_ref_packed.specs.declared.packed.buffer.open.Error.{Error as Open
 use Rattle.gix_ref_records.specs.declared.raw.Reference.{Reference}
 use Rattle.gix_ref_theory.specs.Views.{View}
 use Rattle.gix_ref_theory.specs.OnRealTrees.{view_of}
-use Rattle.gix_ref_lookup.specs.Lookups.{Answers, ArePackedRecords, AreAsked, IsSound, IsHitOf, FailsAmong, lookup_of, asked_names, name_asked, AreStillAsked}
+use Rattle.gix_ref_lookup.specs.Lookups.{ReturnsHit, ArePackedRecords, AreAsked, IsSound, IsHitOf, FailsAmong, lookup_of, asked_names, name_asked, AreStillAsked}
 use Rattle.gix_ref_lookup.specs.declared.loose.Reference.{Reference as Loose}
 use Rattle.gix_ref_lookup.specs.declared.settings.Settings.{Settings}
 use Rattle.gix_ref_lookup.specs.declared.find.records.Records.{Records}
@@ -80,7 +80,7 @@ module _ {F : Type 0} (means : F → Meaning) where
 
   -- a lookup of a partial name in a store finds this among these records; names are composed only where records are asked
   abbrev pub FindsBy : (asks_records : Bool) → StoreValue F → List Record → List ℕ → Option Reference → Type 0
-  FindsBy asks_records store records p found = Answers (hit_in asks_records store records p) found
+  FindsBy asks_records store records p found = ReturnsHit (hit_in asks_records store records p) found
 
   -- and this among these records of its `packed-refs`
   abbrev pub FindsAmong : StoreValue F → List Record → List ℕ → Option Reference → Type 0

@@ -9,12 +9,12 @@ use Rattle.gix_ref_store.specs.declared.file.store.Store.{Store}
 
 module _ {F : Type 0} (means : F → Meaning) where
   -- `HEAD` is symbolic to this name, no loose reference can be read, and there is no `packed-refs`
-  abbrev pub IsPristine : Store F → (name : List ℕ) → Type 0
-  IsPristine store name = stores_as_made.IsPristine (settings_of store) (means (files_of store)).tree (prefix_of_all store.namespace) name
+  abbrev pub IsPristineStore : Store F → (name : List ℕ) → Type 0
+  IsPristineStore store name = stores_as_made.IsPristine (settings_of store) (means (files_of store)).tree (prefix_of_all store.namespace) name
 
   -- `HEAD` is something else, a loose reference can be read, or there is a `packed-refs`
-  abbrev pub IsInUse : Store F → (name : List ℕ) → Type 0
-  IsInUse store name = stores_as_made.IsInUse (settings_of store) (means (files_of store)).tree (prefix_of_all store.namespace) name
+  abbrev pub IsStoreInUse : Store F → (name : List ℕ) → Type 0
+  IsStoreInUse store name = stores_as_made.IsInUse (settings_of store) (means (files_of store)).tree (prefix_of_all store.namespace) name
 
   -- no target is read of `HEAD`
   abbrev pub HasNoHead : Store F → Type 0

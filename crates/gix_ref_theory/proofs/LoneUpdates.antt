@@ -181,7 +181,7 @@ module _ (s : Store) (view : View) where
     pub carries_on : (Counts : Path → Type 0) (staying : List Path) (syncs : Path → List Sync) (edits : List Edit) (texts : View) → AreEdits s edits →
         ((e : Edit) → IsEdit e edits → Counts (lock_of (s.place e.name)) → ⊥) → ((e : Edit) → IsEdit e edits → SettlesPath staying (s.place e.name) (syncs (s.place e.name))) →
         HaveTexts edits texts →
-        disk.CarryOut Counts staying texts (synced_steps_for syncs edits) (puts_for edits)
+        disk.CarryOutSynced Counts staying texts (synced_steps_for syncs edits) (puts_for edits)
     carries_on Counts staying syncs [] texts apart own settles holds = refl
     carries_on Counts staying syncs (e ∷ edits) texts apart own settles holds =
         by (λ later. carries_on Counts staying syncs edits later apart.2 (λ f h. own f (inr h)) (λ f h. settles f (inr h))) (does e) refl
@@ -197,7 +197,7 @@ module _ (s : Store) (view : View) where
             elsewhere_same place (lock_of (s.place f.name)) None (changed_at (lock_of place) None texts) (no_place e f apart.0)
             ∙ elsewhere_same (lock_of place) (lock_of (s.place f.name)) None texts (no_lock e f (apart.1 f h))
 
-        by : ((now : View) → HaveTexts edits now → disk.CarryOut Counts staying now (synced_steps_for syncs edits) (puts_for edits)) → (what : Effect) → does e ≡ what → disk.CarryOut Counts staying texts (synced_step_for syncs place what ++ synced_steps_for syncs edits) (place_writes place what ++ puts_for edits)
+        by : ((now : View) → HaveTexts edits now → disk.CarryOutSynced Counts staying now (synced_steps_for syncs edits) (puts_for edits)) → (what : Effect) → does e ≡ what → disk.CarryOutSynced Counts staying texts (synced_step_for syncs place what ++ synced_steps_for syncs edits) (place_writes place what ++ puts_for edits)
         by rest (Writes bytes) is = (
           bytes,
           puts_for edits,

@@ -14,7 +14,7 @@ use Rattle.gix_ref_theory.proofs.Writes.{same}
 use Rattle.gix_ref_base.proofs.LocationLemmas.{head, has_slash, EndsIn, ends_after, short, no_slash_test, test_no_slash, IsBy, HasSpot, has_spot}
 use Rattle.gix_ref_base.specs.Layout.{IsLayout, Layout, LiesIn, below, is_private_ref, packed_refs}
 use Rattle.gix_ref_theory.specs.Readings.{HasLaws}
-use Rattle.gix_ref_base.specs.Locations.{Location, is_safe, paths_at, paths_of, location}
+use Rattle.gix_ref_base.specs.Locations.{Location, is_safe, paths_at, row_of, location}
 use Rattle.gix_ref_base.specs.Locations.Location.{ThisWorktree, LinkedWorktree, MainWorktree, Common}
 use Rattle.gix_ref_theory.specs.ConcreteStore.{Options, store_of}
 use Rattle.gix_ref_files.specs.Lock.{lock_of}
@@ -125,13 +125,13 @@ abbrev pub IsLaid : Layout → Type 0
 IsLaid f = (f.git ≡ f.common) ⊎ (((w : List ℕ) × (has_slash w ≡ false) × (f.git ≡ below f.common (codes "worktrees/" ++ w))) ⊎ IsOutside f)
 
 abbrev pub place_at : Layout → Option Location → List ℕ
-place_at f o = (paths_of f (unwrap_or o (Common []))).place
+place_at f o = (row_of f (unwrap_or o (Common []))).place
 
 abbrev pub log_at : Layout → Option Location → List ℕ
-log_at f o = (paths_of f (unwrap_or o (Common []))).log
+log_at f o = (row_of f (unwrap_or o (Common []))).log
 
 abbrev pub key_at : Layout → Option Location → Option (List ℕ)
-key_at f o = (paths_of f (unwrap_or o (Common []))).key
+key_at f o = (row_of f (unwrap_or o (Common []))).key
 
 -- Paths below a folder.
 
@@ -508,8 +508,8 @@ known f o name h =
     record { valid = none_is (partial_error name) parts.0; spotted = is_spot (location name) parts.1 }
 
 -- the row of a name by its location
-pub row_by : (f : Layout) (o : Options) (name : List ℕ) → (k : Known f o name) → paths_at f name ≡ paths_of f k.spotted.0
-row_by f o name k = ap (λ z. paths_of f (unwrap_or z (Common name))) k.spotted.1
+pub row_by : (f : Layout) (o : Options) (name : List ℕ) → (k : Known f o name) → paths_at f name ≡ row_of f k.spotted.0
+row_by f o name k = ap (λ z. row_of f (unwrap_or z (Common name))) k.spotted.1
 
 pub spot_is : (f : Layout) (o : Options) (name : List ℕ) → (k : Known f o name) → IsSpot k.spotted.0
 spot_is f o name k = sound name k.spotted.0 k.valid (has_spot name k.spotted.0 k.spotted.1)

@@ -17,7 +17,7 @@ use Rattle.gix_ref_files.specs.Settled.Sync.{OfFile, OfFolder}
 use Rattle.gix_ref_theory.specs.OnRealTrees.{view_of}
 use Rattle.gix_ref_theory.specs.Views.{View, Write, after, after_write, changed_at, file_bytes, LostIn, IsLostBy}
 use Rattle.gix_ref_theory.specs.Views.Write.{Append, Put, Remove}
-use Rattle.gix_ref_theory.specs.OnDisks.{IsSettled, CarryOut, Rests, IsWithin}
+use Rattle.gix_ref_theory.specs.OnDisks.{IsSettled, CarryOutSynced, Rests, IsWithin}
 use Rattle.gix_ref_files.proofs.Puts.{put_at, put_other, folders_kept}
 use Rattle.gix_ref_files.proofs.Entries.{synced_may, synced_by_may, synced_remains, nothing_remains}
 use Rattle.gix_ref_files.proofs.Settling.{lost_holds, holds_fewer, stays_fewer, stands_settled, stay_apart, settled_entry, settled_way, settled_without_folder, whole_synced, holds_weaker, as_settles}
@@ -522,7 +522,7 @@ module _ (Counts : Path → Type 0) (staying : List Path) where
   some_synced writes view n ss mid E e within =
       subst (IsWithin Counts writes view) (sym e) (within_fewer writes view mid (synced_by (take n ss) mid) (λ q c may. synced_by_may (take n ss) mid q c may) within)
 
-  pub reached : (plan : List Synced) (writes : List Write) (texts view : View) (D E : Disk) → Rests Counts staying texts view D → CarryOut Counts staying texts plan writes → IsReachedBy plan D E → IsWithin Counts writes view E
+  pub reached : (plan : List Synced) (writes : List Write) (texts view : View) (D E : Disk) → Rests Counts staying texts view D → CarryOutSynced Counts staying texts plan writes → IsReachedBy plan D E → IsWithin Counts writes view E
   reached [] writes texts view D E rests carry e = rests_left texts view E writes (along texts view D E e rests)
   reached (With (Create p) ss ∷ plan) writes texts view D E rests carry (inl begun) =
       rests_left (changed_at p None texts) view E writes (rests_create texts view D E p carry.0 rests begun)
@@ -534,13 +534,13 @@ module _ (Counts : Path → Type 0) (staying : List Path) where
   reached (With (AppendStep p bytes) ss ∷ plan) writes texts view D E rests carry (inl begun) =
       rests_left (changed_at p None texts) view E writes (rests_append texts view D E p bytes (own carry) rests begun)
     where
-      own : CarryOut Counts staying texts (With (AppendStep p bytes) ss ∷ plan) writes → Counts p → ⊥
+      own : CarryOutSynced Counts staying texts (With (AppendStep p bytes) ss ∷ plan) writes → Counts p → ⊥
       own (inl c) = c.0
       own (inr c) = c.1
   reached (With (AppendStep p bytes) ss ∷ plan) writes texts view D E rests carry (inr (mid, does, inl some)) =
       some_synced writes view some.0 ss mid E some.1 (rests_left (changed_at p None texts) view mid writes (rests_append texts view D mid p bytes (own carry) rests (done_append D mid p bytes does)))
     where
-      own : CarryOut Counts staying texts (With (AppendStep p bytes) ss ∷ plan) writes → Counts p → ⊥
+      own : CarryOutSynced Counts staying texts (With (AppendStep p bytes) ss ∷ plan) writes → Counts p → ⊥
       own (inl c) = c.0
       own (inr c) = c.1
   reached (With (AppendStep p bytes) ss ∷ plan) writes texts view D E rests (inl carry) (inr (mid, does, inr next)) =
@@ -611,7 +611,7 @@ module _ (Counts : Path → Type 0) (staying : List Path) where
   in_after a b view E e found = (found.0, subst (λ ws. Rests Counts staying found.0 (after ws view) E) (sym e) found.1)
 
   -- the whole run leaves a disk at rest
-  pub at_end : (plan : List Synced) (writes : List Write) (texts view : View) (D E : Disk) → Rests Counts staying texts view D → CarryOut Counts staying texts plan writes → IsSyncedAfter plan D E →
+  pub at_end : (plan : List Synced) (writes : List Write) (texts view : View) (D E : Disk) → Rests Counts staying texts view D → CarryOutSynced Counts staying texts plan writes → IsSyncedAfter plan D E →
       (left : View) × Rests Counts staying left (after writes view) E
   at_end [] writes texts view D E rests carry e = (texts, subst (λ ws. Rests Counts staying texts (after ws view) E) (sym carry) (along texts view D E e rests))
   at_end (With (Create p) ss ∷ plan) writes texts view D E rests carry (mid, does, next) =

@@ -9,14 +9,14 @@ use Rattle.gix_ref_files.specs.Tree.{Path, fronts}
 use Rattle.gix_ref_files.specs.Settled.{IsIn, AreIn, SettlesPath, climb}
 use Rattle.gix_ref_files.proofs.Climbing.{climbs}
 use Rattle.gix_ref_base.specs.Layout.{Layout, LiesIn, below, packed_refs}
-use Rattle.gix_ref_base.specs.Locations.{Location, location, paths_of}
+use Rattle.gix_ref_base.specs.Locations.{Location, location, row_of}
 use Rattle.gix_ref_base.specs.Locations.Location.{Common, ThisWorktree, MainWorktree, LinkedWorktree}
 use Rattle.gix_ref_name.proofs.FrontLemmas.{begins_true, begins_false}
 use Rattle.gix_ref_theory.specs.ConcreteStore.{store_of}
 use Rattle.gix_ref_theory.specs.Roots.{root_of, roots, LogsSettle, PackedSettles, PlacesSettle}
 
 -- each place lies in the git folder or in the common one, and in the namespace
-pub in_namespace : (f : Layout) (x : Location) → (folder rest : Path) × ((folder ≡ f.common) ⊎ (folder ≡ f.git)) × ((paths_of f x).place ≡ below folder (f.namespace ++ rest))
+pub in_namespace : (f : Layout) (x : Location) → (folder rest : Path) × ((folder ≡ f.common) ⊎ (folder ≡ f.git)) × ((row_of f x).place ≡ below folder (f.namespace ++ rest))
 in_namespace f (Common n) = (f.common, n, inl refl, refl)
 in_namespace f (ThisWorktree n) = (f.git, n, inr refl, refl)
 in_namespace f (MainWorktree n) = (f.common, n, inl refl, refl)
@@ -83,7 +83,7 @@ places_settle f o name git_is common_is =
     settles f git_is common_is ((store_of f o).place name) at.0 (f.namespace ++ at.1) at.2 at.3
 
 -- and so are each log, and `packed-refs`
-log_below : (f : Layout) (x : Location) → (folder rest : Path) × ((folder ≡ f.common) ⊎ (folder ≡ f.git)) × ((paths_of f x).log ≡ below folder rest)
+log_below : (f : Layout) (x : Location) → (folder rest : Path) × ((folder ≡ f.common) ⊎ (folder ≡ f.git)) × ((row_of f x).log ≡ below folder rest)
 log_below f (Common n) = (f.common, codes "logs/" ++ (f.namespace ++ n), inl refl, refl)
 log_below f (ThisWorktree n) = (f.git, codes "logs/" ++ (f.namespace ++ n), inr refl, refl)
 log_below f (MainWorktree n) = (f.common, codes "logs/" ++ (f.namespace ++ n), inl refl, refl)

@@ -7,7 +7,7 @@ use Rattle.gix_ref_files.specs.Settled.{AllStay}
 use Rattle.gix_ref_files.specs.DiskSteps.{Synced, BeginsOn, IsReachedBy}
 use Rattle.gix_ref_files.specs.Steps.Step.{RemoveFile}
 use Rattle.gix_ref_files.proofs.Moments.{losses, passes_weaken, passes_joins}
-use Rattle.gix_ref_theory.specs.OnDisks.{CarryOut, IsWithin, IsSpokenOf, AreWhole, LosesAmong}
+use Rattle.gix_ref_theory.specs.OnDisks.{CarryOutSynced, IsWithin, IsSpokenOf, AreWhole, LosesAmong}
 use Rattle.gix_ref_theory.specs.OnRealTrees.{view_of}
 use Rattle.gix_ref_theory.specs.Views.{View, Write, IsLostBy, IsOwnLock}
 use Rattle.gix_ref_theory.proofs.OnDisks as disks
@@ -23,7 +23,7 @@ abbrev pub PassesWithin : (locked : List Path) (writes : List Write) → Disk �
 PassesWithin locked writes first old new = Passes old new (IsWithin (IsSpokenOf locked first) writes (view_of first.tree))
 
 pub run_passes : (locked staying : List Path) (texts : View) (plan : List Synced) (writes : List Write) (old new : Meaning) → AllStay (disk_of old) staying → AreWhole texts (disk_of old) →
-    CarryOut (IsSpokenOf locked (disk_of old)) staying texts plan writes → Passes old new (IsReachedBy plan (disk_of old)) → PassesWithin locked writes (disk_of old) old new
+    CarryOutSynced (IsSpokenOf locked (disk_of old)) staying texts plan writes → Passes old new (IsReachedBy plan (disk_of old)) → PassesWithin locked writes (disk_of old) old new
 run_passes locked staying texts plan writes old new stays whole carry run =
     passes_weaken run (λ D reached. disks.within locked staying texts plan writes (disk_of old) D stays whole carry reached)
 

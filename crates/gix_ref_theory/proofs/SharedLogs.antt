@@ -3,7 +3,7 @@ use Rattle.std.proofs.Common.{◌≡◌, ℕ, List, [], ◌∷◌, ◌++◌, tru
 use Rattle.gix_ref_base.proofs.LocationLemmas.{head, has_slash, HasSpot, has_spot}
 use Rattle.gix_ref_theory.proofs.PlaceLaws.{Known, IsSpot, IsNamespace, IsOutside, IsLaid, PlaceShape, Plain, Within, Named, PlainLog, LinkedLog, place_path, log_path, log_of_shape, IsPlaceShape, cancel, cancel_below, cancel_slash, nowhere, inside, start_r, start_private, known, row_by, spot_is, laid, same_front}
 use Rattle.gix_ref_base.specs.Layout.{IsLayout, Layout, below}
-use Rattle.gix_ref_base.specs.Locations.{Location, paths_of}
+use Rattle.gix_ref_base.specs.Locations.{Location, row_of}
 use Rattle.gix_ref_base.specs.Locations.Location.{ThisWorktree, LinkedWorktree, MainWorktree, Common}
 use Rattle.gix_ref_theory.specs.ConcreteStore.{Options, store_of}
 use Rattle.gix_ref_theory.specs.Theorems.{SharesLog}
@@ -45,7 +45,7 @@ Tie f name (Named w k) = name ≡ codes "worktrees/" ++ (w ++ 47 ∷ k)
 
 -- a place and its log lie below one folder
 abbrev Lie : Layout → List ℕ → Location → PlaceShape → Type 0
-Lie f folder x shape = ((paths_of f x).place ≡ below folder (place_path f.namespace shape)) × ((paths_of f x).log ≡ below folder (log_path f.namespace (log_of_shape shape)))
+Lie f folder x shape = ((row_of f x).place ≡ below folder (place_path f.namespace shape)) × ((row_of f x).log ≡ below folder (log_path f.namespace (log_of_shape shape)))
 
 record Tied (f : Layout) (name : List ℕ) (x : Location) : Type 0 where
   shape : PlaceShape
@@ -151,7 +151,7 @@ shared_logs f o folders m n hm hn e = by tm.lie tn.lie
     tn : Tied f n kn.spotted.0
     tn = tied f (laid f folders) n kn.spotted.0 (spot_is f o n kn) (has_spot n kn.spotted.0 kn.spotted.1)
 
-    logs : (paths_of f km.spotted.0).log ≡ (paths_of f kn.spotted.0).log
+    logs : (row_of f km.spotted.0).log ≡ (row_of f kn.spotted.0).log
     logs = sym (ap (λ r. r.log) (row_by f o m km)) ∙ (e ∙ ap (λ r. r.log) (row_by f o n kn))
 
     below_one : (folder : List ℕ) → Lie f folder km.spotted.0 tm.shape → Lie f folder kn.spotted.0 tn.shape →

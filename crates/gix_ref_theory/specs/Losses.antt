@@ -6,7 +6,7 @@ use Rattle.gix_ref_files.specs.Lock.{lock_of}
 use Rattle.gix_ref_files.specs.Settled.{AllStay, IsSettledAt, IsAllSettled}
 use Rattle.gix_ref_files.specs.DiskSteps.{Synced, IsReachedBy, IsSyncedAfter}
 use Rattle.gix_ref_base.specs.PackedRecords.{Record}
-use Rattle.gix_ref_theory.specs.OnDisks.{CarryOut, IsWithin, IsSpokenOf, AreWhole}
+use Rattle.gix_ref_theory.specs.OnDisks.{CarryOutSynced, IsWithin, IsSpokenOf, AreWhole}
 use Rattle.gix_ref_theory.specs.OnRealTrees.{view_of}
 use Rattle.gix_ref_theory.specs.Views.{View, IsSameButLocks}
 use Rattle.gix_ref_theory.specs.Views.Ending.{Stop, Loss}
@@ -42,7 +42,7 @@ pub record IsSyncedCommit (s : Store) (mode : Mode) (locked staying : List Path)
   pub merged : List Record
   pub prepared : IsPrepared s mode (view_of D.tree) edits merged
   pub locks : IsSameButLocks locked (view_of before) (view_of D.tree)
-  pub steps_are_planned : CarryOut (IsSpokenOf locked D) staying texts steps (plan s mode (view_of D.tree) edits merged)
+  pub steps_are_planned : CarryOutSynced (IsSpokenOf locked D) staying texts steps (plan s mode (view_of D.tree) edits merged)
 
 -- Every loss of power inside such a commit.
 abbrev pub EveryLossIsBetween : Type 0

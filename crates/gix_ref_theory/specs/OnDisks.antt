@@ -22,23 +22,23 @@ IsSettled Counts view D = (q : Path) → Counts q → IsSettledAt D (view q) q
 module _ (Counts : Path → Type 0) (staying : List Path) where
   -- The steps with their syncs carry out the writes. `texts` are the texts of the locks that are whole on the disk. Each write is
   -- settled by its syncs; steps on paths that do not count and on folders need none.
-  abbrev pub CarryOut : View → List Synced → List Write → Type 0
-  CarryOut texts [] writes = writes ≡ []
-  CarryOut texts (With (Create p) syncs ∷ plan) writes =
-      (Counts p → ⊥) × CarryOut (changed_at p None texts) plan writes
-  CarryOut texts (With (AppendStep p bytes) syncs ∷ plan) writes =
-      ((Counts p → ⊥) × CarryOut (changed_at p None texts) plan writes)
-      ⊎ ((old : List ℕ) × (Counts p → ⊥) × (texts p ≡ Some old) × (syncs ≡ OfFile p ∷ []) × CarryOut (changed_at p (Some (old ++ bytes)) texts) plan writes)
-  CarryOut texts (With (Line p bytes) syncs ∷ plan) writes =
-      (rest : List Write) × (writes ≡ Append p bytes ∷ rest) × SettlesFile staying p syncs × CarryOut (changed_at p None texts) plan rest
-  CarryOut texts (With (Rename from to) syncs ∷ plan) writes =
-      (bytes : List ℕ) × (rest : List Write) × (Counts from → ⊥) × (from ≢ to) × (texts from ≡ Some bytes) × (writes ≡ Put to bytes ∷ rest) × SettlesPath staying to syncs × CarryOut (changed_at to None (changed_at from None texts)) plan rest
-  CarryOut texts (With (RemoveFile p) syncs ∷ plan) writes =
-      ((Counts p → ⊥) × CarryOut (changed_at p None texts) plan writes)
-      ⊎ ((rest : List Write) × (writes ≡ Remove p ∷ rest) × SettlesPath staying p syncs × CarryOut (changed_at p None texts) plan rest)
-  CarryOut texts (With (MakeFolders p) syncs ∷ plan) writes = CarryOut texts plan writes
-  CarryOut texts (With (RemoveFolder p) syncs ∷ plan) writes = (IsIn p staying → ⊥) × CarryOut texts plan writes
-  CarryOut texts (With End syncs ∷ plan) writes = Unit {0}
+  abbrev pub CarryOutSynced : View → List Synced → List Write → Type 0
+  CarryOutSynced texts [] writes = writes ≡ []
+  CarryOutSynced texts (With (Create p) syncs ∷ plan) writes =
+      (Counts p → ⊥) × CarryOutSynced (changed_at p None texts) plan writes
+  CarryOutSynced texts (With (AppendStep p bytes) syncs ∷ plan) writes =
+      ((Counts p → ⊥) × CarryOutSynced (changed_at p None texts) plan writes)
+      ⊎ ((old : List ℕ) × (Counts p → ⊥) × (texts p ≡ Some old) × (syncs ≡ OfFile p ∷ []) × CarryOutSynced (changed_at p (Some (old ++ bytes)) texts) plan writes)
+  CarryOutSynced texts (With (Line p bytes) syncs ∷ plan) writes =
+      (rest : List Write) × (writes ≡ Append p bytes ∷ rest) × SettlesFile staying p syncs × CarryOutSynced (changed_at p None texts) plan rest
+  CarryOutSynced texts (With (Rename from to) syncs ∷ plan) writes =
+      (bytes : List ℕ) × (rest : List Write) × (Counts from → ⊥) × (from ≢ to) × (texts from ≡ Some bytes) × (writes ≡ Put to bytes ∷ rest) × SettlesPath staying to syncs × CarryOutSynced (changed_at to None (changed_at from None texts)) plan rest
+  CarryOutSynced texts (With (RemoveFile p) syncs ∷ plan) writes =
+      ((Counts p → ⊥) × CarryOutSynced (changed_at p None texts) plan writes)
+      ⊎ ((rest : List Write) × (writes ≡ Remove p ∷ rest) × SettlesPath staying p syncs × CarryOutSynced (changed_at p None texts) plan rest)
+  CarryOutSynced texts (With (MakeFolders p) syncs ∷ plan) writes = CarryOutSynced texts plan writes
+  CarryOutSynced texts (With (RemoveFolder p) syncs ∷ plan) writes = (IsIn p staying → ⊥) × CarryOutSynced texts plan writes
+  CarryOutSynced texts (With End syncs ∷ plan) writes = Unit {0}
 
   -- A disk at rest: settled where it counts, with these files; the folders that stay do; and the locks with a text are whole.
   pub record Rests (texts view : View) (D : Disk) : Type 0 where
@@ -65,7 +65,7 @@ AreWhole texts D = (p : Path) (bytes : List ℕ) → texts p ≡ Some bytes → 
 abbrev pub EveryDiskIsWithin : Type 0
 EveryDiskIsWithin =
     (locked staying : List Path) (texts : View) (plan : List Synced) (writes : List Write) (D E : Disk) →
-    AllStay D staying → AreWhole texts D → CarryOut (IsSpokenOf locked D) staying texts plan writes → IsReachedBy plan D E →
+    AllStay D staying → AreWhole texts D → CarryOutSynced (IsSpokenOf locked D) staying texts plan writes → IsReachedBy plan D E →
     IsWithin (IsSpokenOf locked D) writes (view_of D.tree) E
 
 -- The removal of an own lock keeps it so, as after a fault.
@@ -85,21 +85,21 @@ EveryLossWithin =
 abbrev pub EveryLossIsInOneWrite : Type 0
 EveryLossIsInOneWrite =
     (locked staying : List Path) (texts : View) (plan : List Synced) (writes : List Write) (D E : Disk) (T : Tree) →
-    AllStay D staying → AreWhole texts D → CarryOut (IsSpokenOf locked D) staying texts plan writes → IsReachedBy plan D E → Lost E T →
+    AllStay D staying → AreWhole texts D → CarryOutSynced (IsSpokenOf locked D) staying texts plan writes → IsReachedBy plan D E → Lost E T →
     IsLostBy (IsSpokenOf locked D) writes (view_of D.tree) (view_of T)
 
 -- And the whole run leaves the disk settled, with the files after the writes.
 abbrev pub EveryRunSettles : Type 0
 EveryRunSettles =
     (locked staying : List Path) (texts : View) (plan : List Synced) (writes : List Write) (D E : Disk) →
-    AllStay D staying → AreWhole texts D → IsAllSettled D → CarryOut (IsSpokenOf locked D) staying texts plan writes → IsSyncedAfter plan D E →
+    AllStay D staying → AreWhole texts D → IsAllSettled D → CarryOutSynced (IsSpokenOf locked D) staying texts plan writes → IsSyncedAfter plan D E →
     IsAllSettled E × AllStay E staying × ((q : Path) → ((p : Path) → q ≢ lock_of p) → view_of E.tree q ≡ after writes (view_of D.tree) q)
 
 -- So once the run has ended well, a loss of power leaves the files after the writes, but for locks.
 abbrev pub EveryDoneRunIsKept : Type 0
 EveryDoneRunIsKept =
     (locked staying : List Path) (texts : View) (plan : List Synced) (writes : List Write) (D E : Disk) (T : Tree) →
-    AllStay D staying → AreWhole texts D → IsAllSettled D → CarryOut (IsSpokenOf locked D) staying texts plan writes → IsSyncedAfter plan D E → Lost E T →
+    AllStay D staying → AreWhole texts D → IsAllSettled D → CarryOutSynced (IsSpokenOf locked D) staying texts plan writes → IsSyncedAfter plan D E → Lost E T →
     (q : Path) → ((p : Path) → q ≢ lock_of p) → view_of T q ≡ after writes (view_of D.tree) q
 
 -- The disk E is among the writes, which began on the disk `first`, and the folders stay.
@@ -137,5 +137,5 @@ SyncsWriteNothing =
 abbrev pub LosesAmong : List Synced → Meaning → Meaning → Type 0
 LosesAmong plan old new =
     (locked staying : List Path) (texts : View) (writes : List Write) →
-    AllStay (disk_of old) staying → AreWhole texts (disk_of old) → CarryOut (IsSpokenOf locked (disk_of old)) staying texts plan writes →
+    AllStay (disk_of old) staying → AreWhole texts (disk_of old) → CarryOutSynced (IsSpokenOf locked (disk_of old)) staying texts plan writes →
     Loses old new (λ T. IsLostBy (IsSpokenOf locked (disk_of old)) writes (view_of old.tree) (view_of T))

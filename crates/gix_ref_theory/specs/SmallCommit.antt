@@ -10,7 +10,7 @@ use Rattle.gix_ref_files.specs.Steps.Step.{Rename}
 use Rattle.gix_ref_files.specs.DiskSteps.Synced.{With}
 use Rattle.gix_ref_theory.specs.Views.{View, changed_at}
 use Rattle.gix_ref_theory.specs.Views.Write.{Put}
-use Rattle.gix_ref_theory.specs.OnDisks.{CarryOut, IsSpokenOf, AreWhole}
+use Rattle.gix_ref_theory.specs.OnDisks.{CarryOutSynced, IsSpokenOf, AreWhole}
 
 -- the folder and the lock in it
 abbrev pub lock_tree : Tree
@@ -24,4 +24,4 @@ lock_texts = changed_at (codes "r/a.lock") (Some (codes "I")) (λ q. None)
 abbrev pub SmallCommitIsCarriedOut : Type 0
 SmallCommitIsCarriedOut =
     IsAllSettled (all_synced lock_tree) × AllStay (all_synced lock_tree) (codes "r" ∷ []) × AreWhole lock_texts (all_synced lock_tree)
-    × CarryOut (IsSpokenOf (codes "r/a" ∷ []) (all_synced lock_tree)) (codes "r" ∷ []) lock_texts (With (Rename (codes "r/a.lock") (codes "r/a")) (OfFolder (codes "r") ∷ []) ∷ []) (Put (codes "r/a") (codes "I") ∷ [])
+    × CarryOutSynced (IsSpokenOf (codes "r/a" ∷ []) (all_synced lock_tree)) (codes "r" ∷ []) lock_texts (With (Rename (codes "r/a.lock") (codes "r/a")) (OfFolder (codes "r") ∷ []) ∷ []) (Put (codes "r/a") (codes "I") ∷ [])

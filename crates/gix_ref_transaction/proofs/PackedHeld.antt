@@ -12,7 +12,7 @@ use Rattle.gix_ref_theory.specs.OnRealTrees.{file_of, view_of}
 use Rattle.gix_ref_theory.specs.Readings.{Store, records_of_file}
 use Rattle.gix_ref_edits.specs.RefEdits.{name_of, expected_of, new_of, Expects}
 use Rattle.gix_ref_edits.specs.declared.transaction.RefEdit.{RefEdit}
-use Rattle.gix_ref_transaction.specs.Causes.{decoded, found, found_by, packed_id, packed_of, IsApartFromPacked, IsFault, IsFirstCause, IsLockable, IsMismatch, IsUnlockable, NoCause, Passes}
+use Rattle.gix_ref_transaction.specs.Causes.{decoded, found, found_by, packed_id, packed_of, IsApartFromPacked, IsEditFault, IsFirstCause, IsLockable, IsMismatch, IsUnlockable, NoCause, IsEditAccepted}
 use Rattle.gix_ref_transaction.specs.OwnLocks.{is_in}
 use Rattle.gix_ref_transaction.specs.PrepareSteps.{packed_ids, effect_on, effects_on, files_at, has_file_at, lock_text, old_targets, updates, AreLockable, AreSettled, HoldTexts, IsPackedPlace, TakesPacked}
 use Rattle.gix_ref_transaction.specs.declared.edit.Edit.{Edit}
@@ -54,7 +54,7 @@ module _ (s : Store) (kind : Kind) (plain held : Tree) (off : (q : Path) → q �
     lockable_on : (seen : List RefEdit) → IsLockable s kind held seen edit → IsLockable s kind plain seen edit
     lockable_on seen can = record { way = sym same_way ∙ can.way; free = sym at_lock ∙ can.free; ours = can.ours }
 
-    passes_on : (seen : List RefEdit) → Passes s kind held seen edit → Passes s kind plain seen edit
+    passes_on : (seen : List RefEdit) → IsEditAccepted s kind held seen edit → IsEditAccepted s kind plain seen edit
     passes_on seen passes = (lockable_on seen passes.0, subst (Expects (expected_of edit.change) (new_of edit.change)) same_found passes.1)
 
     unlockable_on : (seen : List RefEdit) (error : Error) → IsUnlockable s kind held seen edit error → IsUnlockable s kind plain seen edit error
@@ -77,7 +77,7 @@ module _ (s : Store) (kind : Kind) (plain held : Tree) (off : (q : Path) → q �
     unlockable_on seen (ReferenceOutOfDate name expected actual) why = absurd why
     unlockable_on seen (ReferenceDecode source) why = absurd why
 
-    fault_on : (seen : List RefEdit) (error : Error) → IsFault s kind held seen edit error → IsFault s kind plain seen edit error
+    fault_on : (seen : List RefEdit) (error : Error) → IsEditFault s kind held seen edit error → IsEditFault s kind plain seen edit error
     fault_on seen error (inl outside) = inl outside
     fault_on seen error (inr (inl locked)) = inr (inl (unlockable_on seen error locked))
     fault_on seen error (inr (inr mismatch)) = inr (inr (lockable_on seen mismatch.0, subst (λ (f : Option TargetValue). IsMismatch kind edit f error) same_found mismatch.1))

@@ -4,7 +4,7 @@ use Rattle.std.specs.Prelude.{bytes_eq, is_some, IsSome, ◌||◌, ◌&&◌}
 use Rattle.std.specs.List.{list_all, list_any}
 use Rattle.std.specs.Option.{option_map, unwrap_or}
 use Rattle.gix_ref_base.specs.Layout.{Layout}
-use Rattle.gix_ref_base.specs.Locations.{Location, location, key_outside, no_namespace, paths_at, paths_of}
+use Rattle.gix_ref_base.specs.Locations.{Location, location, key_outside, no_namespace, paths_at, row_of}
 use Rattle.gix_ref_base.specs.Locations.Location.{Common, ThisWorktree, MainWorktree, LinkedWorktree}
 use Rattle.gix_ref_files.specs.Tree.{Tree, Path, Content, file_of, fronts, is_blocked, is_file, is_folder, node_at, node_of, put}
 use Rattle.gix_ref_files.specs.Tree.Content.{File, Folder}
@@ -33,7 +33,7 @@ use Rattle.gix_ref_transaction.proofs.Adds.{clash, either_way, in_here, in_one, 
 keys_alike : (f : Layout) (name : List ℕ) → is_some (paths_at f name).key ≡ is_some (key_outside name)
 keys_alike f name = by (unwrap_or (location name) (Common name))
   where
-    by : (l : Location) → is_some (paths_of f l).key ≡ is_some (paths_of no_namespace l).key
+    by : (l : Location) → is_some (row_of f l).key ≡ is_some (row_of no_namespace l).key
     by (Common n) = refl
     by (ThisWorktree n) = refl
     by (MainWorktree n) = refl

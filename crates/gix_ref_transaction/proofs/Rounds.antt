@@ -10,7 +10,7 @@ use Rattle.gix_ref_files.specs.Files.{Meaning, Leaves}
 use Rattle.gix_ref_files.proofs.Moments.{weaken, joins}
 use Rattle.gix_ref_transaction.specs.OwnLocks.{is_in, AddsLocks}
 use Rattle.gix_ref_theory.specs.OnRealTrees.{view_of}
-use Rattle.gix_ref_transaction.specs.Causes.{AllValid, IsPossible, IsValidEdit, found, packed_of, Passes, IsFault, IsIoOrMemory, IsMismatch, NoCause, IsFirstCause, LocksAreApart, IsLockable, locks_of}
+use Rattle.gix_ref_transaction.specs.Causes.{AllValid, IsPossible, IsValidEdit, found, packed_of, IsEditAccepted, IsEditFault, IsIoOrMemory, IsMismatch, NoCause, IsFirstCause, LocksAreApart, IsLockable, locks_of}
 use Rattle.gix_ref_theory.specs.Readings.{Store}
 use Rattle.gix_ref_transaction.specs.PrepareSteps.{lock_text, effect_on, effect_value, effects_of, effects_on, files_at, has_file_at, seen_files, targets_of, HoldTexts, AreLockable, value_of, IsRefusedLock, IsNewLock, FillsLock, old_targets}
 use Rattle.gix_ref_edits.specs.RefEdits.{name_of, expected_of, new_of, Expects}
@@ -57,7 +57,7 @@ module _ (s : Store) (kind : Kind) (edits : List RefEdit) (apart : LocksAreApart
   -- the lock is refused
   pub lock_refused : (cause : Error) → IsRefusedLock mid.tree (name_of edit) lock cause → IsFirstCause s kind T0 seen (drop i edits) cause
   lock_refused cause why =
-      fault_here (Passes s kind T0) (IsFault s kind T0) edits i edit cause lt is
+      fault_here (IsEditAccepted s kind T0) (IsEditFault s kind T0) edits i edit cause lt is
       (refused s kind edits apart T0 seen known edit within mid.tree held cause (subst (λ l. IsRefusedLock mid.tree (name_of edit) l cause) at why))
 
   pub lock_still : (new : Tree) → AddsLocks [] (lock ∷ []) mid.tree new → AddsLocks (locks_of s seen) all T0 new
@@ -86,7 +86,7 @@ module _ (s : Store) (kind : Kind) (edits : List RefEdit) (apart : LocksAreApart
     -- what is found is refused
     pub found_refused : (cause : Error) → IsIoOrMemory cause ⊎ IsMismatch kind edit (found s (view_of one.tree) (name_of edit)) cause → IsFirstCause s kind T0 seen (drop i edits) cause
     found_refused cause why =
-        fault_here (Passes s kind T0) (IsFault s kind T0) edits i edit cause lt is
+        fault_here (IsEditAccepted s kind T0) (IsEditFault s kind T0) edits i edit cause lt is
         (⊎_elim (λ outside. inl outside) (λ mismatch. inr (inr (lockable', subst (λ was. IsMismatch kind edit was cause) same_as_first mismatch))) why)
 
     pub free_then : (q : Path) → is_in (locks_of s (take (i + 1) edits)) q ≡ true → T0 q ≡ None
@@ -100,14 +100,14 @@ module _ (s : Store) (kind : Kind) (edits : List RefEdit) (apart : LocksAreApart
         joins (lock_leaves one took) (weaken next (λ T fills. stop_filling s kind edits apart T0 seen known edit within mid.tree held one.tree adds' new' T (fills' T fills)))
 
     -- the edit passes
-    passes : Expects (expected_of edit.change) (new_of edit.change) (found s (view_of one.tree) (name_of edit)) → Passes s kind T0 seen edit
+    passes : Expects (expected_of edit.change) (new_of edit.change) (found s (view_of one.tree) (name_of edit)) → IsEditAccepted s kind T0 seen edit
     passes expects = (lockable', subst (λ was. Expects (expected_of edit.change) (new_of edit.change) was) same_as_first expects)
 
     pub later_fault : Expects (expected_of edit.change) (new_of edit.change) (found s (view_of one.tree) (name_of edit)) → (cause : Error) → IsFirstCause s kind T0 (take (i + 1) edits) (drop (i + 1) edits) cause → IsFirstCause s kind T0 seen (drop i edits) cause
-    later_fault expects cause later = fault_later (Passes s kind T0) (IsFault s kind T0) edits i edit cause lt is (passes expects) later
+    later_fault expects cause later = fault_later (IsEditAccepted s kind T0) (IsEditFault s kind T0) edits i edit cause lt is (passes expects) later
 
     pub all_pass : Expects (expected_of edit.change) (new_of edit.change) (found s (view_of one.tree) (name_of edit)) → NoCause s kind T0 (take (i + 1) edits) (drop (i + 1) edits) → NoCause s kind T0 seen (drop i edits)
-    all_pass expects later = pass_more (Passes s kind T0) (IsFault s kind T0) edits i edit lt is (passes expects) later
+    all_pass expects later = pass_more (IsEditAccepted s kind T0) (IsEditFault s kind T0) edits i edit lt is (passes expects) later
 
     pub held_then : (T : Tree) → FillsLock one.tree lock T → Held s kind edits apart T0 (take (i + 1) edits) T
     held_then T fills = subst (λ l. Held s kind edits apart T0 l T) (sym more) (held_more s kind edits apart T0 seen known edit within mid.tree held one.tree adds' new' T (fills' T fills))

@@ -8,7 +8,7 @@ use Rattle.gix_ref_files.specs.Tree.Content.{File}
 use Rattle.gix_ref_files.proofs.Puts.{put_at, put_other}
 use Rattle.gix_ref_transaction.specs.OwnLocks.{is_in, leads_to, IsOurs, AddsLocks}
 use Rattle.gix_ref_theory.specs.OnRealTrees.{view_of, file_of}
-use Rattle.gix_ref_transaction.specs.Causes.{found, found_by, decoded, packed_id, packed_of, IsFault, IsLockable, LocksAreApart, locks_of}
+use Rattle.gix_ref_transaction.specs.Causes.{found, found_by, decoded, packed_id, packed_of, IsEditFault, IsLockable, LocksAreApart, locks_of}
 use Rattle.gix_ref_theory.specs.Readings.{Store, records_of_file}
 use Rattle.gix_ref_transaction.specs.PrepareSteps.{effect_on, has_file_at, lock_text, IsRefusedLock, IsNewLock, FillsLock, HoldTexts}
 use Rattle.gix_ref_edits.specs.RefEdits.{name_of}
@@ -72,7 +72,7 @@ module _ (s : Store) (kind : Kind) (edits : List RefEdit) (apart : LocksAreApart
     at_lock : is_in (locks_of s seen) lock ≡ false → T lock ≡ T0 lock
     at_lock not_taken = same_lock (locks_of s seen) all T0 T lock held.adds not_taken no_lead
 
-    pub refused : (cause : Error) → IsRefusedLock T (name_of edit) lock cause → IsFault s kind T0 seen edit cause
+    pub refused : (cause : Error) → IsRefusedLock T (name_of edit) lock cause → IsEditFault s kind T0 seen edit cause
     refused (PathCollision name) why = inr (inl (why.0, sym same_way ∙ why.1))
     refused (LockAcquire name) why = inr (inl (why.0, either_way (is_in (locks_of s seen) lock) (λ taken. inr taken) (λ not_taken. inl (subst (λ (n : Option Content). IsSome n) (at_lock not_taken) why.1))))
     refused (Io error) why = inl tt

@@ -273,12 +273,12 @@ module _ (s : Store) (kind : Kind) (T : Tree) where
     pub ours : is_in (locks_of s earlier) (lock_of (s.place (name_of edit))) ≡ false
 
   -- an edit passes: its lock can be taken, and it expects what is found
-  abbrev pub Passes : List RefEdit → RefEdit → Type 0
-  Passes earlier edit = IsLockable earlier edit × Expects (expected_of edit.change) (new_of edit.change) (found s (view_of T) (name_of edit))
+  abbrev pub IsEditAccepted : List RefEdit → RefEdit → Type 0
+  IsEditAccepted earlier edit = IsLockable earlier edit × Expects (expected_of edit.change) (new_of edit.change) (found s (view_of T) (name_of edit))
 
   -- an edit is at fault: at its lock, and then at its expectation; files and memory can fail anywhere
-  abbrev pub IsFault : List RefEdit → RefEdit → Error → Type 0
-  IsFault earlier edit error =
+  abbrev pub IsEditFault : List RefEdit → RefEdit → Error → Type 0
+  IsEditFault earlier edit error =
       IsIoOrMemory error ⊎ (IsUnlockable earlier edit error ⊎ (IsLockable earlier edit × IsMismatch kind edit (found s (view_of T) (name_of edit)) error))
 
 -- The lock of `packed-refs` is not that of an edit, nor on the way to it, nor its place.
@@ -297,11 +297,11 @@ pub record LocksAreApart (s : Store) (edits : List RefEdit) : Type 0 where
 
 -- No edit has a cause to be refused, each after those before it.
 abbrev pub NoCause : Store → Kind → Tree → List RefEdit → List RefEdit → Type 0
-NoCause s kind T seen edits = AllPass (Passes s kind T) (IsFault s kind T) seen edits
+NoCause s kind T seen edits = AllPass (IsEditAccepted s kind T) (IsEditFault s kind T) seen edits
 
 -- The cause of the first edit that has one.
 abbrev pub IsFirstCause : Store → Kind → Tree → List RefEdit → List RefEdit → Error → Type 0
-IsFirstCause s kind T seen edits error = FirstFault (Passes s kind T) (IsFault s kind T) seen edits error
+IsFirstCause s kind T seen edits error = FirstFault (IsEditAccepted s kind T) (IsEditFault s kind T) seen edits error
 
 -- The cause of the locks: that of `packed-refs` comes first.
 abbrev pub IsLockCause : Store → Kind → Tree → List RefEdit → Error → Type 0

@@ -22,7 +22,7 @@ use Rattle.gix_ref_theory.proofs.PlaceLaws.{laws_hold}
 use Rattle.gix_ref_records.specs.declared.raw.Reference.{Reference}
 use Rattle.gix_ref_log.specs.declared.actor.SignatureRef.{SignatureRef}
 use Rattle.gix_ref_edits.specs.declared.transaction.RefEdit.{RefEdit}
-use Rattle.gix_ref_lookup.specs.Lookups.{Answers, ArePackedRecords, IsSound, lookup_of, name_asked}
+use Rattle.gix_ref_lookup.specs.Lookups.{ReturnsHit, ArePackedRecords, IsSound, lookup_of, name_asked}
 use Rattle.gix_ref_lookup.specs.StoreLayout.{git_options}
 use Rattle.gix_ref_lookup.specs.declared.find.error.Error.{Error as FindError}
 use Rattle.gix_ref_lookup.specs.declared.find.records.Records.TheVariants.{Unopened}
@@ -275,11 +275,11 @@ module _ {F : Type 0} (honest : Type 0) (means : F → Meaning) (faults : F → 
     still_split = refl
 
     module _ {R : Type 0} (G : Ghosts R) (name : List ℕ) (found : Result Reference Missing) (lookup : FindsIn honest means faults G mid new name found) where
-      as_old : honest → (rs : List Record) (r : Option Reference) → FindsAmong means mid rs name r → Answers (lookup_of (composes_in true old) (meaning_of old) (view_in means new) rs name) r
+      as_old : honest → (rs : List Record) (r : Option Reference) → FindsAmong means mid rs name r → ReturnsHit (lookup_of (composes_in true old) (meaning_of old) (view_in means new) rs name) r
       as_old h rs r is =
-          subst (λ (v : View). Answers (lookup_of (composes_in true old) (meaning_of old) v rs name) r) (sym (view_is h))
-          (subst (λ (s : Places). Answers (lookup_of (composes_in true old) s (view_in means mid) rs name) r) (same_meaning old mid same)
-          (subst (λ (b : Bool). Answers (lookup_of (b && true) (meaning_of mid) (view_in means mid) rs name) r) same.composes is))
+          subst (λ (v : View). ReturnsHit (lookup_of (composes_in true old) (meaning_of old) v rs name) r) (sym (view_is h))
+          (subst (λ (s : Places). ReturnsHit (lookup_of (composes_in true old) s (view_in means mid) rs name) r) (same_meaning old mid same)
+          (subst (λ (b : Bool). ReturnsHit (lookup_of (b && true) (meaning_of mid) (view_in means mid) rs name) r) same.composes is))
 
       -- what the name reads among the records that the commit left
       reads_left : honest → (rs : List Record) (reads : Reading) → reading_among (meaning_of old) (view_in means new) rs name ≡ reads → reading_among (meaning_of mid) (view_in means mid) rs name ≡ reads

@@ -38,7 +38,7 @@ use Rattle.gix_ref_listing.specs.declared.prefix.Error.TheVariants as no_list
 use Rattle.gix_ref_lookup.specs.declared.find.error.ReadError.TheVariants.{File as file_error, DeviceName}
 use Rattle.gix_ref_listing.specs.declared.found.Found.TheVariants.{File, Unlisted}
 use Rattle.gix_ref_listing.proofs.FolderWalks.{unchanged_on}
-use Rattle.gix_ref_store.specs.Listings.{AreFirst, AreHeldFor, IsReadFor, Lists, NextItem, count_in, store_of}
+use Rattle.gix_ref_store.specs.Listings.{AreFirst, AreHeldFor, IsNoListing, IsReadFor, IteratesListing, NextItem, count_in, store_listed}
 use Rattle.gix_ref_store.specs.Lookup.{AreRecordsIn, LooksUp, settings_of, view_in}
 use Rattle.gix_ref_store.specs.Store.{files_of, folders, kind_of, meaning_of, IsSameStore}
 use Rattle.gix_ref_store.specs.declared.file.iter.LooseThenPacked.{LooseThenPacked}
@@ -46,8 +46,8 @@ use Rattle.gix_ref_store.specs.declared.file.iter.Remaining.{Remaining}
 use Rattle.gix_ref_store.specs.declared.file.store.Store.{Store}
 use Rattle.gix_ref_store.proofs.Commits.{same_meaning}
 use Rattle.gix_ref_store.proofs.ListingRuns.{same_settings}
-use Rattle.gix_ref_whole.specs.ListedItems.{AreItemsIn, GivesAll, IsNoListing, ListsAmong, ListsIn, TakesNext}
-use Rattle.gix_ref_whole.specs.ListedReadings.{AreComposed, AreItemsOf, IsFaultOf, IsItemOf, IsNoFolder, ListsReadings}
+use Rattle.gix_ref_whole.specs.ListedItems.{AreItemsIn, GivesAll, ListsAmong, ListsIn, TakesNext}
+use Rattle.gix_ref_whole.specs.ListedReadings.{AreComposed, AreItemsOf, IsReadingFault, IsItemOf, IsNoFolder, ListsReadings}
 use Rattle.gix_ref_whole.specs.WholeRuns.{ListsEdited, ListsNames, ReadsEdited, reads_after}
 use Rattle.gix_ref_whole.proofs.Committed.{packed_back, same_on, still_made, still_split}
 use Rattle.gix_ref_whole.proofs.ListedNames.{all_given, one_target, only_given}
@@ -77,7 +77,7 @@ module _ (settings : Settings) (view : View) (composed : AreComposed settings vi
     all_read (one ∷ ones) names there read = (subst (λ r. is_there r ≡ true) (sym (agree_at one names.0 there.0)) read.0, all_read ones names.1 there.1 read.1)
 
     one_item : (before now : ℕ) (one : Listed) (item : Result Reference Error) → reads (listed_key one) ≡ found (listed_key one) → IsItemOf s found before now one item → IsItemOf s reads before now one item
-    one_item before now one (Err e) same item = subst (λ r. IsFaultOf s before now (listed_key one) r e) (sym same) item
+    one_item before now one (Err e) same item = subst (λ r. IsReadingFault s before now (listed_key one) r e) (sym same) item
     one_item before now one (Ok r) same (name, target) = (name, λ may. subst (λ n. reads n ≡ found n) (sym name) same ∙ target may)
 
     module _ {F : Type 0} (honest : Type 0) (h : honest) (means : F → Meaning) (faults : F → ℕ) (now : ℕ) where
@@ -164,21 +164,21 @@ module _ {F : Type 0} (honest : Type 0) (means : F → Meaning) (faults : F → 
   pub record AreSoFar (first it : LooseThenPacked F Remaining) (items : List (Result Reference Error)) : Type 0 where
     pub gives : Yields (NextItem honest means faults) first items it
     pub same_reference : it.store.ghost_name ≡ first.store.ghost_name
-    pub unchanged : LooksUp honest means (store_of first) (store_of it)
+    pub unchanged : LooksUp honest means (store_listed first) (store_listed it)
 
   pub begins : (it : LooseThenPacked F Remaining) → AreSoFar it it []
   begins it = record {
     gives = refl;
     same_reference = refl;
     unchanged = record {
-      leaves = λ h. starts (means (files_of (store_of it))) _ refl;
+      leaves = λ h. starts (means (files_of (store_listed it))) _ refl;
       same = record { dirs = refl; namespace = refl; of_kind = refl; reflogs = refl; composes = refl; prohibits = refl; threshold = refl };
     };
   }
 
   module _ (first it next : LooseThenPacked F Remaining) (before after : List (Result Reference Error)) (more : Bool) (so_far : AreSoFar first it before) (takes : TakesNext honest means faults it next before after more) where
-    follows : LooksUp honest means (store_of first) (store_of next)
-    follows = looks_on (store_of first) (store_of it) (store_of next) so_far.unchanged record { leaves = takes.gives.gives.leaves; same = takes.gives.same_store }
+    follows : LooksUp honest means (store_listed first) (store_listed next)
+    follows = looks_on (store_listed first) (store_listed it) (store_listed next) so_far.unchanged record { leaves = takes.gives.gives.leaves; same = takes.gives.same_store }
 
     pub taken : more ≡ true → AreSoFar first next after
     taken is = go takes.item takes.gives takes.more_is takes.adds
@@ -206,8 +206,8 @@ module _ {F : Type 0} (honest : Type 0) (means : F → Meaning) (faults : F → 
   rises settings view before now listed rest (item ∷ items) (mid, one, more, same, up, is, later) = let on = rises settings view mid now more rest items later in omega (arith, up, on)
 
   -- the items of a listing whose iterator ended in the store `new`
-  pub items_in : (start new : Store F) (records : List Record) (prefix : List ℕ) (it t : LooseThenPacked F Remaining) (items : List (Result Reference Error)) → Lists honest means faults start records prefix it →
-      GivesAll honest means faults it t items → store_of t ≡ new → AreItemsIn honest means faults start (faults (files_of start)) (faults (files_of new)) records prefix items
+  pub items_in : (start new : Store F) (records : List Record) (prefix : List ℕ) (it t : LooseThenPacked F Remaining) (items : List (Result Reference Error)) → IteratesListing honest means faults start records prefix it →
+      GivesAll honest means faults it t items → store_listed t ≡ new → AreItemsIn honest means faults start (faults (files_of start)) (faults (files_of new)) records prefix items
   items_in start new records prefix it t items l all is =
       let first = l.runs items all.last all.gives in
       let last : count_in honest means faults all.last ≤ faults (files_of new) = subst (λ (x : Store F). count_in honest means faults all.last ≤ faults (files_of x)) is all.ends.gives.rises in

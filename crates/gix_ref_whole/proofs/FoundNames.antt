@@ -17,7 +17,7 @@ use Rattle.gix_ref_packed.specs.OpenFiles.{HasReadFault}
 use Rattle.gix_ref_packed.specs.declared.packed.buffer.open.Error.TheVariants.{Iter, HeaderParsing, Io, Memory as open_memory}
 use Rattle.gix_ref_theory.specs.OnRealTrees.{view_of}
 use Rattle.gix_ref_lookup.specs.LooseFiles.{IsUndecodable}
-use Rattle.gix_ref_lookup.specs.Lookups.{Answers, AreAsked, CandidateFails, FailsAmong, IsSound, asked_names, lookup_of, hit_given, meaning_in, name_asked, to_list}
+use Rattle.gix_ref_lookup.specs.Lookups.{ReturnsHit, AreAsked, CandidateFails, FailsAmong, IsSound, asked_names, lookup_of, hit_given, meaning_in, name_asked, to_list}
 use Rattle.gix_ref_lookup.specs.declared.settings.Settings.{Settings}
 use Rattle.gix_ref_lookup.specs.declared.loose.error.Error.{Error as Undecoded}
 use Rattle.gix_ref_lookup.specs.declared.find.records.Records.TheVariants.{Unopened}
@@ -54,7 +54,7 @@ not_a_target : (a : TargetValue) → Fault ≡ Is a → ⊥
 not_a_target a is = cc
 
 -- what is given of a hit under the name that was asked is the hit
-as_given : (name : List ℕ) (found : Option Hit) (r : Option Reference) → Answers (option_map (hit_given name name) found) r → Answers found r
+as_given : (name : List ℕ) (found : Option Hit) (r : Option Reference) → ReturnsHit (option_map (hit_given name name) found) r → ReturnsHit found r
 as_given name None r is = is
 as_given name (Some h) None is = is
 as_given name (Some h) (Some r) is = (is.0 ∙ given_same name h.name, is.1, is.2)
@@ -65,32 +65,32 @@ module _ (s : Store) (view : View) (records : List Record) (same : records_of_fi
 
   -- the lookup, by what the name reads
   by_reading : (reads : Reading) (r : Option Reference) → reading_among s view records name ≡ reads →
-      Answers (hit_or_head s view (cond (is_there (reading_among s view records name)) (Some (hit s view records name)) more) (remote_head name)) r → AnswersName s view name reads r
-  by_reading (Is target) r is found = go r (subst (λ (b : Bool). Answers (hit_or_head s view (cond b (Some (hit s view records name)) more) (remote_head name)) r) (ap is_there is) found)
+      ReturnsHit (hit_or_head s view (cond (is_there (reading_among s view records name)) (Some (hit s view records name)) more) (remote_head name)) r → AnswersName s view name reads r
+  by_reading (Is target) r is found = go r (subst (λ (b : Bool). ReturnsHit (hit_or_head s view (cond b (Some (hit s view records name)) more) (remote_head name)) r) (ap is_there is) found)
     where
-      go : (r : Option Reference) → Answers (Some (hit s view records name)) r → AnswersName s view name (Is target) r
+      go : (r : Option Reference) → ReturnsHit (Some (hit s view records name)) r → AnswersName s view name (Is target) r
       go None h = h
       go (Some r) h = (same_target target (target_value r.target) (sym is ∙ h.1), h.0)
-  by_reading Fault r is found = go r (subst (λ (b : Bool). Answers (hit_or_head s view (cond b (Some (hit s view records name)) more) (remote_head name)) r) (ap is_there is) found)
+  by_reading Fault r is found = go r (subst (λ (b : Bool). ReturnsHit (hit_or_head s view (cond b (Some (hit s view records name)) more) (remote_head name)) r) (ap is_there is) found)
     where
-      go : (r : Option Reference) → Answers (Some (hit s view records name)) r → AnswersName s view name Fault r
+      go : (r : Option Reference) → ReturnsHit (Some (hit s view records name)) r → AnswersName s view name Fault r
       go None h = h
       go (Some r) h = not_a_target (target_value r.target) (sym is ∙ h.1)
   by_reading Absent r is found =
-      subst (λ (rs : List Record). Answers (lookup s view rs (further name) (remote_head name)) r) (sym same)
-      (subst (λ (b : Bool). Answers (hit_or_head s view (cond b (Some (hit s view records name)) more) (remote_head name)) r) (ap is_there is) found)
+      subst (λ (rs : List Record). ReturnsHit (lookup s view rs (further name) (remote_head name)) r) (sym same)
+      (subst (λ (b : Bool). ReturnsHit (hit_or_head s view (cond b (Some (hit s view records name)) more) (remote_head name)) r) (ap is_there is) found)
 
   module _ (composes : Bool) (asked : IsAskedFirst s composes name) where
-    answers : (reads : Reading) (r : Option Reference) → reading_among s view records name ≡ reads → Answers (lookup_of composes s view records name) r → AnswersName s view name reads r
+    answers : (reads : Reading) (r : Option Reference) → reading_among s view records name ≡ reads → ReturnsHit (lookup_of composes s view records name) r → AnswersName s view name reads r
     answers reads r is found =
         let plain = as_given name (lookup s view records (candidates name) (remote_head name)) r
-        (subst (λ (n : List ℕ). Answers (option_map (hit_given n name) (lookup s view records (candidates n) (remote_head n))) r) asked.composed found) in
-        by_reading reads r is (subst (λ (names : List (List ℕ)). Answers (lookup s view records names (remote_head name)) r) (asked_first name asked.first) plain)
+        (subst (λ (n : List ℕ). ReturnsHit (option_map (hit_given n name) (lookup s view records (candidates n) (remote_head n))) r) asked.composed found) in
+        by_reading reads r is (subst (λ (names : List (List ℕ)). ReturnsHit (lookup s view records names (remote_head name)) r) (asked_first name asked.first) plain)
 
     -- and so the result of `find`
     pub found_as : (failed : Type 0) (reads : Reading) (found : Result Reference Missing) → reading_among s view records name ≡ reads →
-        ((r : Reference) → found ≡ Ok r → Answers (lookup_of composes s view records name) (Some r)) →
-        ((n : PartialName) → found ≡ Err (NotFound n) → Answers (lookup_of composes s view records name) None) →
+        ((r : Reference) → found ≡ Ok r → ReturnsHit (lookup_of composes s view records name) (Some r)) →
+        ((n : PartialName) → found ≡ Err (NotFound n) → ReturnsHit (lookup_of composes s view records name) None) →
         ((e : FindError) → found ≡ Err (Find e) → IsSound e × FailsAs failed reads e) → IsFoundAs s view name failed reads found
     found_as failed reads (Ok r) is ok missing fails = answers reads (Some r) is (ok r refl)
     found_as failed reads (Err (NotFound n)) is ok missing fails = answers reads None is (missing n refl)

@@ -30,7 +30,7 @@ use Rattle.gix_ref_listing.specs.declared.found.Found.TheVariants.{File, Unliste
 use Rattle.gix_ref_listing.specs.declared.error.Error.TheVariants.{Traversal, ReadFileContents, ReferenceCreation, PackedReference, Memory}
 use Rattle.gix_ref_lookup.specs.declared.find.error.ReadError.TheVariants.{File as file_error, DeviceName}
 use Rattle.gix_ref_lookup.proofs.LooseLemmas.{refused_none}
-use Rattle.gix_ref_whole.specs.ListedReadings.{AreComposed, IsFaultOf, IsAllowed, IsItemOf, IsListable}
+use Rattle.gix_ref_whole.specs.ListedReadings.{AreComposed, IsReadingFault, IsAllowed, IsItemOf, IsListable}
 use Rattle.gix_ref_whole.proofs.OwnPlaces.{own_key, own_place, place_of_own_key}
 
 -- ---- lists
@@ -173,7 +173,7 @@ module _ (settings : Settings) (view : View) (composed : AreComposed settings vi
 
     -- a file that holds no target reads a fault; and one that is there could not be read only where a call of files failed
     fault_of : (honest : Type 0) → honest → (before now : ℕ) (name key path : List ℕ) (e : Error) → s.place key ≡ path → name ≡ key → IsSome (view path) → IsUnread honest settings.kind s view before now name path e →
-        IsFaultOf s before now key (reads key) e
+        IsReadingFault s before now key (reads key) e
     fault_of honest h before now name key path (ReadFileContents (file_error source) p) at named there (inl failed) = (failed.0, failed.2 ∙ sym at)
     fault_of honest h before now name key path (ReadFileContents (file_error source) p) at named there (inr gone) = absurd (none_there (subst (λ (f : Option (List ℕ)). IsSome f) (gone.0 h) there))
     fault_of honest h before now name key path (ReadFileContents DeviceName p) at named there unread = (ap s.is_prohibited at ∙ unread.0, unread.1 ∙ sym at)
@@ -195,7 +195,7 @@ module _ (settings : Settings) (view : View) (composed : AreComposed settings vi
     one_target honest h names before now (Walked (key, Unlisted path source)) (Err e) is_name within found item = absurd is_name
     one_target honest h names before now (Walked (key, File n path)) (Err e) is_name within (named, file) item =
         fault_of honest h before now (full_bytes n) key.items path.items e (at_place prefix key.items path.items file) named file.there item
-    one_target honest h names before now (InPacked own) (Err e) is_name within found item = subst (IsFaultOf s before now own.name (reads own.name)) (sym item) tt
+    one_target honest h names before now (InPacked own) (Err e) is_name within found item = subst (IsReadingFault s before now own.name (reads own.name)) (sym item) tt
     one_target honest h names before now (Walked (key, Unlisted path e)) (Ok r) is_name within found item = absurd item
     one_target honest h names before now (Walked (key, File n path)) (Ok r) is_name within (named, file) item =
         let name : full_bytes r.name ≡ key.items = ap full_bytes item.0 ∙ named in

@@ -4,7 +4,7 @@ use Rattle.std.specs.Prelude.{MatchBool, codes, if◌then◌else◌, unwrap_or}
 use Rattle.std.proofs.lemmas.Bool.{cond-false}
 use Rattle.gix_ref_hash.specs.declared.hash.Kind.{Kind}
 use Rattle.gix_ref_base.specs.Layout.{Layout, below, packed_refs}
-use Rattle.gix_ref_base.specs.Locations.{Location, location, paths_of}
+use Rattle.gix_ref_base.specs.Locations.{Location, location, row_of}
 use Rattle.gix_ref_base.specs.Locations.Location.{Common, ThisWorktree, MainWorktree, LinkedWorktree}
 use Rattle.gix_ref_base.specs.PackedRecords.{Record, record_named}
 use Rattle.gix_ref_base.proofs.LocationLemmas.{HasSpot, has_slash, has_spot, test_no_slash}
@@ -54,7 +54,7 @@ worktree_is_one name v k (inr (inr (w, s, e, none, inl h))) = same_worktree w s 
 worktree_is_one name v k (inr (inr (w, s, e, none, inr (inl h)))) = same_worktree w s v k h.2 none
 worktree_is_one name v k (inr (inr (w, s, e, none, inr (inr h)))) = let f : Common s ≡ LinkedWorktree v k = h.2 in cc
 
-log_inside : (f : Layout) (name : List ℕ) (x : Location) → location name ≡ Some x → IsLogInside f (paths_of f x).log
+log_inside : (f : Layout) (name : List ℕ) (x : Location) → location name ≡ Some x → IsLogInside f (row_of f x).log
 log_inside f name (Common n) e = inl (f.common, n, inl refl, refl)
 log_inside f name (ThisWorktree n) e = inl (f.git, n, inr refl, refl)
 log_inside f name (MainWorktree n) e = inl (f.common, n, inl refl, refl)
@@ -64,8 +64,8 @@ pub logs_inside : LogsLieInTheNamespace
 logs_inside f o name = by (location name) refl
   where
     by : (l : Option Location) → location name ≡ l → IsLogInside f ((store_of f o).log name)
-    by None e = subst (λ (l : Option Location). IsLogInside f (paths_of f (unwrap_or l (Common name))).log) (sym e) (inl (f.common, name, inl refl, refl))
-    by (Some x) e = subst (λ (l : Option Location). IsLogInside f (paths_of f (unwrap_or l (Common name))).log) (sym e) (log_inside f name x e)
+    by None e = subst (λ (l : Option Location). IsLogInside f (row_of f (unwrap_or l (Common name))).log) (sym e) (inl (f.common, name, inl refl, refl))
+    by (Some x) e = subst (λ (l : Option Location). IsLogInside f (row_of f (unwrap_or l (Common name))).log) (sym e) (log_inside f name x e)
 
 none_is_some : (key : List ℕ) → None ≡ Some key → ⊥
 none_is_some key is = cc
@@ -73,7 +73,7 @@ none_is_some key is = cc
 same_key : (a b : List ℕ) → Some a ≡ Some b → a ≡ b
 same_key a b is = cc
 
-key_inside : (f : Layout) (x : Location) (key : List ℕ) → (paths_of f x).key ≡ Some key → IsKeyInside f key
+key_inside : (f : Layout) (x : Location) (key : List ℕ) → (row_of f x).key ≡ Some key → IsKeyInside f key
 key_inside f (Common n) key is = (n, sym (same_key (f.namespace ++ n) key is))
 key_inside f (ThisWorktree n) key is = absurd (none_is_some key is)
 key_inside f (MainWorktree n) key is = absurd (none_is_some key is)

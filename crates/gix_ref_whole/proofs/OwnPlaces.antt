@@ -5,7 +5,7 @@ use Rattle.std.specs.List.{list_all}
 use Rattle.gix_ref_hash.specs.Bytes.{BeginsWith}
 use Rattle.gix_ref_grammar.specs.NameGrammar.{is_pseudo_byte}
 use Rattle.gix_ref_base.specs.Layout.{Layout, below, is_private_ref}
-use Rattle.gix_ref_base.specs.Locations.{Location, location, location_unless, paths_of, rest_after}
+use Rattle.gix_ref_base.specs.Locations.{Location, location, location_unless, row_of, rest_after}
 use Rattle.gix_ref_base.specs.Locations.Location.{Common, ThisWorktree, MainWorktree, LinkedWorktree}
 use Rattle.gix_ref_theory.specs.Readings.{Store}
 use Rattle.gix_ref_lookup.specs.Lookups.{meaning_in}
@@ -54,16 +54,16 @@ module _ (settings : Settings) where
   own_place name begins = go (near name begins)
     where
       go : (location name ≡ Some (ThisWorktree name)) ⊎ (location name ≡ Some (Common name)) → HasOwnPlace name
-      go (inl is) = (front_in settings f.git, inr refl, ap (λ l. (paths_of f (unwrap_or l (Common name))).place) is ∙ behind f.git f.namespace name)
-      go (inr is) = in_common_folder name (ap (λ l. (paths_of f (unwrap_or l (Common name))).place) is)
+      go (inl is) = (front_in settings f.git, inr refl, ap (λ l. (row_of f (unwrap_or l (Common name))).place) is ∙ behind f.git f.namespace name)
+      go (inr is) = in_common_folder name (ap (λ l. (row_of f (unwrap_or l (Common name))).place) is)
 
   -- its key is its own, if it has one
   pub own_key : (name key : List ℕ) → BeginsWith name (codes "refs/") → s.key name ≡ Some key → s.key name ≡ Some (key_in settings name)
   own_key name key begins has = go (near name begins)
     where
       go : (location name ≡ Some (ThisWorktree name)) ⊎ (location name ≡ Some (Common name)) → s.key name ≡ Some (key_in settings name)
-      go (inl is) = absurd (none_is_some key (sym (ap (λ l. (paths_of f (unwrap_or l (Common name))).key) is) ∙ has))
-      go (inr is) = ap (λ l. (paths_of f (unwrap_or l (Common name))).key) is
+      go (inl is) = absurd (none_is_some key (sym (ap (λ l. (row_of f (unwrap_or l (Common name))).key) is) ∙ has))
+      go (inr is) = ap (λ l. (row_of f (unwrap_or l (Common name))).key) is
 
   -- a name whose own key it is has its own place
   pub place_of_own_key : (name : List ℕ) → s.key name ≡ Some (key_in settings name) → HasOwnPlace name
@@ -71,8 +71,8 @@ module _ (settings : Settings) where
     where
       go : (l : Location) → unwrap_or (location name) (Common name) ≡ l → HasOwnPlace name
       go (Common n) is =
-          let same = same_key (f.namespace ++ n) (f.namespace ++ name) (sym (ap (λ l. (paths_of f l).key) is) ∙ has) in
-          in_common_folder name (ap (λ l. (paths_of f l).place) is ∙ ap (below f.common) same)
-      go (ThisWorktree n) is = absurd (none_is_some (key_in settings name) (sym (ap (λ l. (paths_of f l).key) is) ∙ has))
-      go (MainWorktree n) is = absurd (none_is_some (key_in settings name) (sym (ap (λ l. (paths_of f l).key) is) ∙ has))
-      go (LinkedWorktree w n) is = absurd (none_is_some (key_in settings name) (sym (ap (λ l. (paths_of f l).key) is) ∙ has))
+          let same = same_key (f.namespace ++ n) (f.namespace ++ name) (sym (ap (λ l. (row_of f l).key) is) ∙ has) in
+          in_common_folder name (ap (λ l. (row_of f l).place) is ∙ ap (below f.common) same)
+      go (ThisWorktree n) is = absurd (none_is_some (key_in settings name) (sym (ap (λ l. (row_of f l).key) is) ∙ has))
+      go (MainWorktree n) is = absurd (none_is_some (key_in settings name) (sym (ap (λ l. (row_of f l).key) is) ∙ has))
+      go (LinkedWorktree w n) is = absurd (none_is_some (key_in settings name) (sym (ap (λ l. (row_of f l).key) is) ∙ has))

@@ -15,7 +15,7 @@ use Rattle.gix_ref_base.specs.Layout.{Layout}
 use Rattle.gix_ref_base.specs.PackedRecords.{Record, record_named}
 use Rattle.gix_ref_base.specs.Targets.TargetValue.{object_id, symbolic_name}
 use Rattle.gix_ref_records.specs.Positions.{IsObject, IsReadable}
-use Rattle.gix_ref_records.specs.RecordGrammar.{Peeled, Records, Below, Ascending}
+use Rattle.gix_ref_records.specs.RecordGrammar.{OptionalPeeledLine, Records, Below, Ascending}
 use Rattle.gix_ref_records.specs.WrittenText.{written_header}
 use Rattle.gix_ref_packed.proofs.RecordsOfText.{records_computed}
 use Rattle.gix_ref_rewrite.proofs.OutcomeLemmas.{well_formed}
@@ -94,7 +94,7 @@ pairs_ascend (r ∷ rs) up = (λ k d lt. up 0 (suc k) d (omega arith) (omega ari
 
 -- ---- records that can be read
 
-object_read : (k : Kind) (t : List ℕ) (o : Option (List ℕ)) (rest : List ℕ) → Peeled k t o rest → IsObject k o
+object_read : (k : Kind) (t : List ℕ) (o : Option (List ℕ)) (rest : List ℕ) → OptionalPeeledLine k t o rest → IsObject k o
 object_read k t None rest f = tt
 object_read k t (Some object) rest f = f.id
 

@@ -9,7 +9,7 @@ use Rattle.gix_ref_theory.specs.Lookups.{hit_name, lookup}
 use Rattle.gix_ref_theory.specs.Readings.{Store, Reading, reading, records_of_file}
 use Rattle.gix_ref_theory.specs.Readings.Reading.{Is, Fault, Absent}
 use Rattle.gix_ref_theory.specs.Views.{View}
-use Rattle.gix_ref_lookup.specs.Lookups.{Answers, IsSound, name_asked}
+use Rattle.gix_ref_lookup.specs.Lookups.{ReturnsHit, IsSound, name_asked}
 use Rattle.gix_ref_lookup.specs.declared.find.error.Error.{Error as FindError}
 use Rattle.gix_ref_lookup.specs.declared.find.error.Error.TheVariants.{Memory}
 use Rattle.gix_ref_lookup.specs.declared.find.existing.Error.{Error as Missing}
@@ -37,7 +37,7 @@ AnswersName s view name (Is target) (Some r) =
     (target_value r.target ≡ target) × (full_bytes r.name ≡ hit_name s name (s.key name) (view (s.place name)))
 AnswersName s view name (Is target) None = ⊥
 AnswersName s view name Fault found = ⊥
-AnswersName s view name Absent found = Answers (lookup s view (records_of_file s (view s.packed_path)) (further name) (remote_head name)) found
+AnswersName s view name Absent found = ReturnsHit (lookup s view (records_of_file s (view s.packed_path)) (further name) (remote_head name)) found
 
 -- Why a lookup of such a name has an error: there was no memory; or, where the name reads a target, a call of files failed. Where it
 -- reads a fault, that is one; where it reads nothing, one of the further names may have one.

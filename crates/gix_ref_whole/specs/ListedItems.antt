@@ -6,16 +6,15 @@ use Rattle.std.specs.Iterator.{Yields}
 use Rattle.gix_ref_base.specs.PackedRecords.{Record}
 use Rattle.gix_ref_files.specs.Files.{Meaning, HasRisen}
 use Rattle.gix_ref_files.specs.declared.files.ReadAt.{Ghosts}
-use Rattle.gix_ref_packed.specs.OpenFiles.{CountsRefusal}
 use Rattle.gix_ref_records.specs.declared.raw.Reference.{Reference}
 use Rattle.gix_ref_listing.specs.Listings.{Listed}
 use Rattle.gix_ref_listing.specs.CleanPrefixes.{IsAcceptedPrefix, IsRefusedPrefix}
 use Rattle.gix_ref_listing.specs.WholeListings.{IsListing, IsNameItem}
 use Rattle.gix_ref_listing.specs.declared.error.Error.{Error}
 use Rattle.gix_ref_listing.specs.declared.prefix.Error.{Error as PrefixError}
-use Rattle.gix_ref_listing.specs.declared.prefix.Error.TheVariants.{PackedOpen, Memory}
-use Rattle.gix_ref_store.specs.Listings.{AreFirst, NextItem}
-use Rattle.gix_ref_store.specs.Lookup.{AreRecordsIn, RefusesBuffer, settings_of, view_in}
+use Rattle.gix_ref_listing.specs.declared.prefix.Error.TheVariants.{Memory}
+use Rattle.gix_ref_store.specs.Listings.{AreFirst, IsNoListing, NextItem}
+use Rattle.gix_ref_store.specs.Lookup.{AreRecordsIn, settings_of, view_in}
 use Rattle.gix_ref_store.specs.Store.{files_of}
 use Rattle.gix_ref_store.specs.declared.file.iter.LooseThenPacked.{LooseThenPacked}
 use Rattle.gix_ref_store.specs.declared.file.iter.Remaining.{Remaining}
@@ -51,16 +50,9 @@ module _ {F : Type 0} (honest : Type 0) (means : F → Meaning) (faults : F → 
       × (honest → (records : List Record) → Are records → AreItemsIn start (faults (files_of start)) (faults (files_of new)) records prefix all.items)
   ListsAmong start new prefix Are (Err error) = (error ≡ Memory) ⊎ IsRefusedPrefix start.namespace prefix error
 
-  -- why there is no listing: `packed-refs` is not opened, by a call of files that failed or for its text; the prefix has none; no memory
-  abbrev pub IsNoListing : {R : Type 0} (G : Ghosts R) → (start new : Store F) → (prefix : List ℕ) → PrefixError → Type 0
-  IsNoListing G start new prefix (PackedOpen error) =
-      honest → RefusesBuffer means start error × CountsRefusal G.faults (faults (files_of start)) (faults (files_of new)) error
-  IsNoListing G start new prefix Memory = Unit {0}
-  IsNoListing G start new prefix error = IsRefusedPrefix start.namespace prefix error
-
   -- and a listing among the records of its `packed-refs`
   abbrev pub ListsIn : {R : Type 0} (G : Ghosts R) → (start new : Store F) → (prefix : List ℕ) → Result (Vec (Result Reference Error) Global) PrefixError → Type 0
   ListsIn G start new prefix (Ok all) =
       IsAcceptedPrefix start.namespace prefix
       × (honest → (records : List Record) → AreRecordsIn means start records → AreItemsIn start (faults (files_of start)) (faults (files_of new)) records prefix all.items)
-  ListsIn G start new prefix (Err error) = IsNoListing G start new prefix error
+  ListsIn G start new prefix (Err error) = IsNoListing honest means faults G start new prefix error

@@ -38,18 +38,18 @@ pub record IsListable (s : Store) (prefix name : List ℕ) : Type 0 where
 -- Why the reference of this name is not given, while the count of faults went from `before` to `now`: its file holds no target, and so it
 -- reads a fault; the file could not be read, only where the count rose; its place has the name of a device, and the store prohibits
 -- these; or there was no memory.
-abbrev pub IsFaultOf : Store → (before now : ℕ) → (name : List ℕ) → Reading → Error → Type 0
-IsFaultOf s before now name reading (ReferenceCreation source path) = (reading ≡ Fault) × (path.items ≡ name)
-IsFaultOf s before now name reading (ReadFileContents (file_error source) path) = HasRisen before now × (path.items ≡ s.place name)
-IsFaultOf s before now name reading (ReadFileContents DeviceName path) = (s.is_prohibited (s.place name) ≡ true) × (path.items ≡ s.place name)
-IsFaultOf s before now name reading Memory = Unit {0}
-IsFaultOf s before now name reading other = ⊥
+abbrev pub IsReadingFault : Store → (before now : ℕ) → (name : List ℕ) → Reading → Error → Type 0
+IsReadingFault s before now name reading (ReferenceCreation source path) = (reading ≡ Fault) × (path.items ≡ name)
+IsReadingFault s before now name reading (ReadFileContents (file_error source) path) = HasRisen before now × (path.items ≡ s.place name)
+IsReadingFault s before now name reading (ReadFileContents DeviceName path) = (s.is_prohibited (s.place name) ≡ true) × (path.items ≡ s.place name)
+IsReadingFault s before now name reading Memory = Unit {0}
+IsReadingFault s before now name reading other = ⊥
 
 -- an item is the reference of this name, with the target that it reads; or a fault in its place
 abbrev pub IsItemOf : Store → (List ℕ → Reading) → (before now : ℕ) → Listed → Result Reference Error → Type 0
 IsItemOf s reads before now one (Ok r) =
     (full_bytes r.name ≡ listed_key one) × (IsAllowed s (full_bytes r.name) → reads (full_bytes r.name) ≡ Is (target_value r.target))
-IsItemOf s reads before now one (Err error) = IsFaultOf s before now (listed_key one) (reads (listed_key one)) error
+IsItemOf s reads before now one (Err error) = IsReadingFault s before now (listed_key one) (reads (listed_key one)) error
 
 -- And so each of them, one after the other: each is made between two counts of faults, and the next begins with the second.
 abbrev pub AreItemsOf : Store → (List ℕ → Reading) → (before now : ℕ) → List Listed → List (Result Reference Error) → Type 0

@@ -1,7 +1,7 @@
 //! A listing after a transaction.
 ghost use Rattle.std.specs.Prelude.{◌≡◌, ◌<◌, true, IfOk, IfErr};
 ghost use Rattle.gix_ref_packed.specs.OpenFiles.{HasReadFault};
-ghost use Rattle.gix_ref_store.specs.Listings.{AreHeldFor, items_left, store_of};
+ghost use Rattle.gix_ref_store.specs.Listings.{AreHeldFor, items_ahead, store_listed};
 ghost use Rattle.gix_ref_store.specs.Lookup.{LooksUp};
 ghost use Rattle.gix_ref_whole.specs.ListedItems.{TakesNext, GivesAll, ListsAmong, ListsIn};
 ghost use Rattle.gix_ref_whole.specs.WholeRuns.{ListsAfter, IsNotMade};
@@ -35,8 +35,8 @@ fn take_next<F: Files>(
     ensures same_reference { items.new.store.ghost_name ≡ items.old.store.ghost_name }
     ensures takes { IfOk result (TakesNext F.honest F.means F.faults items.old items.new
         all.old.items all.new.items) }
-    ensures unchanged { LooksUp F.honest F.means (store_of items.old) (store_of items.new) }
-    ensures left { IfOk result (λ more. more ≡ true → items_left items.new < items_left items.old) }
+    ensures unchanged { LooksUp F.honest F.means (store_listed items.old) (store_listed items.new) }
+    ensures left { IfOk result (λ more. more ≡ true → items_ahead items.new < items_ahead items.old) }
 {
     match items.next() {
         Some(item) => {
@@ -55,7 +55,7 @@ fn collect<F: Files>(
     ensures same_reference { items.new.store.ghost_name ≡ items.old.store.ghost_name }
     ensures gives { IfOk result (λ all. GivesAll F.honest F.means F.faults items.old items.new
         all.items) }
-    ensures unchanged { LooksUp F.honest F.means (store_of items.old) (store_of items.new) }
+    ensures unchanged { LooksUp F.honest F.means (store_listed items.old) (store_listed items.new) }
 {
     let mut all = Vec::new(alloc);
     while take_next(&mut all, items)? {}

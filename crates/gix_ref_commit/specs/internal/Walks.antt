@@ -52,7 +52,7 @@ pub record AddsFolders (T : Tree) (folder : Path) (old new : List Path) : Type 0
   pub each : is_folder (T folder) ≡ true → (name : List ℕ) → IsEntryName name → IsSome (T (folder ++ 47 ∷ name)) → (is_folder (T (folder ++ 47 ∷ name)) ≡ true) × Contains names name
 
 -- Of the folders that were found each holds only others of them, and none lies in a later one.
-pub record AreWhole (T : Tree) (folders : List Path) : Type 0 where
+pub record AreClosedFolders (T : Tree) (folders : List Path) : Type 0 where
   pub all : All (HoldsOnly T folders) folders
   pub outer_first : AllPairs (λ earlier later. LiesIn earlier later → ⊥) folders
 

@@ -7,7 +7,7 @@ use Rattle.gix_ref_edits.specs.declared.transaction.RefEdit.{RefEdit}
 use Rattle.gix_ref_edits.specs.declared.transaction.ext.error.SplitError.{SplitError}
 use Rattle.gix_ref_edits.specs.declared.transaction.ext.error.SplitError.TheVariants.{Find, TooManySplits, DoubledName, Memory}
 use Rattle.gix_ref_edits.specs.EditValues.{EditValue, edit_value}
-use Rattle.gix_ref_edits.specs.LookUps.{LookUp, LooksUp, AnswersBy, HasLookedUp, HasFailed, lookups_of}
+use Rattle.gix_ref_edits.specs.LookUps.{LookUp, CallsInOrder, AnswersBy, HasLookedUp, LookUpFailed, lookups_of}
 use Rattle.gix_ref_edits.specs.MadeEntries.{MadeEntry, Makes, IsSameButEdit, edits_of, parent_places}
 use Rattle.gix_ref_edits.specs.SplitLists.{after_round, children, level, first_levels}
 
@@ -21,19 +21,19 @@ pub record IsRound (find : List ℕ → Option (List ℕ)) (edits : List EditVal
 -- that answers as the calls did.
 pub record HasRound {F E : Type 0} (step : F → PartialNameRef → Result (Option Target) E → F → Type 0) (before : F) (edits after kids : List EditValue) (later : F) : Type 0 where
   pub lookups : List LookUp
-  pub called : LooksUp step before lookups later
+  pub called : CallsInOrder step before lookups later
   pub each : (find : List ℕ → Option (List ℕ)) → AnswersBy find lookups → IsRound find edits lookups after kids
 
 -- the error is one of the finder, or of memory, after calls that answered
-abbrev pub IsFault : {F E : Type 0} → (F → PartialNameRef → Result (Option Target) E → F → Type 0) → F → F → SplitError E → Type 0
-IsFault step before later (Find error) = HasFailed step before later error
-IsFault step before later (TooManySplits rounds) = ⊥
-IsFault step before later (DoubledName name) = ⊥
-IsFault step before later Memory = HasLookedUp step before later
+abbrev pub IsLookUpFault : {F E : Type 0} → (F → PartialNameRef → Result (Option Target) E → F → Type 0) → F → F → SplitError E → Type 0
+IsLookUpFault step before later (Find error) = LookUpFailed step before later error
+IsLookUpFault step before later (TooManySplits rounds) = ⊥
+IsLookUpFault step before later (DoubledName name) = ⊥
+IsLookUpFault step before later Memory = HasLookedUp step before later
 
-abbrev pub values_of : Option RefEdit → List EditValue
-values_of None = []
-values_of (Some edit) = edit_value edit ∷ []
+abbrev pub values_of_option : Option RefEdit → List EditValue
+values_of_option None = []
+values_of_option (Some edit) = edit_value edit ∷ []
 
 -- One round over the entries of a level, the first of which is at the place `at` of the list: the entries after it, and
 -- those that were made for the children, each with the place of its parent.
@@ -62,7 +62,7 @@ pub record HasRounds {F E M T : Type 0} (step : F → PartialNameRef → Result 
   pub made : List (MadeEntry T)
   pub parts : list ≡ front ++ back
   pub place : length front ≡ first
-  pub called : LooksUp step before.0 lookups later.0
+  pub called : CallsInOrder step before.0 lookups later.0
   pub makings : Makes makes before.1 made later.1
   pub entries : edits ++ map (λ made. made.entry) made ≡ given ++ back
   pub kept : AllZip (IsSameButEdit with_edit) given front

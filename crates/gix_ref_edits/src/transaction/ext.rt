@@ -1,6 +1,6 @@
 //! Lists of edits: splits of edits that follow symbolic references, and names that have one edit each.
 ghost use Rattle.std.specs.Prelude.{List, OnOk, IfErr};
-ghost use Rattle.gix_ref_edits.specs.DoubledNames.{NoneDoubled, IsLeastDoubled, names_of};
+ghost use Rattle.gix_ref_edits.specs.DoubledNames.{NoneDoubled, IsLeastDoubled, entry_names};
 ghost use Rattle.gix_ref_edits.specs.MadeEntries.{KeepsEdits, edits_of};
 ghost use Rattle.gix_ref_edits.specs.SplitErrors.{IsNameFault, IsSplitFault};
 ghost use Rattle.gix_ref_edits.specs.SplitResults.{HasSplits, HasSplitsDoubling, HasTooManySplits};
@@ -41,9 +41,9 @@ pub trait RefEditsExt<T: EditEntry> {
     /// }
     /// ```
     fn assure_one_name_has_one_edit(&self, alloc: Global) -> Result<(), EditError>
-        ensures single { OnOk result (NoneDoubled (names_of T.edit_of (entries self.now))) }
+        ensures single { OnOk result (NoneDoubled (entry_names T.edit_of (entries self.now))) }
         ensures doubled { IfErr result
-            (IsNameFault (IsLeastDoubled (names_of T.edit_of (entries self.now)))) };
+            (IsNameFault (IsLeastDoubled (entry_names T.edit_of (entries self.now)))) };
 
     /// Splits the edits that follow symbolic references (`deref`): the edit of the symbolic reference becomes one of its
     /// log alone, and an edit of the reference that it leads to is appended, which follows in turn. An update's
@@ -98,7 +98,7 @@ pub trait RefEditsExt<T: EditEntry> {
         ensures split { OnOk result (HasSplits F.step M.step T.edit_of T.with_edit
             (find.old, make_entry.old) (entries self.old) (entries self.new)
             (find.new, make_entry.new)) }
-        ensures single { OnOk result (NoneDoubled (names_of T.edit_of (entries self.new))) }
+        ensures single { OnOk result (NoneDoubled (entry_names T.edit_of (entries self.new))) }
         ensures fault { IfErr result (IsSplitFault F.step find.old find.new
             (HasTooManySplits F.step find.old (edits_of T.edit_of (entries self.old)) find.new)
             (HasSplitsDoubling F.step M.step T.edit_of T.with_edit (find.old, make_entry.old)

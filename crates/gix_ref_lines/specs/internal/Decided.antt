@@ -6,7 +6,7 @@ use Rattle.gix_ref_theory.specs.Views.{View}
 use Rattle.gix_ref_transaction.specs.declared.edit.Edit.{Edit}
 use Rattle.gix_ref_lines.specs.AskedEdits.{asked, asked_from, outcomes_of}
 use Rattle.gix_ref_lines.specs.DueLines.{LogRules, log_outcomes}
-use Rattle.gix_ref_lines.specs.LineCauses.{AllPass, IsRefusal}
+use Rattle.gix_ref_lines.specs.LineCauses.{AllHaveNoCause, IsRefusal}
 use Rattle.gix_ref_lines.specs.declared.error.Error.{Error as Refusal}
 use Rattle.gix_ref_lines.specs.internal.LineSteps.{Sees}
 
@@ -16,5 +16,5 @@ pub record AreDecidedBefore (r : LogRules) (T : Tree) (given : List Edit) (i : �
   pub files : View
   pub sees : Sees files T due
   pub logs : log_outcomes r (view_of T) (asked given) ≡ outcomes_of (take i edits) ++ log_outcomes r files (asked_from i (drop i given))
-  pub passed : AllPass r files (asked_from i (drop i given)) → AllPass r (view_of T) (asked given)
+  pub passed : AllHaveNoCause r files (asked_from i (drop i given)) → AllHaveNoCause r (view_of T) (asked given)
   pub refused : (e : Refusal) → IsRefusal r files (asked_from i (drop i given)) e → IsRefusal r (view_of T) (asked given) e

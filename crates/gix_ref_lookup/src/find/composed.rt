@@ -6,7 +6,7 @@ ghost use Rattle.gix_ref_base.specs.PackedRecords.{Record};
 ghost use Rattle.gix_ref_files.specs.Files.{Leaves};
 ghost use Rattle.gix_ref_files.specs.Calls.{Unchanged};
 ghost use Rattle.gix_ref_theory.specs.OnRealTrees.{view_of};
-ghost use Rattle.gix_ref_lookup.specs.Lookups.{meaning_in, packed_refs_in, AreAsked, AreHonest, Answers, IsSound, IsHitOf, IsGivenOf, FailsAmong, lookup_of, asked_names, name_asked, AreStillAsked};
+ghost use Rattle.gix_ref_lookup.specs.Lookups.{meaning_in, packed_refs_in, AreAsked, AreHonest, ReturnsHit, IsSound, IsHitOf, IsGivenOf, FailsAmong, lookup_of, asked_names, name_asked, AreStillAsked};
 
 use crate::find::Error;
 use crate::find::lookup::find_asked;
@@ -74,7 +74,7 @@ pub fn find_reference<F: Files>(
     ensures found { F.honest → (rs : List Record) →
         AreAsked settings.entry.kind (packed_refs_in settings.entry (F.means files.old))
         records.old rs →
-        IfOk result (Answers (lookup_of composes
+        IfOk result (ReturnsHit (lookup_of composes
         (meaning_in settings.entry) (view_of (F.means files.old).tree) rs
         (partial_ref_bytes name.entry))) }
     ensures sound { F.honest → (rs : List Record) →

@@ -7,7 +7,7 @@ ghost use Rattle.gix_ref_files.specs.Files.{Leaves};
 ghost use Rattle.gix_ref_files.specs.Calls.{Unchanged};
 ghost use Rattle.gix_ref_theory.specs.Lookups.{first_hit, hit_or_head, lookup};
 ghost use Rattle.gix_ref_theory.specs.OnRealTrees.{view_of};
-ghost use Rattle.gix_ref_lookup.specs.Lookups.{meaning_in, packed_refs_in, AreAsked, AreHonest, Answers, IsSound, IsHit, Among, FailsAmong, to_list, asked_names, AreStillAsked};
+ghost use Rattle.gix_ref_lookup.specs.Lookups.{meaning_in, packed_refs_in, AreAsked, AreHonest, ReturnsHit, IsSound, IsHit, Among, FailsAmong, to_list, asked_names, AreStillAsked};
 
 use crate::find::Error;
 use crate::find::candidate::find_candidate;
@@ -30,7 +30,7 @@ fn find_first<F: Files>(
     ensures found { F.honest → (rs : List Record) →
         AreAsked settings.entry.kind (packed_refs_in settings.entry (F.means files.old))
         records.old rs →
-        IfOk result (Answers (first_hit (meaning_in settings.entry) (view_of (F.means
+        IfOk result (ReturnsHit (first_hit (meaning_in settings.entry) (view_of (F.means
         files.old).tree) rs
         (candidates (partial_ref_bytes name.entry)))) }
     ensures sound { F.honest → (rs : List Record) →
@@ -70,7 +70,7 @@ fn find_head<F: Files>(
     settings: Settings<'_>,
     name: PartialNameRef<'_>,
 ) -> Result<Option<Reference>, Error>
-    ensures found { F.honest → IfOk result (Answers (hit_or_head (meaning_in settings.entry)
+    ensures found { F.honest → IfOk result (ReturnsHit (hit_or_head (meaning_in settings.entry)
         (view_of (F.means files.old).tree) None (remote_head (partial_ref_bytes name.entry)))) }
     ensures sound { F.honest → IfErr result IsSound }
     ensures failed { IfErr result (λ error. (error ≡ Error.Memory) ⊎ FailsAmong {G =
@@ -107,7 +107,7 @@ pub fn find_asked<F: Files>(
     ensures found { F.honest → (rs : List Record) →
         AreAsked settings.entry.kind (packed_refs_in settings.entry (F.means files.old))
         records.old rs →
-        IfOk result (Answers (lookup (meaning_in settings.entry) (view_of (F.means files.old).tree)
+        IfOk result (ReturnsHit (lookup (meaning_in settings.entry) (view_of (F.means files.old).tree)
         rs (candidates (partial_ref_bytes name.entry)) (remote_head (partial_ref_bytes
         name.entry)))) }
     ensures sound { F.honest → (rs : List Record) →

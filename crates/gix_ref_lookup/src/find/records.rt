@@ -7,7 +7,7 @@ ghost use Rattle.gix_ref_files.specs.Files.{disk_of, Leaves, Passes, HasRisen};
 ghost use Rattle.gix_ref_files.specs.Calls.{Unchanged};
 ghost use Rattle.gix_ref_files.specs.DiskCalls.{Untouched};
 ghost use Rattle.gix_ref_packed.specs.Buffers.{buffer_text, buffer_kind, IsRefusedFile};
-ghost use Rattle.gix_ref_packed.specs.FileSearches.{FindsIn};
+ghost use Rattle.gix_ref_packed.specs.FileSearches.{FindsInFile};
 ghost use Rattle.gix_ref_packed.specs.OpenFiles.{HasReadFault};
 ghost use Rattle.gix_ref_lookup.specs.Lookups.{meaning_in, packed_refs_in, ArePackedRecords, AreAsked, IsSearched, IsReady, IsFaultOrMemory, IsNotPacked, AreHonest, IsOpenedText, of_opening, of_search, as_found};
 
@@ -74,7 +74,7 @@ fn said(found: Result<Option<Found>, FindError>) -> Result<Option<Found>, Error>
 /// The ids of the record of a key in a buffer.
 fn find_held(buffer: &Buffer, key: FullNameRef<'_>) -> Result<Option<Found>, FindError>
     ensures parse { IfErr result (λ error. error ≡ FindError.Parse) }
-    ensures finds { FindsIn (buffer_kind buffer.now) (buffer_text buffer.now)
+    ensures finds { FindsInFile (buffer_kind buffer.now) (buffer_text buffer.now)
         (full_ref_bytes key.entry) result }
 {
     match buffer.try_find_key(key) {

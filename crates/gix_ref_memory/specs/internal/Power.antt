@@ -4,7 +4,7 @@ use Rattle.gix_ref_files.specs.Tree.{Tree, Path, Content, bytes_of, no_tree}
 use Rattle.gix_ref_files.specs.Tree.Content.{File}
 use Rattle.gix_ref_files.specs.Disk.{DiskItem, nothing, folder_of, reachable}
 use Rattle.gix_ref_files.specs.Losing.{kept}
-use Rattle.gix_ref_memory.specs.Changes.{put_item, found_item, after}
+use Rattle.gix_ref_memory.specs.Changes.{put_item, found_item, after_changes}
 use Rattle.gix_ref_memory.specs.declared.memory.changes.Change.{Change}
 use Rattle.gix_ref_memory.specs.declared.memory.changes.Change.TheVariants.{Put, Append, Move, SyncFile, SyncFolder}
 use Rattle.gix_ref_memory.specs.declared.memory.sure.Sure.{Sure}
@@ -85,8 +85,8 @@ AreSynced (change ∷ changes) = ⊥
 
 -- Paths are filled one after the other, each with a content that is good for it; other paths are as they were.
 pub record Fills (Good : Path → Option Content → Type 0) (Named : Path → Type 0) (old new : List Change) : Type 0 where
-  pub choice : (q : Path) → Named q → Good q (after new no_tree q)
-  pub other : (q : Path) → (after new no_tree q ≡ after old no_tree q) ⊎ Good q (after new no_tree q)
+  pub choice : (q : Path) → Named q → Good q (after_changes new no_tree q)
+  pub other : (q : Path) → (after_changes new no_tree q ≡ after_changes old no_tree q) ⊎ Good q (after_changes new no_tree q)
   pub synced : AreSynced old → AreSynced new
 
 -- the content of a tree that can be reached

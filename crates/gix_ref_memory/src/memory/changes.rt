@@ -2,7 +2,7 @@
 ghost use Rattle.std.specs.Prelude.{◌≡◌, Some, length};
 ghost use Rattle.gix_ref_files.specs.Tree.{no_tree, bytes_of, has_folders, is_blocked, is_file, is_folder};
 ghost use Rattle.gix_ref_files.specs.Disk.{nothing};
-ghost use Rattle.gix_ref_memory.specs.Changes.{found_content, found_item, content_of, place_of, after, items};
+ghost use Rattle.gix_ref_memory.specs.Changes.{found_content, found_item, content_of, place_of, after_changes, items};
 
 /// What a change puts at a path.
 #[derive(Debug, Drop)]
@@ -81,7 +81,7 @@ pub fn stored_stands(stored: &Option<Stored>) -> Option<Stands<'_>>
 
 /// What is at a path after the changes.
 pub fn find<'a>(changes: &'a [Change], path: &[u8]) -> Option<Stands<'a>>
-    ensures { found_content result ≡ after changes.now no_tree path.now }
+    ensures { found_content result ≡ after_changes changes.now no_tree path.now }
 {
     let mut found = None;
     for change in changes {
@@ -203,7 +203,7 @@ pub fn place(change: &Change) -> &[u8]
 
 /// Whether a file is at a path.
 pub fn is_file_at(changes: &[Change], path: &[u8]) -> bool
-    ensures { result ≡ is_file (after changes.now no_tree path.now) }
+    ensures { result ≡ is_file (after_changes changes.now no_tree path.now) }
 {
     match find(changes, path) {
         Some(Stands::FileOf(_)) => true,
@@ -213,7 +213,7 @@ pub fn is_file_at(changes: &[Change], path: &[u8]) -> bool
 
 /// Whether a folder is at a path.
 pub fn is_folder_at(changes: &[Change], path: &[u8]) -> bool
-    ensures { result ≡ is_folder (after changes.now no_tree path.now) }
+    ensures { result ≡ is_folder (after_changes changes.now no_tree path.now) }
 {
     match find(changes, path) {
         Some(stands) => stands.is_folder(),
@@ -223,7 +223,7 @@ pub fn is_folder_at(changes: &[Change], path: &[u8]) -> bool
 
 /// Whether a file is in the path.
 pub fn is_below_file(changes: &[Change], path: &[u8]) -> bool
-    ensures { result ≡ is_blocked (after changes.now no_tree) path.now }
+    ensures { result ≡ is_blocked (after_changes changes.now no_tree) path.now }
 {
     for i in 1..path.len() {
         if path[i] == b'/' && is_file_at(changes, &path[..i]) {
@@ -235,7 +235,7 @@ pub fn is_below_file(changes: &[Change], path: &[u8]) -> bool
 
 /// Whether folders are at all proper fronts of a path.
 pub fn stands_in_folders(changes: &[Change], path: &[u8]) -> bool
-    ensures { result ≡ has_folders (after changes.now no_tree) path.now }
+    ensures { result ≡ has_folders (after_changes changes.now no_tree) path.now }
 {
     for i in 1..path.len() {
         if path[i] == b'/' && !is_folder_at(changes, &path[..i]) {

@@ -6,7 +6,7 @@ ghost use Rattle.gix_ref_files.specs.DiskCalls.{after_append, AppendingOn, after
 ghost use Rattle.gix_ref_files.specs.Files.{Passes, AddsDisks};
 ghost use Rattle.gix_ref_files.specs.Calls.{Appends, Renames, IsMovable, RemovesFile, RemovesFolder, Creates};
 ghost use Rattle.gix_ref_files.specs.Tree.Content.{File};
-ghost use Rattle.gix_ref_memory.specs.Changes.{after, meaning_after, Puts, tree_after, disk_after, placed_on};
+ghost use Rattle.gix_ref_memory.specs.Changes.{after_changes, meaning_after, Puts, tree_after, disk_after, placed_on};
 ghost use Rattle.gix_ref_memory.specs.Turns.{HasNoWay};
 
 use super::changes::{
@@ -58,7 +58,7 @@ pub fn append_some(
     bytes: &[u8],
     most: usize,
 ) -> Result<(), AllocError>
-    ensures done { OnOk result (after changes.new.items no_tree ≡ appended (tree_after changes.old)
+    ensures done { OnOk result (after_changes changes.new.items no_tree ≡ appended (tree_after changes.old)
         path.now (take most bytes.now)) }
     ensures shape { IsShaped (tree_after changes.old) → IsShaped (tree_after changes.new) }
     ensures passes { Passes (meaning_after changes.old.items) (meaning_after changes.new.items)
@@ -213,14 +213,14 @@ fn place_file(
     path: &[u8],
     bytes: &[u8],
 ) -> Result<(), AllocError>
-    ensures placed { OnOk result (after changes.new.items no_tree ≡ put
+    ensures placed { OnOk result (after_changes changes.new.items no_tree ≡ put
         (with_folders (tree_after changes.old) (fronts path.now)) path.now
         (Some (File bytes.now))) }
     ensures disk { OnOk result (disk_after changes.new
         ≡ placed_on (disk_after changes.old) path.now bytes.now) }
     ensures kept { OnErr result (take (length changes.old.items) changes.new.items
         ≡ changes.old.items) }
-    ensures shape { is_folder (after changes.old.items no_tree path.now) ≡ false →
+    ensures shape { is_folder (after_changes changes.old.items no_tree path.now) ≡ false →
         IsShaped (tree_after changes.old) → OnOk result (IsShaped (tree_after changes.new)) }
 {
     make_fronts(alloc, changes, path, path.len(), true)?;

@@ -6,7 +6,7 @@ ghost use Rattle.gix_ref_files.specs.Files.{Passes, AddsDisks};
 ghost use Rattle.gix_ref_files.specs.Calls.{MakesFolders, is_in_the_way};
 ghost use Rattle.gix_ref_files.specs.DiskCalls.{BeforeOrAfterOn, after_folders, MakingFoldersOn};
 ghost use Rattle.gix_ref_memory.specs.Turns.{IsDone};
-ghost use Rattle.gix_ref_memory.specs.Changes.{after, meaning_after, MakingFrontsOn, tree_after, disk_after, with_folder_as, with_folders_as};
+ghost use Rattle.gix_ref_memory.specs.Changes.{after_changes, meaning_after, MakingFrontsOn, tree_after, disk_after, with_folder_as, with_folders_as};
 
 use super::changes::{Change, Stored, is_below_file, is_file_at, is_folder_at};
 use std::alloc::{AllocError, Global};
@@ -18,7 +18,7 @@ fn make_folder(
     path: &[u8],
     synced: bool,
 ) -> Result<(), AllocError>
-    ensures made { OnOk result (after changes.new.items no_tree
+    ensures made { OnOk result (after_changes changes.new.items no_tree
         ≡ put (tree_after changes.old) path.now
         (Some Folder)) }
     ensures failed { OnErr result (changes.new.items ≡ changes.old.items) }
@@ -52,7 +52,7 @@ pub fn make_fronts(
     most: usize,
     synced: bool,
 ) -> Result<(), AllocError>
-    ensures made { OnOk result (after changes.new.items no_tree
+    ensures made { OnOk result (after_changes changes.new.items no_tree
         ≡ with_folders (tree_after changes.old)
         (take most (fronts path.now))) }
     ensures kept { take (length changes.old.items) changes.new.items ≡ changes.old.items }
@@ -83,7 +83,7 @@ pub fn make_fronts(
 
 /// Whether a file is at a path or in it.
 fn stands_in_the_way(changes: &[Change], path: &[u8]) -> bool
-    ensures { result ≡ is_in_the_way (after changes.now no_tree) path.now }
+    ensures { result ≡ is_in_the_way (after_changes changes.now no_tree) path.now }
 {
     is_file_at(changes, path) || is_below_file(changes, path)
 }

@@ -3,7 +3,7 @@ ghost use Rattle.std.specs.Prelude.{◌≡◌, ◌∷◌, ◌++◌, List, ℕ, N
 ghost use Rattle.std.specs.List.{list_any};
 ghost use Rattle.gix_ref_files.specs.Tree.{no_tree};
 ghost use Rattle.gix_ref_files.specs.Calls.{ListsFolder, IsEntryName, entry_name};
-ghost use Rattle.gix_ref_memory.specs.Changes.{after};
+ghost use Rattle.gix_ref_memory.specs.Changes.{after_changes};
 ghost use Rattle.gix_ref_memory.specs.internal.Listing.{AddsEntries};
 
 use super::changes::{Change, find, place};
@@ -38,9 +38,9 @@ fn child<'a>(folder: &[u8], path: &'a [u8]) -> Option<&'a [u8]>
 /// Whether something is below a path.
 pub fn has_below(changes: &[Change], path: &[u8]) -> bool
     ensures some { result ≡ true → (rest : List ℕ)
-        × IsSome (after changes.now no_tree (path.now ++ 47 ∷ rest)) }
+        × IsSome (after_changes changes.now no_tree (path.now ++ 47 ∷ rest)) }
     ensures none { result ≡ false → (rest : List ℕ) →
-        after changes.now no_tree (path.now ++ 47 ∷ rest) ≡ None }
+        after_changes changes.now no_tree (path.now ++ 47 ∷ rest) ≡ None }
 {
     for change in changes {
         let at = place(change);
@@ -70,7 +70,7 @@ fn add_entry(
     requires name { IsEntryName name.now }
     requires path { path.now ≡ folder.now ++ 47 ∷ name.now }
     ensures { OnOk result
-        (AddsEntries (after changes.now no_tree) folder.now name.now entries.old.items
+        (AddsEntries (after_changes changes.now no_tree) folder.now name.now entries.old.items
         entries.new.items) }
 {
     if is_listed(entries, name) {
@@ -87,7 +87,7 @@ fn add_entry(
 
 /// The entries of a folder, in the order in which they were first made.
 pub fn list_now(alloc: Global, changes: &[Change], folder: &[u8]) -> Result<Vec<Entry>, AllocError>
-    ensures { IfOk result (λ entries. ListsFolder (after changes.now no_tree) folder.now
+    ensures { IfOk result (λ entries. ListsFolder (after_changes changes.now no_tree) folder.now
         entries.items) }
 {
     let mut entries = Vec::new(alloc);

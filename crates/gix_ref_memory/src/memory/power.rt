@@ -4,7 +4,7 @@ ghost use Rattle.gix_ref_files.specs.Tree.{Path, no_tree, put, IsShaped};
 ghost use Rattle.gix_ref_files.specs.Disk.{reachable, Lost};
 ghost use Rattle.gix_ref_files.specs.Files.{disk_of};
 ghost use Rattle.gix_ref_files.specs.Losing.{kept, lost_by, all_synced};
-ghost use Rattle.gix_ref_memory.specs.Changes.{after, content_of, found_item, meaning_after};
+ghost use Rattle.gix_ref_memory.specs.Changes.{after_changes, content_of, found_item, meaning_after};
 ghost use Rattle.gix_ref_memory.specs.internal.Power.{IsChoice, IsReachable, Names, Fills, AreSynced};
 
 use super::births::{Birth, all_births, births_of, keeps};
@@ -71,8 +71,8 @@ fn put_synced(
     path: &[u8],
     stored: Option<Stored>,
 ) -> Result<(), AllocError>
-    ensures tree { OnOk result (after left.new.items no_tree
-        ≡ put (after left.old.items no_tree) path.now (content_of stored)) }
+    ensures tree { OnOk result (after_changes left.new.items no_tree
+        ≡ put (after_changes left.old.items no_tree) path.now (content_of stored)) }
     ensures synced { OnOk result (AreSynced left.old.items → AreSynced left.new.items) }
 {
     let path = path.to_vec(alloc)?;
@@ -127,7 +127,7 @@ fn leave_named(
 /// What is left of each entry, by a choice for each.
 fn left_entries(alloc: Global, changes: &[Change], pick: u64) -> Result<Vec<Change>, AllocError>
     ensures { IfOk result (λ left. (q : Path) →
-        IsChoice changes.now pick q (after left.items no_tree q)) }
+        IsChoice changes.now pick q (after_changes left.items no_tree q)) }
 {
     let births = all_births(alloc, changes)?;
     let mut left = Vec::new(alloc);
@@ -144,7 +144,7 @@ fn reach(
     entries: &[Change],
     path: &[u8],
 ) -> Result<(), AllocError>
-    ensures { OnOk result (Fills (IsReachable (after entries.now no_tree)) (λ q. path.now ≡ q)
+    ensures { OnOk result (Fills (IsReachable (after_changes entries.now no_tree)) (λ q. path.now ≡ q)
         left.old.items left.new.items) }
 {
     let stored = if stands_in_folders(entries, path) {
@@ -159,7 +159,7 @@ fn reach(
 /// What can be reached of the entries: with a folder's own entry goes all below it.
 fn reachable_entries(alloc: Global, entries: &[Change]) -> Result<Vec<Change>, AllocError>
     ensures tree { IfOk result (λ left.
-        after left.items no_tree ≡ reachable (after entries.now no_tree)) }
+        after_changes left.items no_tree ≡ reachable (after_changes entries.now no_tree)) }
     ensures synced { IfOk result (λ left. AreSynced left.items) }
 {
     let mut left = Vec::new(alloc);
@@ -172,12 +172,12 @@ fn reachable_entries(alloc: Global, entries: &[Change]) -> Result<Vec<Change>, A
 /// The changes that make what a loss of power leaves, all of it synced.
 pub fn left_by_loss(alloc: Global, changes: &[Change], pick: u64) -> Result<Vec<Change>, AllocError>
     ensures lost { IfOk result (λ left.
-        Lost (disk_of (meaning_after changes.now)) (after left.items no_tree)) }
-    ensures none { pick ≡ 0 → IfOk result (λ left. after left.items no_tree
+        Lost (disk_of (meaning_after changes.now)) (after_changes left.items no_tree)) }
+    ensures none { pick ≡ 0 → IfOk result (λ left. after_changes left.items no_tree
         ≡ lost_by (λ p. false) (λ p. false) (disk_of (meaning_after changes.now))) }
     ensures settled { IfOk result (λ left. disk_of (meaning_after left.items)
-        ≡ all_synced (after left.items no_tree)) }
-    ensures shape { IfOk result (λ left. IsShaped (after left.items no_tree)) }
+        ≡ all_synced (after_changes left.items no_tree)) }
+    ensures shape { IfOk result (λ left. IsShaped (after_changes left.items no_tree)) }
 {
     let entries = left_entries(alloc, changes, pick)?;
     reachable_entries(alloc, &entries)

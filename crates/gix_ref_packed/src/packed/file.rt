@@ -83,7 +83,7 @@ impl<R: ReadAt + Drop> PackedFile<R> {
     ghost use Rattle.gix_ref_packed.specs.Buffers.{IsRefusedFile};
     ghost use Rattle.gix_ref_packed.specs.OpenFiles.{OpenedFile, CountsRefusal, packed_file_text, packed_file_kind, packed_file_line, packed_file_faults, FailsFindByRead};
     ghost use Rattle.gix_ref_packed.specs.FilePrefixes.{HoldsPrefix, FailsReadBy};
-    ghost use Rattle.gix_ref_packed.specs.FileSearches.{FindsIn, IsNoChange, count_find};
+    ghost use Rattle.gix_ref_packed.specs.FileSearches.{FindsInFile, IsNoChange, count_find};
 
     /// Opens the file at a path, whose ids are of the kind; `None` where no file is there. In place of the memory map of gix-ref's
     /// `packed::Buffer::open`.
@@ -142,7 +142,7 @@ impl<R: ReadAt + Drop> PackedFile<R> {
     pub fn find(&mut self, name: FullNameRef<'_>) -> Result<Option<Found>, FindError>
         ensures same { packed_file_text self.new ≡ packed_file_text self.old }
         ensures kind { packed_file_kind self.new ≡ packed_file_kind self.old }
-        ensures finds { R.honest → FindsIn (packed_file_kind self.old) (packed_file_text self.old)
+        ensures finds { R.honest → FindsInFile (packed_file_kind self.old) (packed_file_text self.old)
             (full_ref_bytes name.entry) result }
 
         // A fault is counted where the file could not be read, and nowhere else.

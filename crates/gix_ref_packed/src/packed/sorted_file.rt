@@ -1,7 +1,7 @@
 //! The records of a `packed-refs` that is not in memory: probed at windows of its file.
 ghost use Rattle.std.specs.Prelude.{◌≡◌, ◌+◌, ◌-◌, ◌<◌, ◌≤◌, ◌^◌, length, take, drop, OnOk, IfOk, IfErr};
 ghost use Rattle.gix_ref_name.specs.Names.{full_ref_bytes};
-ghost use Rattle.gix_ref_packed.specs.FileSearches.{IsNoChange, FindsIn, count_read, count_find};
+ghost use Rattle.gix_ref_packed.specs.FileSearches.{IsNoChange, FindsInFile, count_read, count_find};
 ghost use Rattle.gix_ref_records.specs.Windows.{IsWindow};
 ghost use Rattle.gix_ref_packed.specs.declared.packed.sorted_file.TheConstants.{MAX_WINDOW_DOUBLINGS};
 
@@ -131,7 +131,7 @@ impl<R: ReadAt + Drop> SortedFile<R> {
     ghost use Rattle.gix_ref_records.specs.Positions.{IsPlain};
     ghost use Rattle.gix_ref_records.specs.Probed.{IsProbeAt};
     ghost use Rattle.gix_ref_records.specs.Shown.{IfHere, IsHere};
-    ghost use Rattle.gix_ref_packed.specs.FileSearches.{IsNoChange, FindsIn, count_read, count_find};
+    ghost use Rattle.gix_ref_packed.specs.FileSearches.{IsNoChange, FindsInFile, count_read, count_find};
 
     /// The records of a file from that place on, in bytes. Nothing is read yet. Not in gix-ref, which maps the file into memory.
     pub fn new(alloc: Global, reader: R, base: u64) -> SortedFile<R>
@@ -282,7 +282,7 @@ impl<R: ReadAt + Drop> SortedFile<R> {
         ensures counts { probes.old ≤ probes.new }
         ensures cost { R.honest → CountsProbes
             (length (drop self.old.base (R.bytes self.old.reader))) probes.old probes.new }
-        ensures finds { R.honest → FindsIn kind (drop self.old.base (R.bytes self.old.reader))
+        ensures finds { R.honest → FindsInFile kind (drop self.old.base (R.bytes self.old.reader))
             (full_ref_bytes name.entry) result }
 
         // The reader counts a fault where the file could not be read, and nowhere else.
@@ -317,7 +317,7 @@ fn find_blank<R: ReadAt + Drop, L: Ledger>(
     ensures same { R.bytes source.new.reader ≡ R.bytes source.old.reader }
     ensures place { (source.new.base ≡ source.old.base)
         × (R.size source.new.reader ≡ R.size source.old.reader) }
-    ensures finds { R.honest → FindsIn kind (drop source.old.base (R.bytes source.old.reader))
+    ensures finds { R.honest → FindsInFile kind (drop source.old.base (R.bytes source.old.reader))
         (full_ref_bytes name.entry) result }
     ensures no_fault { IfOk result (λ _. R.faults source.new.reader ≡ R.faults source.old.reader) }
     ensures fault { IfErr result (λ error. R.faults source.new.reader
@@ -330,7 +330,7 @@ fn find_blank<R: ReadAt + Drop, L: Ledger>(
 impl<R: ReadAt + Drop> SortedFile<R> {
     ghost use Rattle.std.specs.Prelude.{◌≡◌, drop, IfOk, IfErr};
     ghost use Rattle.gix_ref_name.specs.Names.{full_ref_bytes};
-    ghost use Rattle.gix_ref_packed.specs.FileSearches.{FindsIn, count_find};
+    ghost use Rattle.gix_ref_packed.specs.FileSearches.{FindsInFile, count_find};
 
     /// The ids of the record of a full name, as `try_find_full` finds it, for a caller who does not count. As gix-ref's
     /// `packed::Buffer::try_find`.
@@ -338,7 +338,7 @@ impl<R: ReadAt + Drop> SortedFile<R> {
         ensures same { R.bytes self.new.reader ≡ R.bytes self.old.reader }
         ensures place { (self.new.base ≡ self.old.base)
             × (R.size self.new.reader ≡ R.size self.old.reader) }
-        ensures finds { R.honest → FindsIn kind (drop self.old.base (R.bytes self.old.reader))
+        ensures finds { R.honest → FindsInFile kind (drop self.old.base (R.bytes self.old.reader))
             (full_ref_bytes name.entry) result }
 
         // The reader counts a fault where the file could not be read, and nowhere else.

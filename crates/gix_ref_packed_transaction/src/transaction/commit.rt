@@ -7,7 +7,7 @@ ghost use Rattle.gix_ref_files.specs.DiskCalls.{RemovingFileOn, RenamingOn, Sync
 ghost use Rattle.gix_ref_files.specs.Files.{Leaves, Passes, disk_of};
 ghost use Rattle.gix_ref_files.specs.Lock.{lock_of};
 ghost use Rattle.gix_ref_files.specs.Tree.{is_file, is_folder, moved};
-ghost use Rattle.gix_ref_packed_transaction.specs.PackedLosses.{IsReadyOn, SettlesFrom};
+ghost use Rattle.gix_ref_packed_transaction.specs.PackedLosses.{IsReadyOn, SettlesPackedRefs};
 ghost use Rattle.gix_ref_packed_transaction.specs.PackedTransactions.{IsLockEmpty, IsMadeOf, IsOldOrRewritten, IsReadBuffer, IsRewritten, IsStuckBuffer, OnlyLockChanges, OnlyLockGoes};
 ghost use Rattle.gix_ref_packed_transaction.specs.internal.Keeping.{IsMoved, KeepsSettled};
 ghost use Rattle.gix_ref_packed_transaction.specs.internal.LockSteps.{IsUnlocked, IsWhyNotPut};
@@ -90,7 +90,7 @@ fn remove_both<F: Files>(files: &mut F, lock: &LockFile) -> Result<(), Error>
         Passes (F.means files.old) (F.means files.new)
         (KeepsSettled Rewrite.Removed lock.now (disk_of (F.means files.old))) }
     ensures settled { F.honest → IsReadyOn lock.now (disk_of (F.means files.old)) → OnOk result
-        (SettlesFrom lock.now (disk_of (F.means files.old)) (disk_of (F.means files.new))) }
+        (SettlesPackedRefs lock.now (disk_of (F.means files.old)) (disk_of (F.means files.new))) }
     ensures why { IfErr result (IsWhyNotPut F.honest lock.now (F.faults files.old)
         (F.faults files.new) (F.means files.new).tree) }
     ensures no_fewer { F.faults files.old ≤ F.faults files.new }
@@ -142,7 +142,7 @@ fn put_text<F: Files>(
         Passes (F.means files.old) (F.means files.new)
         (KeepsSettled (Rewrite.Text text.now) lock.now (disk_of (F.means files.old))) }
     ensures settled { F.honest → IsReadyOn lock.now (disk_of (F.means files.old)) → OnOk result
-        (SettlesFrom lock.now (disk_of (F.means files.old)) (disk_of (F.means files.new))) }
+        (SettlesPackedRefs lock.now (disk_of (F.means files.old)) (disk_of (F.means files.new))) }
     ensures why { IfErr result (IsWhyNotPut F.honest lock.now (F.faults files.old)
         (F.faults files.new) (F.means files.new).tree) }
     ensures renamed { F.honest → renamed.new ≡ true → (renamed.old ≡ true)
@@ -173,7 +173,7 @@ pub(crate) fn put_rewrite<F: Files>(
         Passes (F.means files.old) (F.means files.new)
         (KeepsSettled rewrite.now lock.now (disk_of (F.means files.old))) }
     ensures settled { F.honest → IsReadyOn lock.now (disk_of (F.means files.old)) → OnOk result
-        (SettlesFrom lock.now (disk_of (F.means files.old)) (disk_of (F.means files.new))) }
+        (SettlesPackedRefs lock.now (disk_of (F.means files.old)) (disk_of (F.means files.new))) }
     ensures why { IfErr result (IsWhyNotPut F.honest lock.now (F.faults files.old)
         (F.faults files.new) (F.means files.new).tree) }
     ensures renamed { F.honest → renamed.new ≡ true → (renamed.old ≡ true)

@@ -8,7 +8,7 @@ use Rattle.gix_ref_records.specs.OpenedText.{Fronts, line_count}
 use Rattle.gix_ref_rewrite.specs.declared.ahead.Ahead.{Ahead}
 
 -- these records are at the front, and that is what follows them
-pub record Passes (kind : Kind) (old : Ahead) (passed : List Record) (new : Ahead) : Type 0 where
+pub record PassesRecords (kind : Kind) (old : Ahead) (passed : List Record) (new : Ahead) : Type 0 where
   pub fronts : Fronts kind old.rest.now passed new.rest.now
   pub number : new.line ≡ old.line + line_count passed
   pub shorter : length new.rest.now ≤ length old.rest.now
@@ -16,7 +16,7 @@ pub record Passes (kind : Kind) (old : Ahead) (passed : List Record) (new : Ahea
 -- Records are passed until so many bytes are left, or less. Where that many bytes follow some records, these are passed.
 pub record PassesUntil (kind : Kind) (left : ℕ) (old new : Ahead) : Type 0 where
   pub passed : List Record
-  pub passes : Passes kind old passed new
+  pub passes : PassesRecords kind old passed new
   pub within : length new.rest.now ≤ left
   pub exact : (rs : List Record) (mid : List ℕ) → Fronts kind old.rest.now rs mid → length mid ≡ left → (rs ≡ passed) × (mid ≡ new.rest.now)
 
@@ -28,6 +28,6 @@ IsNotAhead key (r ∷ rs) = Below r.name key → ⊥
 -- Records are passed. Where the whole is records in the order of their names, these are the ones below the key.
 pub record PassesBelow (kind : Kind) (key : List ℕ) (old new : Ahead) : Type 0 where
   pub passed : List Record
-  pub passes : Passes kind old passed new
+  pub passes : PassesRecords kind old passed new
   pub splits : (more : List Record) → Records kind new.rest.now more → Ascending (passed ++ more) →
       All (λ r. Below r.name key) passed × IsNotAhead key more

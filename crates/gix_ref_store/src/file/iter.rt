@@ -54,11 +54,11 @@ pub struct LooseThenPacked<'p, F, R = Remaining<'p>> {
 
 impl<'p, F: Files> Iterator for LooseThenPacked<'p, F> {
     ghost use Rattle.std.specs.Iterator.{at_most};
-    ghost use Rattle.gix_ref_store.specs.Listings.{NextItem, items_left};
+    ghost use Rattle.gix_ref_store.specs.Listings.{NextItem, items_ahead};
 
     type Item = Result<Reference, loose_then_packed::Error>;
 
-    ghost remaining = { λ s. at_most (items_left s) };
+    ghost remaining = { λ s. at_most (items_ahead s) };
 
     ghost next_gives = { λ s r t. NextItem F.honest F.means F.faults s r t };
 
@@ -72,7 +72,7 @@ impl<'p, F: Files> LooseThenPacked<'p, F> {
     ghost use Rattle.std.specs.Prelude.{◌≡◌, ◌≤◌, ◌+◌, List, IfSome, IfNone};
     ghost use Rattle.std.specs.Option.{option_len};
     ghost use Rattle.gix_ref_listing.specs.Listings.{Listed, IsNoRecord};
-    ghost use Rattle.gix_ref_store.specs.Listings.{AreYetIn, LendsNext, items_left};
+    ghost use Rattle.gix_ref_store.specs.Listings.{AreYetIn, LendsNext, items_ahead};
 
     /// The next item, where it is a record of `packed-refs`: the record is lent from the buffer, where `next` would make a
     /// `Reference` of it. `None` where the next item is anything else, which then stays the next, and at the end. Takes no
@@ -89,7 +89,7 @@ impl<'p, F: Files> LooseThenPacked<'p, F> {
             AreYetIn self.old listed → IsNoRecord listed) }
         ensures same_store { self.new.store ≡ self.old.store }
         ensures stays { IfNone result (self.new ≡ self.old) }
-        ensures left { option_len result + items_left self.new ≤ items_left self.old }
+        ensures left { option_len result + items_ahead self.new ≤ items_ahead self.old }
     {
         self.store.lend_listed(&mut self.rest.merge)
     }
@@ -122,7 +122,7 @@ impl<'s, F: Files> Platform<'s, F> {
     ghost use Rattle.gix_ref_listing.specs.declared.prefix.Error.TheVariants.{Memory};
     ghost use Rattle.gix_ref_listing.specs.CleanPrefixes.{IsAcceptedPrefix, IsRefusedPrefix};
     ghost use Rattle.gix_ref_store.specs.Lookup.{LooksUp};
-    ghost use Rattle.gix_ref_store.specs.Listings.{Lists, ListsPseudo, HasRecords, prefix_of_all, platform_store};
+    ghost use Rattle.gix_ref_store.specs.Listings.{IteratesListing, IteratesPseudo, HasRecords, prefix_of_all, platform_store};
 
     /// The references below `refs/`, or in a namespace all of its references, as `iter_packed` gives them. As gix-ref's
     /// `Platform::all`.
@@ -139,7 +139,7 @@ impl<'s, F: Files> Platform<'s, F> {
         ensures looks_up { IfOk result
             (λ it. LooksUp F.honest F.means (platform_store self.entry.now) it.store.now) }
         ensures lists { F.honest → (records : List Record) → HasRecords self.entry.now records →
-            IfOk result (Lists F.honest F.means F.faults (platform_store self.entry.now) records
+            IfOk result (IteratesListing F.honest F.means F.faults (platform_store self.entry.now) records
             (prefix_of_all (platform_store self.entry.now).namespace)) }
         ensures memory { IfErr result (λ error. error ≡ Memory) }
     {
@@ -167,7 +167,7 @@ impl<'s, F: Files> Platform<'s, F> {
         ensures looks_up { IfOk result
             (λ it. LooksUp F.honest F.means (platform_store self.entry.now) it.store.now) }
         ensures lists { F.honest → (records : List Record) → HasRecords self.entry.now records →
-            IfOk result (Lists F.honest F.means F.faults (platform_store self.entry.now) records
+            IfOk result (IteratesListing F.honest F.means F.faults (platform_store self.entry.now) records
             prefix.now) }
         ensures taken { OnOk result
             (IsAcceptedPrefix (platform_store self.entry.now).namespace prefix.now) }
@@ -184,7 +184,7 @@ impl<'s, F: Files> Platform<'s, F> {
         ensures looks_up { IfOk result
             (λ it. LooksUp F.honest F.means (platform_store self.entry.now) it.store.now) }
         ensures lists { F.honest → IfOk result
-            (ListsPseudo F.honest F.means F.faults (platform_store self.entry.now)) }
+            (IteratesPseudo F.honest F.means F.faults (platform_store self.entry.now)) }
         ensures memory { IfErr result (λ error. error ≡ Memory) }
     {
         let Platform { store, packed: _ } = self;
@@ -212,7 +212,7 @@ impl<F: Files> Store<F> {
     ghost use Rattle.gix_ref_listing.specs.CleanPrefixes.{IsAcceptedPrefix, IsRefusedPrefix};
     ghost use Rattle.gix_ref_listing.specs.Steps.{AreYet, GivesNext, GivesRecord};
     ghost use Rattle.gix_ref_store.specs.Store.{files_of, IsSameStore};
-    ghost use Rattle.gix_ref_store.specs.Listings.{AreHeldFor, Lists, ListsPseudo, HasRecords, IsNotOpened, LeavesUnopened, prefix_of_all};
+    ghost use Rattle.gix_ref_store.specs.Listings.{AreHeldFor, IteratesListing, IteratesPseudo, HasRecords, IsNotOpened, LeavesUnopened, prefix_of_all};
     ghost use Rattle.gix_ref_store.specs.contracts.file.store.Store.{the_row};
 
     /// The next item of a listing.
@@ -258,7 +258,7 @@ impl<F: Files> Store<F> {
             (λ it. LooksUp F.honest F.means self.entry.now it.store.now) }
         ensures lists { F.honest → (records : List Record) →
             AreHeldFor self.entry.now prefix.now packed.entry records →
-            IfOk result (Lists F.honest F.means F.faults self.entry.now records prefix.now) }
+            IfOk result (IteratesListing F.honest F.means F.faults self.entry.now records prefix.now) }
         ensures memory { IfErr result (λ error. error ≡ Memory) }
     {
         let settings = settings!(self);
@@ -301,7 +301,7 @@ impl<F: Files> Store<F> {
         ensures lists { F.honest → (records : List Record) →
             AreHeldFor self.entry.now (prefix_of_all self.entry.now.namespace) packed.entry
             records →
-            IfOk result (Lists F.honest F.means F.faults self.entry.now records
+            IfOk result (IteratesListing F.honest F.means F.faults self.entry.now records
             (prefix_of_all self.entry.now.namespace)) }
         ensures memory { IfErr result (λ error. error ≡ Memory) }
     {
@@ -336,7 +336,7 @@ impl<F: Files> Store<F> {
             (λ it. LooksUp F.honest F.means self.entry.now it.store.now) }
         ensures lists { F.honest → (records : List Record) →
             AreHeldFor self.entry.now prefix.now packed.entry records →
-            IfOk result (Lists F.honest F.means F.faults self.entry.now records prefix.now) }
+            IfOk result (IteratesListing F.honest F.means F.faults self.entry.now records prefix.now) }
         ensures taken { OnOk result (IsAcceptedPrefix self.entry.now.namespace prefix.now) }
         ensures refused { IfErr result (λ error. (error ≡ Memory)
             ⊎ IsRefusedPrefix self.entry.now.namespace prefix.now error) }
@@ -356,7 +356,7 @@ impl<F: Files> Store<F> {
             (λ it. it.store.ghost_name ≡ self.entry.ghost_name) }
         ensures looks_up { IfOk result
             (λ it. LooksUp F.honest F.means self.entry.now it.store.now) }
-        ensures lists { F.honest → IfOk result (Lists F.honest F.means F.faults self.entry.now []
+        ensures lists { F.honest → IfOk result (IteratesListing F.honest F.means F.faults self.entry.now []
             (prefix_of_all self.entry.now.namespace)) }
         ensures memory { IfErr result (λ error. error ≡ Memory) }
     {
@@ -378,7 +378,7 @@ impl<F: Files> Store<F> {
         ensures looks_up { IfOk result
             (λ it. LooksUp F.honest F.means self.entry.now it.store.now) }
         ensures lists { F.honest → IfOk result
-            (Lists F.honest F.means F.faults self.entry.now [] prefix.now) }
+            (IteratesListing F.honest F.means F.faults self.entry.now [] prefix.now) }
         ensures taken { OnOk result (IsAcceptedPrefix self.entry.now.namespace prefix.now) }
         ensures refused { IfErr result (λ error. (error ≡ Memory)
             ⊎ IsRefusedPrefix self.entry.now.namespace prefix.now error) }
@@ -442,7 +442,7 @@ impl<F: Files> Store<F> {
         ensures looks_up { IfOk result
             (λ it. LooksUp F.honest F.means self.entry.now it.store.now) }
         ensures lists { F.honest → IfOk result
-            (ListsPseudo F.honest F.means F.faults self.entry.now) }
+            (IteratesPseudo F.honest F.means F.faults self.entry.now) }
         ensures memory { IfErr result (λ error. error ≡ Memory) }
     {
         let settings = settings!(self);

@@ -14,7 +14,7 @@ impl<F: Files> Store<F> {
     ghost use Rattle.gix_ref_listing.specs.PristineStores.{Says};
     ghost use Rattle.gix_ref_store.specs.Store.{files_of};
     ghost use Rattle.gix_ref_store.specs.Lookup.{LooksUp};
-    ghost use Rattle.gix_ref_store.specs.Pristine.{IsPristine, IsInUse, HasNoHead};
+    ghost use Rattle.gix_ref_store.specs.Pristine.{IsPristineStore, IsStoreInUse, HasNoHead};
 
     /// Whether the store is as `git init` makes it: `HEAD` is symbolic to this name, no loose reference below `refs/`, or in a
     /// namespace anywhere in it, can be read, and there is no `packed-refs`. `None` where `HEAD` cannot be read, and where a
@@ -36,8 +36,8 @@ impl<F: Files> Store<F> {
         default_ref: FullNameRef<'_>,
     ) -> Result<Option<bool>, AllocError>
         ensures says { IfOk result (Says
-            (F.honest → IsPristine F.means self.old (full_ref_bytes default_ref.entry))
-            (F.honest → IsInUse F.means self.old (full_ref_bytes default_ref.entry))
+            (F.honest → IsPristineStore F.means self.old (full_ref_bytes default_ref.entry))
+            (F.honest → IsStoreInUse F.means self.old (full_ref_bytes default_ref.entry))
             ((F.honest → HasNoHead F.means self.old)
             ⊎ HasRisen (F.faults (files_of self.old)) (F.faults (files_of self.new)))) }
         ensures unchanged { LooksUp F.honest F.means self.old self.new }

@@ -179,7 +179,7 @@ impl<F: Files, T: Find> Transaction<'_, F, PackedRefs<T>> {
 impl<F: Files, T: Find> Prepared<'_, F, Plan<T>> {
     ghost use Rattle.gix_ref_store.specs.CommitLines.{LinesPass};
     ghost use Rattle.gix_ref_store.specs.CommittedFolders.{KeepsFolders};
-    ghost use Rattle.gix_ref_store.specs.CommitResult.{left_of, mode_of, EveryStopFrom, EveryLossFrom, SettlesFrom, CommitsFrom, FailsFor, NoBadLineFrom, ReadsPacked};
+    ghost use Rattle.gix_ref_store.specs.CommitResult.{left_of, mode_handed_back, EveryStopFrom, EveryLossFrom, SettlesFrom, CommitsFrom, FailsFor, NoBadLineFrom, ReadsPacked};
     ghost use Rattle.gix_ref_transaction.specs.PrepareSteps.{held_locks};
     ghost use Rattle.gix_ref_store.specs.PreparedFields.{held_edits, held_packed, prepared_edits, prepared_mode};
     ghost use Rattle.gix_ref_store.specs.Store.{files_of, IsSameStore};
@@ -223,7 +223,7 @@ impl<F: Files, T: Find> Prepared<'_, F, Plan<T>> {
         committer: Option<SignatureRef<'_>>,
     ) -> Result<Done<T>, Failed<T>>
         ensures edits { IfOk result (λ done. done.edits.items ≡ prepared_edits self.entry.plan) }
-        ensures packed_refs { mode_of result ≡ prepared_mode self.entry.plan }
+        ensures packed_refs { mode_handed_back result ≡ prepared_mode self.entry.plan }
         ensures committed { IfOk result (λ done. CommitsFrom F.honest F.means F.faults
             self.entry.store.now self.exit.0.now committer.entry (held_packed self.entry.plan)
             (held_edits self.entry.plan) (paths_of done.locks_left.items)) }

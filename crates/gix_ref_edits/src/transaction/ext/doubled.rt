@@ -2,7 +2,7 @@
 ghost use Rattle.std.specs.Prelude.{◌≡◌, ◌+◌, map, MatchOption, OnOk, IfOk, IfErr};
 ghost use Rattle.std.specs.List.Sorted.{IsSortedBy};
 ghost use Rattle.gix_ref_name.specs.Names.{full_ref_bytes};
-ghost use Rattle.gix_ref_edits.specs.DoubledNames.{NoneDoubled, IsLeastDoubled, is_below, names_of};
+ghost use Rattle.gix_ref_edits.specs.DoubledNames.{NoneDoubled, IsLeastDoubled, is_below, entry_names};
 ghost use Rattle.gix_ref_edits.specs.SplitErrors.{IsNameFault};
 
 use crate::transaction::ext::{EditEntry, EditError};
@@ -29,7 +29,7 @@ fn names_of_entries<'a, T: EditEntry>(
     entries: &'a [T],
 ) -> Result<Vec<FullNameRef<'a>>, AllocError>
     ensures { IfOk result
-        (λ names. map full_ref_bytes names.items ≡ names_of T.edit_of entries.now) }
+        (λ names. map full_ref_bytes names.items ≡ entry_names T.edit_of entries.now) }
 {
     let mut names = Vec::with_capacity(alloc, entries.len())?;
     for entry in entries {
@@ -43,8 +43,8 @@ pub(crate) fn assure_single_names<T: EditEntry>(
     alloc: Global,
     entries: &[T],
 ) -> Result<(), EditError>
-    ensures single { OnOk result (NoneDoubled (names_of T.edit_of entries.now)) }
-    ensures doubled { IfErr result (IsNameFault (IsLeastDoubled (names_of T.edit_of entries.now))) }
+    ensures single { OnOk result (NoneDoubled (entry_names T.edit_of entries.now)) }
+    ensures doubled { IfErr result (IsNameFault (IsLeastDoubled (entry_names T.edit_of entries.now))) }
 {
     let mut names = names_of_entries(alloc, entries)?;
     names.sort_unstable();

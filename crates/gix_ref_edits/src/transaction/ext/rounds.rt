@@ -3,7 +3,7 @@
 ghost use Rattle.std.specs.Prelude.{◌≡◌, ◌+◌, ◌≤◌, [], ◌∷◌, length, take, drop, OnOk, IfOk, IfErr, option_to_list};
 ghost use Rattle.gix_ref_edits.specs.EditValues.{edit_value};
 ghost use Rattle.gix_ref_edits.specs.MadeEntries.{KeepsEdits, IsSameButEdit, edits_of};
-ghost use Rattle.gix_ref_edits.specs.internal.Rounds.{HasRound, HasSplitLevel, IsFault, values_of};
+ghost use Rattle.gix_ref_edits.specs.internal.Rounds.{HasRound, HasSplitLevel, IsLookUpFault, values_of_option};
 ghost use Rattle.gix_ref_edits.specs.SplitErrors.{IsSplitFault};
 ghost use Rattle.gix_ref_edits.specs.SplitResults.{HasSplits, HasTooManySplits};
 
@@ -32,7 +32,7 @@ where
     ensures round { IfOk result (λ made. HasSplitLevel F.step M.step T.edit_of T.with_edit at
         (find.old, make_entry.old) (entry.old ∷ []) (entry.new ∷ []) (option_to_list made)
         (find.new, make_entry.new)) }
-    ensures fault { IfErr result (IsFault F.step find.old find.new) }
+    ensures fault { IfErr result (IsLookUpFault F.step find.old find.new) }
 {
     match follow_entry(entry, find)? {
         Some(child) => Ok(Some(make_entry(at, child))),
@@ -51,8 +51,8 @@ where
     ensures callable { F.IsAlwaysCallable find.new }
     ensures round { IfOk result (λ child. HasRound F.step find.old
         (edit_value (T.edit_of entry.old) ∷ []) (edit_value (T.edit_of entry.new) ∷ [])
-        (values_of child) find.new) }
-    ensures fault { IfErr result (IsFault F.step find.old find.new) }
+        (values_of_option child) find.new) }
+    ensures fault { IfErr result (IsLookUpFault F.step find.old find.new) }
     ensures kept { IsSameButEdit T.with_edit entry.old entry.new }
 {
     entry.edit_mut().follow(find)
@@ -78,7 +78,7 @@ where
     ensures make { M.IsAlwaysCallable make_entry.new }
     ensures round { IfOk result (λ kids. HasSplitLevel F.step M.step T.edit_of T.with_edit at
         (find.old, make_entry.old) level.old level.new kids.items (find.new, make_entry.new)) }
-    ensures fault { IfErr result (IsFault F.step find.old find.new) }
+    ensures fault { IfErr result (IsLookUpFault F.step find.old find.new) }
 {
     let mut children = Vec::new(alloc);
     for place in 0..level.len() {
@@ -112,7 +112,7 @@ where
     ensures round { IfOk result (λ kids. HasSplitLevel F.step M.step T.edit_of T.with_edit first
         (find.old, make_entry.old) (drop first edits.old.items) (drop first edits.new.items)
         kids.items (find.new, make_entry.new)) }
-    ensures fault { IfErr result (IsFault F.step find.old find.new) }
+    ensures fault { IfErr result (IsLookUpFault F.step find.old find.new) }
 {
     split_level(alloc, &mut edits[first..], first, find, make_entry)
 }

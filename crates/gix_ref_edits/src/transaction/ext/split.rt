@@ -3,7 +3,7 @@ ghost use Rattle.std.specs.Prelude.{◌≡◌, [], ◌∷◌, Option, Some, List
 ghost use Rattle.gix_ref_name.specs.Names.{full_bytes};
 ghost use Rattle.gix_ref_edits.specs.EditValues.{change_value, edit_value};
 ghost use Rattle.gix_ref_edits.specs.SplitLists.{parent_change, looked_up, child_of};
-ghost use Rattle.gix_ref_edits.specs.internal.Rounds.{HasRound, IsFault, values_of};
+ghost use Rattle.gix_ref_edits.specs.internal.Rounds.{HasRound, IsLookUpFault, values_of_option};
 
 use crate::transaction::ext::SplitError;
 use crate::transaction::{Change, PreviousValue, RefEdit, RefLog};
@@ -60,8 +60,8 @@ impl RefEdit {
         requires { F.IsAlwaysCallable find.old }
         ensures callable { F.IsAlwaysCallable find.new }
         ensures round { IfOk result (λ child. HasRound F.step find.old (edit_value self.old ∷ [])
-            (edit_value self.new ∷ []) (values_of child) find.new) }
-        ensures fault { IfErr result (IsFault F.step find.old find.new) }
+            (edit_value self.new ∷ []) (values_of_option child) find.new) }
+        ensures fault { IfErr result (IsLookUpFault F.step find.old find.new) }
     {
         if !self.deref {
             return Ok(None);

@@ -3,8 +3,8 @@ use Rattle.gix_ref_base.specs.Targets.{target_value}
 use Rattle.gix_ref_base.specs.PackedRecords.{Record}
 use Rattle.gix_ref_store.specs.Lookup.{AreAskedIn}
 use Rattle.gix_ref_records.specs.declared.raw.Reference.{Reference}
-use Rattle.gix_ref_follow.specs.Following.{Finds, IsStep, at_of, follow}
-use Rattle.gix_ref_follow.specs.Followed.{names_of, finds_in, HitsNext, RefusesStep, Follows, IsNotFollowed}
+use Rattle.gix_ref_follow.specs.Following.{HitsByName, IsStep, at_of, follow}
+use Rattle.gix_ref_follow.specs.Followed.{bytes_of_names, finds_in, HitsNext, RefusesStep, Follows, IsNotFollowed}
 use Rattle.gix_ref_follow.proofs.Steps.{id_of, follow_object, follow_none, follow_on, follows_refused, leads_more}
 use Rattle.gix_ref_follow.proofs.Stores.{asked_on, still_on, hits_on, not_followed_on, looks_up, same_finds}
 use Rattle.gix_ref_follow.proofs.chain.follow_among.Goals as goal
@@ -13,7 +13,7 @@ pub returns-in-Some-clause-followed : goal.returns-in-Some-clause-followed
 returns-in-Some-clause-followed g c h records are =
     let find = finds_in g.F.Files.means c.args.asks_records c.args.store.now records in
     let i = c.loop.counter in
-    let reached = names_of c.loop.reached.items in
+    let reached = bytes_of_names c.loop.reached.items in
     let at = at_of c.loop.reference in
     let left : 5 - i ≡ suc (4 - i) = omega (arith, c.loop-test.true) in
     c.loop.invariant.followed h records are
@@ -31,13 +31,13 @@ returns-in-Err-clause-followed g c h records are =
     let mid = c.loop.store in
     let find = finds_in means asks first records in
     let i = c.loop.counter in
-    let reached = names_of c.loop.reached.items in
+    let reached = bytes_of_names c.loop.reached.items in
     let start = at_of c.args.reference.now in
     let at = at_of c.loop.reference in
     let error = c.in-Err.error in
     let left : 5 - i ≡ suc (4 - i) = omega (arith, c.loop-test.true) in
     let asked = asked_on {R = g.row.F-Reader.Denot} {G = g.F.Reader.ReadAt} honest means asks first mid c.args.asked.now c.loop.asked x.unchanged x.asked h records are in
-    let refused = subst (λ (f : Finds). RefusesStep f reached at error) (same_finds honest means asks first mid records x.unchanged h) (e.refused h records asked) in
+    let refused = subst (λ (f : HitsByName). RefusesStep f reached at error) (same_finds honest means asks first mid records x.unchanged h) (e.refused h records asked) in
     let ends = follows_refused find start at i (4 - i) reached error (omega (arith, c.loop-test.true)) (x.leads h records are) (x.followed h records are ∙ ap (λ n. follow find n reached at) left) refused in
     subst (λ (r : Reference). Follows find start (at_of r) (Err error)) (sym e.kept) ends
 
@@ -58,7 +58,7 @@ returns-in-Err-clause-failed g c =
 pub returns-clause-followed : goal.returns-clause-followed
 returns-clause-followed g c h records are =
     let find = finds_in g.F.Files.means c.args.asks_records c.args.store.now records in
-    let reached = names_of c.loop.reached.items in
+    let reached = bytes_of_names c.loop.reached.items in
     let at = at_of c.loop.reference in
     let none : 5 - c.loop.counter ≡ 0 = omega (arith, c.loop-test.false) in
     c.loop.invariant.followed h records are ∙ (ap (λ n. follow find n reached at) none ∙ follow_none find reached at)
@@ -74,12 +74,12 @@ loop-preserved g c =
     let mid = c.loop.store in
     let new = c.take_step.new.store in
     let i = c.loop.counter in
-    let reached = names_of c.loop.reached.items in
+    let reached = bytes_of_names c.loop.reached.items in
     let at = at_of c.loop.reference in
     let next = at_of c.take_step.new.reference in
     let left : 5 - i ≡ suc (5 - (i + 1)) = omega (arith, c.loop-test.true) in
     let asked = asked_on {R = g.row.F-Reader.Denot} {G = g.F.Reader.ReadAt} honest means asks first mid c.args.asked.now c.loop.asked x.unchanged x.asked in
-    let step = λ (h : honest) (records : List Record) (are : AreAskedIn {R = g.row.F-Reader.Denot} {G = g.F.Reader.ReadAt} means first c.args.asked.now records). subst (λ (f : Finds). IsStep f at next) (same_finds honest means asks first mid records x.unchanged h) (e.moved h records (asked h records are)) in
+    let step = λ (h : honest) (records : List Record) (are : AreAskedIn {R = g.row.F-Reader.Denot} {G = g.F.Reader.ReadAt} means first c.args.asked.now records). subst (λ (f : HitsByName). IsStep f at next) (same_finds honest means asks first mid records x.unchanged h) (e.moved h records (asked h records are)) in
     record {
       followed = λ h records are.
           let find = finds_in means asks first records in

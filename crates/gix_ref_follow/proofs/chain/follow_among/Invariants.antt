@@ -4,7 +4,7 @@ use Rattle.gix_ref_lookup.specs.Lookups.{AreHonest}
 use Rattle.gix_ref_store.specs.Lookup.{AreAskedIn, AreStillAskedIn, LooksUp}
 use Rattle.gix_ref_store.specs.Store.{files_of}
 use Rattle.gix_ref_follow.specs.Following.{at_of, follow, following, IsStep, Leads}
-use Rattle.gix_ref_follow.specs.Followed.{names_of, finds_in, HitsNext}
+use Rattle.gix_ref_follow.specs.Followed.{bytes_of_names, finds_in, HitsNext}
 use Rattle.gix_ref_follow.proofs.chain.follow_among.Given as goal
 
 -- the steps so far lead here, and the rest of the following ends as the whole does
@@ -15,7 +15,7 @@ invariant-loop g l =
     let first = l.fn.store in
     record {
       followed : honest → (records : List Record) → AreAskedIn means first l.fn.asked records →
-          following (finds_in means l.asks_records first records) (at_of l.fn.reference) ≡ follow (finds_in means l.asks_records first records) (5 - l.counter) (names_of l.reached.items) (at_of l.reference);
+          following (finds_in means l.asks_records first records) (at_of l.fn.reference) ≡ follow (finds_in means l.asks_records first records) (5 - l.counter) (bytes_of_names l.reached.items) (at_of l.reference);
       leads : honest → (records : List Record) → AreAskedIn means first l.fn.asked records →
           Leads (IsStep (finds_in means l.asks_records first records)) l.counter (at_of l.fn.reference) (at_of l.reference);
       hits : honest → AreHonest l.fn.asked → Leads (HitsNext means l.asks_records first l.fn.asked) l.counter l.fn.reference l.reference;

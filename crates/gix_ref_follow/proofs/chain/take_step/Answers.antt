@@ -7,7 +7,7 @@ use Rattle.gix_ref_lookup.specs.declared.find.existing.Error.{Error as Missing}
 use Rattle.gix_ref_store.specs.Lookup.{MissesBy, MissesIn, HitsIn}
 use Rattle.gix_ref_store.specs.Store.{meaning_of}
 use Rattle.gix_ref_follow.specs.Following.{at_of, IsStep}
-use Rattle.gix_ref_follow.specs.Followed.{names_of, finds_in, HitsNext}
+use Rattle.gix_ref_follow.specs.Followed.{bytes_of_names, finds_in, HitsNext}
 use Rattle.gix_ref_follow.proofs.Steps.{is_step, on_ok, refuses_find, refuses_return, symbolic_of, hit_of}
 use Rattle.gix_ref_follow.proofs.chain.take_step.Goals as goal
 
@@ -26,14 +26,14 @@ returns-in-Some-Ok-clause-refused g c h records are =
     let find = finds_in g.F.Files.means c.args.asks_records c.args.store.now records in
     let step = is_step find (MissesBy g.F.Files.means c.args.asks_records c.args.store.now records) old next (target_value old.target) refl (rw c.in-Some-Ok.field-0-is at (c.in-Some-Ok.ensures.found h records are)) in
     if_err c.arrive.result
-    (λ error is. refuses_return find (names_of c.args.reached.now.items) (at_of old) (at_of next) ((meaning_of c.find_next.new.store).place (full_bytes old.name)) error step is) c.arrive.ensures.refused
+    (λ error is. refuses_return find (bytes_of_names c.args.reached.now.items) (at_of old) (at_of next) ((meaning_of c.find_next.new.store).place (full_bytes old.name)) error step is) c.arrive.ensures.refused
 
 pub returns-in-Some-Err-clause-refused : goal.returns-in-Some-Err-clause-refused
 returns-in-Some-Err-clause-refused g c h records are =
     let old = c.args.reference.now in
     let error = c.in-Some-Err.error in
     let Bound : List ℕ → Missing → Type 0 = λ name e. MissesIn {R = g.row.F-Reader.Denot} {G = g.F.Reader.ReadAt} g.F.Files.honest g.F.Files.means g.F.Files.faults c.args.asks_records c.args.store.now c.find_next.new.store c.args.asked.now name e in
-    refuses_find (finds_in g.F.Files.means c.args.asks_records c.args.store.now records) (names_of c.args.reached.now.items) (at_of old) (target_value old.target)
+    refuses_find (finds_in g.F.Files.means c.args.asks_records c.args.store.now records) (bytes_of_names c.args.reached.now.items) (at_of old) (target_value old.target)
     (MissesBy g.F.Files.means c.args.asks_records c.args.store.now records) Bound error refl (λ name n is. is) (λ name n is. is) (λ name e is. is)
     (rw c.in-Some-Err.field-0-is at (c.in-Some-Err.ensures.found h records are)) (rw c.in-Some-Err.field-0-is at c.in-Some-Err.ensures.failed)
 

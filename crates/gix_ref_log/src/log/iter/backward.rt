@@ -62,12 +62,12 @@ fn line_of(alloc: Global, text: &[u8], number: u64) -> Result<Line, ReverseError
 }
 
 impl<'a, F: ReadAt> Reverse<'a, F> {
-    ghost use Rattle.gix_ref_log.specs.LogWindows.{SameLog, OnlyWindowMoves, KeepsWindow, Counts, BeginsAtEnd, IsOpen, open_items, items_left, IsTied, most_left};
+    ghost use Rattle.gix_ref_log.specs.LogWindows.{SameFileAndBuffer, OnlyWindowMoves, KeepsWindow, CountsReaderFault, BeginsAtEnd, IsOpen, open_items, items_left, IsTied, most_left};
 
     /// Moves the bytes of the window to the end of the buffer, and reads the bytes before them in the file.
     fn widen(&mut self) -> Result<(), FileError>
         ensures only { OnlyWindowMoves F.bytes self.old self.new }
-        ensures counts { Counts F.faults result self.old self.new }
+        ensures counts { CountsReaderFault F.faults result self.old self.new }
         ensures end { OnOk result
             (self.new.end ≡ self.old.end
             + min self.old.pos (length self.old.buf.now - self.old.end)) }
@@ -103,7 +103,7 @@ impl<'a, F: ReadAt> Reverse<'a, F> {
     fn begin(&mut self) -> Result<bool, FileError>
         requires { 0 < self.old.pos }
         ensures only { OnlyWindowMoves F.bytes self.old self.new }
-        ensures counts { Counts F.faults result self.old self.new }
+        ensures counts { CountsReaderFault F.faults result self.old self.new }
         ensures nearer { OnOk result (self.new.pos + self.new.end ≤ self.old.pos + self.old.end) }
         ensures begins { F.honest → self.old.end ≡ 0
             → self.old.pos ≡ length (F.bytes self.old.reader) → IfOk result
@@ -120,7 +120,7 @@ impl<'a, F: ReadAt> Reverse<'a, F> {
     /// The place of the last line feed in the window, which is widened where it has none.
     fn find_start(&mut self) -> Result<Option<usize>, FileError>
         ensures only { OnlyWindowMoves F.bytes self.old self.new }
-        ensures counts { Counts F.faults result self.old self.new }
+        ensures counts { CountsReaderFault F.faults result self.old self.new }
         ensures pos { OnOk result (self.new.pos + self.new.end ≡ self.old.pos + self.old.end) }
         ensures window { OnOk result (F.honest → KeepsWindow F.bytes self.old self.new) }
         ensures found { IfOk result (IsLastByte (is_byte 10) (take self.new.end self.new.buf.now)) }
@@ -154,7 +154,7 @@ impl<'a, F: ReadAt> Reverse<'a, F> {
     /// The next line, which a line feed follows or not.
     #[inline(always)]
     fn next_line(&mut self, ends: bool) -> Result<Line, ReverseError>
-        ensures log { SameLog F.bytes self.old self.new }
+        ensures log { SameFileAndBuffer F.bytes self.old self.new }
         ensures nearer { most_left self.new ≤ self.old.pos + self.old.end }
         ensures counts { F.faults self.new.reader
             ≡ count_of (Some result) (F.faults self.old.reader) }

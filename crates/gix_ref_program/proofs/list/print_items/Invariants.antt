@@ -1,9 +1,9 @@
-use Rattle.gix_ref_store.specs.Listings.{items_left}
+use Rattle.gix_ref_store.specs.Listings.{items_ahead}
 use Rattle.gix_ref_program.proofs.ListLoop.{AreSoFar}
 use Rattle.gix_ref_program.proofs.list.print_items.Given as goal
 
 abbrev pub decreases-loop-text : goal.decreases-loop-text
-decreases-loop-text g l = items_left l.items
+decreases-loop-text g l = items_ahead l.items
 
 -- what is written and the text are what is printed of the items so far; and the store is the same, with the same files
 abbrev pub invariant-loop-text : goal.invariant-loop-text

@@ -7,7 +7,7 @@ use Rattle.gix_ref_store.specs.Store.{files_of}
 use Rattle.gix_ref_edits.specs.declared.transaction.RefEdit.{RefEdit}
 use Rattle.gix_ref_transaction.specs.OwnLocks.{paths_of}
 use Rattle.gix_ref_program.specs.Runs.{EditOutcome}
-use Rattle.gix_ref_program.specs.Updates.{IsMade, IsStopOf, IsUpdateError}
+use Rattle.gix_ref_program.specs.Updates.{UpdateMade, IsStopOf, IsUpdateError}
 use Rattle.gix_ref_program.proofs.run.make_update.Goals as goal
 use Rattle.gix_ref_program.proofs.run.make_update.Goals.{in-None, in-Some}
 
@@ -29,7 +29,7 @@ returns-clause-outcome g c =
     elim c.match-error.branch [
       | in-None w ↦
           subst (EditOutcome F.honest F.means F.faults read old new c.args.committer c.args.edit) (sym w.outcome-is)
-          (subst (λ (edits : List RefEdit). IsMade F.honest F.means F.faults old new c.args.committer edits left) c.in-Ok.ensures (c.update-error.ensures.done w.in-None.is))
+          (subst (λ (edits : List RefEdit). UpdateMade F.honest F.means F.faults old new c.args.committer edits left) c.in-Ok.ensures (c.update-error.ensures.done w.in-None.is))
       | in-Some w ↦
           subst (EditOutcome F.honest F.means F.faults read old new c.args.committer c.args.edit) (sym w.outcome-is)
           (subst (λ (edits : List RefEdit). IsUpdateError F.honest F.means F.faults read old new c.args.committer edits w.in-Some.error left) c.in-Ok.ensures

@@ -1,5 +1,5 @@
 use Rattle.std.proofs.Common.{◌∙◌, refl, sym, subst}
-use Rattle.gix_ref_store.specs.Listings.{AreHeldFor, store_of}
+use Rattle.gix_ref_store.specs.Listings.{AreHeldFor, store_listed}
 use Rattle.gix_ref_store.specs.Lookup.{LooksUp}
 use Rattle.gix_ref_store.specs.declared.file.store.Store.{Store}
 use Rattle.gix_ref_program.specs.Runs.{ListRanAmong, Prints}
@@ -28,7 +28,7 @@ returns-in-Ok-clause-prints g c =
     let out = g.W.Write.contents c.args.out.now in
     let now = g.W.Write.contents c.print_items-status.new.out in
     let Are = AreHeldFor store prefix c.args.packed in
-    let new = store_of c.print_items-status.new.items in
+    let new = store_listed c.print_items-status.new.items in
     let done : Prints (ListRanAmong F.honest F.means F.faults store new prefix Are) out now c.print_items-status.result =
     printed_all F.honest F.means F.faults store new prefix Are c.in-Ok.items c.print_items-status.new.items out now c.print_items-status.result c.in-Ok.ensures.taken c.in-Ok.ensures.lists c.print_items-status.ensures.rises refl c.print_items-status.ensures.prints in
     let name = sym (c.into_store.ensures.same_reference ∙ (c.print_items-status.ensures.same_reference ∙ c.in-Ok.ensures.same_reference)) in
@@ -40,4 +40,4 @@ returns-in-Ok-clause-unchanged g c =
     let F = g.F.Files in
     let name = sym (c.into_store.ensures.same_reference ∙ (c.print_items-status.ensures.same_reference ∙ c.in-Ok.ensures.same_reference)) in
     subst (λ (x : Store g.row.F.Denot). LooksUp F.honest F.means c.args.store.now x) (sym (c.store-1.given.1 name ∙ c.into_store.ensures.same))
-    (looks_on F.honest F.means F.faults c.args.store.now (store_of c.in-Ok.items) (store_of c.print_items-status.new.items) c.in-Ok.ensures.looks_up c.print_items-status.ensures.unchanged)
+    (looks_on F.honest F.means F.faults c.args.store.now (store_listed c.in-Ok.items) (store_listed c.print_items-status.new.items) c.in-Ok.ensures.looks_up c.print_items-status.ensures.unchanged)

@@ -2,7 +2,7 @@ use Rattle.std.proofs.Common.{◌≡◌, refl, sym, subst, List, ℕ, Some, fals
 use Rattle.gix_ref_name.specs.Names.{full_ref_bytes}
 use Rattle.gix_ref_files.specs.Tree.{is_file}
 use Rattle.gix_ref_store.specs.Reflogs.{reflog_at, ReadsBackward, IsNoReflog}
-use Rattle.gix_ref_program.specs.Runs.{LogOutcome, LogRan}
+use Rattle.gix_ref_program.specs.Runs.{RefusesReflog, LogRan}
 use Rattle.gix_ref_program.specs.declared.outcome.Outcome.{Outcome}
 use Rattle.gix_ref_program.proofs.Printing.{said, logged, no_log, has_room}
 use Rattle.gix_ref_program.proofs.run.print_log.Goals as goal
@@ -13,7 +13,7 @@ returns-in-Err-clause-prints g c =
     let store = c.args.store.now in
     let refused = c.refused.ensures in
     said (LogRan F.honest F.means store store c.args.name.now) (g.W.Write.contents c.args.out.now) (g.W.Write.contents c.print.new.out) c.print.result c.refused.result
-    (subst (λ (o : Outcome). LogOutcome store store c.args.name.now o) (sym refused.1) (c.in-Err.ensures, refl, refused.2)) c.print.ensures.status c.print.ensures.printed
+    (subst (λ (o : Outcome). RefusesReflog store store c.args.name.now o) (sym refused.1) (c.in-Err.ensures, refl, refused.2)) c.print.ensures.status c.print.ensures.printed
 
 pub returns-in-Ok-Some-clause-prints : goal.returns-in-Ok-Some-clause-prints
 returns-in-Ok-Some-clause-prints g c =
@@ -40,7 +40,7 @@ returns-in-Err-reflog_iter_rev-clause-prints g c =
     let failed = c.in-Err-reflog_iter_rev in
     let name = c.args.name.now in
     said (LogRan F.honest F.means store new name) (g.W.Write.contents c.args.out.now) (g.W.Write.contents c.print-in-Err-reflog_iter_rev.new.out) c.print-in-Err-reflog_iter_rev.result c.refused-in-Err-reflog_iter_rev.result
-    (subst (λ (o : Outcome). LogOutcome store new name o) (sym refused.1) (
+    (subst (λ (o : Outcome). RefusesReflog store new name o) (sym refused.1) (
       subst (λ (p : List ℕ). IsNoReflog store p failed.error) c.in-Ok.ensures.0 (has_room F.honest (reflog_at F.means store (full_ref_bytes c.in-Ok.name)) 4096 store (full_ref_bytes c.in-Ok.name) failed.error (λ none. cc) failed.ensures.failed),
       refused.2,
     ))

@@ -5,7 +5,7 @@ use Rattle.gix_ref_store.specs.CommitResult.{left_of}
 use Rattle.gix_ref_packed.specs.OpenFiles.{HasReadFault}
 use Rattle.gix_ref_store.specs.Prepared.{PreparesGiven, HasGoodRecords, RefusesGiven, IsAtRest}
 use Rattle.gix_ref_store.specs.Store.{files_of}
-use Rattle.gix_ref_program.specs.Updates.{IsMade, IsStopOf, IsLossOf, IsUpdateError}
+use Rattle.gix_ref_program.specs.Updates.{UpdateMade, IsStopOf, IsLossOf, IsUpdateError}
 use Rattle.gix_ref_program.proofs.Updating.{at_same, refused_stops, refused_loses, done, told, stops, loses, settles}
 use Rattle.gix_ref_program.proofs.update.update.Goals as goal
 
@@ -20,7 +20,7 @@ returns-in-Ok-clause-done g c =
     let held = c.in-Ok.prepared.plan.edits.items in
     let left = paths_of c.report_of_commit.result.locks_left.items in
     let from : PreparesGiven F.honest F.means F.faults old mid edits packed held = rw (c.packed_refs.ensures.value, c.transaction.ensures.value) at c.in-Ok.ensures.prepared in
-    at_same (λ now. c.report_of_commit.result.error ≡ None → IsMade F.honest F.means F.faults old now c.args.committer edits left) {x = c.store-in-Ok-1.given.0} {y = new} (search rules)
+    at_same (λ now. c.report_of_commit.result.error ≡ None → UpdateMade F.honest F.means F.faults old now c.args.committer edits left) {x = c.store-in-Ok-1.given.0} {y = new} (search rules)
     (done F.honest F.means F.faults old mid new c.args.committer edits packed held from c.commit.result c.report_of_commit.result.error left c.report_of_commit.ensures.error c.report_of_commit.ensures.left c.commit.ensures.committed c.commit.ensures.passed c.commit.ensures.folders c.commit.ensures.ended c.commit.ensures.named)
 
 pub returns-in-Ok-clause-error : goal.returns-in-Ok-clause-error

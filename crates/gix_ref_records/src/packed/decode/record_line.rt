@@ -7,7 +7,7 @@ ghost use Rattle.std.specs.declared.cmp.Ordering.TheVariants.{Equal};
 ghost use Rattle.std.specs.Option.{option_map};
 ghost use Rattle.gix_ref_hash.specs.Ids.{IsHexOf, kind_len};
 ghost use Rattle.gix_ref_base.specs.PackedRecords.{Record};
-ghost use Rattle.gix_ref_records.specs.RecordGrammar.{RecordLine, Takes, Peeled, PeeledLine};
+ghost use Rattle.gix_ref_records.specs.RecordGrammar.{RecordLine, Takes, OptionalPeeledLine, PeeledLine};
 ghost use Rattle.gix_ref_records.specs.Positions.{NameAt, Compares, IsPlain, OrdersIfNamed};
 ghost use Rattle.gix_ref_records.specs.Views.{record_of};
 
@@ -62,8 +62,8 @@ fn is_id(text: &[u8], kind: Kind) -> bool
 /// The object of a line with `^`, if one follows a record, and what follows it.
 fn take_peeled(text: &[u8], kind: Kind) -> Option<(Option<&[u8]>, &[u8])>
     ensures { MatchOption result ((object : Option (List ℕ)) (rest : List ℕ)
-        → Peeled kind text.now object rest → ⊥)
-        (λ p. Peeled kind text.now (option_map (λ o. o.now) p.0) p.1.now) }
+        → OptionalPeeledLine kind text.now object rest → ⊥)
+        (λ p. OptionalPeeledLine kind text.now (option_map (λ o. o.now) p.0) p.1.now) }
 {
     let Some(line) = strip_front(text, b"^") else {
         return Some((None, text));

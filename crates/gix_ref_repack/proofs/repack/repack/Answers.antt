@@ -7,7 +7,7 @@ use Rattle.gix_ref_lookup.proofs.Laying.{folders_laid}
 use Rattle.gix_ref_transaction.specs.CommittedEdits.{planned}
 use Rattle.gix_ref_transaction.specs.PrepareSteps.{setting_of, updates}
 use Rattle.gix_ref_transaction.proofs.Adds.{clash}
-use Rattle.gix_ref_repack.specs.Refusals.{IsIoOrMemory}
+use Rattle.gix_ref_repack.specs.Refusals.{IsRepackFault}
 use Rattle.gix_ref_repack.specs.Repacks.{IsRepack}
 use Rattle.gix_ref_repack.specs.internal.RemovedKeys.{keys_to_remove}
 use Rattle.gix_ref_repack.specs.Removals.{IsWithout}
@@ -31,7 +31,7 @@ returns-clause-repacked g c h apart rs are found =
     let moved = subst (λ (ks : List (List ℕ)). IsPermutation (keys_to_remove (setting_of set) edits) ks) same c.in_ok-keys.ensures.moved in
     let in_order = subst (λ (ks : List (List ℕ)). IsSorted (slice_cmp nat_cmp) ks) same c.in_ok-keys.ensures.sorted in
     let up = sorted_keys f laid set.kind set.prohibit_windows_device_names edits keys apart moved in_order in
-    ok_part (IsWithout set.kind keys rs) (IsRepack (setting_of set) set.kind rs (planned (updates edits))) IsIoOrMemory c.file_without.result (c.file_without.ensures.rewritten h rs are up)
+    ok_part (IsWithout set.kind keys rs) (IsRepack (setting_of set) set.kind rs (planned (updates edits))) IsRepackFault c.file_without.result (c.file_without.ensures.rewritten h rs are up)
     (repack_is f laid set.kind set.prohibit_windows_device_names _ rs are edits found apart keys moved)
 
 pub returns-clause-sound : goal.returns-clause-sound
@@ -45,7 +45,7 @@ returns-clause-sound g c h apart rs are =
     let moved = subst (λ (ks : List (List ℕ)). IsPermutation (keys_to_remove (setting_of set) edits) ks) same c.in_ok-keys.ensures.moved in
     let in_order = subst (λ (ks : List (List ℕ)). IsSorted (slice_cmp nat_cmp) ks) same c.in_ok-keys.ensures.sorted in
     let up = sorted_keys f laid set.kind set.prohibit_windows_device_names edits keys apart moved in_order in
-    err_part (IsWithout set.kind keys rs) IsIoOrMemory c.file_without.result (c.file_without.ensures.rewritten h rs are up)
+    err_part (IsWithout set.kind keys rs) IsRepackFault c.file_without.result (c.file_without.ensures.rewritten h rs are up)
 
 pub returns-then-not-remove_some-clause-whole : goal.returns-then-not-remove_some-clause-whole
 returns-then-not-remove_some-clause-whole g c h some = clash some (sym c.remove_some.ensures ∙ c.if-not-remove_some.true)

@@ -1,9 +1,9 @@
-use Rattle.gix_ref_store.specs.Listings.{items_left}
+use Rattle.gix_ref_store.specs.Listings.{items_ahead}
 use Rattle.gix_ref_whole.proofs.EditedListings.{AreSoFar}
 use Rattle.gix_ref_whole.proofs.list.collect.Given as goal
 
 abbrev pub decreases-loop-all : goal.decreases-loop-all
-decreases-loop-all g l = items_left l.items
+decreases-loop-all g l = items_ahead l.items
 
 -- what was taken is what the iterator gave so far; and the store is the same, with the same files
 abbrev pub invariant-loop-all : goal.invariant-loop-all

@@ -1,5 +1,5 @@
 use Rattle.std.proofs.Common.{◌∙◌, Ok, refl, sym, subst}
-use Rattle.gix_ref_store.specs.Listings.{AreHeldFor, store_of}
+use Rattle.gix_ref_store.specs.Listings.{AreHeldFor, store_listed}
 use Rattle.gix_ref_store.specs.declared.file.store.Store.{Store}
 use Rattle.gix_ref_whole.specs.ListedItems.{ListsAmong}
 use Rattle.gix_ref_whole.proofs.EditedListings.{items_in}
@@ -11,7 +11,7 @@ returns-in-Ok-all-clause-lists g c =
     let start = c.args.store.now in
     let prefix = c.args.prefix.now in
     let Are = AreHeldFor start prefix c.args.packed in
-    let new = store_of c.collect-all.new.items in
+    let new = store_listed c.collect-all.new.items in
     let all = c.in-Ok-all.all in
     let name = sym (c.into_store.ensures.same_reference ∙ (c.collect-all.ensures.same_reference ∙ c.in-Ok.ensures.same_reference)) in
     let done : ListsAmong F.honest F.means F.faults start new prefix Are (Ok all) = (

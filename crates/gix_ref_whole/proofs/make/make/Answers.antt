@@ -2,7 +2,7 @@ use Rattle.std.proofs.Common.{◌∙◌, rules, List, ap, subst, sym, length}
 use Rattle.gix_ref_files.specs.Files.{HasRisenBy}
 use Rattle.gix_ref_files.specs.Tree.{Path}
 use Rattle.gix_ref_transaction.specs.OwnLocks.{paths_of}
-use Rattle.gix_ref_store.specs.CommitResult.{left_of, mode_of, EveryStopFrom}
+use Rattle.gix_ref_store.specs.CommitResult.{left_of, mode_handed_back, EveryStopFrom}
 use Rattle.gix_ref_store.specs.Prepared.{PreparesGiven}
 use Rattle.gix_ref_store.specs.Store.{files_of}
 use Rattle.gix_ref_whole.specs.WholeRuns.{HasFailed, MakesEdited}
@@ -53,7 +53,7 @@ returns-in-Ok-commit-clause-made g c =
     let from : PreparesGiven F.honest F.means F.faults old mid edits packed held = rw c.transaction.ensures.value at c.in-Ok.ensures.prepared in
     let stops : EveryStopFrom F.honest F.means F.faults mid new c.args.committer packed held left =
     subst (λ (l : List Path). EveryStopFrom F.honest F.means F.faults mid new c.args.committer packed held l) (ap left_of c.in-Ok-commit.is) c.commit.ensures.ended in
-    let mode = ap mode_of (sym c.in-Ok-commit.is) ∙ (c.commit.ensures.packed_refs ∙ (c.in-Ok.ensures.packed_refs ∙ c.transaction.ensures.packed_refs)) in
+    let mode = ap mode_handed_back (sym c.in-Ok-commit.is) ∙ (c.commit.ensures.packed_refs ∙ (c.in-Ok.ensures.packed_refs ∙ c.transaction.ensures.packed_refs)) in
     let named : HasRisenBy (length left) (F.faults (files_of mid)) (F.faults (files_of new)) =
     subst (λ (l : List Path). HasRisenBy (length l) (F.faults (files_of mid)) (F.faults (files_of new))) (ap left_of c.in-Ok-commit.is) c.commit.ensures.named in
     at_same (λ now. MakesEdited F.honest F.means F.faults old now c.args.committer edits c.in-Ok-commit.done) {x = c.store-in-Ok-1.given.0} {y = new} (search rules)

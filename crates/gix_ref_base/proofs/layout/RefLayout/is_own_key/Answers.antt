@@ -2,7 +2,7 @@ use Rattle.std.proofs.Common.{◌≡◌, ℕ, List, Some, Bool, true, false, IsT
 use Rattle.std.proofs.lemmas.Bool.Decides.{Decides-eqb}
 use Rattle.std.specs.Bool.{OnTrue}
 use Rattle.gix_ref_base.specs.Layout.{RefPaths}
-use Rattle.gix_ref_base.specs.Locations.{paths_of}
+use Rattle.gix_ref_base.specs.Locations.{row_of}
 use Rattle.gix_ref_base.specs.RefLayout.{layout_of, location_value}
 use Rattle.gix_ref_base.specs.declared.layout.Location.{Location}
 use Rattle.gix_ref_base.proofs.layout.RefLayout.is_own_key.Goals as goal
@@ -20,6 +20,6 @@ returns-then-is_empty c =
     let f = layout_of c.args.self in
     on_true c.eq_bytes.result _ (λ same.
     ap (λ (r : RefPaths). r.key) (c.location_or_common.ensures f)
-    ∙ (ap (λ (l : Location). (paths_of f (location_value l)).key) c.in-Common.is
+    ∙ (ap (λ (l : Location). (row_of f (location_value l)).key) c.in-Common.is
     ∙ (ap (λ (n : List ℕ). Some (n ++ c.in-Common.key.now)) (no_bytes f.namespace (sym c.is_empty.ensures ∙ c.if-is_empty.true))
     ∙ ap Some (sym (c.eq_bytes.ensures.0 same)))))

@@ -4,7 +4,7 @@ use Rattle.gix_ref_name.specs.Candidates.{candidates, remote_head}
 use Rattle.gix_ref_name.specs.Names.{partial_ref_bytes, partial_bytes}
 use Rattle.gix_ref_theory.specs.OnRealTrees.{view_of}
 use Rattle.gix_ref_theory.specs.Lookups.{lookup}
-use Rattle.gix_ref_lookup.specs.Lookups.{meaning_in, Answers, IsHit, IsHitOf, Among, FailsAmong, asked_names, name_asked, hit_given}
+use Rattle.gix_ref_lookup.specs.Lookups.{meaning_in, ReturnsHit, IsHit, IsHitOf, Among, FailsAmong, asked_names, name_asked, hit_given}
 use Rattle.gix_ref_lookup.specs.declared.find.error.Error.{Error}
 use Rattle.gix_ref_lookup.specs.declared.find.error.Error.TheVariants.{Memory}
 use Rattle.gix_ref_lookup.proofs.Composing.{answers_same, given_answers, given_some, given_err, hit_as_asked}
@@ -17,7 +17,7 @@ returns-in-Ok-None-clause-found g c h rs are =
     let view = view_of (g.F.Files.means c.args.files.now).tree in
     let p = partial_ref_bytes c.args.name in
     let as_is : name_asked c.args.composes p ≡ p = rw c.in-Ok-None.field-0-is at c.in-Ok-None.ensures in
-    subst (λ asked. IfOk c.find_asked.result (Answers (option_map (hit_given asked p) (lookup s view rs (candidates asked) (remote_head asked))))) (sym as_is)
+    subst (λ asked. IfOk c.find_asked.result (ReturnsHit (option_map (hit_given asked p) (lookup s view rs (candidates asked) (remote_head asked))))) (sym as_is)
     (if_ok c.find_asked.result (λ found is. answers_same p (lookup s view rs (candidates p) (remote_head p)) found is) (c.find_asked.ensures.found h rs are))
 
 pub returns-in-Ok-None-clause-hit : goal.returns-in-Ok-None-clause-hit
@@ -44,7 +44,7 @@ returns-in-Ok-Some-clause-found g c h rs are =
     let asked = name_asked c.args.composes p in
     let composed : (partial_bytes c.in-Ok-Some.composed ≡ asked) × (asked ≢ p) = rw c.in-Ok-Some.field-0-is at c.in-Ok-Some.ensures in
     given_answers asked p composed.1 (lookup s view rs (candidates asked) (remote_head asked)) c.find_asked-found.result c.given.result c.given.ensures
-    (subst (λ (n : List ℕ). IfOk c.find_asked-found.result (Answers (lookup s view rs (candidates n) (remote_head n)))) (c.as_ref.ensures ∙ composed.0) (c.find_asked-found.ensures.found h rs are))
+    (subst (λ (n : List ℕ). IfOk c.find_asked-found.result (ReturnsHit (lookup s view rs (candidates n) (remote_head n)))) (c.as_ref.ensures ∙ composed.0) (c.find_asked-found.ensures.found h rs are))
 
 pub returns-in-Ok-Some-clause-hit : goal.returns-in-Ok-Some-clause-hit
 returns-in-Ok-Some-clause-hit g c h honest =

@@ -9,7 +9,7 @@ use Rattle.gix_ref_theory.specs.Readings.{reading_among}
 use Rattle.gix_ref_theory.specs.Readings.Reading.{Absent}
 use Rattle.gix_ref_theory.specs.OnRealTrees.{view_of}
 use Rattle.gix_ref_lookup.specs.declared.find.error.Error.TheVariants.{Memory}
-use Rattle.gix_ref_lookup.specs.Lookups.{meaning_in, AreAsked, IsSearched, IsCandidate, IsPassed, IsHit, Answers, CandidateFails}
+use Rattle.gix_ref_lookup.specs.Lookups.{meaning_in, AreAsked, IsSearched, IsCandidate, IsPassed, IsHit, ReturnsHit, CandidateFails}
 use Rattle.gix_ref_lookup.proofs.Looking.{packed_refs_at, still_asked, next_name, hit_here, hit_later, among_here, fails_here, fails_later, fails_from, hit_from}
 use Rattle.gix_ref_lookup.proofs.find.lookup.find_first.Goals as goal
 
@@ -67,8 +67,8 @@ returns-in-Ok-Some-clause-found g c h rs are =
     let asked = subst (λ (T : Tree). AreAsked settings.kind (packed_refs_at settings T) c.loop-front.records rs) (sym same) (x.asked h rs are) in
     let found = rw c.in-Ok-Some.field-0-is at (c.in-Ok-Some.ensures.found h rs asked) in
     let there = subst (λ (m : List ℕ). IsCandidate s (view_of first.tree) rs m (Some r)) named (subst (λ (T : Tree). IsCandidate s (view_of T) rs (full_ref_bytes c.as_ref.result) (Some r)) same found) in
-    subst (λ f. Answers f (Some r)) (sym (x.passed h rs are))
-    (subst (λ (l : List (List ℕ)). Answers (first_hit s (view_of first.tree) rs l) (Some r)) next (hit_here s (view_of first.tree) rs n (drop (i + 1) (candidates p)) r there))
+    subst (λ f. ReturnsHit f (Some r)) (sym (x.passed h rs are))
+    (subst (λ (l : List (List ℕ)). ReturnsHit (first_hit s (view_of first.tree) rs l) (Some r)) next (hit_here s (view_of first.tree) rs n (drop (i + 1) (candidates p)) r there))
 
 pub returns-in-Ok-Some-clause-hit : goal.returns-in-Ok-Some-clause-hit
 returns-in-Ok-Some-clause-hit g c h honest =

@@ -3,14 +3,14 @@ use Rattle.std.specs.Prelude.{is_some}
 use Rattle.gix_ref_files.specs.Tree.{is_folder, has_folders, IsShaped, no_tree}
 use Rattle.gix_ref_files.specs.Tree.Content.{File}
 use Rattle.gix_ref_files.specs.Calls.{IsFree}
-use Rattle.gix_ref_memory.specs.Changes.{after, found_content}
+use Rattle.gix_ref_memory.specs.Changes.{after_changes, found_content}
 use Rattle.gix_ref_files.proofs.Puts.{shaped_put}
 use Rattle.gix_ref_memory.proofs.Grows.{put_more, nothing_found}
 use Rattle.gix_ref_memory.proofs.memory.edits.create_now.Goals as goal
 
 pub returns-clause-answer : goal.returns-clause-answer
 returns-clause-answer c =
-    let T = after c.args.changes.now.items no_tree in
+    let T = after_changes c.args.changes.now.items no_tree in
     let at : c.in_ok-path.path.items ≡ c.args.path.now = search rules in
     let none : is_some c.find.result ≡ false = search rules in
     let found : found_content c.find.result ≡ T c.args.path.now = search rules in
@@ -20,7 +20,7 @@ returns-clause-answer c =
 
 pub returns-clause-passes : goal.returns-clause-passes
 returns-clause-passes c =
-    let T = after c.args.changes.now.items no_tree in
+    let T = after_changes c.args.changes.now.items no_tree in
     let at : c.in_ok-path.path.items ≡ c.args.path.now = search rules in
     let none : is_some c.find.result ≡ false = search rules in
     let found : found_content c.find.result ≡ T c.args.path.now = search rules in
@@ -30,7 +30,7 @@ returns-clause-passes c =
 
 pub returns-clause-shape : goal.returns-clause-shape
 returns-clause-shape c shape =
-    let T = after c.args.changes.now.items no_tree in
+    let T = after_changes c.args.changes.now.items no_tree in
     let at : c.in_ok-path.path.items ≡ c.args.path.now = search rules in
     let none : is_some c.find.result ≡ false = search rules in
     let found : found_content c.find.result ≡ T c.args.path.now = search rules in
@@ -40,7 +40,7 @@ returns-clause-shape c shape =
 
 pub returns-clause-disk : goal.returns-clause-disk
 returns-clause-disk c =
-    let T = after c.args.changes.now.items no_tree in
+    let T = after_changes c.args.changes.now.items no_tree in
     let at : c.in_ok-path.path.items ≡ c.args.path.now = search rules in
     let none : is_some c.find.result ≡ false = search rules in
     let found : found_content c.find.result ≡ T c.args.path.now = search rules in

@@ -2,7 +2,7 @@ use Rattle.std.proofs.Common.{◌≡◌, List, true, false, Some, rules, sym, su
 use Rattle.gix_ref_files.specs.Tree.{is_file, is_folder, has_folders, IsShaped, no_tree}
 use Rattle.gix_ref_files.specs.Tree.Content.{File}
 use Rattle.gix_ref_files.specs.Calls.{IsMovable}
-use Rattle.gix_ref_memory.specs.Changes.{after, items}
+use Rattle.gix_ref_memory.specs.Changes.{after_changes, items}
 use Rattle.gix_ref_files.proofs.Puts.{shaped_moved}
 use Rattle.gix_ref_memory.proofs.Grows.{move_more, disk}
 use Rattle.gix_ref_files.specs.Disk.{DiskItem, nothing}
@@ -12,7 +12,7 @@ use Rattle.gix_ref_memory.proofs.memory.edits.rename_now.Goals as goal
 
 pub returns-in_ok-push-in-Some-FileOf-clause-answer : goal.returns-in_ok-push-in-Some-FileOf-clause-answer
 returns-in_ok-push-in-Some-FileOf-clause-answer c =
-    let T = after c.args.changes.now.items no_tree in
+    let T = after_changes c.args.changes.now.items no_tree in
     let from : c.in_ok-from-in-Some-FileOf.from.items ≡ c.args.from.now = search rules in
     let to : c.in_ok-to-in-Some-FileOf.to.items ≡ c.args.to.now = search rules in
     let is : c.in_ok-bytes-in-Some-FileOf.bytes.items ≡ c.in-Some-FileOf.old.now = search rules in
@@ -27,7 +27,7 @@ returns-in_ok-push-in-Some-FileOf-clause-answer c =
 
 pub returns-in_ok-push-in-Some-FileOf-clause-passes : goal.returns-in_ok-push-in-Some-FileOf-clause-passes
 returns-in_ok-push-in-Some-FileOf-clause-passes c =
-    let T = after c.args.changes.now.items no_tree in
+    let T = after_changes c.args.changes.now.items no_tree in
     let from : c.in_ok-from-in-Some-FileOf.from.items ≡ c.args.from.now = search rules in
     let to : c.in_ok-to-in-Some-FileOf.to.items ≡ c.args.to.now = search rules in
     let is : c.in_ok-bytes-in-Some-FileOf.bytes.items ≡ c.in-Some-FileOf.old.now = search rules in
@@ -42,7 +42,7 @@ returns-in_ok-push-in-Some-FileOf-clause-passes c =
 
 pub returns-in_ok-push-in-Some-FileOf-clause-disk : goal.returns-in_ok-push-in-Some-FileOf-clause-disk
 returns-in_ok-push-in-Some-FileOf-clause-disk c =
-    let T = after c.args.changes.now.items no_tree in
+    let T = after_changes c.args.changes.now.items no_tree in
     let from : c.in_ok-from-in-Some-FileOf.from.items ≡ c.args.from.now = search rules in
     let to : c.in_ok-to-in-Some-FileOf.to.items ≡ c.args.to.now = search rules in
     let is : c.in_ok-bytes-in-Some-FileOf.bytes.items ≡ c.in-Some-FileOf.old.now = search rules in
@@ -57,7 +57,7 @@ returns-in_ok-push-in-Some-FileOf-clause-disk c =
 
 pub returns-in_ok-push-in-Some-FileOf-clause-shape : goal.returns-in_ok-push-in-Some-FileOf-clause-shape
 returns-in_ok-push-in-Some-FileOf-clause-shape c shape =
-    let T = after c.args.changes.now.items no_tree in
+    let T = after_changes c.args.changes.now.items no_tree in
     let from : c.in_ok-from-in-Some-FileOf.from.items ≡ c.args.from.now = search rules in
     let to : c.in_ok-to-in-Some-FileOf.to.items ≡ c.args.to.now = search rules in
     let is : c.in_ok-bytes-in-Some-FileOf.bytes.items ≡ c.in-Some-FileOf.old.now = search rules in

@@ -4,7 +4,7 @@ use Rattle.gix_ref_files.specs.Disk.{Disk, a_folder}
 use Rattle.gix_ref_files.proofs.Moments.{passes_weaken}
 use Rattle.gix_ref_files.specs.Tree.{Path, is_folder, IsShaped, no_tree}
 use Rattle.gix_ref_files.specs.Tree.Content.{Folder}
-use Rattle.gix_ref_memory.specs.Changes.{after, with_item_as, with_folder_as}
+use Rattle.gix_ref_memory.specs.Changes.{after_changes, with_item_as, with_folder_as}
 use Rattle.gix_ref_files.proofs.Puts.{shaped_put}
 use Rattle.gix_ref_memory.proofs.Grows.{put_more, disk}
 use Rattle.gix_ref_memory.proofs.memory.folders.make_folder.Goals as goal
@@ -17,8 +17,8 @@ returns-clause-made c =
 pub returns-clause-shape : goal.returns-clause-shape
 returns-clause-shape c below shape =
     let at : c.in_ok-path.path.items ≡ c.args.path.now = search rules in
-    let free : is_folder (after c.args.changes.now.items no_tree c.args.path.now) ≡ false = search rules in
-    subst IsShaped (sym (put_more _ _ _ _ _ _ _ _ (tt {0}) at refl c.in_ok-push.ensures.items).tree_is) (shaped_put (after c.args.changes.now.items no_tree) c.args.path.now (Some Folder) shape free (λ some. below))
+    let free : is_folder (after_changes c.args.changes.now.items no_tree c.args.path.now) ≡ false = search rules in
+    subst IsShaped (sym (put_more _ _ _ _ _ _ _ _ (tt {0}) at refl c.in_ok-push.ensures.items).tree_is) (shaped_put (after_changes c.args.changes.now.items no_tree) c.args.path.now (Some Folder) shape free (λ some. below))
 
 -- where no folder is, one is made
 made_new : (synced : Bool) (D : Disk) (p : Path) → is_folder (D.tree p) ≡ false → with_item_as synced D p a_folder ≡ with_folder_as synced D p

@@ -3,7 +3,7 @@ use Rattle.std.specs.Prelude.{bytes_eq}
 use Rattle.std.specs.List.{list_any}
 use Rattle.gix_ref_files.specs.Tree.{no_tree, is_folder}
 use Rattle.gix_ref_files.specs.Calls.{entry_name}
-use Rattle.gix_ref_memory.specs.Changes.{after, found_content}
+use Rattle.gix_ref_memory.specs.Changes.{after_changes, found_content}
 use Rattle.gix_ref_files.specs.declared.files.Entry.{Entry}
 use Rattle.gix_ref_memory.proofs.ListingLemmas.{listed, lists_same, lists_more, stands_some}
 use Rattle.gix_ref_memory.proofs.memory.listing.add_entry.Goals as goal
@@ -13,11 +13,11 @@ returns-then-is_listed c =
     let entries = c.args.entries.now.items in
     let found : list_any (λ entry. bytes_eq (entry_name entry) c.args.name.now) entries ≡ true =
     ap (λ (l : List Entry). list_any (λ entry. bytes_eq (entry_name entry) c.args.name.now) l) (sym c.deref.ensures.value) ∙ sym c.if-is_listed.ensures in
-    lists_same (after c.args.changes.now no_tree) c.args.folder.now c.args.name.now entries (λ some. listed entries c.args.name.now found)
+    lists_same (after_changes c.args.changes.now no_tree) c.args.folder.now c.args.name.now entries (λ some. listed entries c.args.name.now found)
 
 pub returns : goal.returns
 returns c =
-    let T = after c.args.changes.now no_tree in
+    let T = after_changes c.args.changes.now no_tree in
     let p = c.args.folder.now in
     let name = c.args.name.now in
     let entries = c.args.entries.now.items in

@@ -1,7 +1,7 @@
 use Rattle.std.proofs.Common.{◌+◌, Vec, sym, subst, inr, ap, ◌∙◌}
 use Rattle.std.specs.declared.alloc.Global.{Global}
 use Rattle.gix_ref_files.specs.Tree.{no_tree}
-use Rattle.gix_ref_memory.specs.Changes.{after}
+use Rattle.gix_ref_memory.specs.Changes.{after_changes}
 use Rattle.gix_ref_memory.specs.internal.Listing.{ListsSome}
 use Rattle.gix_ref_files.specs.declared.files.Entry.{Entry}
 use Rattle.gix_ref_memory.proofs.Placed.{placed}
@@ -11,18 +11,18 @@ use Rattle.gix_ref_memory.proofs.memory.listing.list_now.Goals.{in-Some+in_ok-ad
 
 pub loop-change-init : goal.loop-change-init
 loop-change-init c = record {
-  some = subst (ListsSome (after c.args.changes.now no_tree) c.args.folder.now) (sym c.new-entries.ensures.items) (lists_none (after c.args.changes.now no_tree) c.args.folder.now);
+  some = subst (ListsSome (after_changes c.args.changes.now no_tree) c.args.folder.now) (sym c.new-entries.ensures.items) (lists_none (after_changes c.args.changes.now no_tree) c.args.folder.now);
   remains = λ name good there. inr (placed c.args.changes.now _ there);
 }
 
 pub returns : goal.returns
-returns c = all_listed c.args.changes.now c.loop-change.change-index (after c.args.changes.now no_tree) c.args.folder.now c.loop-change.entries.items c.loop-change-test.false c.loop-change.invariant.some c.loop-change.invariant.remains
+returns c = all_listed c.args.changes.now c.loop-change.change-index (after_changes c.args.changes.now no_tree) c.args.folder.now c.loop-change.entries.items c.loop-change-test.false c.loop-change.invariant.some c.loop-change.invariant.remains
 
 pub loop-change-preserved : goal.loop-change-preserved
 loop-change-preserved c =
     let changes = c.args.changes.now in
     let i = c.loop-change.change-index in
-    let T = after changes no_tree in
+    let T = after_changes changes no_tree in
     let p = c.args.folder.now in
     let so_far = c.loop-change.invariant in
     let change = c.change-item.result in

@@ -9,7 +9,7 @@ use Rattle.gix_ref_transaction.specs.CommitRenames.{SeeLogs}
 use Rattle.gix_ref_transaction.specs.PrepareSteps.{AreEmpty, packed_places}
 use Rattle.gix_ref_transaction.specs.declared.edit.Edit.{Edit}
 use Rattle.gix_ref_lines.specs.AskedEdits.{all_but_logs, asked, but_log}
-use Rattle.gix_ref_lines.specs.LineCauses.{AllPass}
+use Rattle.gix_ref_lines.specs.LineCauses.{AllHaveNoCause}
 use Rattle.gix_ref_repack.specs.Refusals.{IsReadFile, IsRefusedRewrite}
 use Rattle.gix_ref_store.specs.CommitLines.{line_rules}
 use Rattle.gix_ref_store.specs.Decisions.{IsUndecided}
@@ -73,4 +73,4 @@ returns-in-Err-decide_packed-clause-failed g c =
     (λ h. subst (λ (T : Tree). IsRefusedRewrite (kind_of start) (T (meaning_of start).packed_path) error) (c.decide_logs.ensures.leaves h).tree (e.refused h))
     (λ h apart rs are. e.sound h apart rs
     (subst (λ (T : Tree). ArePackedRecords (kind_of start) (view_of T (meaning_of start).packed_path) rs) (sym (c.decide_logs.ensures.leaves h).tree) are))
-    (λ h. subst (λ (l : List Edit). AllPass (line_rules start c.args.committer) (view_of (F.means start.files).tree) (asked l)) c.deref_mut.ensures.value (c.in_default.ensures.passed h)))
+    (λ h. subst (λ (l : List Edit). AllHaveNoCause (line_rules start c.args.committer) (view_of (F.means start.files).tree) (asked l)) c.deref_mut.ensures.value (c.in_default.ensures.passed h)))

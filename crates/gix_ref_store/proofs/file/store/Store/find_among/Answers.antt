@@ -1,6 +1,6 @@
 use Rattle.std.proofs.Common.{Bool, ◌⊎◌, ◌≡◌, IfOk, IfErr, IfSome, subst}
 use Rattle.gix_ref_name.specs.Names.{partial_ref_bytes}
-use Rattle.gix_ref_lookup.specs.Lookups.{Answers, IsHitOf, FailsAmong, lookup_of, asked_names, name_asked}
+use Rattle.gix_ref_lookup.specs.Lookups.{ReturnsHit, IsHitOf, FailsAmong, lookup_of, asked_names, name_asked}
 use Rattle.gix_ref_lookup.specs.declared.find.error.Error.TheVariants.{Memory}
 use Rattle.gix_ref_store.specs.Lookup.{settings_of, view_in}
 use Rattle.gix_ref_store.specs.Store.{files_of, meaning_of}
@@ -9,7 +9,7 @@ use Rattle.gix_ref_store.proofs.file.store.Store.find_among.Goals as goal
 pub returns-clause-found : goal.returns-clause-found
 returns-clause-found g c h records are =
     let store = c.args.self.now in
-    subst (λ (composes : Bool). IfOk c.find_reference.result (Answers (lookup_of composes (meaning_of store) (view_in g.F.Files.means store) records (partial_ref_bytes c.args.partial)))) c.composes-composes.ensures (c.find_reference.ensures.found h records are)
+    subst (λ (composes : Bool). IfOk c.find_reference.result (ReturnsHit (lookup_of composes (meaning_of store) (view_in g.F.Files.means store) records (partial_ref_bytes c.args.partial)))) c.composes-composes.ensures (c.find_reference.ensures.found h records are)
 
 pub returns-clause-hit : goal.returns-clause-hit
 returns-clause-hit g c h honest =
