@@ -3,6 +3,7 @@ ghost use Rattle.std.specs.Prelude.{◌≡◌, ◌≢◌, ◌≤◌, List, [], �
 ghost use Rattle.std.specs.List.{list_any};
 ghost use Rattle.gix_ref_base.specs.PackedRecords.{Record};
 ghost use Rattle.gix_ref_files.specs.Calls.{Unchanged};
+ghost use Rattle.gix_ref_files.specs.ReadOnly.{OnlyReads};
 ghost use Rattle.gix_ref_files.specs.DiskCalls.{Untouched};
 ghost use Rattle.gix_ref_files.specs.Files.{disk_of, Leaves, Passes};
 ghost use Rattle.gix_ref_files.specs.Lock.{lock_of};
@@ -163,11 +164,7 @@ pub fn decide_folders<F: Files>(
         (planned_entries dirs.now edits.now packed.now rewrite.now)) }
     ensures failed { IfErr result (IsOfListing edits.now (F.faults files.old)
         (F.faults files.new)) }
-    ensures leaves { F.honest → Leaves (F.means files.old) (F.means files.new)
-        (Unchanged (F.means files.old).tree) }
-    ensures passes { F.honest → Passes (F.means files.old) (F.means files.new)
-        (Untouched (disk_of (F.means files.old))) }
-    ensures no_fewer { F.faults files.old ≤ F.faults files.new }
+    ensures reads { OnlyReads F.honest F.means F.faults files.old files.new }
 {
     let Ok(plan) = plan_commit(alloc, dirs, edits, packed, rewrite) else {
         return Err(commit::Error::Memory);

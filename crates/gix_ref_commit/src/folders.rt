@@ -3,6 +3,7 @@
 ghost use Rattle.std.specs.Prelude.{◌≡◌, ◌≢◌, ◌≤◌, ◌∷◌, ◌++◌, [], IfOk, IfErr, OnOk, Some, None, ◌⊎◌, true, false, List, ℕ};
 ghost use Rattle.std.specs.List.{All};
 ghost use Rattle.gix_ref_files.specs.Calls.{Unchanged, IsEntryOf};
+ghost use Rattle.gix_ref_files.specs.ReadOnly.{OnlyReads};
 ghost use Rattle.gix_ref_files.specs.DiskCalls.{Untouched};
 ghost use Rattle.gix_ref_files.specs.Files.{disk_of, HasRisen, Leaves, Passes};
 ghost use Rattle.gix_ref_files.specs.Settled.{IsIn};
@@ -125,11 +126,7 @@ fn add_folders<F: Files>(
     ensures adds { F.honest → IfOk result (λ all. all ≡ true → AddsFolders
         (F.means files.old).tree folder.now (paths_of found.old.items)
         (paths_of found.new.items)) }
-    ensures leaves { F.honest → Leaves (F.means files.old) (F.means files.new)
-        (Unchanged (F.means files.old).tree) }
-    ensures passes { F.honest → Passes (F.means files.old) (F.means files.new)
-        (Untouched (disk_of (F.means files.old))) }
-    ensures no_fewer { F.faults files.old ≤ F.faults files.new }
+    ensures reads { OnlyReads F.honest F.means F.faults files.old files.new }
     ensures counted { IfErr result (IsCountedFault (F.faults files.old) (F.faults files.new)) }
 {
     let Some(entries) = files.list(alloc, folder)? else {
@@ -166,11 +163,7 @@ fn walk<F: Files>(
     ensures stops { F.honest → IfOk result (StopsFor dirs.now (F.means files.old).tree top.now) }
     ensures whole { F.honest → IfOk result (λ all. all ≡ true → AreClosedFolders (F.means files.old).tree
         (paths_of found.new.items)) }
-    ensures leaves { F.honest → Leaves (F.means files.old) (F.means files.new)
-        (Unchanged (F.means files.old).tree) }
-    ensures passes { F.honest → Passes (F.means files.old) (F.means files.new)
-        (Untouched (disk_of (F.means files.old))) }
-    ensures no_fewer { F.faults files.old ≤ F.faults files.new }
+    ensures reads { OnlyReads F.honest F.means F.faults files.old files.new }
     ensures counted { IfErr result (IsCountedFault (F.faults files.old) (F.faults files.new)) }
 {
     for next in 0..usize::MAX {
@@ -197,11 +190,7 @@ fn folders_at<F: Files>(
 ) -> Result<Vec<Vec<u8>>, FileError>
     ensures in_way { F.honest → IfOk result (λ folders. AreInWay dirs.now
         (F.means files.old).tree false path.now (paths_of folders.items)) }
-    ensures leaves { F.honest → Leaves (F.means files.old) (F.means files.new)
-        (Unchanged (F.means files.old).tree) }
-    ensures passes { F.honest → Passes (F.means files.old) (F.means files.new)
-        (Untouched (disk_of (F.means files.old))) }
-    ensures no_fewer { F.faults files.old ≤ F.faults files.new }
+    ensures reads { OnlyReads F.honest F.means F.faults files.old files.new }
     ensures counted { IfErr result (IsCountedFault (F.faults files.old) (F.faults files.new)) }
 {
     if leads_to_store(dirs, path) {
@@ -226,11 +215,7 @@ fn in_way<F: Files>(
 ) -> Result<InWay, FileError>
     ensures in_way { F.honest → IfOk result (λ way. AreInWay dirs.now
         (F.means files.old).tree false path.now (paths_of way.folders.items)) }
-    ensures leaves { F.honest → Leaves (F.means files.old) (F.means files.new)
-        (Unchanged (F.means files.old).tree) }
-    ensures passes { F.honest → Passes (F.means files.old) (F.means files.new)
-        (Untouched (disk_of (F.means files.old))) }
-    ensures no_fewer { F.faults files.old ≤ F.faults files.new }
+    ensures reads { OnlyReads F.honest F.means F.faults files.old files.new }
     ensures counted { IfErr result (IsCountedFault (F.faults files.old) (F.faults files.new)) }
 {
     if files.kind(path)? != Node::Folder {
@@ -252,11 +237,7 @@ fn in_way_of<F: Files>(
     ensures in_way { F.honest → IfOk result (λ way. AreInWayOf dirs.now (F.means files.old).tree
         false (written_at (step_of action.now)) (paths_of way.folders.items)) }
     ensures writes { IfErr result (λ error. written_at (step_of action.now) ≢ None) }
-    ensures leaves { F.honest → Leaves (F.means files.old) (F.means files.new)
-        (Unchanged (F.means files.old).tree) }
-    ensures passes { F.honest → Passes (F.means files.old) (F.means files.new)
-        (Untouched (disk_of (F.means files.old))) }
-    ensures no_fewer { F.faults files.old ≤ F.faults files.new }
+    ensures reads { OnlyReads F.honest F.means F.faults files.old files.new }
     ensures counted { IfErr result (IsCountedFault (F.faults files.old) (F.faults files.new)) }
 {
     match *action {
@@ -315,11 +296,7 @@ fn way_before<F: Files>(
         (paths_of way.folders.items)) }
     ensures failed { IfErr result (FailsBefore planned.now (F.faults files.old)
         (F.faults files.new)) }
-    ensures leaves { F.honest → Leaves (F.means files.old) (F.means files.new)
-        (Unchanged (F.means files.old).tree) }
-    ensures passes { F.honest → Passes (F.means files.old) (F.means files.new)
-        (Untouched (disk_of (F.means files.old))) }
-    ensures no_fewer { F.faults files.old ≤ F.faults files.new }
+    ensures reads { OnlyReads F.honest F.means F.faults files.old files.new }
 {
     if is_seen(edits, planned.about) {
         return Ok(InWay {
@@ -345,11 +322,7 @@ pub fn all_in_way<F: Files>(
         (F.means files.old).tree (folder_lists ways.items) (entries plan.now)) }
     ensures failed { IfErr result (FailsToList (entries plan.now) (F.faults files.old)
         (F.faults files.new)) }
-    ensures leaves { F.honest → Leaves (F.means files.old) (F.means files.new)
-        (Unchanged (F.means files.old).tree) }
-    ensures passes { F.honest → Passes (F.means files.old) (F.means files.new)
-        (Untouched (disk_of (F.means files.old))) }
-    ensures no_fewer { F.faults files.old ≤ F.faults files.new }
+    ensures reads { OnlyReads F.honest F.means F.faults files.old files.new }
 {
     let Ok(mut ways) = Vec::with_capacity(alloc, plan.len()) else {
         return Err(Unfinished::Memory);

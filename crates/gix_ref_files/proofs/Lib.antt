@@ -9,6 +9,7 @@ pub mod Losing
 pub mod Moments
 pub mod PathFronts
 pub mod Puts
+pub mod ReadOnly
 pub mod Ready
 pub mod Runs
 pub mod Settling

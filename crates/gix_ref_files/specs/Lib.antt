@@ -5,6 +5,7 @@ pub mod DiskSteps
 pub mod Files
 pub mod Lock
 pub mod Losing
+pub mod ReadOnly
 pub mod Settled
 pub mod Steps
 pub mod Theorems

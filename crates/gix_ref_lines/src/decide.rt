@@ -2,6 +2,7 @@
 ghost use Rattle.std.specs.Prelude.{◌≡◌, ◌≤◌, OnOk, IfOk, IfErr, IsSome, Some, vec_items};
 ghost use Rattle.std.specs.Option.{option_map};
 ghost use Rattle.gix_ref_files.specs.Calls.{Unchanged};
+ghost use Rattle.gix_ref_files.specs.ReadOnly.{OnlyReads};
 ghost use Rattle.gix_ref_files.specs.DiskCalls.{Untouched};
 ghost use Rattle.gix_ref_files.specs.Files.{disk_of, Leaves, Passes};
 ghost use Rattle.gix_ref_files.specs.Tree.{node_at};
@@ -82,11 +83,7 @@ fn due_line<F: Files>(
     ensures refused { F.honest → (view : View) →
         Sees view (F.means files.old).tree (due_paths due.old) →
         IfErr result (IsRefusalAt (log_rules rules.entry) view (asked_edit edit.now leaf)) }
-    ensures leaves { F.honest → Leaves (F.means files.old) (F.means files.new)
-        (Unchanged (F.means files.old).tree) }
-    ensures passes { F.honest → Passes (F.means files.old) (F.means files.new)
-        (Untouched (disk_of (F.means files.old))) }
-    ensures no_fewer { F.faults files.old ≤ F.faults files.new }
+    ensures reads { OnlyReads F.honest F.means F.faults files.old files.new }
     ensures counted { IfErr result (IsCountedCause (F.faults files.old) (F.faults files.new)) }
 {
     let Some(ids) = rules.written_ids(edit, leaf) else {
@@ -145,11 +142,7 @@ fn decide_log<F: Files>(
     ensures refused { F.honest → (view : View) →
         Sees view (F.means files.old).tree (due_paths due.old) →
         IfErr result (IsRefusalAt (log_rules rules.entry) view (asked_edit edit.old leaf)) }
-    ensures leaves { F.honest → Leaves (F.means files.old) (F.means files.new)
-        (Unchanged (F.means files.old).tree) }
-    ensures passes { F.honest → Passes (F.means files.old) (F.means files.new)
-        (Untouched (disk_of (F.means files.old))) }
-    ensures no_fewer { F.faults files.old ≤ F.faults files.new }
+    ensures reads { OnlyReads F.honest F.means F.faults files.old files.new }
     ensures counted { IfErr result (IsCountedCause (F.faults files.old) (F.faults files.new)) }
 {
     let path = rules.settings.log(alloc, edit.update.name.as_ref())?;
@@ -190,11 +183,7 @@ pub fn decide_logs<F: Files>(
     ensures refused { F.honest → IfErr result (IsRefusal
         (rules_of settings.now write_reflog committer.entry)
         (view_of (F.means files.old).tree) (asked edits.old)) }
-    ensures leaves { F.honest → Leaves (F.means files.old) (F.means files.new)
-        (Unchanged (F.means files.old).tree) }
-    ensures passes { F.honest → Passes (F.means files.old) (F.means files.new)
-        (Untouched (disk_of (F.means files.old))) }
-    ensures no_fewer { F.faults files.old ≤ F.faults files.new }
+    ensures reads { OnlyReads F.honest F.means F.faults files.old files.new }
     ensures counted { IfErr result (IsCountedCause (F.faults files.old) (F.faults files.new)) }
 {
     let rules = Rules {

@@ -2,6 +2,7 @@
 ghost use Rattle.std.specs.Prelude.{◌≡◌, ◌≤◌, ◌||◌, ℕ, IfOk, IfErr, is_some};
 ghost use Rattle.std.specs.List.{list_any};
 ghost use Rattle.gix_ref_files.specs.Calls.{Unchanged};
+ghost use Rattle.gix_ref_files.specs.ReadOnly.{OnlyReads};
 ghost use Rattle.gix_ref_files.specs.DiskCalls.{Untouched};
 ghost use Rattle.gix_ref_files.specs.Files.{count_with, disk_of, Leaves, Passes};
 ghost use Rattle.gix_ref_files.specs.Tree.{fronts, is_blocked, node_at};
@@ -64,11 +65,7 @@ pub fn place_at<F: Files>(
         ≡ (is_blocked (F.means files.old).tree path.now
         || list_any (is_in (due_paths due.now)) (fronts path.now))) }
     ensures failed { IfErr result (IsFaultAt path.now) }
-    ensures leaves { F.honest → Leaves (F.means files.old) (F.means files.new)
-        (Unchanged (F.means files.old).tree) }
-    ensures passes { F.honest → Passes (F.means files.old) (F.means files.new)
-        (Untouched (disk_of (F.means files.old))) }
-    ensures no_fewer { F.faults files.old ≤ F.faults files.new }
+    ensures reads { OnlyReads F.honest F.means F.faults files.old files.new }
     ensures counted { IfErr result (IsCountedCause (F.faults files.old) (F.faults files.new)) }
 {
     match files.kind(path) {

@@ -8,25 +8,34 @@ use gix_ref_name::name;
 use gix_ref_packed::packed::buffer::open;
 use gix_ref_store::file::transaction::{commit, prepare};
 use gix_ref_store::file::{find, iter, log};
+use thiserror::Error;
 
 /// Why a line is refused.
-#[derive(Debug, Drop)]
+#[derive(Debug, Drop, Error)]
 pub enum Refusal {
     /// The folder is not a clean path.
+    #[error("the folder is not a clean path")]
     PathNotClean,
     /// A NAME breaks a rule of names.
+    #[error("{0}")]
     Name(name::Error),
     /// The update was not made.
+    #[error("{0}")]
     Update(UpdateError),
     /// The lookup failed.
+    #[error("{0}")]
     Find(find::Error),
     /// There is no listing.
+    #[error("{0}")]
     List(iter::Error),
     /// The log could not be read.
+    #[error("{0}")]
     Log(log::Error),
     /// There is no such reference.
+    #[error("there is no such reference")]
     NotFound,
     /// A growth of memory was refused.
+    #[error("there was no memory")]
     Memory,
 }
 

@@ -14,13 +14,16 @@ use gix_ref_log::actor::SignatureRef;
 use gix_ref_store::file::Store;
 use gix_ref_store::file::transaction::{Done, Failed, PackedRefs, Refused, commit, prepare};
 use std::alloc::Global;
+use thiserror::Error;
 
 /// Why an update was not made.
-#[derive(Debug, Drop)]
+#[derive(Debug, Drop, Error)]
 pub enum UpdateError {
     /// It was not prepared.
+    #[error("{0}")]
     Prepare(prepare::Error),
     /// Its commit failed.
+    #[error("{0}")]
     Commit(commit::Error),
 }
 

@@ -286,10 +286,10 @@ later_record text front rest s o n f plain at is =
     (λ (more : line.0 ≡ 0 → ⊥).
     let before : at.line - 1 ≡ length front + (line.0 - 1) = omega arith in
     let start = past text front rest s (at.line - 1) (line.0 - 1) f.ends f.whole goes.2 before in
-    (start.0, start.1, record { line = line.0; in_record_line = line.2; goes = inl (sym moved ∙ goes.0, omega arith, start.2) }))
+    (start.0, start.1, record { line = line.0; in_line = line.2; goes = inl (sym moved ∙ goes.0, omega arith, start.2) }))
     (cases_eq line.0 0))
     (λ (stays : (get_or text at.line 0 ≡ 94 → at.line ≡ 0) × (s ≡ at.line)).
-    (line.0, stays.1 ∙ split, record { line = line.0; in_record_line = line.2; goes = inr (λ caret. let first = stays.0 (moved ∙ caret) in omega arith, refl) }))
+    (line.0, stays.1 ∙ split, record { line = line.0; in_line = line.2; goes = inr (λ caret. let first = stays.0 (moved ∙ caret) in omega arith, refl) }))
     at.goes
 
 -- the record that a byte is in

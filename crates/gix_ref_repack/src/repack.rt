@@ -3,6 +3,7 @@ ghost use Rattle.std.specs.Prelude.{◌≡◌, ◌≤◌, List, true, false, Ok,
 ghost use Rattle.std.specs.List.{list_any};
 ghost use Rattle.gix_ref_base.specs.PackedRecords.{Record};
 ghost use Rattle.gix_ref_files.specs.Calls.{Unchanged};
+ghost use Rattle.gix_ref_files.specs.ReadOnly.{OnlyReads};
 ghost use Rattle.gix_ref_files.specs.DiskCalls.{Untouched};
 ghost use Rattle.gix_ref_files.specs.Files.{disk_of, Leaves, Passes};
 ghost use Rattle.gix_ref_lookup.specs.Lookups.{packed_refs_in, ArePackedRecords};
@@ -63,11 +64,7 @@ pub fn repack<F: Files>(
         ((F.means files.old).tree (setting_of settings.now).packed_path)) }
     ensures idle { list_any removes_record edits.now ≡ false →
         (files.new ≡ files.old) × (result ≡ Ok Rewrite.Unchanged) }
-    ensures leaves { F.honest → Leaves (F.means files.old) (F.means files.new)
-        (Unchanged (F.means files.old).tree) }
-    ensures passes { F.honest → Passes (F.means files.old) (F.means files.new)
-        (Untouched (disk_of (F.means files.old))) }
-    ensures no_fewer { F.faults files.old ≤ F.faults files.new }
+    ensures reads { OnlyReads F.honest F.means F.faults files.old files.new }
     ensures counted { IfErr result (IsCountedRefusal (F.faults files.old) (F.faults files.new)) }
 {
     if !remove_some(edits) {

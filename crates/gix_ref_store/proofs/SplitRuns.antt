@@ -16,11 +16,12 @@ use Rattle.gix_ref_edits.specs.declared.transaction.RefEdit.{RefEdit}
 use Rattle.gix_ref_transaction.specs.Causes.{AllValid, IsAccepted, IsCounted, IsDoubling, IsFindCause, IsIoOrMemory, IsLockCause, IsPackedRefusal, IsPackedWell, names_of, packed_taken}
 use Rattle.gix_ref_transaction.specs.OwnLocks.{AddsLocks, is_in, times}
 use Rattle.gix_ref_transaction.specs.PrepareSteps.{packed_ids, AreLockable, effects_on, files_at, HoldTexts, old_targets, own_locks, own_places}
-use Rattle.gix_ref_transaction.specs.Splits.{AreDirect, AreSplit, CanFollow, IsFirstMisnamed, IsSplitCause, IsTooLong, OnlyReads, all_rounds}
+use Rattle.gix_ref_transaction.specs.Splits.{AreDirect, AreSplit, CanFollow, IsFirstMisnamed, IsSplitCause, IsTooLong, all_rounds}
+use Rattle.gix_ref_files.specs.ReadOnly.{OnlyReads}
 use Rattle.gix_ref_transaction.specs.declared.prepare.error.Error.{Error}
 use Rattle.gix_ref_transaction.specs.declared.prepare.error.Error.TheVariants.{Memory}
 use Rattle.gix_ref_transaction.specs.declared.prepare.split.SplitEdits.{SplitEdits}
-use Rattle.gix_ref_transaction.proofs.SplitLemmas.{reads_none}
+use Rattle.gix_ref_files.proofs.ReadOnly.{reads_none}
 use Rattle.gix_ref_transaction.proofs.UnreadRecords.{no_find}
 use Rattle.gix_ref_transaction.proofs.PackedLemmas.{counted_later, counted_on, not_packed}
 use Rattle.gix_ref_store.specs.Prepared.{HasGoodRecords, HoldsFrom, HoldsPacked, KeepsAll, LosesNothing, RefusesFrom, RefusesSplit, SplitsFrom, disk_in, locks_in, places_in, tree_of}

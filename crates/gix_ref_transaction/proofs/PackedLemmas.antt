@@ -262,10 +262,3 @@ ids_more s rs old now same i e lt is new before here =
 
     more : take (i + 1) (updates old) ≡ take i (updates old) ++ e.update ∷ []
     more = take_more (updates old) i e.update lt_all ∙ ap (λ u. take i (updates old) ++ u ∷ []) at
-
--- one call that changes nothing after another
-pub then_unchanged : {old mid new : Meaning} → Leaves old mid (Unchanged old.tree) → Leaves mid new (Unchanged mid.tree) → Leaves old new (Unchanged old.tree)
-then_unchanged {old} {mid} {new} first second = joins first (weaken second (λ T same. same ∙ first.tree))
-
-pub then_untouched : {old mid new : Meaning} → Passes old mid (Untouched (disk_of old)) → Passes mid new (Untouched (disk_of mid)) → Passes old new (Untouched (disk_of old))
-then_untouched {old} {mid} {new} first second = passes_joins first (passes_weaken second (λ D same. same ∙ first.disk))

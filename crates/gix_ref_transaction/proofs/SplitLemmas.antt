@@ -28,7 +28,8 @@ use Rattle.gix_ref_edits.specs.declared.transaction.RefEdit.{RefEdit}
 use Rattle.gix_ref_edits.proofs.Joining.{after_round-append}
 use Rattle.gix_ref_transaction.specs.Causes.{decoded, IsMisnamed}
 use Rattle.gix_ref_transaction.specs.Parents.{first_parents, level_parents, parent_list, parents_from, parents_given}
-use Rattle.gix_ref_transaction.specs.Splits.{symbolic_name_in, values_of, AreDirect, CanFollow, IsFirstMisnamed, OnlyReads}
+use Rattle.gix_ref_transaction.specs.Splits.{symbolic_name_in, values_of, AreDirect, CanFollow, IsFirstMisnamed}
+use Rattle.gix_ref_files.specs.ReadOnly.{OnlyReads}
 use Rattle.gix_ref_transaction.specs.internal.SplitRounds.{name_by, led_to, led_by, after_by, child_values, children_by, parents_by}
 use Rattle.gix_ref_transaction.specs.declared.prepare.error.Error.{Error}
 use Rattle.gix_ref_transaction.proofs.Firsts.{next_of, seen_of}
@@ -48,22 +49,6 @@ module _ (f : Layout) (kind : Kind) (prohibits : Bool) where
       ap target_name (same_target (target_value target)) ∙ ap (symbolic_name_in git) (sym (ap (decoded git) told.1 ∙ held_is kind told.0 (target_value target) told.2))
   leads_is (loose_files.Undecodable error) file told =
       sym (ap (symbolic_name_in git) (ap (decoded git) told.1 ∙ refused_none kind told.0 error told.2 told.3))
-
--- no call
-pub reads_none : {F : Type 0} (honest : Type 0) (means : F → Meaning) (faults : F → ℕ) (a : F) → OnlyReads honest means faults a a
-reads_none honest means faults a = record {
-  leaves = λ h. starts (means a) (Unchanged (means a).tree) refl;
-  passes = λ h. passes_starts (means a) (Untouched (disk_of (means a))) refl;
-  no_fewer = omega arith;
-}
-
--- a call that only reads, and then another one
-pub reads_more : {F : Type 0} (honest : Type 0) (means : F → Meaning) (faults : F → ℕ) (a b d : F) → OnlyReads honest means faults a b → OnlyReads honest means faults b d → OnlyReads honest means faults a d
-reads_more honest means faults a b d first next = record {
-  leaves = λ h. joins (first.leaves h) (subst (λ T. Leaves (means b) (means d) (Unchanged T)) (first.leaves h).tree (next.leaves h));
-  passes = λ h. passes_joins (first.passes h) (subst (λ D. Passes (means b) (means d) (Untouched D)) (first.passes h).disk (next.passes h));
-  no_fewer = omega (arith, first.no_fewer, next.no_fewer);
-}
 
 -- The edits of a list up to a place, and one more.
 

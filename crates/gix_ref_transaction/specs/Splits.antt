@@ -59,12 +59,6 @@ IsTooLong s view given (PreprocessingFailed (TooManySplits rounds)) =
     (rounds ≡ 5) × All (CanFollow s) (all_rounds s view given) × (level (name_led_to s view) (values_of given) 5 ≡ [] → ⊥)
 IsTooLong s view given other = ⊥
 
--- A call that only reads files.
-pub record OnlyReads {F : Type 0} (honest : Type 0) (means : F → Meaning) (faults : F → ℕ) (before now : F) : Type 0 where
-  pub leaves : honest → Leaves (means before) (means now) (Unchanged (means before).tree)
-  pub passes : honest → Passes (means before) (means now) (Untouched (disk_of (means before)))
-  pub no_fewer : faults before ≤ faults now
-
 -- no edit follows a symbolic reference
 abbrev pub AreDirect : List RefEdit → Type 0
 AreDirect edits = All (λ (edit : RefEdit). edit.deref ≡ false) edits

@@ -4,6 +4,7 @@ ghost use Rattle.std.specs.Option.{option_map};
 ghost use Rattle.gix_ref_base.specs.Targets.{target_value};
 ghost use Rattle.gix_ref_base.specs.Targets.TargetValue.{object_id};
 ghost use Rattle.gix_ref_files.specs.Calls.{Unchanged};
+ghost use Rattle.gix_ref_files.specs.ReadOnly.{OnlyReads};
 ghost use Rattle.gix_ref_files.specs.DiskCalls.{Untouched};
 ghost use Rattle.gix_ref_files.specs.Files.{disk_of, Leaves, Passes, count_after};
 ghost use Rattle.gix_ref_files.specs.Lock.{lock_of, MakesLock, Readying, Acquiring, after_locking, LockingOn};
@@ -169,11 +170,7 @@ fn was_at<F: Files>(
         IfOk result (λ was. was.damaged ≡ is_damaged (setting_of settings.now)
         (view_of (F.means files.old).tree place.now)) }
     ensures outside { IfErr result IsIoOrMemory }
-    ensures leaves { F.honest → Leaves (F.means files.old) (F.means files.new)
-        (Unchanged (F.means files.old).tree) }
-    ensures passes { F.honest → Passes (F.means files.old) (F.means files.new)
-        (Untouched (disk_of (F.means files.old))) }
-    ensures no_fewer { F.faults files.old ≤ F.faults files.new }
+    ensures reads { OnlyReads F.honest F.means F.faults files.old files.new }
     ensures counted { IfErr result (IsCounted (F.faults files.old) (F.faults files.new)) }
 {
     let loose = loose_at(alloc, files, place, settings.kind)?;

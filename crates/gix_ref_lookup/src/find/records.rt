@@ -4,6 +4,7 @@ ghost use Rattle.gix_ref_hash.specs.declared.hash.Kind.{Kind};
 ghost use Rattle.gix_ref_name.specs.Names.{full_ref_bytes};
 ghost use Rattle.gix_ref_base.specs.PackedRecords.{Record};
 ghost use Rattle.gix_ref_files.specs.Files.{disk_of, Leaves, Passes, HasRisen};
+ghost use Rattle.gix_ref_files.specs.ReadOnly.{OnlyReads};
 ghost use Rattle.gix_ref_files.specs.Calls.{Unchanged};
 ghost use Rattle.gix_ref_files.specs.DiskCalls.{Untouched};
 ghost use Rattle.gix_ref_packed.specs.Buffers.{buffer_text, buffer_kind, IsRefusedFile};
@@ -112,11 +113,7 @@ fn open_records<'b, F: Files>(
         (IsRefusedFile settings.entry.kind ((F.means files.old).tree (meaning_in
         settings.entry).packed_path))) }
     ensures no_fault { OnOk result (F.faults files.new ≡ F.faults files.old) }
-    ensures leaves { F.honest → Leaves (F.means files.old) (F.means files.new)
-        (Unchanged (F.means files.old).tree) }
-    ensures passes { F.honest → Passes (F.means files.old) (F.means files.new)
-        (Untouched (disk_of (F.means files.old))) }
-    ensures no_fewer { F.faults files.old ≤ F.faults files.new }
+    ensures reads { OnlyReads F.honest F.means F.faults files.old files.new }
 {
     let path = settings.packed_refs_path(alloc)?;
     match PackedFile::open(alloc, files, &path, settings.kind) {
@@ -167,11 +164,7 @@ impl<R: ReadAt + Drop> Records<'_, R> {
             (IsRefusedFile settings.entry.kind ((F.means files.old).tree (meaning_in
             settings.entry).packed_path))) }
         ensures no_fault { OnOk result (F.faults files.new ≡ F.faults files.old) }
-        ensures leaves { F.honest → Leaves (F.means files.old) (F.means files.new)
-            (Unchanged (F.means files.old).tree) }
-        ensures passes { F.honest → Passes (F.means files.old) (F.means files.new)
-            (Untouched (disk_of (F.means files.old))) }
-        ensures no_fewer { F.faults files.old ≤ F.faults files.new }
+        ensures reads { OnlyReads F.honest F.means F.faults files.old files.new }
     {
         let Records::Unopened = self else {
             return Ok(());

@@ -25,8 +25,9 @@ static ROOTED_FRONTS: [&[u8]; 4] = [b"", b"tags/", b"heads/", b"remotes/"];
 /// What is put in front of any other name.
 static OTHER_FRONTS: [&[u8]; 4] = [b"refs/", b"refs/tags/", b"refs/heads/", b"refs/remotes/"];
 
-/// Whether a name begins with `refs/`, `main-worktree/` or `worktrees/`.
-fn is_rooted(name: &[u8]) -> bool
+/// Whether a name begins with `refs/`, `main-worktree/` or `worktrees/`, and so is looked up as it is before anything is put in front
+/// of it (`gitrevisions`).
+pub fn is_rooted(name: &[u8]) -> bool
     ensures { result ≡ rooted name.now }
 {
     name.starts_with(b"refs/")

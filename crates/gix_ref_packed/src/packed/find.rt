@@ -10,6 +10,7 @@ pub mod existing;
 use crate::packed::buffer::Buffer;
 use gix_ref_base::layout::packed_key;
 use gix_ref_hash::hash::Kind;
+use gix_ref_name::name::candidates::is_rooted;
 use gix_ref_name::name::{self, FullNameRef, PartialNameRef};
 use gix_ref_records::packed::decode::take_record;
 use gix_ref_records::packed::search::search;
@@ -112,15 +113,6 @@ fn find_uncounted<'a>(
     ensures { Finds kind text.now wanted.now result }
 {
     find_blank::<Brand>(text, kind, wanted, Blank::new(1))
-}
-
-/// Whether a partial name is a full name already.
-fn is_rooted(name: &[u8]) -> bool
-    ensures { result ≡ rooted name.now }
-{
-    name.starts_with(b"refs/")
-        || name.starts_with(b"main-worktree/")
-        || name.starts_with(b"worktrees/")
 }
 
 /// The record of the key of a partial name that is a full name already.

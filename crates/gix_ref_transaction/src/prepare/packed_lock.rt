@@ -2,6 +2,7 @@
 ghost use Rattle.std.specs.Prelude.{◌≡◌, ◌≤◌, ◌⊎◌, [], true, Some, None, IsSome, OnOk, OnErr, IfOk, IfErr, map};
 ghost use Rattle.std.specs.List.{list_any};
 ghost use Rattle.gix_ref_files.specs.Calls.{Creating, Unchanged};
+ghost use Rattle.gix_ref_files.specs.ReadOnly.{OnlyReads};
 ghost use Rattle.gix_ref_files.specs.DiskCalls.{CreatingOn, Untouched};
 ghost use Rattle.gix_ref_files.specs.Files.{disk_of, Leaves, Passes};
 ghost use Rattle.gix_ref_files.specs.Lock.{lock_of};
@@ -80,11 +81,7 @@ fn pass_lock<F: Files>(files: &mut F, lock: LockFile) -> Result<Option<LockFile>
     ensures refused { F.honest → IfErr result (λ error. IsIoOrMemory error ⊎ (IsSome
         ((F.means files.old).tree (lock_of lock)) × (error
         ≡ Error.PackedTransactionAcquire))) }
-    ensures leaves { F.honest → Leaves (F.means files.old) (F.means files.new)
-        (Unchanged (F.means files.old).tree) }
-    ensures passes { F.honest → Passes (F.means files.old) (F.means files.new)
-        (Untouched (disk_of (F.means files.old))) }
-    ensures no_fewer { F.faults files.old ≤ F.faults files.new }
+    ensures reads { OnlyReads F.honest F.means F.faults files.old files.new }
     ensures counted { IfErr result (IsCounted (F.faults files.old) (F.faults files.new)) }
 {
     match files.kind(lock.path())? {

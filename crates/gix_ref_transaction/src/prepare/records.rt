@@ -4,6 +4,7 @@ ghost use Rattle.gix_ref_hash.specs.declared.hash.Kind.{Kind};
 ghost use Rattle.gix_ref_name.specs.Names.{full_ref_bytes};
 ghost use Rattle.gix_ref_base.specs.PackedRecords.{Record, record_named};
 ghost use Rattle.gix_ref_files.specs.Tree.{Content};
+ghost use Rattle.gix_ref_files.specs.ReadOnly.{OnlyReads};
 ghost use Rattle.gix_ref_files.specs.Calls.{Unchanged};
 ghost use Rattle.gix_ref_files.specs.DiskCalls.{Untouched};
 ghost use Rattle.gix_ref_files.specs.Files.{disk_of, Leaves, Passes};
@@ -120,11 +121,7 @@ fn pass_hidden<F: Files>(
         IfErr result (IsPackedRefusal kind packed) }
     ensures counted { IfErr result (λ e. (e ≡ error)
         ⊎ IsCounted (F.faults files.old) (F.faults files.new) e) }
-    ensures leaves { F.honest → Leaves (F.means files.old) (F.means files.new)
-        (Unchanged (F.means files.old).tree) }
-    ensures passes { F.honest → Passes (F.means files.old) (F.means files.new)
-        (Untouched (disk_of (F.means files.old))) }
-    ensures no_fewer { F.faults files.old ≤ F.faults files.new }
+    ensures reads { OnlyReads F.honest F.means F.faults files.old files.new }
 {
     if deletes_reference(&edit.update.change) || !matches!(&error, Error::PackedFind(_)) {
         return Err(error);
@@ -163,11 +160,7 @@ fn id_unless_hidden<F: Files>(
         IsSearched kind None records.old of_kind text }
     ensures honest { AreHonest records.old → AreHonest records.new }
     ensures ready { IsReady records.new }
-    ensures leaves { F.honest → Leaves (F.means files.old) (F.means files.new)
-        (Unchanged (F.means files.old).tree) }
-    ensures passes { F.honest → Passes (F.means files.old) (F.means files.new)
-        (Untouched (disk_of (F.means files.old))) }
-    ensures no_fewer { F.faults files.old ≤ F.faults files.new }
+    ensures reads { OnlyReads F.honest F.means F.faults files.old files.new }
 {
     match id_of(alloc, settings, edit.update.name.as_ref(), records) {
         Ok(id) => Ok(id),
@@ -200,11 +193,7 @@ fn find_ids<F: Files>(
     ensures unread { AreHonest records.old → (kind : Kind) →
         IfErr result (OfFind (OfSomeKey (IsStuckKey kind records.old) (setting_of settings.now)
         (updates edits.old))) }
-    ensures leaves { F.honest → Leaves (F.means files.old) (F.means files.new)
-        (Unchanged (F.means files.old).tree) }
-    ensures passes { F.honest → Passes (F.means files.old) (F.means files.new)
-        (Untouched (disk_of (F.means files.old))) }
-    ensures no_fewer { F.faults files.old ≤ F.faults files.new }
+    ensures reads { OnlyReads F.honest F.means F.faults files.old files.new }
 {
     for edit in edits.iter_mut() {
         edit.packed = id_unless_hidden(alloc, files, settings, edit, records)?;
@@ -255,11 +244,7 @@ pub fn find_records<F: Files>(
     ensures unread { F.honest → IfErr result (IsFindCause (setting_of settings.now)
         settings.now.kind (packed_refs_in settings.now (F.means files.old))
         (updates edits.old)) }
-    ensures leaves { F.honest → Leaves (F.means files.old) (F.means files.new)
-        (Unchanged (F.means files.old).tree) }
-    ensures passes { F.honest → Passes (F.means files.old) (F.means files.new)
-        (Untouched (disk_of (F.means files.old))) }
-    ensures no_fewer { F.faults files.old ≤ F.faults files.new }
+    ensures reads { OnlyReads F.honest F.means F.faults files.old files.new }
 {
     let mut records = unopened(is_absent);
     match records.open(alloc, files, *settings) {

@@ -11,7 +11,8 @@ ghost use Rattle.gix_ref_edits.specs.SplitLists.{child_list, looked_up, referent
 ghost use Rattle.gix_ref_transaction.specs.Causes.{AllValid, IsCounted, IsIoOrMemory, IsMisnamed, IsWellNamed};
 ghost use Rattle.gix_ref_transaction.specs.Parents.{parents_from, parents_given, split_parents};
 ghost use Rattle.gix_ref_transaction.specs.PrepareSteps.{setting_of};
-ghost use Rattle.gix_ref_transaction.specs.Splits.{name_led_to, values_of, all_rounds, AreDirect, AreSplit, CanFollow, IsFirstMisnamed, IsTooLong, OnlyReads};
+ghost use Rattle.gix_ref_transaction.specs.Splits.{name_led_to, values_of, all_rounds, AreDirect, AreSplit, CanFollow, IsFirstMisnamed, IsTooLong};
+ghost use Rattle.gix_ref_files.specs.ReadOnly.{OnlyReads};
 ghost use Rattle.gix_ref_transaction.specs.internal.SplitRounds.{name_by, led_to, led_by, after_by, children_by, child_values, parents_by, IsRoundBy, IsRoundOver};
 
 use crate::prepare::Error;

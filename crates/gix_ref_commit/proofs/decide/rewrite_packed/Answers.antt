@@ -12,7 +12,7 @@ use Rattle.gix_ref_commit.proofs.decide.rewrite_packed.Goals.{in-Text+in_default
 pub returns-in-Err-clause-passes : goal.returns-in-Err-clause-passes
 returns-in-Err-clause-passes g c h empty =
     let means = g.F.Files.means in
-    fills_only (means c.args.files.now) (means c.repack.new.files) (means c.write_text.new.files) (lock_of c.args.lock.now) empty (c.repack.ensures.leaves h).tree (c.repack.ensures.passes h) (c.write_text.ensures.passes h)
+    fills_only (means c.args.files.now) (means c.repack.new.files) (means c.write_text.new.files) (lock_of c.args.lock.now) empty (c.repack.ensures.reads.leaves h).tree (c.repack.ensures.reads.passes h) (c.write_text.ensures.passes h)
 
 pub returns-clause-wholes : goal.returns-clause-wholes
 returns-clause-wholes g c h empty locks whole =
@@ -20,10 +20,10 @@ returns-clause-wholes g c h empty locks whole =
     let lock = lock_of c.args.lock.now in
     let old = disk_of (means c.args.files.now) in
     let mid = disk_of (means c.repack.new.files) in
-    let kept : AreWholeLocks mid locks = subst (λ (D : Disk). AreWholeLocks D locks) (sym (c.repack.ensures.passes h).disk) whole in
+    let kept : AreWholeLocks mid locks = subst (λ (D : Disk). AreWholeLocks D locks) (sym (c.repack.ensures.reads.passes h).disk) whole in
     elim c.match-rewrite.branch [
       | in-Text+in_default-write_text w ↦
-          let at : mid.tree lock ≡ Some (File []) = ap (λ (T : Tree). T lock) (c.repack.ensures.leaves h).tree ∙ empty in
+          let at : mid.tree lock ≡ Some (File []) = ap (λ (T : Tree). T lock) (c.repack.ensures.reads.leaves h).tree ∙ empty in
           rw w.files-is (wholes_filled mid (disk_of (means w.write_text.new.files)) lock w.deref.result.now at (w.in_default-write_text.ensures.whole h) (w.write_text.ensures.passes h).disk locks kept)
       | in_default w ↦ rw w.files-is kept
     ]
@@ -33,6 +33,6 @@ returns-clause-passes g c h empty locked staying first own here =
     let means = g.F.Files.means in
     elim c.match-rewrite.branch [
       | in-Text+in_default-write_text w ↦
-          rw w.files-is (fills_only (means c.args.files.now) (means c.repack.new.files) (means w.write_text.new.files) (lock_of c.args.lock.now) empty (c.repack.ensures.leaves h).tree (c.repack.ensures.passes h) (w.write_text.ensures.passes h) locked staying first own here)
-      | in_default w ↦ rw w.files-is (untouched_only (lock_of c.args.lock.now ∷ []) (means c.args.files.now) (means c.repack.new.files) (c.repack.ensures.passes h) locked staying first own here)
+          rw w.files-is (fills_only (means c.args.files.now) (means c.repack.new.files) (means w.write_text.new.files) (lock_of c.args.lock.now) empty (c.repack.ensures.reads.leaves h).tree (c.repack.ensures.reads.passes h) (w.write_text.ensures.passes h) locked staying first own here)
+      | in_default w ↦ rw w.files-is (untouched_only (lock_of c.args.lock.now ∷ []) (means c.args.files.now) (means c.repack.new.files) (c.repack.ensures.reads.passes h) locked staying first own here)
     ]

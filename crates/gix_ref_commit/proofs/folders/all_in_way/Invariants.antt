@@ -1,5 +1,6 @@
 use Rattle.std.proofs.Common.{◌≤◌, take}
 use Rattle.gix_ref_files.specs.Calls.{Unchanged}
+use Rattle.gix_ref_files.specs.ReadOnly.{OnlyReads}
 use Rattle.gix_ref_files.specs.DiskCalls.{Untouched}
 use Rattle.gix_ref_files.specs.Files.{disk_of, Leaves, Passes}
 use Rattle.gix_ref_commit.specs.Cleared.{AllInWay, folder_lists}
@@ -10,7 +11,5 @@ use Rattle.gix_ref_commit.proofs.folders.all_in_way.Given as goal
 abbrev pub invariant-loop-planned : goal.invariant-loop-planned
 invariant-loop-planned g l = record {
   in_way : g.F.Files.honest → AllInWay l.edits l.dirs (g.F.Files.means l.fn.files).tree (folder_lists l.ways.items) (entries (take l.planned-index l.plan));
-  leaves : g.F.Files.honest → Leaves (g.F.Files.means l.fn.files) (g.F.Files.means l.files) (Unchanged (g.F.Files.means l.fn.files).tree);
-  passes : g.F.Files.honest → Passes (g.F.Files.means l.fn.files) (g.F.Files.means l.files) (Untouched (disk_of (g.F.Files.means l.fn.files)));
-  no_fewer : g.F.Files.faults l.fn.files ≤ g.F.Files.faults l.files;
+  reads : OnlyReads g.F.Files.honest g.F.Files.means g.F.Files.faults l.fn.files l.files;
 }

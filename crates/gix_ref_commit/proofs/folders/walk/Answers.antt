@@ -4,7 +4,7 @@ use Rattle.gix_ref_files.specs.Tree.{Tree}
 use Rattle.gix_ref_transaction.specs.OwnLocks.{paths_of}
 use Rattle.gix_ref_commit.specs.Cleared.{HoldsMore, IsAtOrBelow}
 use Rattle.gix_ref_commit.specs.internal.Walks.{IsWalked}
-use Rattle.gix_ref_transaction.proofs.PackedLemmas.{then_unchanged, then_untouched}
+use Rattle.gix_ref_files.proofs.ReadOnly.{reads_more}
 use Rattle.gix_ref_commit.proofs.Walking.{holds_above, walked_at, walked_more}
 use Rattle.gix_ref_commit.proofs.Whole.{walk_ends, walk_goes}
 use Rattle.gix_ref_commit.proofs.folders.walk.Goals as goal
@@ -41,7 +41,7 @@ returns-then-not-branch-clause-stops g c h stopped =
     let inside : IsAtOrBelow c.args.top.now c.deref-in-loop-next.result.now =
     subst (IsAtOrBelow c.args.top.now) (sym (c.deref-in-loop-next.ensures.value ∙ (c.in-Ok.ensures.items_if_clones_equal (λ x y e. e) ∙ c.as_slice.ensures.value))) at in
     holds_above c.args.dirs.now (g.F.Files.means c.args.files.now).tree c.args.top.now c.deref-in-loop-next.result.now inside
-    (subst (λ (T : Tree). HoldsMore c.args.dirs.now T c.deref-in-loop-next.result.now) (c.loop-next.invariant.leaves h).tree (c.in_ok-add_folders.ensures.stops h c.if-not-branch.true))
+    (subst (λ (T : Tree). HoldsMore c.args.dirs.now T c.deref-in-loop-next.result.now) (c.loop-next.invariant.reads.leaves h).tree (c.in_ok-add_folders.ensures.stops h c.if-not-branch.true))
 
 pub loop-next-preserved : goal.loop-next-preserved
 loop-next-preserved g c =
@@ -54,13 +54,11 @@ loop-next-preserved g c =
     subst (IsAtOrBelow c.args.top.now) (sym (c.deref-in-loop-next.ensures.value ∙ (c.in-Ok.ensures.items_if_clones_equal (λ x y e. e) ∙ c.as_slice.ensures.value))) at in
     record {
       walked = walked_more c.args.dirs.now c.args.top.now c.deref-in-loop-next.result.now (paths_of c.loop-next.found.items) (paths_of c.add_folders.new.found.items) inside c.loop-next.invariant.walked c.add_folders.ensures.more;
-      leaves = λ h. then_unchanged (c.loop-next.invariant.leaves h) (c.add_folders.ensures.leaves h);
-      passes = λ h. then_untouched (c.loop-next.invariant.passes h) (c.add_folders.ensures.passes h);
+      reads = reads_more _ _ _ _ _ _ c.loop-next.invariant.reads c.add_folders.ensures.reads;
       searched = λ h.
           walk_goes (g.F.Files.means c.args.files.now).tree (g.F.Files.means c.loop-next.files).tree c.deref-in-loop-next.result.now c.loop-next.found.items c.deref.result.now (paths_of c.add_folders.new.found.items) c.loop-next.next c.in-Some.folder.now
-          c.deref.ensures.value look.0 look.1 (c.deref-in-loop-next.ensures.value ∙ (c.in-Ok.ensures.items_if_clones_equal (λ x y e. e) ∙ c.as_slice.ensures.value)) (c.loop-next.invariant.leaves h).tree
+          c.deref.ensures.value look.0 look.1 (c.deref-in-loop-next.ensures.value ∙ (c.in-Ok.ensures.items_if_clones_equal (λ x y e. e) ∙ c.as_slice.ensures.value)) (c.loop-next.invariant.reads.leaves h).tree
           (c.loop-next.invariant.searched h) (c.in_ok-add_folders.ensures.adds h c.if-not-branch.false);
-      no_fewer = omega (arith, c.loop-next.invariant.no_fewer, c.add_folders.ensures.no_fewer);
     }
 
 pub returns-in_default-clause-whole : goal.returns-in_default-clause-whole

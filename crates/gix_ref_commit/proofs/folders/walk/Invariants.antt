@@ -1,5 +1,6 @@
 use Rattle.std.proofs.Common.{◌≤◌}
 use Rattle.gix_ref_files.specs.Calls.{Unchanged}
+use Rattle.gix_ref_files.specs.ReadOnly.{OnlyReads}
 use Rattle.gix_ref_files.specs.DiskCalls.{Untouched}
 use Rattle.gix_ref_files.specs.Files.{disk_of, Leaves, Passes}
 use Rattle.gix_ref_transaction.specs.OwnLocks.{paths_of}
@@ -11,8 +12,6 @@ use Rattle.gix_ref_commit.proofs.folders.walk.Given as goal
 abbrev pub invariant-loop-next : goal.invariant-loop-next
 invariant-loop-next g l = record {
   walked : IsWalked l.dirs l.top (paths_of l.found.items);
-  leaves : g.F.Files.honest → Leaves (g.F.Files.means l.fn.files) (g.F.Files.means l.files) (Unchanged (g.F.Files.means l.fn.files).tree);
-  passes : g.F.Files.honest → Passes (g.F.Files.means l.fn.files) (g.F.Files.means l.files) (Untouched (disk_of (g.F.Files.means l.fn.files)));
+  reads : OnlyReads g.F.Files.honest g.F.Files.means g.F.Files.faults l.fn.files l.files;
   searched : g.F.Files.honest → IsSearched (g.F.Files.means l.fn.files).tree (paths_of l.found.items) l.next;
-  no_fewer : g.F.Files.faults l.fn.files ≤ g.F.Files.faults l.files;
 }

@@ -5,7 +5,7 @@ use Rattle.std.proofs.Math.Seq.{map-set_same}
 use Rattle.std.proofs.lemmas.List.{get_or_default, get_or-set_other, length-map}
 use Rattle.std.proofs.lemmas.Result.{err_from_is_err_and}
 use Rattle.gix_ref_files.specs.Tree.{Tree}
-use Rattle.gix_ref_files.proofs.Moments.{starts, weaken, joins, passes_starts, passes_weaken, passes_joins}
+use Rattle.gix_ref_files.proofs.ReadOnly.{reads_more, reads_none}
 use Rattle.gix_ref_theory.specs.OnRealTrees.{view_of}
 use Rattle.gix_ref_transaction.specs.CommitRenames.{SeesItsLog}
 use Rattle.gix_ref_lines.specs.AskedEdits.{asked_edit, but_log, leaf_after}
@@ -22,9 +22,7 @@ pub loop-i-init : goal.loop-i-init
 loop-i-init g c = record {
   but_logs = refl;
   rest = λ k d le. refl;
-  leaves = λ h. starts _ _ refl;
-  passes = λ h. passes_starts _ _ refl;
-  no_fewer = omega arith;
+  reads = reads_none _ _ _ _;
   there = λ h k d lt. absurd (omega (arith, lt));
   bounded = c.new-due.ensures.bounded;
   decided = λ h. record {
@@ -59,7 +57,7 @@ returns-in_err-decide_log-clause-refused g c h =
     c.id-leaf.ensures ∙ (ap leaf_id (c.index.ensures ∙ (get_or_default leaves i _ Itself (omega (arith, lt, c.in_ok-leaves.ensures.len)) ∙ c.in_ok-leaves.ensures.done i (omega arith) lt)) ∙ id_of_leaf i (i + 1) Itself (drop (i + 1) given)) in
     let told = err_from_is_err_and c.from_residual-in_err-decide_log.result c.from_residual-in_err-decide_log.ensures.1 in
     let so_far = x.decided h in
-    let same = (x.leaves h).tree in
+    let same = (x.reads.leaves h).tree in
     let sees = subst (λ (S : Tree). Sees so_far.files S (due_paths c.loop-i.due)) (sym same) so_far.sees in
     rw (told.1, told.2)
     (refused_at (log_rules (record { settings = c.args.settings; write_reflog = c.args.write_reflog; committer = c.args.committer })) (g.F.Files.means c.args.files.now).tree given i edits (due_paths c.loop-i.due) so_far e c.id-leaf.result lt (is ∙ x.rest i e (omega arith)) leaf
@@ -82,15 +80,13 @@ loop-i-preserved g c =
     record {
       but_logs = map-set_same but_log edits i new e (c.decide_log.ensures.but_log ∙ ap but_log is) ∙ x.but_logs;
       rest = λ k d le. get_or-set_other edits i k new d (λ same. absurd (omega (arith, le, same))) ∙ x.rest k d (omega (arith, le));
-      leaves = λ h. joins (x.leaves h) (weaken (c.decide_log.ensures.leaves h) (λ T same. same ∙ (x.leaves h).tree));
-      passes = λ h. passes_joins (x.passes h) (passes_weaken (c.decide_log.ensures.passes h) (λ D same. same ∙ (x.passes h).disk));
-      no_fewer = omega (arith, x.no_fewer, c.decide_log.ensures.no_fewer);
+      reads = reads_more _ _ _ _ _ _ x.reads c.decide_log.ensures.reads;
       there = λ h. there_more edits i new (g.F.Files.means c.args.files.now).tree (omega (arith, lt, len)) (x.there h)
-          (subst (λ (T : Tree). SeesItsLog T new) (x.leaves h).tree (c.in_ok-decide_log.ensures.there h));
+          (subst (λ (T : Tree). SeesItsLog T new) (x.reads.leaves h).tree (c.in_ok-decide_log.ensures.there h));
       bounded = c.in_ok-decide_log.ensures.bounded;
       decided = λ h.
           let so_far = x.decided h in
-          let same = (x.leaves h).tree in
+          let same = (x.reads.leaves h).tree in
           let sees = subst (λ (S : Tree). Sees so_far.files S (due_paths c.loop-i.due)) (sym same) so_far.sees in
           decided_more (log_rules (record { settings = c.args.settings; write_reflog = c.args.write_reflog; committer = c.args.committer })) (g.F.Files.means c.args.files.now).tree given i edits (due_paths c.loop-i.due) so_far e c.id-leaf.result lt (is ∙ x.rest i e (omega arith)) leaf
           new (due_paths c.decide_log.new.due) len (c.in_ok-decide_log.ensures.log h so_far.files sees) (c.in_ok-decide_log.ensures.passed h so_far.files sees)

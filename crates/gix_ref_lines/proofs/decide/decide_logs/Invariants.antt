@@ -1,5 +1,6 @@
 use Rattle.std.proofs.Common.{◌≡◌, ◌≤◌, ◌<◌, ℕ, get_or}
 use Rattle.gix_ref_files.specs.Calls.{Unchanged}
+use Rattle.gix_ref_files.specs.ReadOnly.{OnlyReads}
 use Rattle.gix_ref_files.specs.DiskCalls.{Untouched}
 use Rattle.gix_ref_files.specs.Files.{disk_of, Leaves, Passes}
 use Rattle.gix_ref_transaction.specs.declared.edit.Edit.{Edit}
@@ -15,9 +16,7 @@ abbrev pub invariant-loop-i : goal.invariant-loop-i
 invariant-loop-i g l = record {
   but_logs : all_but_logs l.edits ≡ all_but_logs l.fn.edits;
   rest : (k : ℕ) (d : Edit) → l.i ≤ k → get_or l.edits k d ≡ get_or l.fn.edits k d;
-  leaves : g.F.Files.honest → Leaves (g.F.Files.means l.fn.files) (g.F.Files.means l.files) (Unchanged (g.F.Files.means l.fn.files).tree);
-  passes : g.F.Files.honest → Passes (g.F.Files.means l.fn.files) (g.F.Files.means l.files) (Untouched (disk_of (g.F.Files.means l.fn.files)));
-  no_fewer : g.F.Files.faults l.fn.files ≤ g.F.Files.faults l.files;
+  reads : OnlyReads g.F.Files.honest g.F.Files.means g.F.Files.faults l.fn.files l.files;
   there : g.F.Files.honest → (k : ℕ) (d : Edit) → k < l.i → SeesItsLog (g.F.Files.means l.fn.files).tree (get_or l.edits k d);
   bounded : IsBounded l.due;
   decided : g.F.Files.honest → AreDecidedBefore (log_rules l.rules) (g.F.Files.means l.fn.files).tree l.fn.edits l.i l.edits (due_paths l.due);

@@ -7,7 +7,8 @@ ghost use Rattle.gix_ref_transaction.specs.OwnLocks.{paths_of};
 ghost use Rattle.gix_ref_store.specs.Prepared.{RefusesFrom, RefusesGiven, RefusesSplit, HoldsFrom, HoldsGiven, SplitsFrom, HasGoodRecords, HoldsPacked, LosesNothing, HasRoom, locks_in, tree_of, disk_in};
 ghost use Rattle.gix_ref_store.specs.Store.{files_of, kind_of, meaning_of, with_files};
 ghost use Rattle.gix_ref_transaction.specs.Parents.{parents_in, split_parents};
-ghost use Rattle.gix_ref_transaction.specs.Splits.{name_led_to, values_of, IsSplitCause, OnlyReads};
+ghost use Rattle.gix_ref_transaction.specs.Splits.{name_led_to, values_of, IsSplitCause};
+ghost use Rattle.gix_ref_files.specs.ReadOnly.{OnlyReads};
 ghost use Rattle.gix_ref_transaction.specs.PrepareSteps.{setting_of, effects_of, effects_on, files_at, ids_in, packed_ids, seen_files, targets_of, updates, AreWholeLocks, place_paths, places_of};
 ghost use Rattle.gix_ref_transaction.specs.Causes.{AllValid, IsCounted};
 

@@ -30,7 +30,7 @@ returns-clause-decided g c h asked empty =
     let told : new.effect ≡ decision old.update.change (found s view name) (is_damaged s (view (s.place name))) =
     c.decide.ensures.effect ∙ (ap (λ w. decision old.update.change w was.damaged) is ∙ ap (decision old.update.change (found s view name)) bad) in
     let what : effect_value old.update.change new.effect ≡ _ = decided_is s view old.update allowed (λ t. refl) new.effect told in
-    let same : T' ≡ T = (c.was_at.ensures.leaves h).tree in
+    let same : T' ≡ T = (c.was_at.ensures.reads.leaves h).tree in
     let at : lock_of new.lock ≡ lock_of old.lock = ap (λ p. lock_of p.1) c.decide.ensures.given in
     let text : effect_value new.update.change new.effect ≡ _ = ap (λ p. effect_value p.0.change new.effect) c.decide.ensures.given ∙ what in
     on_ok c.write.result
@@ -48,6 +48,6 @@ returns-clause-whole g c h whole =
     let old = c.args.self.now in
     let new = c.decide.new.self in
     let at : lock_of new.lock ≡ lock_of old.lock = ap (λ p. lock_of p.1) c.decide.ensures.given in
-    let still = (c.was_at.ensures.passes h).disk in
+    let still = (c.was_at.ensures.reads.passes h).disk in
     on_ok c.write.result (λ here. subst (IsSomeWhole (disk_of (g.F.Files.means c.write.new.files))) at here)
     (c.write.ensures.whole h (subst (λ (l : Path). IsWholeAt (disk_of (g.F.Files.means c.was_at.new.files)) l []) (sym at) (subst (λ (D : Disk). IsWholeAt D (lock_of old.lock) []) (sym still) whole)))

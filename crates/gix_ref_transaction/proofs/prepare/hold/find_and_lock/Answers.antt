@@ -72,7 +72,7 @@ returns-in-Ok-clause-settled g c h good =
     let U : updates now ≡ updates given = updates_alike given now asked in
     let old = g.F.Files.means c.args.files.now in
     let mid = g.F.Files.means c.find_records.new.files in
-    let same : mid.tree ≡ old.tree = (c.find_records.ensures.leaves h).tree in
+    let same : mid.tree ≡ old.tree = (c.find_records.ensures.reads.leaves h).tree in
     let kind = c.args.settings.now.kind in
     let last = g.F.Files.means c.lock_all_or_none.new.files in
     let ids : ids_in now ≡ packed_ids s mid.tree (updates now) =
@@ -93,7 +93,7 @@ returns-in-Ok-clause-adds g c h =
     let U : updates now ≡ updates given = updates_alike given now asked in
     let old = g.F.Files.means c.args.files.now in
     let mid = g.F.Files.means c.find_records.new.files in
-    let same : mid.tree ≡ old.tree = (c.find_records.ensures.leaves h).tree in
+    let same : mid.tree ≡ old.tree = (c.find_records.ensures.reads.leaves h).tree in
     let last = g.F.Files.means c.lock_all_or_none.new.files in
     subst (λ (u : List RefEdit). OnOk c.lock_all_or_none.result (AddsLocks (locks_of s u) (locks_of s u) old.tree last.tree)) U
     (subst (λ (T : Tree). OnOk c.lock_all_or_none.result (AddsLocks (locks_of s (updates now)) (locks_of s (updates now)) T last.tree)) same (c.lock_all_or_none.ensures.adds h))
@@ -109,7 +109,7 @@ returns-in-Ok-clause-lockable g c h =
     let U : updates now ≡ updates given = updates_alike given now asked in
     let old = g.F.Files.means c.args.files.now in
     let mid = g.F.Files.means c.find_records.new.files in
-    let same : mid.tree ≡ old.tree = (c.find_records.ensures.leaves h).tree in
+    let same : mid.tree ≡ old.tree = (c.find_records.ensures.reads.leaves h).tree in
     let kind = c.args.settings.now.kind in
     subst (λ (u : List RefEdit). OnOk c.lock_all_or_none.result (AreLockable s kind old.tree [] u)) U
     (subst (λ (T : Tree). OnOk c.lock_all_or_none.result (AreLockable s kind T [] (updates now))) same (c.lock_all_or_none.ensures.lockable h))
@@ -125,7 +125,7 @@ returns-in-Ok-clause-refused g c h good =
     let U : updates now ≡ updates given = updates_alike given now asked in
     let old = g.F.Files.means c.args.files.now in
     let mid = g.F.Files.means c.find_records.new.files in
-    let same : mid.tree ≡ old.tree = (c.find_records.ensures.leaves h).tree in
+    let same : mid.tree ≡ old.tree = (c.find_records.ensures.reads.leaves h).tree in
     let kind = c.args.settings.now.kind in
     let ids : ids_in now ≡ packed_ids s mid.tree (updates now) =
     asked_ids (folders_of c.args.settings.now.dirs.now c.args.settings.now.namespace.now) kind c.args.settings.now.prohibit_windows_device_names old.tree mid.tree (updates now) good.0 (ids_in now) good.1
@@ -146,7 +146,7 @@ returns-in-Ok-clause-as_before g c h =
     let U : updates now ≡ updates given = updates_alike given now asked in
     let old = g.F.Files.means c.args.files.now in
     let mid = g.F.Files.means c.find_records.new.files in
-    let same : mid.tree ≡ old.tree = (c.find_records.ensures.leaves h).tree in
+    let same : mid.tree ≡ old.tree = (c.find_records.ensures.reads.leaves h).tree in
     let last = g.F.Files.means c.lock_all_or_none.new.files in
     if_err c.lock_all_or_none.result (λ (failure : LockFailure) adds. subst (λ (u : List RefEdit). AddsLocks (paths_of failure.locks_left.items) (locks_of s u) old.tree last.tree) U
     (subst (λ (T : Tree). AddsLocks (paths_of failure.locks_left.items) (locks_of s (updates now)) T last.tree) same adds)) (c.lock_all_or_none.ensures.as_before h)
@@ -173,10 +173,10 @@ returns-in-Ok-clause-leaves g c h =
     let U : updates now ≡ updates given = updates_alike given now asked in
     let old = g.F.Files.means c.args.files.now in
     let mid = g.F.Files.means c.find_records.new.files in
-    let same : mid.tree ≡ old.tree = (c.find_records.ensures.leaves h).tree in
+    let same : mid.tree ≡ old.tree = (c.find_records.ensures.reads.leaves h).tree in
     let last = g.F.Files.means c.lock_all_or_none.new.files in
     let all = locks_of s (updates given) in
-    joins (weaken (c.find_records.ensures.leaves h) (λ T is q. inl (ap (λ (R : Tree). R q) is)))
+    joins (weaken (c.find_records.ensures.reads.leaves h) (λ T is q. inl (ap (λ (R : Tree). R q) is)))
     (subst (λ (T : Tree). Leaves mid last (AddsLocks all all T)) same
     (subst (λ (u : List RefEdit). Leaves mid last (AddsLocks (locks_of s u) (locks_of s u) mid.tree)) U (c.lock_all_or_none.ensures.leaves h)))
 
@@ -203,10 +203,10 @@ returns-in-Ok-clause-passes g c h locked staying D own here =
     let U : updates now ≡ updates given = updates_alike given now asked in
     let old = g.F.Files.means c.args.files.now in
     let mid = g.F.Files.means c.find_records.new.files in
-    let same : mid.tree ≡ old.tree = (c.find_records.ensures.leaves h).tree in
+    let same : mid.tree ≡ old.tree = (c.find_records.ensures.reads.leaves h).tree in
     let last = g.F.Files.means c.lock_all_or_none.new.files in
-    let still : disk_of mid ≡ disk_of old = (c.find_records.ensures.passes h).disk in
-    let first = passes_weaken (c.find_records.ensures.passes h) (λ (E : Disk) is. subst (IsAsBefore locked staying D) (sym is) here) in
+    let still : disk_of mid ≡ disk_of old = (c.find_records.ensures.reads.passes h).disk in
+    let first = passes_weaken (c.find_records.ensures.reads.passes h) (λ (E : Disk) is. subst (IsAsBefore locked staying D) (sym is) here) in
     passes_joins first ((subst (λ (u : List RefEdit). OnlyLocks (locks_of s u) mid last) U (c.lock_all_or_none.ensures.passes h)) locked staying D own (subst (IsAsBefore locked staying D) (sym still) here))
 
 pub returns-in-Ok-clause-once : goal.returns-in-Ok-clause-once

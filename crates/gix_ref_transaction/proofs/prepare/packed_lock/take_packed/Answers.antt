@@ -104,7 +104,7 @@ returns-in-Folder g c =
     let at : lock ≡ s.packed_path = c.in_ok-lock.ensures ∙ c.in_ok-packed_refs_path.ensures in
     let none : g.F.Files.honest → is_file (T s.packed_path) ≡ false = λ h. other_there T s.packed_path c.in_ok-kind.field-0 (c.in_ok-kind.ensures.answer h ∙ ap (node_at T) (c.place.ensures ∙ at)) c.in-Folder.is in
     let same : g.F.Files.honest → (g.F.Files.means c.kind.new.self).tree ≡ T = λ h. (c.kind.ensures.leaves h).tree in
-    let all : g.F.Files.honest → (g.F.Files.means c.pass_lock.new.files).tree ≡ T = λ h. (c.pass_lock.ensures.leaves h).tree ∙ same h in
+    let all : g.F.Files.honest → (g.F.Files.means c.pass_lock.new.files).tree ≡ T = λ h. (c.pass_lock.ensures.reads.leaves h).tree ∙ same h in
     let r = c.pass_lock.result in
     record {
       place = place_passed s r c.pass_lock.ensures.none;
@@ -116,12 +116,12 @@ returns-in-Folder g c =
           (λ there. inr (something_there s T edits asks (none h) lock at e (subst (λ (R : Tree). IsSome (R (lock_of lock))) (same h) there.0) there.1)) why) (c.pass_lock.ensures.refused h);
       kept = λ h. if_err r (λ (e : Error) why. all h) (c.pass_lock.ensures.refused h);
       leaves = λ h. joins (weaken (c.kind.ensures.leaves h) (λ R is q. inl (ap (λ (U : Tree). U q) is)))
-          (weaken (c.pass_lock.ensures.leaves h) (λ R is q. inl (ap (λ (U : Tree). U q) (is ∙ same h))));
+          (weaken (c.pass_lock.ensures.reads.leaves h) (λ R is q. inl (ap (λ (U : Tree). U q) (is ∙ same h))));
       whole = λ h. passed_whole s T edits asks (none h) lock at (disk_of (g.F.Files.means c.pass_lock.new.files)) r c.pass_lock.ensures.none;
       passes = λ h locked staying first' own here.
           let still = (c.kind.ensures.passes h).disk in
           passes_joins (passes_weaken (c.kind.ensures.passes h) (λ (E : Disk) is. subst (IsAsBefore locked staying first') (sym is) here))
-          (passes_weaken (c.pass_lock.ensures.passes h) (λ (E : Disk) is. subst (IsAsBefore locked staying first') (sym (is ∙ still)) here));
-      no_fewer = omega (arith, c.pass_lock.ensures.no_fewer, c.in_ok-kind.ensures.count);
+          (passes_weaken (c.pass_lock.ensures.reads.passes h) (λ (E : Disk) is. subst (IsAsBefore locked staying first') (sym (is ∙ still)) here));
+      no_fewer = omega (arith, c.pass_lock.ensures.reads.no_fewer, c.in_ok-kind.ensures.count);
       counted = subst (λ n. IfErr r (IsCounted n (g.F.Files.faults c.pass_lock.new.files))) c.in_ok-kind.ensures.count c.pass_lock.ensures.counted;
     }

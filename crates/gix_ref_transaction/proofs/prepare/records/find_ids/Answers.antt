@@ -8,7 +8,8 @@ use Rattle.gix_ref_transaction.specs.PrepareSteps.{setting_of, updates}
 use Rattle.gix_ref_transaction.specs.internal.StuckRecords.{IsStuckKey}
 use Rattle.gix_ref_transaction.proofs.UnreadRecords.{find_wider, some_key, stuck_back}
 use Rattle.gix_ref_transaction.specs.declared.edit.Edit.{Edit}
-use Rattle.gix_ref_transaction.proofs.PackedLemmas.{counted_by, counted_on, ids_more, then_unchanged, then_untouched}
+use Rattle.gix_ref_transaction.proofs.PackedLemmas.{counted_by, counted_on, ids_more}
+use Rattle.gix_ref_files.proofs.ReadOnly.{reads_more}
 use Rattle.gix_ref_transaction.proofs.prepare.records.find_ids.Goals as goal
 
 pub returns-in_err-edit-clause-refused : goal.returns-in_err-edit-clause-refused
@@ -19,7 +20,7 @@ returns-in_err-edit-clause-refused g c h packed =
 pub returns-in_err-edit-clause-counted : goal.returns-in_err-edit-clause-counted
 returns-in_err-edit-clause-counted g c =
     let told = err_from_is_err_and c.from_residual.result c.from_residual.ensures.1 in
-    rw (told.1, told.2) (counted_by _ _ _ _ _ _ c.loop-edit.invariant.honest (counted_on _ _ _ _ _ _ c.loop-edit.invariant.no_fewer c.in_err-edit.ensures.counted))
+    rw (told.1, told.2) (counted_by _ _ _ _ _ _ c.loop-edit.invariant.honest (counted_on _ _ _ _ _ _ c.loop-edit.invariant.reads.no_fewer c.in_err-edit.ensures.counted))
 
 pub returns-in_err-edit-clause-unread : goal.returns-in_err-edit-clause-unread
 returns-in_err-edit-clause-unread g c h kind =
@@ -51,8 +52,6 @@ loop-edit-preserved g c =
       asked = λ kind rs asked. c.in_ok-edit.ensures.asked kind rs (x.asked kind rs asked);
       searched = λ kind of_kind text h. x.searched kind of_kind text (c.in_ok-edit.ensures.searched kind of_kind text h);
       honest = λ h. c.in_ok-edit.ensures.honest (x.honest h);
-      no_fewer = omega (arith, x.no_fewer, c.in_ok-edit.ensures.no_fewer);
-      leaves = λ h. then_unchanged (x.leaves h) (c.in_ok-edit.ensures.leaves h);
-      passes = λ h. then_untouched (x.passes h) (c.in_ok-edit.ensures.passes h);
+      reads = reads_more _ _ _ _ _ _ x.reads c.in_ok-edit.ensures.reads;
       found = λ kind rs asked. ids_more s rs c.args.edits.now edits x.same i e lt is _ (x.found kind rs asked) (c.in_ok-edit.ensures.found kind rs (x.asked kind rs asked));
     }

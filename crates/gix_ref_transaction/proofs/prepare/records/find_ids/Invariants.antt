@@ -1,5 +1,6 @@
 use Rattle.std.proofs.Common.{◌≡◌, ◌≤◌, ℕ, List, None, take}
 use Rattle.gix_ref_files.specs.Calls.{Unchanged}
+use Rattle.gix_ref_files.specs.ReadOnly.{OnlyReads}
 use Rattle.gix_ref_files.specs.DiskCalls.{Untouched}
 use Rattle.gix_ref_files.specs.Files.{disk_of, Leaves, Passes}
 use Rattle.gix_ref_hash.specs.declared.hash.Kind.{Kind}
@@ -17,8 +18,6 @@ invariant-loop-edit g l = record {
   asked : (kind : Kind) (rs : List Record) → AreAsked kind None l.fn.records rs → AreAsked kind None l.records rs;
   searched : (kind of_kind : Kind) (text : List ℕ) → IsSearched kind None l.records of_kind text → IsSearched kind None l.fn.records of_kind text;
   honest : AreHonest l.fn.records → AreHonest l.records;
-  no_fewer : g.F.Files.faults l.fn.files ≤ g.F.Files.faults l.files;
-  leaves : g.F.Files.honest → Leaves (g.F.Files.means l.fn.files) (g.F.Files.means l.files) (Unchanged (g.F.Files.means l.fn.files).tree);
-  passes : g.F.Files.honest → Passes (g.F.Files.means l.fn.files) (g.F.Files.means l.files) (Untouched (disk_of (g.F.Files.means l.fn.files)));
+  reads : OnlyReads g.F.Files.honest g.F.Files.means g.F.Files.faults l.fn.files l.files;
   found : (kind : Kind) (rs : List Record) → AreAsked kind None l.fn.records rs → ids_in (take l.edit-index l.edits) ≡ ids_among (setting_of l.settings) rs (take l.edit-index (updates l.fn.edits));
 }

@@ -25,7 +25,7 @@ returns-in-Ok-clause-refused g c h =
 
 pub returns-in-Ok-clause-counted : goal.returns-in-Ok-clause-counted
 returns-in-Ok-clause-counted g c =
-    if_err c.find_ids.result (λ e told. counted_by _ _ _ _ _ e (λ h. c.in-Ok.ensures.honest h c.unopened-records.ensures.honest) (counted_on _ _ _ _ _ e c.open.ensures.no_fewer told)) c.find_ids.ensures.counted
+    if_err c.find_ids.result (λ e told. counted_by _ _ _ _ _ e (λ h. c.in-Ok.ensures.honest h c.unopened-records.ensures.honest) (counted_on _ _ _ _ _ e c.open.ensures.reads.no_fewer told)) c.find_ids.ensures.counted
 
 pub returns-in-Ok-clause-found : goal.returns-in-Ok-clause-found
 returns-in-Ok-clause-found g c h rs are =

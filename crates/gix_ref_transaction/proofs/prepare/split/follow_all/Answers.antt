@@ -12,7 +12,8 @@ use Rattle.gix_ref_edits.specs.SplitLists.{referent}
 use Rattle.gix_ref_transaction.specs.PrepareSteps.{setting_of}
 use Rattle.gix_ref_transaction.specs.Splits.{name_led_to, values_of, CanFollow}
 use Rattle.gix_ref_transaction.specs.internal.SplitRounds.{led_by, led_to}
-use Rattle.gix_ref_transaction.proofs.SplitLemmas.{first_misnamed, led_more, reads_more, values_more}
+use Rattle.gix_ref_transaction.proofs.SplitLemmas.{first_misnamed, led_more, values_more}
+use Rattle.gix_ref_files.proofs.ReadOnly.{reads_more}
 use Rattle.gix_ref_transaction.proofs.prepare.split.follow_all.Goals as goal
 
 pub returns-in_err-name-clause-refused : goal.returns-in_err-name-clause-refused

@@ -1,7 +1,8 @@
 use Rattle.std.proofs.Common.{◌≡◌, take, vec_len, All}
 use Rattle.gix_ref_theory.specs.OnRealTrees.{view_of}
 use Rattle.gix_ref_transaction.specs.PrepareSteps.{setting_of}
-use Rattle.gix_ref_transaction.specs.Splits.{name_led_to, values_of, CanFollow, OnlyReads}
+use Rattle.gix_ref_transaction.specs.Splits.{name_led_to, values_of, CanFollow}
+use Rattle.gix_ref_files.specs.ReadOnly.{OnlyReads}
 use Rattle.gix_ref_transaction.specs.internal.SplitRounds.{led_to, led_by}
 use Rattle.gix_ref_transaction.proofs.prepare.split.follow_all.Given as goal
 

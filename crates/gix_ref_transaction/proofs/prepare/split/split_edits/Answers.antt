@@ -3,7 +3,8 @@ use Rattle.gix_ref_edits.specs.SplitLists.{IsSplitList}
 use Rattle.gix_ref_theory.specs.OnRealTrees.{view_of}
 use Rattle.gix_ref_transaction.specs.PrepareSteps.{setting_of}
 use Rattle.gix_ref_transaction.specs.Splits.{name_led_to, values_of}
-use Rattle.gix_ref_transaction.proofs.SplitLemmas.{direct_can, direct_parents, direct_split, direct_values, reads_none}
+use Rattle.gix_ref_transaction.proofs.SplitLemmas.{direct_can, direct_parents, direct_split, direct_values}
+use Rattle.gix_ref_files.proofs.ReadOnly.{reads_none}
 use Rattle.gix_ref_transaction.proofs.prepare.split.split_edits.Goals as goal
 
 pub returns-then-none_follow-clause-split : goal.returns-then-none_follow-clause-split

@@ -11,7 +11,8 @@ use Rattle.gix_ref_transaction.specs.Parents.{first_parents, parents_from}
 use Rattle.gix_ref_transaction.specs.PrepareSteps.{setting_of}
 use Rattle.gix_ref_transaction.specs.Splits.{name_led_to, values_of, CanFollow}
 use Rattle.gix_ref_transaction.specs.internal.SplitRounds.{IsRoundOver, IsSoundValue, IsUpdateValue, IsValidValue}
-use Rattle.gix_ref_transaction.proofs.SplitLemmas.{after_by-length, can_more, can_none, done_more, done_none, first_parents_more, first_parents_none, level_more, level_none, level_parents_more, level_parents_none, misnamed_on, reads_more, reads_none}
+use Rattle.gix_ref_transaction.proofs.SplitLemmas.{after_by-length, can_more, can_none, done_more, done_none, first_parents_more, first_parents_none, level_more, level_none, level_parents_more, level_parents_none, misnamed_on}
+use Rattle.gix_ref_files.proofs.ReadOnly.{reads_more, reads_none}
 use Rattle.gix_ref_transaction.proofs.SplitValidity.{after_updates, after_valid, all_updates, all_valid, children_sound, children_updates, given_sound, given_updates, now_valid}
 use Rattle.gix_ref_transaction.proofs.prepare.split.split_in_rounds.Goals as goal
 

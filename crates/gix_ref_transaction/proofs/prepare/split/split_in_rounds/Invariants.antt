@@ -5,7 +5,8 @@ use Rattle.gix_ref_edits.specs.SplitLists.{after_round, first_levels, level}
 use Rattle.gix_ref_transaction.specs.Causes.{AllValid}
 use Rattle.gix_ref_transaction.specs.Parents.{first_parents, level_parents}
 use Rattle.gix_ref_transaction.specs.PrepareSteps.{setting_of}
-use Rattle.gix_ref_transaction.specs.Splits.{name_led_to, values_of, CanFollow, OnlyReads}
+use Rattle.gix_ref_transaction.specs.Splits.{name_led_to, values_of, CanFollow}
+use Rattle.gix_ref_files.specs.ReadOnly.{OnlyReads}
 use Rattle.gix_ref_transaction.specs.internal.SplitRounds.{IsValidValue, IsSoundValue, IsUpdateValue}
 use Rattle.gix_ref_transaction.proofs.prepare.split.split_in_rounds.Given as goal
 

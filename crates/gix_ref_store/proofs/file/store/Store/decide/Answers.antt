@@ -11,13 +11,13 @@ pub returns-in-Err-clause-passes : goal.returns-in-Err-clause-passes
 returns-in-Err-clause-passes g c h empty =
     let means = g.F.Files.means in
     only_before (map lock_of (packed_places c.args.packed.now)) (means c.args.self.now.files) (means c.decide_texts.new.self.files) (means c.decide_folders.new.files)
-    (c.decide_texts.ensures.passes h empty) (c.decide_folders.ensures.passes h)
+    (c.decide_texts.ensures.passes h empty) (c.decide_folders.ensures.reads.passes h)
 
 pub returns-clause-passes : goal.returns-clause-passes
 returns-clause-passes g c h empty =
     let means = g.F.Files.means in
     only_before (map lock_of (packed_places c.args.packed.now)) (means c.args.self.now.files) (means c.decide_texts.new.self.files) (means c.decide_folders.new.files)
-    (c.decide_texts.ensures.passes h empty) (c.decide_folders.ensures.passes h)
+    (c.decide_texts.ensures.passes h empty) (c.decide_folders.ensures.reads.passes h)
 
 pub returns-in-Err-clause-failed : goal.returns-in-Err-clause-failed
 returns-in-Err-clause-failed g c =

@@ -40,23 +40,23 @@ returns-in-Ok-clause-repacked g c =
     repacked_by F.honest F.means F.faults start c.args.packed.now held.items c.deref.result.now c.in-Ok.new_packed.rewrite alike
     (record {
       made = λ h apart rs are ids. c.in-Ok.ensures.repacked h apart rs
-          (subst (λ (T : Tree). ArePackedRecords (kind_of start) (view_of T (meaning_of start).packed_path) rs) (sym (c.decide_logs.ensures.leaves h).tree) are) ids;
-      read = λ h some removes. subst (λ (T : Tree). IsReadFile (kind_of start) (T (meaning_of start).packed_path)) (c.decide_logs.ensures.leaves h).tree (c.in-Ok.ensures.whole h some removes);
+          (subst (λ (T : Tree). ArePackedRecords (kind_of start) (view_of T (meaning_of start).packed_path) rs) (sym (c.decide_logs.ensures.reads.leaves h).tree) are) ids;
+      read = λ h some removes. subst (λ (T : Tree). IsReadFile (kind_of start) (T (meaning_of start).packed_path)) (c.decide_logs.ensures.reads.leaves h).tree (c.in-Ok.ensures.whole h some removes);
     })
 
 pub returns-in-Ok-clause-passes : goal.returns-in-Ok-clause-passes
 returns-in-Ok-clause-passes g c h empty =
     let means = g.F.Files.means in
     let locks = map lock_of (packed_places c.args.packed.now) in
-    only_after locks (means c.args.self.now.files) (means c.decide_logs.new.files) (means c.decide_packed.new.files) (c.decide_logs.ensures.passes h)
-    (c.in-Ok.ensures.passes h (subst (λ (T : Tree). AreEmpty T locks) (sym (c.decide_logs.ensures.leaves h).tree) empty))
+    only_after locks (means c.args.self.now.files) (means c.decide_logs.new.files) (means c.decide_packed.new.files) (c.decide_logs.ensures.reads.passes h)
+    (c.in-Ok.ensures.passes h (subst (λ (T : Tree). AreEmpty T locks) (sym (c.decide_logs.ensures.reads.leaves h).tree) empty))
 
 pub returns-in-Err-decide_packed-clause-passes : goal.returns-in-Err-decide_packed-clause-passes
 returns-in-Err-decide_packed-clause-passes g c h empty =
     let means = g.F.Files.means in
     let locks = map lock_of (packed_places c.args.packed.now) in
-    only_after locks (means c.args.self.now.files) (means c.decide_logs.new.files) (means c.decide_packed.new.files) (c.decide_logs.ensures.passes h)
-    (c.in-Err-decide_packed.ensures.passes h (subst (λ (T : Tree). AreEmpty T locks) (sym (c.decide_logs.ensures.leaves h).tree) empty))
+    only_after locks (means c.args.self.now.files) (means c.decide_logs.new.files) (means c.decide_packed.new.files) (c.decide_logs.ensures.reads.passes h)
+    (c.in-Err-decide_packed.ensures.passes h (subst (λ (T : Tree). AreEmpty T locks) (sym (c.decide_logs.ensures.reads.leaves h).tree) empty))
 
 pub returns-in-Err-decide_packed-clause-failed : goal.returns-in-Err-decide_packed-clause-failed
 returns-in-Err-decide_packed-clause-failed g c =
@@ -69,8 +69,8 @@ returns-in-Err-decide_packed-clause-failed g c =
     let new = with_files start c.decide_packed.new.files in
     subst (IsUndecided F.honest F.means F.faults start new c.args.committer held.items) (sym c.undecided.ensures)
     (undecided_by F.honest F.means F.faults start new c.args.committer held.items c.deref.result.now error alike
-    (counted_from _ _ _ error c.decide_logs.ensures.no_fewer e.counted)
-    (λ h. subst (λ (T : Tree). IsRefusedRewrite (kind_of start) (T (meaning_of start).packed_path) error) (c.decide_logs.ensures.leaves h).tree (e.refused h))
+    (counted_from _ _ _ error c.decide_logs.ensures.reads.no_fewer e.counted)
+    (λ h. subst (λ (T : Tree). IsRefusedRewrite (kind_of start) (T (meaning_of start).packed_path) error) (c.decide_logs.ensures.reads.leaves h).tree (e.refused h))
     (λ h apart rs are. e.sound h apart rs
-    (subst (λ (T : Tree). ArePackedRecords (kind_of start) (view_of T (meaning_of start).packed_path) rs) (sym (c.decide_logs.ensures.leaves h).tree) are))
+    (subst (λ (T : Tree). ArePackedRecords (kind_of start) (view_of T (meaning_of start).packed_path) rs) (sym (c.decide_logs.ensures.reads.leaves h).tree) are))
     (λ h. subst (λ (l : List Edit). AllHaveNoCause (line_rules start c.args.committer) (view_of (F.means start.files).tree) (asked l)) c.deref_mut.ensures.value (c.in_default.ensures.passed h)))
