@@ -1,16 +1,14 @@
 //! Empty folders that are in the way of what a commit writes: they are sought before its first write, and each is removed before the
 //! write that it is in the way of.
-ghost use Rattle.std.specs.Prelude.{◌≡◌, ◌≢◌, ◌≤◌, ◌∷◌, ◌++◌, [], IfOk, IfErr, OnOk, Some, None, ◌⊎◌, true, false, List, ℕ};
+ghost use Rattle.std.specs.Prelude.{◌≡◌, ◌≢◌, ◌∷◌, ◌++◌, [], IfOk, IfErr, OnOk, Some, None, true, false};
 ghost use Rattle.std.specs.List.{All};
-ghost use Rattle.gix_ref_files.specs.Calls.{Unchanged, IsEntryOf};
+ghost use Rattle.gix_ref_files.specs.Calls.{IsEntryOf};
 ghost use Rattle.gix_ref_files.specs.ReadOnly.{OnlyReads};
-ghost use Rattle.gix_ref_files.specs.DiskCalls.{Untouched};
-ghost use Rattle.gix_ref_files.specs.Files.{disk_of, HasRisen, Leaves, Passes};
 ghost use Rattle.gix_ref_files.specs.Settled.{IsIn};
 ghost use Rattle.gix_ref_files.specs.Steps.{step_of};
 ghost use Rattle.gix_ref_files.specs.Tree.{Tree, Path, fronts};
 ghost use Rattle.gix_ref_transaction.specs.OwnLocks.{paths_of};
-ghost use Rattle.gix_ref_commit.specs.Cleared.{roots_of, folder_lists, ClearsNothing, AllInWay, AreInWay, AreInWayOf, HoldsMore, IsAtOrBelow, IsOfStore, cleared, is_seen, removals, written_at};
+ghost use Rattle.gix_ref_commit.specs.Cleared.{roots_of, folder_lists, ClearsNothing, AllInWay, AreInWay, AreInWayOf, IsAtOrBelow, IsOfStore, cleared, is_seen, removals, written_at};
 ghost use Rattle.gix_ref_commit.specs.Entries.{entries};
 ghost use Rattle.gix_ref_commit.specs.internal.Walks.{AddsAll, AddsFolder, AddsFolders, AreClosedFolders, FailsBefore, FailsToList, IsCountedFault, IsWalked, OnlyMore, StopsFor};
 

@@ -179,15 +179,6 @@ impl fmt::Display for ObjectId {
     }
 }
 
-/// An id and its hex digits determine one another: a text is the digits of one id at most, and the bytes of an id, in
-/// lower-case digits, are the digits of that id.
-pub fn digits_of_ids()
-    ensures one_id { (text : List ℕ) (a b : ObjectId) → ReadsId text a → ReadsId text b → a ≡ b }
-    ensures written { (id : ObjectId) → IsWhole id → ReadsId (encode_lower (id_bytes id)) id }
-    ensures read { (text : List ℕ) (id : ObjectId) → ReadsId text id
-        → IsHexOf (id_kind id) text × IsWhole id }
-{}
-
 /// The id of which these are the hex digits, 40 or 64 of them, of either case. As `ObjectId::from_hex` of a text that
 /// is known to be one.
 #[inline(always)]

@@ -1,10 +1,8 @@
 //! What there is at the path of a log.
-ghost use Rattle.std.specs.Prelude.{◌≡◌, ◌≤◌, ◌||◌, ℕ, IfOk, IfErr, is_some};
+ghost use Rattle.std.specs.Prelude.{◌≡◌, ◌||◌, ℕ, IfOk, IfErr, is_some};
 ghost use Rattle.std.specs.List.{list_any};
-ghost use Rattle.gix_ref_files.specs.Calls.{Unchanged};
 ghost use Rattle.gix_ref_files.specs.ReadOnly.{OnlyReads};
-ghost use Rattle.gix_ref_files.specs.DiskCalls.{Untouched};
-ghost use Rattle.gix_ref_files.specs.Files.{count_with, disk_of, Leaves, Passes};
+ghost use Rattle.gix_ref_files.specs.Files.{count_with};
 ghost use Rattle.gix_ref_files.specs.Tree.{fronts, is_blocked, node_at};
 ghost use Rattle.gix_ref_theory.specs.OnRealTrees.{view_of};
 ghost use Rattle.gix_ref_lines.specs.LineCauses.{IsCountedCause};

@@ -1,6 +1,5 @@
 //! Who made a change, and when: the signatures in reflogs, as `git commit-tree` writes them.
-ghost use Rattle.std.specs.Prelude.{◌≡◌, ◌+◌, ◌-◌, ◌*◌, ◌↔◌, IsTrue, ℕ, ℤ, pos, List, MatchOption, IfSome, FitsSigned};
-ghost use Rattle.std.specs.Int.{w64};
+ghost use Rattle.std.specs.Prelude.{◌≡◌, ◌+◌, ◌-◌, ◌*◌, ◌↔◌, IsTrue, ℤ, pos, MatchOption, IfSome};
 ghost use Rattle.gix_ref_log.specs.Signatures.{Who, IsSeconds, IsZone, IsDigit, IsPlainText, IsSignature, IsWritableOffset, CanWrite, offset_text, signature_text, trimmed, without_space};
 
 use bstr::ByteSlice;
@@ -159,14 +158,6 @@ fn trim(text: &[u8]) -> &[u8]
 {
     text.trim_ascii()
 }
-
-/// A text is one signature at most, and a signature that can be written is read again from its text.
-pub fn signatures_read_back()
-    ensures one { (text : List ℕ) (who other : Who) → IsSignature text who
-        → IsSignature text other → other ≡ who }
-    ensures again { (who : Who) → CanWrite who → FitsSigned w64 who.seconds
-        → IsSignature (signature_text who) who }
-{}
 
 impl Signature {
     ghost use Rattle.gix_ref_log.specs.Signatures.{signature_who, signature_ref_who};

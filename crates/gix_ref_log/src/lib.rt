@@ -2,4 +2,5 @@
 #![tactic(auto)]
 
 pub mod actor;
+pub mod laws;
 pub mod log;

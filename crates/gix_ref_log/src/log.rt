@@ -4,4 +4,4 @@ pub mod iter;
 pub mod line;
 mod lines;
 
-pub use line::{AppendError, Line, LineRef, WriteError, appended_line, lines_read_back};
+pub use line::{AppendError, Line, LineRef, WriteError, appended_line};

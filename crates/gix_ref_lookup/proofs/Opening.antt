@@ -1,5 +1,5 @@
 -- What an opened `packed-refs` holds.
-use Rattle.std.proofs.Common.{◌≡◌, ◌≢◌, ◌⊎◌, inl, inr, ⊎_elim, ℕ, ◌+◌, ◌-◌, ◌^◌, nat_lt, Bool, if◌then◌else◌, List, Option, Some, None, [], ◌∷◌, length, Result, Ok, Err, IfOk, IfErr, IfSome, true, false, refl, sym, ◌∙◌, ap, subst, arith}
+use Rattle.std.proofs.Common.{◌≡◌, ◌≢◌, ◌⊎◌, inl, inr, ℕ, ◌+◌, ◌-◌, ◌^◌, nat_lt, Bool, if◌then◌else◌, List, Option, Some, None, [], ◌∷◌, length, Result, Ok, Err, IfOk, IfErr, IfSome, true, false, refl, sym, ◌∙◌, ap, subst, arith}
 use Rattle.gix_ref_hash.specs.declared.hash.Kind.{Kind}
 use Rattle.gix_ref_base.specs.PackedRecords.{Record}
 use Rattle.gix_ref_files.specs.Tree.{Content, is_file, bytes_of}

@@ -3,6 +3,7 @@
 
 pub mod find;
 pub mod folders;
+pub mod laws;
 pub mod layout;
 pub mod loose;
 pub mod settings;

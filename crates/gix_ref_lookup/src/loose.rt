@@ -3,7 +3,7 @@ ghost use Rattle.std.specs.Prelude.{◌≡◌, ◌↔◌, IsTrue, ◌++◌, ℕ,
 ghost use Rattle.gix_ref_hash.specs.Ids.{IsHexOf, IsWhole};
 ghost use Rattle.gix_ref_hash.specs.declared.hash.Kind.{Kind};
 ghost use Rattle.gix_ref_name.specs.Names.{full_bytes};
-ghost use Rattle.gix_ref_base.specs.Targets.{TargetValue, target_value, target_kind};
+ghost use Rattle.gix_ref_base.specs.Targets.{target_value, target_kind};
 ghost use Rattle.gix_ref_base.specs.Targets.TargetValue.{object_id};
 ghost use Rattle.gix_ref_theory.specs.ConcreteStore.{loose_text};
 ghost use Rattle.gix_ref_lookup.specs.LooseText.{HoldsPath, HoldsId, HoldsTarget, CannotDecode, IsWritable, target_in};
@@ -212,11 +212,3 @@ pub fn text_of(alloc: Global, target: &Target) -> Result<Vec<u8>, AllocError>
         }
     }
 }
-
-/// What a loose text holds is what is computed from it, and nothing else; so a text holds one target at most.
-pub fn loose_texts_are_read()
-    ensures held { (kind : Kind) (text : List ℕ) (target : TargetValue) →
-        HoldsTarget kind text target → target_in kind text ≡ Some target }
-    ensures computed { (kind : Kind) (text : List ℕ) (target : TargetValue) →
-        target_in kind text ≡ Some target → HoldsTarget kind text target }
-{}

@@ -42,7 +42,7 @@ pub struct Memory {
 }
 
 impl Memory {
-    ghost use Rattle.std.specs.Prelude.{◌+◌, ◌<◌, ◌-◌, ◌^◌, Some, OnOk, OnErr, IfOk, IfSome, IfNone, false, if◌then◌else◌, nat_lt, min};
+    ghost use Rattle.std.specs.Prelude.{◌+◌, ◌<◌, ◌-◌, ◌^◌, Some, OnOk, OnErr, IfOk, IfSome, IfNone, false, if◌then◌else◌, min};
     ghost use Rattle.gix_ref_files.specs.Tree.{is_file};
     ghost use Rattle.gix_ref_files.specs.Tree.Content.{File};
     ghost use Rattle.gix_ref_files.specs.Disk.{Lost};
@@ -202,7 +202,7 @@ impl Memory {
 }
 
 impl Files for Memory {
-    ghost use Rattle.std.specs.Prelude.{ℕ, take, false, true, IfOk, OnOk, OnErr, IfSome, IsErrOf};
+    ghost use Rattle.std.specs.Prelude.{take, false, true, IfOk, OnOk, OnErr, IfSome, IsErrOf};
     ghost use Rattle.gix_ref_files.specs.Tree.{no_tree, node_at, bytes_of, is_file, appended, moved, removed, is_folder, folders_to, with_folders, IsEmptyFolder};
     ghost use Rattle.gix_ref_files.specs.Files.{disk_of, Leaves, Adds, Passes, AddsDisks, count_after};
     ghost use Rattle.gix_ref_files.specs.Disk.{file_synced, folder_synced};

@@ -16,7 +16,6 @@ mod convert;
 
 pub use category::Category;
 use category::category_of_bytes;
-pub use convert::shown_names;
 
 /// A lent full name. It always holds a valid partial name; one that was made from a text is a valid full name. As
 /// gix-ref's `FullNameRef`.

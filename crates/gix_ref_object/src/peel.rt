@@ -1,8 +1,6 @@
 //! From a tag to the object that it is of (`gitrevisions`, `<rev>^{}`).
-ghost use Rattle.std.specs.Prelude.{◌≡◌, ◌≤◌, ℕ, suc};
-ghost use Rattle.gix_ref_object.specs.Peeling.{id_of_hex as id_with_digits, tag_target as target_of, peel, step, Peeled, PeelsTo, Continues, TagTo, Chain, IsNoTag};
-ghost use Rattle.gix_ref_object.specs.Peeling.Peeled.{End, TooLong};
-ghost use Rattle.gix_ref_object.specs.Objects.{Stored};
+ghost use Rattle.std.specs.Prelude.{◌≡◌};
+ghost use Rattle.gix_ref_object.specs.Peeling.{id_of_hex as id_with_digits, tag_target as target_of, peel, step, Peeled, PeelsTo, Continues};
 ghost use Rattle.gix_ref_hash.specs.declared.hash.ObjectId.{ObjectId};
 
 use crate::object::{Find, FindError, Kind};
@@ -103,17 +101,6 @@ pub fn peel_to_end<T: Find>(alloc: Global, finder: &T, id: ObjectId) -> Result<O
     }
     Err(PeelError::TagChainTooLong)
 }
-
-/// Where a chain of tags ends, of which so many are followed: tags up to that number lead to the object behind them,
-/// and one more is too many, as is a tag that names itself.
-pub fn ends_of_chains()
-    ensures end { (meaning : ObjectId → Stored) (tags n : ℕ) (id end : ObjectId) → n ≤ tags
-        → Chain meaning n id end → IsNoTag (meaning end) → peel meaning tags id ≡ End end }
-    ensures too_long { (meaning : ObjectId → Stored) (tags : ℕ) (id last : ObjectId)
-        → Chain meaning (suc tags) id last → peel meaning tags id ≡ TooLong }
-    ensures itself { (meaning : ObjectId → Stored) (tags : ℕ) (id : ObjectId)
-        → TagTo meaning id id → peel meaning tags id ≡ TooLong }
-{}
 
 #[cfg(test)]
 mod tests {

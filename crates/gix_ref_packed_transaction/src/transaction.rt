@@ -1,6 +1,6 @@
 //! A transaction of `packed-refs` alone, for a caller who holds its lock: records are removed from it, and all others stay as they are
 //! written. As gix-ref's `packed::Transaction`.
-ghost use Rattle.std.specs.Prelude.{◌≡◌, ◌≢◌, ◌≤◌, ◌⊎◌, [], Some, None, false, Option, OnOk, OnErr, IfOk, IfErr, MatchOption};
+ghost use Rattle.std.specs.Prelude.{◌≡◌, ◌≤◌, [], Some, None, false, Option, OnOk, OnErr, IfErr, MatchOption};
 ghost use Rattle.std.specs.Cmp.Lexicographic.{slice_cmp};
 ghost use Rattle.std.specs.List.Sorted.{IsPermutation, IsSorted};
 ghost use Rattle.std.specs.Ordering.{nat_cmp};
@@ -148,13 +148,14 @@ impl Transaction {
     pub fn commit<F: Files>(self, alloc: Global, files: &mut F) -> Result<(), Failed>
         ensures committed { F.honest → IsLockEmpty (transaction_place self) (F.means
             files.old).tree →
-            OnOk result (CommitsRewrite (transaction_kind self) (records_of self) (removed_keys self)
-            (transaction_place self) (F.means files.old).tree (F.means files.new).tree) }
+            OnOk result (CommitsRewrite (transaction_kind self) (records_of self)
+            (removed_keys self) (transaction_place self) (F.means files.old).tree
+            (F.means files.new).tree) }
         ensures read { OnOk result (IsReadBuffer (transaction_kind self) (records_of self)) }
         ensures leaves { F.honest → IsLockEmpty (transaction_place self) (F.means files.old).tree →
-            Leaves (F.means files.old) (F.means files.new) (IsBeforeOrRewritten (transaction_kind self)
-            (records_of self) (removed_keys self) (transaction_place self) (F.means
-            files.old).tree) }
+            Leaves (F.means files.old) (F.means files.new) (IsBeforeOrRewritten
+            (transaction_kind self) (records_of self) (removed_keys self)
+            (transaction_place self) (F.means files.old).tree) }
         ensures lost { F.honest → IsReadyOn (transaction_place self) (disk_of (F.means files.old)) →
             Loses (F.means files.old) (F.means files.new) (IsLostOf (transaction_kind self)
             (records_of self) (removed_keys self) (transaction_place self)

@@ -34,7 +34,6 @@ use Rattle.gix_ref_listing.specs.CleanPrefixes.{IsAcceptedPrefix, IsRefusedPrefi
 use Rattle.gix_ref_listing.specs.Listings.{Listed as ListedName}
 use Rattle.gix_ref_listing.specs.WholeListings.{IsListing, IsNameItem}
 use Rattle.gix_ref_listing.specs.declared.error.Error.{Error as ListError}
-use Rattle.gix_ref_listing.specs.declared.prefix.Error.{Error as PrefixError}
 use Rattle.gix_ref_listing.specs.declared.prefix.Error.TheVariants as no_list
 use Rattle.gix_ref_log.specs.LogItems.{EndsAtError}
 use Rattle.gix_ref_log.specs.declared.log.line.Line.{Line as LogLine}

@@ -1,13 +1,11 @@
 //! `packed-refs` without the records of some keys.
-ghost use Rattle.std.specs.Prelude.{◌≡◌, ◌≤◌, List, map, vec_items, IfOk, IfErr, MatchResult, OnOk};
+ghost use Rattle.std.specs.Prelude.{◌≡◌, List, map, vec_items, IfOk, IfErr, MatchResult, OnOk};
 ghost use Rattle.std.specs.Cmp.Lexicographic.{slice_cmp};
 ghost use Rattle.std.specs.List.Sorted.{IsStrictlySortedBy};
 ghost use Rattle.std.specs.Ordering.{nat_cmp};
 ghost use Rattle.gix_ref_base.specs.PackedRecords.{Record};
 ghost use Rattle.gix_ref_files.specs.Calls.{Unchanged};
 ghost use Rattle.gix_ref_files.specs.ReadOnly.{OnlyReads};
-ghost use Rattle.gix_ref_files.specs.DiskCalls.{Untouched};
-ghost use Rattle.gix_ref_files.specs.Files.{disk_of, Leaves, Passes};
 ghost use Rattle.gix_ref_packed.specs.Buffers.{buffer_text, buffer_line, HoldsRecords};
 ghost use Rattle.gix_ref_lookup.specs.Lookups.{meaning_in, packed_refs_in, ArePackedRecords};
 ghost use Rattle.gix_ref_repack.specs.Refusals.{repack_of_opening, of_rewrite, IsCountedRefusal, IsRepackFault, IsReadFile, IsReadText, IsRefusedRewrite};

@@ -1,5 +1,5 @@
 //! The edits in turn: what each copies of the old records, and what it puts.
-ghost use Rattle.std.specs.Prelude.{◌≡◌, ◌++◌, IfOk, IfErr, OnOk};
+ghost use Rattle.std.specs.Prelude.{IfOk, IfErr, OnOk};
 ghost use Rattle.gix_ref_rewrite.specs.Rewrites.{IsStuckAt};
 ghost use Rattle.gix_ref_rewrite.specs.internal.Merging.{put_by};
 ghost use Rattle.gix_ref_rewrite.specs.internal.Applying.{AddsRecords, CopiesUntil, Copies, Applies, Merges};

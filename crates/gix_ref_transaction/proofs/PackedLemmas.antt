@@ -11,10 +11,7 @@ use Rattle.gix_ref_transaction.specs.declared.edit.Edit.{Edit}
 use Rattle.gix_ref_hash.specs.declared.hash.Kind.{Kind}
 use Rattle.gix_ref_hash.specs.declared.hash.ObjectId.{ObjectId}
 use Rattle.gix_ref_base.specs.PackedRecords.{Record, record_named, id_read}
-use Rattle.gix_ref_files.specs.Calls.{Unchanged}
-use Rattle.gix_ref_files.specs.DiskCalls.{Untouched}
-use Rattle.gix_ref_files.specs.Files.{HasRisen, Meaning, disk_of, Leaves, Passes}
-use Rattle.gix_ref_files.proofs.Moments.{joins, weaken, passes_joins, passes_weaken}
+use Rattle.gix_ref_files.specs.Files.{HasRisen}
 use Rattle.gix_ref_files.specs.Tree.{Content, Path, Tree}
 use Rattle.gix_ref_packed.proofs.RecordsOfText.{records_computed}
 use Rattle.gix_ref_packed.specs.declared.packed.buffer.open.Error.{Error as OpenError}

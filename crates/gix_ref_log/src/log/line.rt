@@ -12,7 +12,7 @@ pub mod decode;
 mod write;
 
 use decode::decode_line;
-pub use write::{AppendError, WriteError, appended_line, lines_read_back};
+pub use write::{AppendError, WriteError, appended_line};
 
 /// An owned line of a reflog. As gix-ref's `log::Line`.
 #[derive(Debug, PartialEq, Eq, PartialOrd, Ord, Hash, Clone, Drop)]

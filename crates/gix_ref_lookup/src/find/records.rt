@@ -1,12 +1,10 @@
 //! The records that a lookup asks for a name: those of `packed-refs`, which is opened when the first name is asked for.
-ghost use Rattle.std.specs.Prelude.{◌≡◌, ◌≤◌, ◌⊎◌, ℕ, List, Option, None, IfOk, IfErr, OnOk};
+ghost use Rattle.std.specs.Prelude.{◌≡◌, ◌⊎◌, ℕ, List, Option, None, IfOk, IfErr, OnOk};
 ghost use Rattle.gix_ref_hash.specs.declared.hash.Kind.{Kind};
 ghost use Rattle.gix_ref_name.specs.Names.{full_ref_bytes};
 ghost use Rattle.gix_ref_base.specs.PackedRecords.{Record};
-ghost use Rattle.gix_ref_files.specs.Files.{disk_of, Leaves, Passes, HasRisen};
+ghost use Rattle.gix_ref_files.specs.Files.{HasRisen};
 ghost use Rattle.gix_ref_files.specs.ReadOnly.{OnlyReads};
-ghost use Rattle.gix_ref_files.specs.Calls.{Unchanged};
-ghost use Rattle.gix_ref_files.specs.DiskCalls.{Untouched};
 ghost use Rattle.gix_ref_packed.specs.Buffers.{buffer_text, buffer_kind, IsRefusedFile};
 ghost use Rattle.gix_ref_packed.specs.FileSearches.{FindsInFile};
 ghost use Rattle.gix_ref_packed.specs.OpenFiles.{HasReadFault};
@@ -124,13 +122,11 @@ fn open_records<'b, F: Files>(
 }
 
 impl<R: ReadAt + Drop> Records<'_, R> {
-    ghost use Rattle.std.specs.Prelude.{◌≡◌, ◌≤◌, ◌⊎◌, ℕ, List, Option, OnOk, OnErr, IfErr, IfOk, IfSome, MatchResult, None};
+    ghost use Rattle.std.specs.Prelude.{◌≡◌, ◌⊎◌, ℕ, List, Option, OnOk, OnErr, IfErr, IfOk, IfSome, MatchResult, None};
     ghost use Rattle.gix_ref_name.specs.Names.{full_ref_bytes};
     ghost use Rattle.gix_ref_base.specs.PackedRecords.{Record, record_named};
     ghost use Rattle.gix_ref_hash.specs.declared.hash.Kind.{Kind};
-    ghost use Rattle.gix_ref_files.specs.Files.{disk_of, Leaves, Passes, HasRisen};
-    ghost use Rattle.gix_ref_files.specs.Calls.{Unchanged};
-    ghost use Rattle.gix_ref_files.specs.DiskCalls.{Untouched};
+    ghost use Rattle.gix_ref_files.specs.Files.{HasRisen};
     ghost use Rattle.gix_ref_records.specs.Positions.{CannotRead};
     ghost use Rattle.gix_ref_packed.specs.Buffers.{IsRefusedFile};
     ghost use Rattle.gix_ref_records.specs.Windows.{AreFound, HitsRecord};

@@ -1,5 +1,5 @@
 //! What the calls of files in memory change: each adds its changes at the end of those that there were.
-ghost use Rattle.std.specs.Prelude.{◌≡◌, if◌then◌else◌, [], Some, false, IfOk, IfSome, IfNone, OnOk, OnErr, take, length};
+ghost use Rattle.std.specs.Prelude.{◌≡◌, if◌then◌else◌, Some, false, IfOk, IfSome, IfNone, OnOk, OnErr, take, length};
 ghost use Rattle.gix_ref_files.specs.Tree.{IsShaped, no_tree, put, appended, is_file, is_folder, fronts, with_folders};
 ghost use Rattle.gix_ref_files.specs.Disk.{file_synced, folder_synced};
 ghost use Rattle.gix_ref_files.specs.DiskCalls.{after_append, AppendingOn, after_rename, RenamingOn, after_create, CreatingOn, after_removal, RemovingFileOn, RemovingFolderOn, Syncs, SyncingOn};
@@ -58,7 +58,8 @@ pub fn append_some(
     bytes: &[u8],
     most: usize,
 ) -> Result<(), AllocError>
-    ensures done { OnOk result (after_changes changes.new.items no_tree ≡ appended (tree_after changes.old)
+    ensures done { OnOk result (after_changes changes.new.items no_tree
+        ≡ appended (tree_after changes.old)
         path.now (take most bytes.now)) }
     ensures shape { IsShaped (tree_after changes.old) → IsShaped (tree_after changes.new) }
     ensures passes { Passes (meaning_after changes.old.items) (meaning_after changes.new.items)

@@ -1,6 +1,6 @@
 //! Folders that are made in memory.
-ghost use Rattle.std.specs.Prelude.{◌≡◌, ◌≤◌, ℕ, Some, OnOk, OnErr, IfOk, take, length, true, false, [], ◌∷◌, ◌++◌};
-ghost use Rattle.gix_ref_files.specs.Tree.{Tree, IsShaped, no_tree, put, has_folders, fronts, folders_to, with_folders};
+ghost use Rattle.std.specs.Prelude.{◌≡◌, ◌≤◌, Some, OnOk, OnErr, IfOk, take, length, true, false, [], ◌∷◌, ◌++◌};
+ghost use Rattle.gix_ref_files.specs.Tree.{IsShaped, no_tree, put, has_folders, fronts, folders_to, with_folders};
 ghost use Rattle.gix_ref_files.specs.Tree.Content.{Folder};
 ghost use Rattle.gix_ref_files.specs.Files.{Passes, AddsDisks};
 ghost use Rattle.gix_ref_files.specs.Calls.{MakesFolders, is_in_the_way};

@@ -144,7 +144,8 @@ fn reach(
     entries: &[Change],
     path: &[u8],
 ) -> Result<(), AllocError>
-    ensures { OnOk result (Fills (IsReachable (after_changes entries.now no_tree)) (λ q. path.now ≡ q)
+    ensures { OnOk result (Fills (IsReachable (after_changes entries.now no_tree))
+        (λ q. path.now ≡ q)
         left.old.items left.new.items) }
 {
     let stored = if stands_in_folders(entries, path) {

@@ -1,7 +1,5 @@
 //! Conversions into names, copies of names, and how they are shown.
-ghost use Rattle.std.specs.Prelude.{◌≡◌, Some, List, ℕ, string_bytes};
-ghost use Rattle.std.specs.Str.{IsUtf8};
-ghost use Rattle.std.specs.Str.Lossy.{utf8_lossy};
+ghost use Rattle.std.specs.Prelude.{◌≡◌, Some, string_bytes};
 ghost use Rattle.gix_ref_grammar.specs.NameGrammar.{full_error, partial_error};
 ghost use Rattle.gix_ref_name.specs.Names.{Converts, full_ref_bytes, partial_ref_bytes, full_bytes, partial_bytes, shown};
 
@@ -240,10 +238,3 @@ impl fmt::Display for PartialName {
         self.as_ref().fmt(f)
     }
 }
-
-/// What is shown of a name: its bytes where they are UTF-8, and else their text with U+FFFD for each invalid piece
-/// (`String::from_utf8_lossy`).
-pub fn shown_names()
-    ensures text { (bytes : List ℕ) → IsUtf8 bytes → shown bytes ≡ bytes }
-    ensures lossy { (bytes : List ℕ) → shown bytes ≡ utf8_lossy bytes }
-{}

@@ -1,6 +1,5 @@
 //! Transactions of references: prepared, with all locks held, and then committed or rolled back.
-ghost use Rattle.std.specs.Prelude.{◌≡◌, ◌≤◌, ◌⊎◌, [], OnOk, IfOk, IfErr, vec_len, length};
-ghost use Rattle.std.specs.Vec.{vec_capacity};
+ghost use Rattle.std.specs.Prelude.{◌≡◌, [], OnOk, IfOk, IfErr, length};
 ghost use Rattle.std.specs.Borrow.{sem, RestsIfErr};
 ghost use Rattle.gix_ref_files.specs.Files.{HasRisenBy};
 ghost use Rattle.gix_ref_packed.specs.OpenFiles.{HasReadFault};

@@ -1,4 +1,3 @@
-use Rattle.std.proofs.Common.{arith}
 use Rattle.gix_ref_files.proofs.ReadOnly.{reads_more}
 use Rattle.gix_ref_commit.proofs.Walking.{fails_at, way_next}
 use Rattle.gix_ref_commit.proofs.folders.all_in_way.Goals as goal

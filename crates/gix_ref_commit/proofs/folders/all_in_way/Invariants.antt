@@ -1,8 +1,5 @@
-use Rattle.std.proofs.Common.{◌≤◌, take}
-use Rattle.gix_ref_files.specs.Calls.{Unchanged}
+use Rattle.std.proofs.Common.{take}
 use Rattle.gix_ref_files.specs.ReadOnly.{OnlyReads}
-use Rattle.gix_ref_files.specs.DiskCalls.{Untouched}
-use Rattle.gix_ref_files.specs.Files.{disk_of, Leaves, Passes}
 use Rattle.gix_ref_commit.specs.Cleared.{AllInWay, folder_lists}
 use Rattle.gix_ref_commit.specs.Entries.{entries}
 use Rattle.gix_ref_commit.proofs.folders.all_in_way.Given as goal

@@ -1,8 +1,4 @@
-use Rattle.std.proofs.Common.{◌≤◌}
-use Rattle.gix_ref_files.specs.Calls.{Unchanged}
 use Rattle.gix_ref_files.specs.ReadOnly.{OnlyReads}
-use Rattle.gix_ref_files.specs.DiskCalls.{Untouched}
-use Rattle.gix_ref_files.specs.Files.{disk_of, Leaves, Passes}
 use Rattle.gix_ref_transaction.specs.OwnLocks.{paths_of}
 use Rattle.gix_ref_commit.specs.internal.Walks.{IsWalked}
 use Rattle.gix_ref_commit.proofs.Whole.{IsSearched}

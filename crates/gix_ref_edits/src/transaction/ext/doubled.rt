@@ -1,5 +1,5 @@
 //! Names that more than one edit of a list has. They are sorted, so that equal names are neighbours.
-ghost use Rattle.std.specs.Prelude.{◌≡◌, ◌+◌, map, MatchOption, OnOk, IfOk, IfErr};
+ghost use Rattle.std.specs.Prelude.{◌≡◌, map, MatchOption, OnOk, IfOk, IfErr};
 ghost use Rattle.std.specs.List.Sorted.{IsSortedBy};
 ghost use Rattle.gix_ref_name.specs.Names.{full_ref_bytes};
 ghost use Rattle.gix_ref_edits.specs.DoubledNames.{NoneDoubled, IsLeastDoubled, is_below, entry_names};

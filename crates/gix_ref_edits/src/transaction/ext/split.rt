@@ -1,5 +1,5 @@
 //! The split of one edit: what stays with a symbolic reference, and what goes to the reference that it leads to.
-ghost use Rattle.std.specs.Prelude.{◌≡◌, [], ◌∷◌, Option, Some, List, OnOk, OnErr, IfOk, IfErr};
+ghost use Rattle.std.specs.Prelude.{◌≡◌, [], ◌∷◌, Option, Some, OnOk, OnErr, IfOk, IfErr};
 ghost use Rattle.gix_ref_name.specs.Names.{full_bytes};
 ghost use Rattle.gix_ref_edits.specs.EditValues.{change_value, edit_value};
 ghost use Rattle.gix_ref_edits.specs.SplitLists.{parent_change, looked_up, child_of};

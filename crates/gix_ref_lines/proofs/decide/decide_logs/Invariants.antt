@@ -1,8 +1,5 @@
 use Rattle.std.proofs.Common.{◌≡◌, ◌≤◌, ◌<◌, ℕ, get_or}
-use Rattle.gix_ref_files.specs.Calls.{Unchanged}
 use Rattle.gix_ref_files.specs.ReadOnly.{OnlyReads}
-use Rattle.gix_ref_files.specs.DiskCalls.{Untouched}
-use Rattle.gix_ref_files.specs.Files.{disk_of, Leaves, Passes}
 use Rattle.gix_ref_transaction.specs.declared.edit.Edit.{Edit}
 use Rattle.gix_ref_transaction.specs.CommitRenames.{SeesItsLog}
 use Rattle.gix_ref_lines.specs.AskedEdits.{all_but_logs}

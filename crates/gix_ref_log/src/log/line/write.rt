@@ -1,9 +1,9 @@
 //! Writing a line of a reflog.
-ghost use Rattle.std.specs.Prelude.{◌≡◌, ◌↔◌, ◌++◌, ◌∷◌, [], OnOk, IfOk, IsErrOf, List, ℕ};
+ghost use Rattle.std.specs.Prelude.{◌≡◌, ◌↔◌, ◌++◌, ◌∷◌, [], OnOk, IfOk, IsErrOf};
 ghost use Rattle.std.specs.Io.KnownBytes.{Appends};
 ghost use Rattle.gix_ref_hash.specs.Bytes.{NoByte};
-ghost use Rattle.gix_ref_log.specs.Signatures.{Who, CanWrite, signature_who, signature_ref_who, trimmed_who};
-ghost use Rattle.gix_ref_log.specs.LogLines.{LogLine, IsLine, IsReadAs, IsReadableLine, CanWriteLine, written_parts, message_part, line_text, head_text, appended_text};
+ghost use Rattle.gix_ref_log.specs.Signatures.{CanWrite, signature_who, signature_ref_who, trimmed_who};
+ghost use Rattle.gix_ref_log.specs.LogLines.{CanWriteLine, message_part, line_text, head_text, appended_text};
 ghost use Rattle.gix_ref_hash.specs.declared.hash.ObjectId.{ObjectId};
 ghost use Rattle.gix_ref_log.specs.declared.log.line.Line.{Line};
 
@@ -162,16 +162,3 @@ pub fn appended_line(
         Err(_) => Err(AppendError::Memory),
     }
 }
-
-/// A text is one line at most. A line that can be written, with no tab in name or email, is read again as it was, and so is
-/// one that a transaction adds.
-pub fn lines_read_back()
-    ensures one { (text : List ℕ) (line other : LogLine) → IsLine text line → IsLine text other
-        → other ≡ line }
-    ensures written { (line : Line) → IsReadableLine line.previous_oid line.new_oid
-        (signature_who line.signature) line.message.items → IsReadAs (line_text line) line }
-    ensures appended { (previous new : ObjectId) (who : Who) (message : List ℕ)
-        → IsReadableLine previous new (trimmed_who who) message
-        → IsLine (appended_text previous new who message)
-        (written_parts previous new (trimmed_who who) message) }
-{}

@@ -7,7 +7,7 @@ ghost use Rattle.std.specs.declared.cmp.Ordering.TheVariants.{Equal};
 ghost use Rattle.std.specs.Option.{option_map};
 ghost use Rattle.gix_ref_hash.specs.Ids.{IsHexOf, kind_len};
 ghost use Rattle.gix_ref_base.specs.PackedRecords.{Record};
-ghost use Rattle.gix_ref_records.specs.RecordGrammar.{RecordLine, Takes, OptionalPeeledLine, PeeledLine};
+ghost use Rattle.gix_ref_records.specs.RecordGrammar.{RecordLine, Takes, OptionalPeeledLine};
 ghost use Rattle.gix_ref_records.specs.Positions.{NameAt, Compares, IsPlain, OrdersIfNamed};
 ghost use Rattle.gix_ref_records.specs.Views.{record_of};
 

@@ -1,4 +1,4 @@
-use Rattle.std.proofs.Common.{◌≡◌, inl, ℕ, ◌+◌, ◌<◌, List, [], ◌∷◌, ◌++◌, Some, None, Bor, get_or, drop, arith, sym, ◌∙◌, ap, subst}
+use Rattle.std.proofs.Common.{◌≡◌, inl, ℕ, ◌+◌, List, [], ◌++◌, Some, None, Bor, get_or, drop, arith, sym, ◌∙◌, ap, subst}
 use Rattle.gix_ref_name.specs.Candidates.{candidates, fronts_of}
 use Rattle.gix_ref_name.specs.Names.{partial_ref_bytes, full_ref_bytes}
 use Rattle.gix_ref_base.specs.PackedRecords.{Record}

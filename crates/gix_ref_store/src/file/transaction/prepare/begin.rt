@@ -1,6 +1,5 @@
 //! The checks and locks of a transaction, from a store.
-ghost use Rattle.std.specs.Prelude.{◌≡◌, ◌≤◌, ◌+◌, [], IfOk, IfErr, vec_len};
-ghost use Rattle.std.specs.Vec.{vec_capacity};
+ghost use Rattle.std.specs.Prelude.{◌≡◌, ◌+◌, [], IfOk, IfErr, vec_len};
 ghost use Rattle.gix_ref_packed.specs.OpenFiles.{HasReadFault};
 ghost use Rattle.gix_ref_theory.specs.OnRealTrees.{view_of};
 ghost use Rattle.gix_ref_transaction.specs.OwnLocks.{paths_of};

@@ -1,5 +1,5 @@
 use Rattle.gix_ref_lookup.proofs.LooseLemmas.{held_is, is_held}
-use Rattle.gix_ref_lookup.proofs.loose.loose_texts_are_read.Goals as goal
+use Rattle.gix_ref_lookup.proofs.laws.loose_texts_are_read.Goals as goal
 
 pub returns-clause-held : goal.returns-clause-held
 returns-clause-held c = held_is

@@ -1,6 +1,6 @@
 use Rattle.std.proofs.Common.{suc}
 use Rattle.gix_ref_object.proofs.Chains.{chain_end, chain_too_long, ring_too_long}
-use Rattle.gix_ref_object.proofs.peel.ends_of_chains.Goals as goal
+use Rattle.gix_ref_object.proofs.laws.ends_of_chains.Goals as goal
 
 pub returns-clause-end : goal.returns-clause-end
 returns-clause-end c = chain_end

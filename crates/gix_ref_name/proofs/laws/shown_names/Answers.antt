@@ -1,6 +1,6 @@
 use Rattle.bstr.proofs.lemmas.EncodeLemmas.{lossy_chars-utf8}
 use Rattle.bstr.proofs.lemmas.LossyLemmas.{lossy_chars-utf8_lossy}
-use Rattle.gix_ref_name.proofs.name.convert.shown_names.Goals as goal
+use Rattle.gix_ref_name.proofs.laws.shown_names.Goals as goal
 
 pub returns-clause-text : goal.returns-clause-text
 returns-clause-text c = lossy_chars-utf8

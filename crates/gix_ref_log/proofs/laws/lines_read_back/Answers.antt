@@ -1,6 +1,6 @@
 use Rattle.gix_ref_log.proofs.LineLemmas.{one_line}
 use Rattle.gix_ref_log.proofs.LinesAgain.{written_again, appended_again}
-use Rattle.gix_ref_log.proofs.log.line.write.lines_read_back.Goals as goal
+use Rattle.gix_ref_log.proofs.laws.lines_read_back.Goals as goal
 
 pub returns-clause-one : goal.returns-clause-one
 returns-clause-one c = λ text line other is also. one_line text other line also is

@@ -1,6 +1,6 @@
 use Rattle.gix_ref_log.proofs.SignatureLemmas.{one_who}
 use Rattle.gix_ref_log.proofs.SignaturesAgain.{signature_again}
-use Rattle.gix_ref_log.proofs.actor.signatures_read_back.Goals as goal
+use Rattle.gix_ref_log.proofs.laws.signatures_read_back.Goals as goal
 
 pub returns-clause-one : goal.returns-clause-one
 returns-clause-one c = λ text who other is also. one_who text other who also is

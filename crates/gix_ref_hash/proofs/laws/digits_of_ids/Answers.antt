@@ -1,5 +1,5 @@
 use Rattle.gix_ref_hash.proofs.IdLemmas.{one_id, written_reads, reads_whole}
-use Rattle.gix_ref_hash.proofs.hash.digits_of_ids.Goals as goal
+use Rattle.gix_ref_hash.proofs.laws.digits_of_ids.Goals as goal
 
 pub returns-clause-one_id : goal.returns-clause-one_id
 returns-clause-one_id c = one_id
