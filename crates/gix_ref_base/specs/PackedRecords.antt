@@ -1,10 +1,15 @@
 -- A record of `packed-refs`, its text, and what it is read as (`git pack-refs`).
 use Rattle.std.specs.Prelude.{ℕ, ◌==◌, List, [], ◌∷◌, ◌++◌, length, find, codes, bytes_eq, if◌then◌else◌, Option, Some, None, Result, Ok, Err}
 use Rattle.std.specs.List.{flat_map}
-use Rattle.hex.specs.Hex.{decode_of}
+use Rattle.hex.specs.Hex.{decode_of, encode_lower}
 use Rattle.hex.specs.declared.error.FromHexError.{FromHexError}
 use Rattle.gix_ref_hash.specs.declared.hash.ObjectId.{ObjectId}
 use Rattle.gix_ref_hash.specs.declared.hash.ObjectId.TheVariants as ids
+use Rattle.gix_ref_hash.specs.Ids.{id_bytes}
+
+-- the hex digits with which an id is written
+abbrev pub written_id : ObjectId → List ℕ
+written_id id = encode_lower (id_bytes id)
 
 -- A record: a name, the hex digits of its target as they are written, and those of the object at which a tag ends.
 pub record Record : Type 0 where

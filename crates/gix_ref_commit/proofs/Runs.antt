@@ -5,7 +5,7 @@ use Rattle.std.specs.List.{list_any}
 use Rattle.gix_ref_hash.specs.declared.hash.Kind.{Kind}
 use Rattle.gix_ref_hash.specs.declared.hash.ObjectId.{ObjectId}
 use Rattle.gix_ref_name.specs.declared.namespace.Namespace.{Namespace}
-use Rattle.gix_ref_base.specs.PackedRecords.{Record, record_named, id_read}
+use Rattle.gix_ref_base.specs.PackedRecords.{Record, record_named, id_read, written_id}
 use Rattle.gix_ref_base.specs.Targets.{TargetValue}
 use Rattle.gix_ref_base.specs.Targets.TargetValue.{object_id}
 use Rattle.gix_ref_files.specs.Tree.{Tree, Path, Content, file_of, is_file}
@@ -13,7 +13,6 @@ use Rattle.gix_ref_files.specs.Tree.Content.{File, Folder}
 use Rattle.gix_ref_files.specs.Disk.{Disk}
 use Rattle.gix_ref_files.specs.Lock.{lock_of}
 use Rattle.gix_ref_theory.specs.Between.{AreEdits, IsEdit, IsPrepared, MergesRecords}
-use Rattle.gix_ref_theory.specs.ConcreteStore.{written_id}
 use Rattle.gix_ref_theory.specs.Edits.{Change, Edit, Effect, effect, alters_change, alters_packed, file_of_records}
 use Rattle.gix_ref_theory.specs.Edits.Change.{Update, Delete}
 use Rattle.gix_ref_theory.specs.Edits.Effect.{Writes}

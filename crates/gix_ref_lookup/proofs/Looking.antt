@@ -7,7 +7,8 @@ use Rattle.gix_ref_theory.specs.Readings.{Store, Reading, reading_among}
 use Rattle.gix_ref_theory.specs.Readings.Reading.{Is, Absent, Fault}
 use Rattle.gix_ref_theory.specs.Lookups.{Hit, first_hit, hit, is_there}
 use Rattle.gix_ref_records.specs.declared.raw.Reference.{Reference}
-use Rattle.gix_ref_lookup.specs.Lookups.{ReturnsHit, IsCandidate, FailsAt, Among, IsPassed, AreAsked, IsNotRead, CandidateFails, IsHit, IsLooseTarget, AreHonest, AreStillAsked, IsSearched, OfSearched, OfKey, meaning_in, to_list}
+use Rattle.gix_ref_lookup.specs.Lookups.{ReturnsHit, IsCandidate, FailsAt, Among, IsPassed, AreAsked, IsNotRead, CandidateFails, IsHit, IsLooseTarget, AreHonest, AreStillAsked, IsSearched, OfSearched, OfKey, meaning_in}
+use Rattle.std.specs.Prelude.{option_to_list}
 use Rattle.gix_ref_lookup.specs.LooseFiles.{IsUndecodable}
 use Rattle.gix_ref_lookup.specs.StoreLayout.{namespace_text}
 use Rattle.gix_ref_lookup.specs.declared.settings.Settings.{Settings}
@@ -159,7 +160,7 @@ pub among_behind : (P : List ℕ → Type 0) (names tail : List (List ℕ)) → 
 among_behind P [] tail h = h
 among_behind P (n ∷ names) tail h = inr (among_behind P names tail h)
 
-pub fails_one : (Passed Passed' Fails Fails' : List ℕ → Type 0) (head : Option (List ℕ)) → ((n : List ℕ) → Fails n → Fails' n) → FailsAt Passed Fails (to_list head) → FailsAt Passed' Fails' (to_list head)
+pub fails_one : (Passed Passed' Fails Fails' : List ℕ → Type 0) (head : Option (List ℕ)) → ((n : List ℕ) → Fails n → Fails' n) → FailsAt Passed Fails (option_to_list head) → FailsAt Passed' Fails' (option_to_list head)
 fails_one Passed Passed' Fails Fails' None f why = absurd why
 fails_one Passed Passed' Fails Fails' (Some n) f (inl here) = inl (f n here)
 fails_one Passed Passed' Fails Fails' (Some n) f (inr later) = absurd later.1

@@ -1,5 +1,5 @@
 -- What the calls of this crate return: candidates, the records that they ask, and lookups (`gitrevisions`).
-use Rattle.std.specs.Prelude.{◌≡◌, ◌≢◌, ◌⊎◌, ℕ, List, [], ◌∷◌, ◌++◌, Bool, true, Option, Some, None, Result, Ok, Err, if◌then◌else◌, nat_eq}
+use Rattle.std.specs.Prelude.{◌≡◌, ◌≢◌, ◌⊎◌, ℕ, List, [], ◌∷◌, ◌++◌, Bool, true, Option, Some, None, Result, Ok, Err, if◌then◌else◌, nat_eq, option_to_list}
 use Rattle.std.specs.Option.{option_map}
 use Rattle.std.specs.Cmp.Lexicographic.{pointwise}
 use Rattle.gix_ref_hash.specs.declared.hash.Kind.{Kind}
@@ -258,14 +258,9 @@ abbrev pub FailsAmong : {R : Type 0} {G : Ghosts R} → (honest : Type 0) → Se
 FailsAmong honest settings T asked before now names error =
     FailsAt (IsPassed honest settings T asked) (λ name. CandidateFails honest settings T asked before now name error) names
 
--- as a list
-abbrev pub to_list : Option (List ℕ) → List (List ℕ)
-to_list None = []
-to_list (Some name) = name ∷ []
-
 -- the names that a lookup of a partial name asks for: its candidates, and the head of a remote
 abbrev pub asked_names : List ℕ → List (List ℕ)
-asked_names p = candidates p ++ to_list (remote_head p)
+asked_names p = candidates p ++ option_to_list (remote_head p)
 
 -- the name that is asked for a partial name: its composed form, where names are composed
 abbrev pub name_asked : (composes : Bool) → List ℕ → List ℕ

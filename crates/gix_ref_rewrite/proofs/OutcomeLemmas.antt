@@ -6,7 +6,7 @@ use Rattle.std.specs.declared.cmp.Ordering.TheVariants.{Less, Equal}
 use Rattle.std.proofs.lemmas.List.Kept.{AllPairs-cons}
 use Rattle.std.proofs.lemmas.List.Elements.{All-cons, All-nil, All-weaker}
 use Rattle.gix_ref_hash.specs.declared.hash.Kind.{Kind}
-use Rattle.gix_ref_base.specs.PackedRecords.{Record, object_line, record_text, header_text, written_text}
+use Rattle.gix_ref_base.specs.PackedRecords.{Record, object_line, record_text, header_text, written_text, written_id}
 use Rattle.gix_ref_records.specs.RecordGrammar.{OptionalPeeledLine, Records, Below, Ascending}
 use Rattle.gix_ref_records.specs.OpenedText.{IsWellFormed}
 use Rattle.gix_ref_records.specs.Positions.{IsObject, IsReadable}
@@ -24,7 +24,7 @@ use Rattle.gix_ref_rewrite.specs.Laws.{IsIdOf, IsIdIfAny, NewRecordsAreReadable}
 use Rattle.gix_ref_rewrite.specs.declared.outcome.Rewrite.{Rewrite}
 use Rattle.gix_ref_rewrite.specs.declared.outcome.Rewrite.TheVariants.{Unchanged, Removed, Text}
 use Rattle.gix_ref_rewrite.specs.MergedRecords.{IsMerged}
-use Rattle.gix_ref_rewrite.specs.RecordEdits.{digits_of, record_put, KeysAscend}
+use Rattle.gix_ref_rewrite.specs.RecordEdits.{record_put, KeysAscend}
 use Rattle.gix_ref_rewrite.specs.Rewrites.{IsReadableIfAny, IsRewrite, IsStuckAt, are_altered}
 use Rattle.gix_ref_rewrite.specs.internal.Applying.{IsOutcome, Merges}
 use Rattle.gix_ref_rewrite.specs.internal.Merging.{merged}
@@ -112,10 +112,10 @@ only_memory k first text (Iteration line) rs s h = absurd (not_stuck k text s.be
 
 -- ---- laws for callers
 
-id_digits : (k : Kind) (id : ObjectId) → IsIdOf k id → IsHexOf k (digits_of id)
-id_digits k id of = subst (λ (x : Kind). IsHexOf x (digits_of id)) of.0 (reads_whole (digits_of id) id (written_reads id of.1)).0
+id_digits : (k : Kind) (id : ObjectId) → IsIdOf k id → IsHexOf k (written_id id)
+id_digits k id of = subst (λ (x : Kind). IsHexOf x (written_id id)) of.0 (reads_whole (written_id id) id (written_reads id of.1)).0
 
-peeled_digits : (k : Kind) (peeled : Option ObjectId) → IsIdIfAny k peeled → IsObject k (option_map digits_of peeled)
+peeled_digits : (k : Kind) (peeled : Option ObjectId) → IsIdIfAny k peeled → IsObject k (option_map written_id peeled)
 peeled_digits k None of = tt
 peeled_digits k (Some id) of = id_digits k id of
 

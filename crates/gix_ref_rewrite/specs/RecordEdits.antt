@@ -2,21 +2,14 @@
 use Rattle.std.specs.Prelude.{ℕ, List, [], ◌∷◌, Option, bytes_eq, if◌then◌else◌}
 use Rattle.std.specs.List.{All}
 use Rattle.std.specs.Option.{option_map}
-use Rattle.hex.specs.Hex.{encode_lower}
-use Rattle.gix_ref_hash.specs.declared.hash.ObjectId.{ObjectId}
-use Rattle.gix_ref_hash.specs.Ids.{id_bytes}
-use Rattle.gix_ref_base.specs.PackedRecords.{Record}
+use Rattle.gix_ref_base.specs.PackedRecords.{Record, written_id}
 use Rattle.gix_ref_records.specs.RecordGrammar.{Below}
 use Rattle.gix_ref_rewrite.specs.declared.edit.NewRecord.{NewRecord}
 use Rattle.gix_ref_rewrite.specs.declared.edit.RecordEdit.{RecordEdit}
 
--- the hex digits with which a new id is written
-abbrev pub digits_of : ObjectId → List ℕ
-digits_of id = encode_lower (id_bytes id)
-
 -- the record of a key with new ids
 abbrev pub new_record : List ℕ → NewRecord → Record
-new_record key new = record { name = key; target = digits_of new.target; object = option_map digits_of new.peeled }
+new_record key new = record { name = key; target = written_id new.target; object = option_map written_id new.peeled }
 
 -- the record that an edit puts, if it is no removal
 abbrev pub record_put : RecordEdit → Option Record

@@ -3,8 +3,8 @@ ghost use Rattle.std.specs.Prelude.{◌≡◌, ◌++◌, OnOk};
 ghost use Rattle.std.specs.Bool.{OnFalse};
 ghost use Rattle.std.specs.Option.{option_map};
 ghost use Rattle.gix_ref_hash.specs.Bytes.{NoByte};
-ghost use Rattle.gix_ref_base.specs.PackedRecords.{object_line, record_text};
-ghost use Rattle.gix_ref_rewrite.specs.RecordEdits.{digits_of, new_record};
+ghost use Rattle.gix_ref_base.specs.PackedRecords.{object_line, record_text, written_id};
+ghost use Rattle.gix_ref_rewrite.specs.RecordEdits.{new_record};
 ghost use Rattle.gix_ref_rewrite.specs.internal.Runs.{without_cr};
 
 use crate::edit::NewRecord;
@@ -50,7 +50,7 @@ pub fn push_run(text: &mut Vec<u8>, run: &[u8]) -> Result<(), AllocError>
 /// Adds the line of a peeled id to a text, if there is one.
 fn push_peeled(text: &mut Vec<u8>, peeled: Option<ObjectId>) -> Result<(), AllocError>
     ensures { OnOk result (text.new.items
-        ≡ text.old.items ++ object_line (option_map digits_of peeled)) }
+        ≡ text.old.items ++ object_line (option_map written_id peeled)) }
 {
     let Some(peeled) = peeled else {
         return Ok(());

@@ -3,7 +3,7 @@ use Rattle.std.proofs.Common.{◌≡◌, ◌≢◌, inl, inr, ℕ, List, [], ◌
 use Rattle.std.proofs.lemmas.Bool.{true≢false, cond-false}
 use Rattle.std.proofs.lemmas.List.{append-nil, append_cancel_right}
 use Rattle.gix_ref_hash.specs.declared.hash.ObjectId.{ObjectId}
-use Rattle.gix_ref_base.specs.PackedRecords.{Record, id_read}
+use Rattle.gix_ref_base.specs.PackedRecords.{Record, id_read, written_id}
 use Rattle.gix_ref_base.specs.Targets.{TargetValue}
 use Rattle.gix_ref_base.specs.Targets.TargetValue.{object_id}
 use Rattle.gix_ref_files.specs.Lock.{lock_of}
@@ -14,7 +14,6 @@ use Rattle.gix_ref_files.specs.Steps.Step.{Rename}
 use Rattle.gix_ref_files.specs.DiskSteps.{Synced}
 use Rattle.gix_ref_files.specs.DiskSteps.Synced.{With}
 use Rattle.gix_ref_theory.specs.Between.{AreEdits, IsEdit, IsPrepared}
-use Rattle.gix_ref_theory.specs.ConcreteStore.{written_id}
 use Rattle.gix_ref_theory.specs.Edits.{Edit, Effect, effect, effect_of_change, has_already, alters_change, alters_packed, file_of_records}
 use Rattle.gix_ref_theory.specs.Edits.Change.{Update}
 use Rattle.gix_ref_theory.specs.Edits.Effect.{Writes, Removes, Keeps}

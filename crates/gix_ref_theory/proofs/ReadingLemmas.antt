@@ -10,8 +10,7 @@ use Rattle.gix_ref_theory.specs.Edits.{Change, Edit, Effect, Mode, alters_change
 use Rattle.gix_ref_theory.specs.Edits.Change.{Delete, Update}
 use Rattle.gix_ref_theory.specs.Edits.Mode.{DeletionsOnly, Packing, PackingAndRemoving}
 use Rattle.gix_ref_theory.specs.Edits.Effect.{Keeps, Removes, Writes}
-use Rattle.gix_ref_base.specs.PackedRecords.{Record, record_named, id_read}
-use Rattle.gix_ref_theory.specs.ConcreteStore.{written_id}
+use Rattle.gix_ref_base.specs.PackedRecords.{Record, record_named, id_read, written_id}
 use Rattle.gix_ref_theory.specs.Readings.{Reading, Store, as_read, reading, reading_by, reading_of_id, reading_of_loose, reading_of_record, records_of_file}
 use Rattle.gix_ref_theory.specs.Readings.Reading.{Absent, Fault, Is}
 use Rattle.gix_ref_theory.specs.Views.{View}

@@ -1,23 +1,16 @@
 -- The store of real files: the places of the table, the texts that are written, and the options of its reading.
 use Rattle.std.specs.Prelude.{ℕ, List, [], ◌∷◌, ◌++◌, Option, Bool, ◌&&◌, is_none, codes, nat_eq, if◌then◌else◌}
 use Rattle.std.specs.List.{list_any, starts_with}
-use Rattle.hex.specs.Hex.{encode_lower}
-use Rattle.gix_ref_hash.specs.declared.hash.ObjectId.{ObjectId}
 use Rattle.gix_ref_hash.specs.Bytes.{components, without_front}
-use Rattle.gix_ref_hash.specs.Ids.{id_bytes}
 use Rattle.gix_ref_grammar.specs.NameGrammar.{partial_error}
 use Rattle.gix_ref_name.specs.Namespaces.{stripped}
-use Rattle.gix_ref_base.specs.PackedRecords.{Record, written_text}
+use Rattle.gix_ref_base.specs.PackedRecords.{Record, written_id, written_text}
 use Rattle.gix_ref_base.specs.Targets.{TargetValue}
 use Rattle.gix_ref_base.specs.Targets.TargetValue.{object_id, symbolic_name}
 use Rattle.gix_ref_files.specs.Tree.{Path}
 use Rattle.gix_ref_base.specs.Layout.{Layout, below, packed_refs}
 use Rattle.gix_ref_base.specs.Locations.{is_safe, paths_at}
 use Rattle.gix_ref_theory.specs.Readings.{Store}
-
--- the hex digits with which an id is written
-abbrev pub written_id : ObjectId → List ℕ
-written_id id = encode_lower (id_bytes id)
 
 -- the text of a loose file: the digits of the id, or `ref: ` and the name, and LF
 abbrev pub loose_text : TargetValue → List ℕ

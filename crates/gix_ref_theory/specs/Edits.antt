@@ -8,10 +8,9 @@ use Rattle.gix_ref_hash.specs.declared.hash.ObjectId.TheVariants.{Sha1, Sha256}
 use Rattle.gix_ref_base.specs.Targets.{TargetValue}
 use Rattle.gix_ref_base.specs.Targets.TargetValue.{object_id, symbolic_name}
 use Rattle.gix_ref_theory.specs.Views.{View, file_bytes}
-use Rattle.gix_ref_base.specs.PackedRecords.{Record, record_named}
+use Rattle.gix_ref_base.specs.PackedRecords.{Record, record_named, written_id}
 use Rattle.gix_ref_theory.specs.Readings.{Store, Reading, reading, as_read}
 use Rattle.gix_ref_theory.specs.Readings.Reading.{Is, Absent}
-use Rattle.gix_ref_theory.specs.ConcreteStore.{written_id}
 
 -- What an edit asks for.
 pub data Change : Type 0 where

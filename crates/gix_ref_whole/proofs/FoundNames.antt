@@ -17,7 +17,8 @@ use Rattle.gix_ref_packed.specs.OpenFiles.{HasReadFault}
 use Rattle.gix_ref_packed.specs.declared.packed.buffer.open.Error.TheVariants.{Iter, HeaderParsing, Io, Memory as open_memory}
 use Rattle.gix_ref_theory.specs.OnRealTrees.{view_of}
 use Rattle.gix_ref_lookup.specs.LooseFiles.{IsUndecodable}
-use Rattle.gix_ref_lookup.specs.Lookups.{ReturnsHit, AreAsked, CandidateFails, FailsAmong, IsSound, asked_names, lookup_of, hit_given, meaning_in, name_asked, to_list}
+use Rattle.gix_ref_lookup.specs.Lookups.{ReturnsHit, AreAsked, CandidateFails, FailsAmong, IsSound, asked_names, lookup_of, hit_given, meaning_in, name_asked}
+use Rattle.std.specs.Prelude.{option_to_list}
 use Rattle.gix_ref_lookup.specs.declared.settings.Settings.{Settings}
 use Rattle.gix_ref_lookup.specs.declared.loose.error.Error.{Error as Undecoded}
 use Rattle.gix_ref_lookup.specs.declared.find.records.Records.TheVariants.{Unopened}
@@ -176,6 +177,6 @@ module _ {R : Type 0} (G : Ghosts R) (honest : Type 0) (h : honest) (settings : 
   fails_as composes first composed Fault is e sound fails = or_none e
   fails_as composes first composed Absent is e sound fails = or_later e
   fails_as composes first composed (Is target) is e sound fails =
-      target_fails target is (further name ++ to_list (remote_head name)) e sound
-      (subst (λ (names : List (List ℕ)). (e ≡ Memory) ⊎ FailsAmong {G = G} honest settings T Unopened before now (names ++ to_list (remote_head name)) e) (asked_first name first)
+      target_fails target is (further name ++ option_to_list (remote_head name)) e sound
+      (subst (λ (names : List (List ℕ)). (e ≡ Memory) ⊎ FailsAmong {G = G} honest settings T Unopened before now (names ++ option_to_list (remote_head name)) e) (asked_first name first)
       (subst (λ (n : List ℕ). (e ≡ Memory) ⊎ FailsAmong {G = G} honest settings T Unopened before now (asked_names n) e) composed fails))

@@ -16,11 +16,11 @@ use Rattle.gix_ref_theory.specs.Edits.Change.{Delete, Update}
 use Rattle.gix_ref_theory.specs.Edits.Mode.{DeletionsOnly, PackingAndRemoving}
 use Rattle.gix_ref_worked_example.specs.Example.{ExampleIsPrepared, PackedFirstIsWrong, PackedTextsAreThese, PlacesInLinked, PlanIsFiveWrites, RemovedFirstIsWrong, RemovingModeShowsDeletionFirst, RemovingModeShowsOutOfOrder, ReverseIsWrong, Shows, StepsCarryOutThePlan, a_record, deletion, edits, files, files_after, files_with_locks, kept_records, locked, old_records, ones, packed_records, steps, store, twos, update}
 use Rattle.gix_ref_theory.specs.Plan.{plan}
-use Rattle.gix_ref_base.specs.PackedRecords.{Record, record_named, written_text, id_read}
+use Rattle.gix_ref_base.specs.PackedRecords.{Record, record_named, written_text, id_read, written_id}
 use Rattle.gix_ref_hash.specs.declared.hash.ObjectId.{ObjectId}
 use Rattle.gix_ref_theory.specs.Readings.{Reading, reading, records_of_file}
 use Rattle.gix_ref_theory.specs.Readings.Reading.{Absent, Fault, Is}
-use Rattle.gix_ref_theory.specs.ConcreteStore.{below_folders, written_id, loose_text}
+use Rattle.gix_ref_theory.specs.ConcreteStore.{below_folders, loose_text}
 use Rattle.gix_ref_theory.specs.Views.{View, Write, after, changed_at}
 use Rattle.gix_ref_theory.specs.Views.Write.{Put, Remove}
 

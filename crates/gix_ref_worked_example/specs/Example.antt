@@ -13,10 +13,10 @@ use Rattle.gix_ref_files.specs.Steps.Step.{Append as AppendStep, Rename, RemoveF
 use Rattle.gix_ref_theory.specs.OnRealTrees.{CarryOut}
 use Rattle.gix_ref_theory.specs.Views.{View, after, changed_at}
 use Rattle.gix_ref_theory.specs.Views.Write.{Put, Remove}
-use Rattle.gix_ref_base.specs.PackedRecords.{Record, written_text}
+use Rattle.gix_ref_base.specs.PackedRecords.{Record, written_text, written_id}
 use Rattle.gix_ref_theory.specs.Readings.{Store, Reading, reading}
 use Rattle.gix_ref_theory.specs.Readings.Reading.{Is, Absent}
-use Rattle.gix_ref_theory.specs.ConcreteStore.{store_of, written_id, loose_text}
+use Rattle.gix_ref_theory.specs.ConcreteStore.{store_of, loose_text}
 use Rattle.gix_ref_theory.specs.Edits.{Edit, Mode}
 use Rattle.gix_ref_theory.specs.Edits.Change.{Update, Delete}
 use Rattle.gix_ref_theory.specs.Edits.Mode.{DeletionsOnly, PackingAndRemoving}

@@ -1,5 +1,5 @@
 //! The lookup of a partial name (`gitrevisions`): its candidates, one after the other.
-ghost use Rattle.std.specs.Prelude.{◌≡◌, ◌⊎◌, None, List, IfOk, IfErr, IfSome, OnOk};
+ghost use Rattle.std.specs.Prelude.{◌≡◌, ◌⊎◌, None, List, IfOk, IfErr, IfSome, OnOk, option_to_list};
 ghost use Rattle.gix_ref_name.specs.Candidates.{candidates, remote_head};
 ghost use Rattle.gix_ref_name.specs.Names.{partial_ref_bytes};
 ghost use Rattle.gix_ref_base.specs.PackedRecords.{Record};
@@ -7,7 +7,7 @@ ghost use Rattle.gix_ref_files.specs.Files.{Leaves};
 ghost use Rattle.gix_ref_files.specs.Calls.{Unchanged};
 ghost use Rattle.gix_ref_theory.specs.Lookups.{first_hit, hit_or_head, lookup};
 ghost use Rattle.gix_ref_theory.specs.OnRealTrees.{view_of};
-ghost use Rattle.gix_ref_lookup.specs.Lookups.{meaning_in, packed_refs_in, AreAsked, AreHonest, ReturnsHit, IsSound, IsHit, Among, FailsAmong, to_list, asked_names, AreStillAsked};
+ghost use Rattle.gix_ref_lookup.specs.Lookups.{meaning_in, packed_refs_in, AreAsked, AreHonest, ReturnsHit, IsSound, IsHit, Among, FailsAmong, asked_names, AreStillAsked};
 
 use crate::find::Error;
 use crate::find::candidate::find_candidate;
@@ -77,11 +77,11 @@ fn find_head<F: Files>(
         F.Reader.ReadAt} F.honest
         settings.entry (F.means files.old).tree Records.None (F.faults files.old) (F.faults
         files.new)
-        (to_list (remote_head (partial_ref_bytes name.entry))) error) }
+        (option_to_list (remote_head (partial_ref_bytes name.entry))) error) }
     ensures hit { F.honest → IfOk result (λ r. IfSome r (λ r. Among (λ n.
         IsHit {G = F.Reader.ReadAt} settings.entry (view_of (F.means files.old).tree) Records.None
         n r)
-        (to_list (remote_head (partial_ref_bytes name.entry))))) }
+        (option_to_list (remote_head (partial_ref_bytes name.entry))))) }
     ensures no_fault { OnOk result (F.faults files.new ≡ F.faults files.old) }
     ensures leaves { F.honest → Leaves (F.means files.old) (F.means files.new)
         (Unchanged (F.means files.old).tree) }

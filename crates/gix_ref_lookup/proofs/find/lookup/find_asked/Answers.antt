@@ -2,7 +2,8 @@ use Rattle.std.proofs.Common.{◌≡◌, ◌⊎◌, inl, inr, ⊎_elim, ℕ, Non
 use Rattle.gix_ref_name.specs.Candidates.{candidates, remote_head}
 use Rattle.gix_ref_name.specs.Names.{partial_ref_bytes}
 use Rattle.gix_ref_theory.specs.OnRealTrees.{view_of}
-use Rattle.gix_ref_lookup.specs.Lookups.{meaning_in, IsHit, IsPassed, CandidateFails, to_list}
+use Rattle.gix_ref_lookup.specs.Lookups.{meaning_in, IsHit, IsPassed, CandidateFails}
+use Rattle.std.specs.Prelude.{option_to_list}
 use Rattle.gix_ref_lookup.specs.declared.find.records.Records.{Records}
 use Rattle.gix_ref_lookup.specs.declared.find.records.Records.TheVariants as sources
 use Rattle.gix_ref_lookup.proofs.Looking.{among_front, among_behind, among_wider, fails_front, fails_behind, fails_one, fails_from, hit_from, none_found}
@@ -15,7 +16,7 @@ returns-in-Ok-None-clause-hit g c h honest =
     let first = g.F.Files.means c.args.files.now in
     let mid = g.F.Files.means c.find_first.new.files in
     let p = partial_ref_bytes c.args.name in
-    let head = to_list (remote_head p) in
+    let head = option_to_list (remote_head p) in
     let none : Records g.row.F-Reader.Denot g.F.Reader.ReadAt = sources.None in
     if_ok c.find_head.result (λ found. if_some found (λ r hit.
     among_behind (λ n. IsHit {R = g.row.F-Reader.Denot} {G = g.F.Reader.ReadAt} settings (view_of first.tree) c.args.records.now n r) (candidates p) head
@@ -36,7 +37,7 @@ returns-in-Ok-None-clause-failed g c =
     let old = c.args.records.now in
     let none : Records g.row.F-Reader.Denot g.F.Reader.ReadAt = sources.None in
     if_err c.find_head.result (λ error why. ⊎_elim (λ memory. inl memory) (λ fails. inr
-    (fails_behind g.F.Files.honest settings first.tree old (λ n. CandidateFails {R = g.row.F-Reader.Denot} {G = g.F.Reader.ReadAt} g.F.Files.honest settings first.tree old before now n error) (candidates p) (to_list (remote_head p))
+    (fails_behind g.F.Files.honest settings first.tree old (λ n. CandidateFails {R = g.row.F-Reader.Denot} {G = g.F.Reader.ReadAt} g.F.Files.honest settings first.tree old before now n error) (candidates p) (option_to_list (remote_head p))
     (λ h rs are. none_found _ (rw c.in-Ok-None.field-0-is at (c.in-Ok-None.ensures.found h rs are)))
     (fails_one (IsPassed {R = g.row.F-Reader.Denot} {G = g.F.Reader.ReadAt} g.F.Files.honest settings mid.tree none) (IsPassed {R = g.row.F-Reader.Denot} {G = g.F.Reader.ReadAt} g.F.Files.honest settings first.tree old)
     (λ n. CandidateFails {R = g.row.F-Reader.Denot} {G = g.F.Reader.ReadAt} g.F.Files.honest settings mid.tree none between now n error) (λ n. CandidateFails {R = g.row.F-Reader.Denot} {G = g.F.Reader.ReadAt} g.F.Files.honest settings first.tree old before now n error) (remote_head p)
@@ -50,7 +51,7 @@ returns-in-Ok-Some-clause-hit g c h honest =
     let first = g.F.Files.means c.args.files.now in
     let p = partial_ref_bytes c.args.name in
     let r = c.in-Ok-Some.reference in
-    among_front (λ n. IsHit {R = g.row.F-Reader.Denot} {G = g.F.Reader.ReadAt} settings (view_of first.tree) c.args.records.now n r) (candidates p) (to_list (remote_head p)) (rw c.in-Ok-Some.field-0-is at (c.in-Ok-Some.ensures.hit h honest))
+    among_front (λ n. IsHit {R = g.row.F-Reader.Denot} {G = g.F.Reader.ReadAt} settings (view_of first.tree) c.args.records.now n r) (candidates p) (option_to_list (remote_head p)) (rw c.in-Ok-Some.field-0-is at (c.in-Ok-Some.ensures.hit h honest))
 
 pub returns-in-Err-clause-failed : goal.returns-in-Err-clause-failed
 returns-in-Err-clause-failed g c =
@@ -59,4 +60,4 @@ returns-in-Err-clause-failed g c =
     let p = partial_ref_bytes c.args.name in
     inr (fails_front (IsPassed {R = g.row.F-Reader.Denot} {G = g.F.Reader.ReadAt} g.F.Files.honest settings first.tree c.args.records.now)
     (λ n. CandidateFails {R = g.row.F-Reader.Denot} {G = g.F.Reader.ReadAt} g.F.Files.honest settings first.tree c.args.records.now (g.F.Files.faults c.args.files.now) (g.F.Files.faults c.find_first.new.files) n c.in-Err.error)
-    (candidates p) (to_list (remote_head p)) c.in-Err.ensures.failed)
+    (candidates p) (option_to_list (remote_head p)) c.in-Err.ensures.failed)
