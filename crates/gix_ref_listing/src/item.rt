@@ -2,10 +2,9 @@
 ghost use Rattle.std.specs.Prelude.{◌≡◌, ◌≤◌, ◌+◌, List, IfSome, IfNone};
 ghost use Rattle.std.specs.Option.{option_len};
 ghost use Rattle.gix_ref_name.specs.Names.{full_bytes};
-ghost use Rattle.gix_ref_files.specs.Files.{Leaves};
-ghost use Rattle.gix_ref_files.specs.Calls.{Unchanged};
 ghost use Rattle.gix_ref_theory.specs.OnRealTrees.{view_of};
 ghost use Rattle.gix_ref_lookup.specs.Lookups.{meaning_in};
+ghost use Rattle.gix_ref_lookup.specs.Looks.{OnlyLooks};
 ghost use Rattle.gix_ref_listing.specs.OwnRecords.{own_of};
 ghost use Rattle.gix_ref_listing.specs.Items.{IsGone, IsFoundItem, IsRecordItem, IsTakenItem};
 ghost use Rattle.gix_ref_listing.specs.Listings.{Listed, IsNoRecord, merge_left};
@@ -50,9 +49,7 @@ fn file_item<F: Files>(
 ) -> Result<Reference, Error>
     ensures item { IsFoundItem F.honest settings.entry (view_of (F.means files.old).tree)
         (F.faults files.old) (F.faults files.new) (File name path) result }
-    ensures rises { F.faults files.old ≤ F.faults files.new }
-    ensures leaves { F.honest → Leaves (F.means files.old) (F.means files.new)
-        (Unchanged (F.means files.old).tree) }
+    ensures looks { OnlyLooks F.honest F.means F.faults files.old files.new }
 {
     match read_at(alloc, files, settings, name.as_ref(), path) {
         Ok(Some(target)) => Ok(Reference {
@@ -85,9 +82,7 @@ fn item<F: Files>(
 ) -> Result<Reference, Error>
     ensures item { IsTakenItem F.honest settings.entry (view_of (F.means files.old).tree)
         (F.faults files.old) (F.faults files.new) taken.entry result }
-    ensures rises { F.faults files.old ≤ F.faults files.new }
-    ensures leaves { F.honest → Leaves (F.means files.old) (F.means files.new)
-        (Unchanged (F.means files.old).tree) }
+    ensures looks { OnlyLooks F.honest F.means F.faults files.old files.new }
 {
     match taken {
         Taken::Walked(Found::File { name, path }) => file_item(alloc, files, settings, name, path),

@@ -1,10 +1,9 @@
 //! The listing of a prefix.
-ghost use Rattle.std.specs.Prelude.{◌≡◌, ◌≤◌, ◌++◌, List, IfOk, IfErr};
+ghost use Rattle.std.specs.Prelude.{◌≡◌, ◌++◌, List, IfOk, IfErr};
 ghost use Rattle.gix_ref_base.specs.PackedRecords.{Record};
-ghost use Rattle.gix_ref_files.specs.Files.{Leaves};
-ghost use Rattle.gix_ref_files.specs.Calls.{Unchanged};
 ghost use Rattle.gix_ref_theory.specs.OnRealTrees.{view_of};
 ghost use Rattle.gix_ref_lookup.specs.StoreLayout.{namespace_text};
+ghost use Rattle.gix_ref_lookup.specs.Looks.{OnlyLooks};
 ghost use Rattle.gix_ref_listing.specs.PlainSettings.{plain};
 ghost use Rattle.gix_ref_listing.specs.WholeListings.{AreHeldOf, IsAskedOf, ListsAll, key_in};
 ghost use Rattle.gix_ref_listing.specs.declared.prefix.Error.TheVariants.{Memory};
@@ -54,9 +53,7 @@ pub fn list<'p, F: Files>(
         AreHeldOf (key_in settings.entry prefix.now) packed.entry records →
         IfOk result (ListsAll (plain settings.entry) (view_of (F.means files.old).tree) records
         prefix.now (F.faults files.old) (F.faults files.new)) }
-    ensures rises { F.faults files.old ≤ F.faults files.new }
-    ensures leaves { F.honest → Leaves (F.means files.old) (F.means files.new)
-        (Unchanged (F.means files.old).tree) }
+    ensures looks { OnlyLooks F.honest F.means F.faults files.old files.new }
     ensures memory { IfErr result (λ error. error ≡ Memory) }
 {
     let Ok(found) = walk_store(alloc, files, settings, prefix) else {

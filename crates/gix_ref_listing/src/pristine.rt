@@ -1,17 +1,17 @@
 //! Whether a store is as `git init` makes it.
-ghost use Rattle.std.specs.Prelude.{◌≡◌, ◌≢◌, ◌⊎◌, ◌≤◌, ◌↔◌, true, false, IsTrue, IfOk};
+ghost use Rattle.std.specs.Prelude.{◌≡◌, ◌⊎◌, ◌↔◌, true, false, IsTrue, IfOk};
 ghost use Rattle.std.specs.List.{All};
 ghost use Rattle.gix_ref_name.specs.Names.{full_ref_bytes};
 ghost use Rattle.gix_ref_base.specs.Targets.{target_value};
 ghost use Rattle.gix_ref_base.specs.Targets.TargetValue.{symbolic_name};
-ghost use Rattle.gix_ref_files.specs.Files.{Leaves, HasRisen};
-ghost use Rattle.gix_ref_files.specs.Calls.{Unchanged};
+ghost use Rattle.gix_ref_files.specs.Files.{HasRisen};
 ghost use Rattle.gix_ref_theory.specs.OnRealTrees.{view_of};
 ghost use Rattle.gix_ref_listing.specs.PlainSettings.{plain};
 ghost use Rattle.gix_ref_listing.specs.PristineStores.{Says, IsReading, IsReadableFile, IsUnreadableFile, ReadsAt, ReadsNone, HasOtherHead, HasLoose, HasNoLoose, HasReferences, HasNoReferences, IsFoundFile, IsPristine, IsInUse, has_packed_refs, head_path};
-ghost use Rattle.gix_ref_listing.specs.Walks.{IsFile, FoundEntry};
+ghost use Rattle.gix_ref_listing.specs.Walks.{IsFile};
 ghost use Rattle.gix_ref_listing.specs.declared.pristine.Reading.TheVariants.{Fault};
 ghost use Rattle.gix_ref_lookup.specs.Lookups.{Among};
+ghost use Rattle.gix_ref_lookup.specs.Looks.{OnlyLooks};
 
 use crate::found::{Found, FoundByKey};
 use crate::store_walk::walk_store;
@@ -47,9 +47,7 @@ fn reading_at<F: Files>(
         (IsReading (plain settings.entry) (view_of (F.means files.old).tree) path.items) }
     ensures fault { IfOk result (λ reading. reading ≡ Fault →
         HasRisen (F.faults files.old) (F.faults files.new)) }
-    ensures rises { F.faults files.old ≤ F.faults files.new }
-    ensures leaves { F.honest → Leaves (F.means files.old) (F.means files.new)
-        (Unchanged (F.means files.old).tree) }
+    ensures looks { OnlyLooks F.honest F.means F.faults files.old files.new }
 {
     match read_at(alloc, files, settings, name, path) {
         Ok(Some(target)) => Ok(Reading::Is(target)),
@@ -88,9 +86,7 @@ fn head_points_to<F: Files>(
         (full_ref_bytes name.entry))
         ((F.honest → ReadsNone (plain settings.entry) (view_of (F.means files.old).tree)
         (head_path (plain settings.entry))) ⊎ HasRisen (F.faults files.old) (F.faults files.new))) }
-    ensures rises { F.faults files.old ≤ F.faults files.new }
-    ensures leaves { F.honest → Leaves (F.means files.old) (F.means files.new)
-        (Unchanged (F.means files.old).tree) }
+    ensures looks { OnlyLooks F.honest F.means F.faults files.old files.new }
 {
     let Some(head) = FullNameRef::from_path(b"HEAD") else {
         return Ok(None);
@@ -113,9 +109,7 @@ fn has_packed_refs<F: Files>(
         (F.honest → has_packed_refs (plain settings.entry) (F.means files.old).tree ≡ true)
         (F.honest → has_packed_refs (plain settings.entry) (F.means files.old).tree ≡ false)
         (HasRisen (F.faults files.old) (F.faults files.new))) }
-    ensures rises { F.faults files.old ≤ F.faults files.new }
-    ensures leaves { F.honest → Leaves (F.means files.old) (F.means files.new)
-        (Unchanged (F.means files.old).tree) }
+    ensures looks { OnlyLooks F.honest F.means F.faults files.old files.new }
 {
     let path = settings.packed_refs_path(alloc)?;
     match files.kind(&path) {
@@ -139,9 +133,7 @@ fn is_readable<F: Files>(
         ((other ≡ false) × (F.honest → IsUnreadableFile (plain settings.entry)
         (view_of (F.means files.old).tree) found))
         (IsFoundFile found → HasRisen (F.faults files.old) (F.faults files.new))) }
-    ensures rises { F.faults files.old ≤ F.faults files.new }
-    ensures leaves { F.honest → Leaves (F.means files.old) (F.means files.new)
-        (Unchanged (F.means files.old).tree) }
+    ensures looks { OnlyLooks F.honest F.means F.faults files.old files.new }
 {
     match found {
         Found::Unlisted { .. } => Ok(None),
@@ -170,9 +162,7 @@ fn any_readable<F: Files>(
         (F.honest → All (λ e. IsUnreadableFile (plain settings.entry)
         (view_of (F.means files.old).tree) e.1) found.entries)
         (All IsFile found.entries → HasRisen (F.faults files.old) (F.faults files.new))) }
-    ensures rises { F.faults files.old ≤ F.faults files.new }
-    ensures leaves { F.honest → Leaves (F.means files.old) (F.means files.new)
-        (Unchanged (F.means files.old).tree) }
+    ensures looks { OnlyLooks F.honest F.means F.faults files.old files.new }
 {
     let mut any = false;
     while let Some((_, one)) = found.pop_first() {
@@ -195,9 +185,7 @@ fn has_loose<F: Files>(
         (F.honest → HasLoose (plain settings.entry) (view_of (F.means files.old).tree) prefix.now)
         (F.honest → HasNoLoose (plain settings.entry) (view_of (F.means files.old).tree) prefix.now)
         (HasRisen (F.faults files.old) (F.faults files.new))) }
-    ensures rises { F.faults files.old ≤ F.faults files.new }
-    ensures leaves { F.honest → Leaves (F.means files.old) (F.means files.new)
-        (Unchanged (F.means files.old).tree) }
+    ensures looks { OnlyLooks F.honest F.means F.faults files.old files.new }
 {
     let Ok(found) = walk_store(alloc, files, settings, prefix) else {
         return Err(AllocError);
@@ -216,9 +204,7 @@ fn has_references<F: Files>(
         (F.honest → HasReferences (plain settings.entry) (F.means files.old).tree prefix.now)
         (F.honest → HasNoReferences (plain settings.entry) (F.means files.old).tree prefix.now)
         (HasRisen (F.faults files.old) (F.faults files.new))) }
-    ensures rises { F.faults files.old ≤ F.faults files.new }
-    ensures leaves { F.honest → Leaves (F.means files.old) (F.means files.new)
-        (Unchanged (F.means files.old).tree) }
+    ensures looks { OnlyLooks F.honest F.means F.faults files.old files.new }
 {
     match has_packed_refs(alloc, files, settings)? {
         Some(true) => Ok(Some(true)),
@@ -243,9 +229,7 @@ pub fn is_pristine<F: Files>(
         (full_ref_bytes name.entry))
         ((F.honest → ReadsNone (plain settings.entry) (view_of (F.means files.old).tree)
         (head_path (plain settings.entry))) ⊎ HasRisen (F.faults files.old) (F.faults files.new))) }
-    ensures rises { F.faults files.old ≤ F.faults files.new }
-    ensures leaves { F.honest → Leaves (F.means files.old) (F.means files.new)
-        (Unchanged (F.means files.old).tree) }
+    ensures looks { OnlyLooks F.honest F.means F.faults files.old files.new }
 {
     match head_points_to(alloc, files, settings, name)? {
         Some(true) => match has_references(alloc, files, settings, prefix)? {

@@ -1,9 +1,8 @@
 //! The listing of pseudo references: `HEAD`, `FETCH_HEAD`, `ORIG_HEAD` and the like
 //! (`git for-each-ref --include-root-refs`).
-ghost use Rattle.std.specs.Prelude.{◌≡◌, ◌⊎◌, ◌≤◌, ℕ, List, IfOk, IfErr, filter};
+ghost use Rattle.std.specs.Prelude.{◌≡◌, ◌⊎◌, ℕ, List, IfOk, IfErr, filter};
 ghost use Rattle.std.specs.List.{All};
-ghost use Rattle.gix_ref_files.specs.Files.{Leaves, HasRisen};
-ghost use Rattle.gix_ref_files.specs.Calls.{Unchanged};
+ghost use Rattle.gix_ref_files.specs.Files.{HasRisen};
 ghost use Rattle.gix_ref_files.specs.declared.files.FileError.TheVariants.{Memory as no_memory};
 ghost use Rattle.gix_ref_theory.specs.OnRealTrees.{view_of};
 ghost use Rattle.gix_ref_listing.specs.PlainSettings.{plain};
@@ -11,6 +10,7 @@ ghost use Rattle.gix_ref_listing.specs.PseudoListings.{is_head_file, is_kept, Is
 ghost use Rattle.gix_ref_listing.specs.Walks.{Holds, IsFile};
 ghost use Rattle.gix_ref_listing.specs.declared.prefix.Error.TheVariants.{Memory};
 ghost use Rattle.gix_ref_lookup.specs.Lookups.{Among};
+ghost use Rattle.gix_ref_lookup.specs.Looks.{OnlyLooks};
 
 use crate::found::{Found, FoundByKey};
 use crate::merge::Merge;
@@ -61,10 +61,8 @@ fn walk_pseudo<F: Files>(
         ⊎ HasRisen (F.faults files.old) (F.faults files.new)) }
     ensures there { F.honest → IfOk result (λ found.
         All (IsPseudoFound settings.entry (view_of (F.means files.old).tree)) found.entries) }
-    ensures rises { F.faults files.old ≤ F.faults files.new }
+    ensures looks { OnlyLooks F.honest F.means F.faults files.old files.new }
     ensures memory { IfErr result (λ error. error ≡ no_memory) }
-    ensures leaves { F.honest → Leaves (F.means files.old) (F.means files.new)
-        (Unchanged (F.means files.old).tree) }
 {
     let Ok(path) = front_of(alloc, &settings.dirs.git_dir, settings.namespace) else {
         return Err(FileError::Memory);
@@ -90,9 +88,7 @@ pub fn list_pseudo<'p, F: Files>(
 ) -> Result<Merge<'p>, Error>
     ensures lists { F.honest → IfOk result (ListsPseudo (plain settings.entry)
         (view_of (F.means files.old).tree) (F.faults files.old) (F.faults files.new)) }
-    ensures rises { F.faults files.old ≤ F.faults files.new }
-    ensures leaves { F.honest → Leaves (F.means files.old) (F.means files.new)
-        (Unchanged (F.means files.old).tree) }
+    ensures looks { OnlyLooks F.honest F.means F.faults files.old files.new }
     ensures memory { IfErr result (λ error. error ≡ Memory) }
 {
     let Ok(found) = walk_pseudo(alloc, files, settings) else {

@@ -1,15 +1,15 @@
 //! The loose references of a store.
-ghost use Rattle.std.specs.Prelude.{◌≡◌, ◌≢◌, ◌⊎◌, ◌≤◌, [], List, ℕ, IfOk, IfErr, OnOk};
+ghost use Rattle.std.specs.Prelude.{◌≡◌, ◌≢◌, ◌⊎◌, [], List, ℕ, IfOk, IfErr, OnOk};
 ghost use Rattle.std.specs.List.{All};
 ghost use Rattle.gix_ref_base.specs.Layout.{below};
-ghost use Rattle.gix_ref_files.specs.Files.{Leaves, HasRisen};
-ghost use Rattle.gix_ref_files.specs.Calls.{Unchanged};
+ghost use Rattle.gix_ref_files.specs.Files.{HasRisen};
 ghost use Rattle.gix_ref_files.specs.declared.files.FileError.TheVariants.{Memory};
 ghost use Rattle.gix_ref_theory.specs.OnRealTrees.{view_of};
 ghost use Rattle.gix_ref_lookup.specs.StoreLayout.{namespace_text};
 ghost use Rattle.gix_ref_listing.specs.Walks.{Holds, IsFile, IsFolderPath, IsRootPath, StaysFound};
 ghost use Rattle.gix_ref_listing.specs.LooseListings.{IsFront, IsLooseListed, IsFoundIn, LooseIn};
 ghost use Rattle.gix_ref_lookup.specs.Lookups.{Among};
+ghost use Rattle.gix_ref_lookup.specs.Looks.{OnlyLooks};
 
 use crate::found::FoundByKey;
 use crate::walk::Root;
@@ -72,10 +72,8 @@ fn walk_in<F: Files>(
         found.old.entries →
         All (IsFoundIn settings.entry (view_of (F.means files.old).tree) prefix.now)
         found.new.entries) }
-    ensures rises { F.faults files.old ≤ F.faults files.new }
+    ensures looks { OnlyLooks F.honest F.means F.faults files.old files.new }
     ensures memory { IfErr result (λ error. error ≡ Memory) }
-    ensures leaves { F.honest → Leaves (F.means files.old) (F.means files.new)
-        (Unchanged (F.means files.old).tree) }
 {
     let Ok(path) = front_of(alloc, folder, settings.namespace) else {
         return Err(FileError::Memory);
@@ -106,10 +104,8 @@ pub fn walk_store<F: Files>(
     ensures there { F.honest → IfOk result (λ found.
         All (IsFoundIn settings.entry (view_of (F.means files.old).tree) prefix.now)
         found.entries) }
-    ensures rises { F.faults files.old ≤ F.faults files.new }
+    ensures looks { OnlyLooks F.honest F.means F.faults files.old files.new }
     ensures memory { IfErr result (λ error. error ≡ Memory) }
-    ensures leaves { F.honest → Leaves (F.means files.old) (F.means files.new)
-        (Unchanged (F.means files.old).tree) }
 {
     let mut found = BTreeMap::new(alloc);
     let common = settings.dirs.common();

@@ -1,17 +1,17 @@
 //! The files of names below a folder of a store, found level by level.
-ghost use Rattle.std.specs.Prelude.{◌≡◌, ◌≢◌, [], ◌++◌, ◌⊎◌, ◌≤◌, List, ℕ, IfOk, IfErr, OnOk, MatchOption, IsTrue, ◌↔◌, codes, ◌∷◌, IsSome, Vec};
+ghost use Rattle.std.specs.Prelude.{◌≡◌, ◌≢◌, [], ◌++◌, ◌⊎◌, List, ℕ, IfOk, IfErr, OnOk, MatchOption, IsTrue, ◌↔◌, codes, ◌∷◌, IsSome, Vec};
 ghost use Rattle.std.specs.declared.alloc.Global.{Global};
 ghost use Rattle.std.specs.List.{All};
 ghost use Rattle.gix_ref_hash.specs.Bytes.{BeginsWith, NoByte};
 ghost use Rattle.gix_ref_grammar.specs.NameGrammar.{IsPartialName};
 ghost use Rattle.gix_ref_name.specs.Names.{full_bytes, full_ref_bytes};
-ghost use Rattle.gix_ref_files.specs.Files.{Leaves, HasRisen};
-ghost use Rattle.gix_ref_files.specs.Calls.{Unchanged, ListsFolder};
+ghost use Rattle.gix_ref_files.specs.Files.{HasRisen};
 ghost use Rattle.gix_ref_files.specs.declared.files.FileError.TheVariants.{Memory};
 ghost use Rattle.gix_ref_theory.specs.OnRealTrees.{view_of};
 ghost use Rattle.gix_ref_theory.specs.Views.{View};
 ghost use Rattle.gix_ref_lookup.specs.Lookups.{name_asked, Among};
-ghost use Rattle.gix_ref_listing.specs.Walks.{FoundEntry, IsListedName, IsThereOr, IsOwnName, IsLooseName, Holds, IsThere, IsFile, IsFileOf, IsTaken, StaysFound, IsFolderPath, IsInnerPath, IsBelow, IsRootPath, Reaches};
+ghost use Rattle.gix_ref_lookup.specs.Looks.{OnlyLooks};
+ghost use Rattle.gix_ref_listing.specs.Walks.{FoundEntry, IsListedName, IsThereOr, IsOwnName, IsLooseName, Holds, IsFile, IsFileOf, IsTaken, StaysFound, IsFolderPath, IsInnerPath, IsBelow, IsRootPath, Reaches};
 
 use crate::found::{Found, FoundByKey};
 use gix_ref_files::files::{Entry, FileError, Files};
@@ -308,10 +308,8 @@ impl Root<'_> {
             found.old.entries →
             All (IsThereOr others self.entry (view_of (F.means files.old).tree))
             found.new.entries) }
-        ensures rises { F.faults files.old ≤ F.faults files.new }
+        ensures looks { OnlyLooks F.honest F.means F.faults files.old files.new }
         ensures memory { IfErr result (λ error. error ≡ Memory) }
-        ensures leaves { F.honest → Leaves (F.means files.old) (F.means files.new)
-            (Unchanged (F.means files.old).tree) }
     {
         let Ok(path) = folder_path(alloc, self.path, folder) else {
             return Err(FileError::Memory);
@@ -351,10 +349,8 @@ impl Root<'_> {
             found.old.entries →
             All (IsThereOr others self.entry (view_of (F.means files.old).tree))
             found.new.entries) }
-        ensures rises { F.faults files.old ≤ F.faults files.new }
+        ensures looks { OnlyLooks F.honest F.means F.faults files.old files.new }
         ensures memory { IfErr result (λ error. error ≡ Memory) }
-        ensures leaves { F.honest → Leaves (F.means files.old) (F.means files.new)
-            (Unchanged (F.means files.old).tree) }
     {
         let mut next = Vec::new(alloc);
         for folder in folders {
@@ -383,10 +379,8 @@ impl Root<'_> {
             found.old.entries →
             All (IsThereOr others self.entry (view_of (F.means files.old).tree))
             found.new.entries) }
-        ensures rises { F.faults files.old ≤ F.faults files.new }
+        ensures looks { OnlyLooks F.honest F.means F.faults files.old files.new }
         ensures memory { IfErr result (λ error. error ≡ Memory) }
-        ensures leaves { F.honest → Leaves (F.means files.old) (F.means files.new)
-            (Unchanged (F.means files.old).tree) }
     {
         let Ok(mut folders) = one_folder(alloc, folder_of(self.prefix)) else {
             return Err(FileError::Memory);

@@ -3,6 +3,7 @@ pub mod Composing
 pub mod FolderLemmas
 pub mod Laying
 pub mod Looking
+pub mod Looks
 pub mod LooseLemmas
 pub mod NamedRecords
 pub mod Opening

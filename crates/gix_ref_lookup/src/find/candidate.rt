@@ -1,5 +1,5 @@
 //! One candidate of a lookup: its loose file, or else its record in `packed-refs`.
-ghost use Rattle.std.specs.Prelude.{◌≡◌, ◌≤◌, ◌⊎◌, false, ℕ, List, Option, None, IfOk, IfErr, IfSome, OnOk};
+ghost use Rattle.std.specs.Prelude.{◌≡◌, ◌⊎◌, false, ℕ, List, Option, None, IfOk, IfErr, IfSome, OnOk};
 ghost use Rattle.gix_ref_hash.specs.declared.hash.Kind.{Kind};
 ghost use Rattle.gix_ref_name.specs.Names.{full_bytes, full_ref_bytes};
 ghost use Rattle.gix_ref_name.specs.Namespaces.{stripped};
@@ -14,6 +14,7 @@ ghost use Rattle.gix_ref_records.specs.Positions.{CannotRead};
 ghost use Rattle.gix_ref_packed.specs.Buffers.{IsRefusedFile};
 ghost use Rattle.gix_ref_packed.specs.OpenFiles.{HasReadFault};
 ghost use Rattle.gix_ref_lookup.specs.Lookups.{meaning_in, packed_refs_in, HasKey, OfKey, IsByRecord, IsLooseTarget, IsNotRead, IsNotReadAt, IsReady, AreAsked, IsOfKey, IsFaultOrMemory, IsNotPacked, AreHonest, IsSearched, IsHitOfKey, OfSearched, IsCandidate, IsSound, IsHit, CandidateFails};
+ghost use Rattle.gix_ref_lookup.specs.Looks.{OnlyLooks};
 
 use crate::find::loose::{Loose, loose_at};
 use crate::find::records::Records;
@@ -43,10 +44,8 @@ pub fn read_at<F: Files>(
     ensures failed { IfErr result (IsNotReadAt F.honest settings.entry.kind
         (meaning_in settings.entry) (view_of (F.means files.old).tree) (F.faults files.old)
         (F.faults files.new) (full_ref_bytes name.entry) path.items) }
-    ensures rises { F.faults files.old ≤ F.faults files.new }
+    ensures looks { OnlyLooks F.honest F.means F.faults files.old files.new }
     ensures no_fault { OnOk result (F.faults files.new ≡ F.faults files.old) }
-    ensures leaves { F.honest → Leaves (F.means files.old) (F.means files.new)
-        (Unchanged (F.means files.old).tree) }
 {
     if settings.is_prohibited(&path) {
         return Err(Error::ReadFileContents {

@@ -1,4 +1,4 @@
-use Rattle.std.proofs.Common.{◌≡◌, false, true, inl, inr, ⊎_elim, sym, subst, le_trans}
+use Rattle.std.proofs.Common.{◌≡◌, false, true, inl, inr, ⊎_elim, sym, subst}
 use Rattle.std.specs.List.{All}
 use Rattle.std.proofs.lemmas.List.Elements.{All-cons, All-head, All-tail}
 use Rattle.gix_ref_files.specs.Files.{HasRisen}
@@ -7,9 +7,10 @@ use Rattle.gix_ref_theory.specs.OnRealTrees.{view_of}
 use Rattle.gix_ref_listing.specs.PlainSettings.{plain}
 use Rattle.gix_ref_listing.specs.PristineStores.{IsReadableFile, IsUnreadableFile}
 use Rattle.gix_ref_listing.specs.Walks.{FoundEntry, IsFile}
-use Rattle.gix_ref_listing.proofs.FolderWalks.{risen_from, unchanged_on}
+use Rattle.gix_ref_listing.proofs.FolderWalks.{risen_from}
 use Rattle.gix_ref_listing.proofs.PristineLemmas.{says, none_left, found_file}
 use Rattle.gix_ref_listing.proofs.StoreWalks.{all_none}
+use Rattle.gix_ref_lookup.proofs.Looks.{looks_more}
 use Rattle.gix_ref_listing.proofs.pristine.any_readable.Goals as goal
 use Rattle.gix_ref_lookup.specs.Lookups.{Among}
 
@@ -28,15 +29,14 @@ loop-one-preserved g c =
     let U = λ (e : FoundEntry). IsUnreadableFile s view e.1 in
     record {
       some = λ is h. ⊎_elim (λ any. before.some any h)
-          (λ reads. before.has h (subst (Among R) (sym removal) (inl (subst (λ (T : Tree). IsReadableFile s (view_of T) one) (before.leaves h).tree (reads h)))))
+          (λ reads. before.has h (subst (Among R) (sym removal) (inl (subst (λ (T : Tree). IsReadableFile s (view_of T) one) (before.looks.leaves h).tree (reads h)))))
           (rw is at said);
       none = λ is h all.
           let no = rw is at said in
-          before.none no.0 h (subst (All U) (sym removal) (All-cons U first rest (subst (λ (T : Tree). IsUnreadableFile s (view_of T) one) (before.leaves h).tree (no.1 h)) all));
+          before.none no.0 h (subst (All U) (sym removal) (All-cons U first rest (subst (λ (T : Tree). IsUnreadableFile s (view_of T) one) (before.looks.leaves h).tree (no.1 h)) all));
       has = λ h has. before.has h (subst (Among R) (sym removal) (inr has));
       files = λ all. All-tail IsFile first rest (subst (All IsFile) removal (before.files all));
-      rises = le_trans before.rises c.is_readable.ensures.rises;
-      leaves = λ h. unchanged_on (F.means c.args.files.now) (F.means c.loop-one.files) (F.means c.is_readable.new.files) (before.leaves h) (c.is_readable.ensures.leaves h);
+      looks = looks_more _ _ _ _ _ _ before.looks c.is_readable.ensures.looks;
     }
 
 pub returns-in-None-clause-says : goal.returns-in-None-clause-says
@@ -46,7 +46,7 @@ returns-in-None-clause-says g c all =
     let first : FoundEntry = (c.in-Some.field-0-0, c.in-Some.one) in
     let here = All-head IsFile first c.pop_first.new.self.entries (subst (All IsFile) c.in-Some.ensures.removal (before.files all)) in
     let said = rw c.in-None.is at c.in_ok-is.ensures.says in
-    risen_from (F.faults c.args.files.now) (F.faults c.loop-one.files) (F.faults c.is_readable.new.files) before.rises (said (found_file first here))
+    risen_from (F.faults c.args.files.now) (F.faults c.loop-one.files) (F.faults c.is_readable.new.files) before.looks.no_fewer (said (found_file first here))
 
 pub returns-clause-says : goal.returns-clause-says
 returns-clause-says g c =

@@ -21,6 +21,6 @@ returns-clause-says g c =
     let mid = F.faults c.walk_store.new.files in
     let now = F.faults c.any_readable.new.files in
     says_too c.any_readable.result
-    (λ reads h. has_one settings view prefix es (c.in-Ok.ensures.there h) (subst (λ (T : Tree). Among (λ (e : FoundEntry). IsReadableFile (plain settings) (view_of T) e.1) es) (c.walk_store.ensures.leaves h).tree (reads h)))
-    (λ reads h. has_none settings view prefix es (c.in-Ok.ensures.there h) (c.in-Ok.ensures.finds h) (subst (λ (T : Tree). All (λ (e : FoundEntry). IsUnreadableFile (plain settings) (view_of T) e.1) es) (c.walk_store.ensures.leaves h).tree (reads h)))
-    (λ risen. ⊎_elim (λ files. risen_from before mid now c.walk_store.ensures.rises (risen files)) (λ first. risen_on before mid now first c.any_readable.ensures.rises) c.in-Ok.ensures.files) c.any_readable.ensures.says
+    (λ reads h. has_one settings view prefix es (c.in-Ok.ensures.there h) (subst (λ (T : Tree). Among (λ (e : FoundEntry). IsReadableFile (plain settings) (view_of T) e.1) es) (c.walk_store.ensures.looks.leaves h).tree (reads h)))
+    (λ reads h. has_none settings view prefix es (c.in-Ok.ensures.there h) (c.in-Ok.ensures.finds h) (subst (λ (T : Tree). All (λ (e : FoundEntry). IsUnreadableFile (plain settings) (view_of T) e.1) es) (c.walk_store.ensures.looks.leaves h).tree (reads h)))
+    (λ risen. ⊎_elim (λ files. risen_from before mid now c.walk_store.ensures.looks.no_fewer (risen files)) (λ first. risen_on before mid now first c.any_readable.ensures.looks.no_fewer) c.in-Ok.ensures.files) c.any_readable.ensures.says

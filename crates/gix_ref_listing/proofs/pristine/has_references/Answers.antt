@@ -14,6 +14,6 @@ returns-in-Some-false-clause-says g c =
     let prefix = c.args.prefix.now in
     let none = rw c.in-Some-false.field-0-test at (rw c.in-Some-false.is at c.in_ok-has_packed_refs.ensures.says) in
     says_too c.has_loose.result
-    (λ has h. inr (subst (λ (T : Tree). HasLoose (plain settings) (view_of T) prefix) (c.has_packed_refs.ensures.leaves h).tree (has h)))
-    (λ has h. (none h, subst (λ (T : Tree). HasNoLoose (plain settings) (view_of T) prefix) (c.has_packed_refs.ensures.leaves h).tree (has h)))
-    (λ risen. risen_from (F.faults c.args.files.now) (F.faults c.has_packed_refs.new.files) (F.faults c.has_loose.new.files) c.has_packed_refs.ensures.rises risen) c.has_loose.ensures.says
+    (λ has h. inr (subst (λ (T : Tree). HasLoose (plain settings) (view_of T) prefix) (c.has_packed_refs.ensures.looks.leaves h).tree (has h)))
+    (λ has h. (none h, subst (λ (T : Tree). HasNoLoose (plain settings) (view_of T) prefix) (c.has_packed_refs.ensures.looks.leaves h).tree (has h)))
+    (λ risen. risen_from (F.faults c.args.files.now) (F.faults c.has_packed_refs.new.files) (F.faults c.has_loose.new.files) c.has_packed_refs.ensures.looks.no_fewer risen) c.has_loose.ensures.says

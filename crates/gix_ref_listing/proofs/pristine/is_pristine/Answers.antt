@@ -8,4 +8,4 @@ pub returns-in-Some-false-2-clause-says : goal.returns-in-Some-false-2-clause-sa
 returns-in-Some-false-2-clause-says g c h =
     let head = rw c.in-Some-true.field-0-test at (rw c.in-Some-true.is at c.in_ok-head_points_to.ensures.says) in
     let none = rw c.in-Some-false-2.field-0-test at (rw c.in-Some-false-2.is at c.in_ok-has_references-in-Some-true.ensures.says) in
-    (head h, subst (λ (T : Tree). HasNoReferences (plain c.args.settings) T c.args.prefix.now) (c.head_points_to.ensures.leaves h).tree (none h))
+    (head h, subst (λ (T : Tree). HasNoReferences (plain c.args.settings) T c.args.prefix.now) (c.head_points_to.ensures.looks.leaves h).tree (none h))

@@ -14,7 +14,7 @@ returns-clause-finds g c h =
     let settings = c.args.settings in
     let front = λ (folder : List ℕ). below folder (namespace_text settings.namespace.now) in
     let F = g.F.Files in
-    let same = (c.walk_in.ensures.leaves h).tree in
+    let same = (c.walk_in.ensures.looks.leaves h).tree in
     found_either settings (view_of (F.means c.args.files.now).tree) c.args.prefix.now c.walk_in.new.found.entries c.walk_in-2.new.found.entries
     (λ name loose. c.in_ok-walk_in.ensures.finds h name (subst (λ (p : List ℕ). LooseIn settings (view_of (F.means c.args.files.now).tree) c.args.prefix.now (front p) name) (sym c.common-common.ensures) loose))
     c.in_ok-walk_in-2.ensures.stays
@@ -24,7 +24,7 @@ pub returns-clause-there : goal.returns-clause-there
 returns-clause-there g c h =
     let settings = c.args.settings in
     let F = g.F.Files in
-    let same = (c.walk_in.ensures.leaves h).tree in
+    let same = (c.walk_in.ensures.looks.leaves h).tree in
     let first = c.in_ok-walk_in.ensures.there h (all_none (IsFoundIn settings (view_of (F.means c.args.files.now).tree) c.args.prefix.now) c.new-found.result.entries c.new-found.ensures.len) in
     subst (λ (T : Tree). All (IsFoundIn settings (view_of T) c.args.prefix.now) c.walk_in-2.new.found.entries) same
     (c.in_ok-walk_in-2.ensures.there h (subst (λ (T : Tree). All (IsFoundIn settings (view_of T) c.args.prefix.now) c.walk_in.new.found.entries) (sym same) first))

@@ -1,9 +1,10 @@
-use Rattle.std.proofs.Common.{inl, inr, ⊎_elim, ℕ, List, sym, subst, Vec, Global, le_trans}
+use Rattle.std.proofs.Common.{inl, inr, ⊎_elim, ℕ, List, sym, subst, Vec, Global}
 use Rattle.std.specs.List.{All}
 use Rattle.gix_ref_files.specs.Tree.{Tree}
 use Rattle.gix_ref_theory.specs.OnRealTrees.{view_of}
 use Rattle.gix_ref_listing.specs.Walks.{IsThereOr, IsLooseName, IsBelow}
-use Rattle.gix_ref_listing.proofs.FolderWalks.{files_still, unchanged_on}
+use Rattle.gix_ref_listing.proofs.FolderWalks.{files_still}
+use Rattle.gix_ref_lookup.proofs.Looks.{looks_more}
 use Rattle.gix_ref_listing.proofs.walk.Root.walk.Goals as goal
 
 pub loop-preserved : goal.loop-preserved
@@ -19,13 +20,12 @@ loop-preserved g c =
     record {
       stays = λ name had. done.stays name (before.stays name had);
       reaches = λ h name loose.
-          let in_mid : IsLooseName root (view_of mid.tree) name = subst (λ (T : Tree). IsLooseName root (view_of T) name) (sym (before.leaves h).tree) loose in
+          let in_mid : IsLooseName root (view_of mid.tree) name = subst (λ (T : Tree). IsLooseName root (view_of T) name) (sym (before.looks.leaves h).tree) loose in
           ⊎_elim (λ is. inl (done.stays name is))
           (λ below. done.reaches h name in_mid (subst (λ (fs : List (Vec ℕ Global)). IsBelow fs name) (sym c.deref.ensures.value) below))
           (before.reaches h name loose);
       paths = λ k d below. inr (done.paths k d below);
-      files = files_still (F.faults c.args.files.now) (F.faults c.loop.files) (F.faults c.walk_level.new.files) before.rises step.rises before.files done.files;
-      there = λ h others all. subst (λ (T : Tree). All (IsThereOr others root (view_of T)) found) (before.leaves h).tree (done.there h others (subst (λ (T : Tree). All (IsThereOr others root (view_of T)) c.loop.found.entries) (sym (before.leaves h).tree) (before.there h others all)));
-      rises = le_trans before.rises step.rises;
-      leaves = λ h. unchanged_on first mid (F.means c.walk_level.new.files) (before.leaves h) (step.leaves h);
+      files = files_still (F.faults c.args.files.now) (F.faults c.loop.files) (F.faults c.walk_level.new.files) before.looks.no_fewer step.looks.no_fewer before.files done.files;
+      there = λ h others all. subst (λ (T : Tree). All (IsThereOr others root (view_of T)) found) (before.looks.leaves h).tree (done.there h others (subst (λ (T : Tree). All (IsThereOr others root (view_of T)) c.loop.found.entries) (sym (before.looks.leaves h).tree) (before.there h others all)));
+      looks = looks_more _ _ _ _ _ _ before.looks step.looks;
     }

@@ -1,11 +1,11 @@
-use Rattle.std.proofs.Common.{ℕ, List, ◌≤◌, ◌⊎◌}
+use Rattle.std.proofs.Common.{ℕ, List, ◌⊎◌}
 use Rattle.std.specs.List.{All}
-use Rattle.gix_ref_files.specs.Calls.{Unchanged}
-use Rattle.gix_ref_files.specs.Files.{Leaves, HasRisen}
+use Rattle.gix_ref_files.specs.Files.{HasRisen}
 use Rattle.gix_ref_theory.specs.OnRealTrees.{view_of}
 use Rattle.gix_ref_listing.specs.Walks.{IsThereOr, FoundEntry, IsFile, StaysFound, IsFolderPath, IsBelow, Holds, IsLooseName}
 use Rattle.gix_ref_listing.proofs.walk.Root.walk.Given as goal
 use Rattle.gix_ref_lookup.specs.Lookups.{Among}
+use Rattle.gix_ref_lookup.specs.Looks.{OnlyLooks}
 
 -- each name is found, or is below a folder of the level that comes next
 abbrev pub invariant-loop : goal.invariant-loop
@@ -18,6 +18,5 @@ invariant-loop g l =
       paths : All (λ f. IsFolderPath f.items) l.folders.items;
       files : All IsFile l.fn.found.entries → All IsFile l.found.entries ⊎ HasRisen (F.faults l.fn.files) (F.faults l.files);
       there : F.honest → (others : List FoundEntry) → All (IsThereOr others l.self view) l.fn.found.entries → All (IsThereOr others l.self view) l.found.entries;
-      rises : F.faults l.fn.files ≤ F.faults l.files;
-      leaves : F.honest → Leaves (F.means l.fn.files) (F.means l.files) (Unchanged (F.means l.fn.files).tree);
+      looks : OnlyLooks F.honest F.means F.faults l.fn.files l.files;
     }

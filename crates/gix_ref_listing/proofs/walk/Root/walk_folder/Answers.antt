@@ -48,7 +48,6 @@ returns-in-Ok-keep_unlisted g c =
       paths = λ all. all;
       files = λ all. inr (fault_rises c.in-Err.error _ _ other c.in-Err.ensures.count);
       there = λ h at others all. let way = path_of_folder c.args.self.path.now c.args.folder.now c.requires at in c.keep_unlisted.ensures.there others c.args.self (view_of (g.F.Files.means c.args.files.now).tree) all other (ap (λ p. p ++ 47 ∷ []) (c.in-Ok.ensures way.0 way.2) ∙ sym way.2);
-      rises = counts_up c.in-Err.error _ _ c.in-Err.ensures.count;
+      looks = record { leaves = c.list.ensures.leaves; no_fewer = counts_up c.in-Err.error _ _ c.in-Err.ensures.count };
       memory = _;
-      leaves = c.list.ensures.leaves;
     }

@@ -1,10 +1,11 @@
-use Rattle.std.proofs.Common.{◌⊎◌, ◌≤◌, length, inl, inr, ⊎_elim, ℕ, sym, subst, Vec, Global, drop, le_trans, ◌+◌, arith}
+use Rattle.std.proofs.Common.{◌⊎◌, ◌≤◌, length, inl, inr, ⊎_elim, ℕ, sym, subst, Vec, Global, drop, ◌+◌, arith}
 use Rattle.std.specs.List.{All}
 use Rattle.gix_ref_hash.specs.Bytes.{BeginsWith}
 use Rattle.gix_ref_files.specs.Tree.{Tree}
 use Rattle.gix_ref_theory.specs.OnRealTrees.{view_of}
 use Rattle.gix_ref_listing.specs.Walks.{Holds, IsThereOr, IsLooseName, IsFolderPath, IsBelow}
-use Rattle.gix_ref_listing.proofs.FolderWalks.{files_still, unchanged_on, among_next, among_none}
+use Rattle.gix_ref_listing.proofs.FolderWalks.{files_still, among_next, among_none}
+use Rattle.gix_ref_lookup.proofs.Looks.{looks_more}
 use Rattle.gix_ref_listing.proofs.walk.Root.walk_level.Goals as goal
 use Rattle.gix_ref_lookup.specs.Lookups.{Among}
 
@@ -26,7 +27,7 @@ loop-folder-preserved g c =
     record {
       stays = λ name had. done.stays name (before.stays name had);
       reaches = λ h name loose below.
-          let in_mid : IsLooseName root (view_of mid.tree) name = subst (λ (T : Tree). IsLooseName root (view_of T) name) (sym (before.leaves h).tree) loose in
+          let in_mid : IsLooseName root (view_of mid.tree) name = subst (λ (T : Tree). IsLooseName root (view_of T) name) (sym (before.looks.leaves h).tree) loose in
           let here : BeginsWith name folder.items → Among (Holds name) found ⊎ (IsBelow next name ⊎ IsBelow (drop (i + 1) folders) name) =
           λ begins. ⊎_elim (λ is. inl is) (λ later. inr (inl later)) (done.reaches h at name in_mid (subst (BeginsWith name) (sym c.deref.ensures.value) begins)) in
           ⊎_elim (λ is. inl (done.stays name is))
@@ -34,10 +35,9 @@ loop-folder-preserved g c =
           (λ rest. ⊎_elim here (λ others. inr (inr others)) (among_next (λ (f : Vec ℕ Global). BeginsWith name f.items) folders i folder c.loop-folder-test.true c.folder-item.is rest)) more)
           (before.reaches h name loose below);
       paths = done.paths before.paths;
-      files = files_still (F.faults c.args.files.now) (F.faults c.loop-folder.files) (F.faults c.walk_folder.new.files) before.rises step.rises before.files done.files;
-      there = λ h others all. subst (λ (T : Tree). All (IsThereOr others root (view_of T)) found) (before.leaves h).tree (done.there h at others (subst (λ (T : Tree). All (IsThereOr others root (view_of T)) c.loop-folder.found.entries) (sym (before.leaves h).tree) (before.there h others all)));
-      rises = le_trans before.rises step.rises;
-      leaves = λ h. unchanged_on first mid (F.means c.walk_folder.new.files) (before.leaves h) (step.leaves h);
+      files = files_still (F.faults c.args.files.now) (F.faults c.loop-folder.files) (F.faults c.walk_folder.new.files) before.looks.no_fewer step.looks.no_fewer before.files done.files;
+      there = λ h others all. subst (λ (T : Tree). All (IsThereOr others root (view_of T)) found) (before.looks.leaves h).tree (done.there h at others (subst (λ (T : Tree). All (IsThereOr others root (view_of T)) c.loop-folder.found.entries) (sym (before.looks.leaves h).tree) (before.there h others all)));
+      looks = looks_more _ _ _ _ _ _ before.looks step.looks;
     }
 
 pub returns-clause-reaches : goal.returns-clause-reaches

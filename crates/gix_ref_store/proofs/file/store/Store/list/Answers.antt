@@ -10,7 +10,7 @@ returns-in-Ok g c = (
     rests = _;
     same_reference = refl;
     looks_up = record {
-      leaves = c.in-Ok.ensures.leaves;
+      leaves = c.in-Ok.ensures.looks.leaves;
       same = record { dirs = refl; namespace = refl; of_kind = refl; reflogs = refl; composes = refl; prohibits = refl; threshold = refl };
     };
     lists = λ h records held.
@@ -18,9 +18,9 @@ returns-in-Ok g c = (
         record {
           listed = found.listed;
           is = found.is;
-          counts = c.in-Ok.ensures.rises;
+          counts = c.in-Ok.ensures.looks.no_fewer;
           names = found.names;
-          runs = each_run g.F.Files.honest g.F.Files.means g.F.Files.faults c.args.self.now _ found.listed h refl (ap view_of (c.in-Ok.ensures.leaves h).tree) found.yet;
+          runs = each_run g.F.Files.honest g.F.Files.means g.F.Files.faults c.args.self.now _ found.listed h refl (ap view_of (c.in-Ok.ensures.looks.leaves h).tree) found.yet;
         };
     memory = _;
   },
