@@ -1,6 +1,6 @@
 -- A `prepare` that first read files for its splits, from the store with which it began.
 use Rattle.gix_ref_transaction.proofs.Faults.{risen_by_before, risen_by_none}
-use Rattle.std.proofs.Common.{◌≡◌, ◌⊎◌, inl, inr, ⊎_elim, ℕ, List, [], true, Option, All, refl, sym, ◌∙◌, ap, subst, arith, Result, Ok, Err, IfOk, IfErr, OnOk, length}
+use Rattle.std.proofs.Common.{◌≡◌, ◌⊎◌, inl, inr, ⊎_elim, ℕ, List, [], true, Option, refl, sym, ◌∙◌, ap, subst, arith, Result, Ok, Err, IfOk, IfErr, length}
 use Rattle.gix_ref_base.specs.Targets.{TargetValue}
 use Rattle.gix_ref_files.specs.Disk.{Disk}
 use Rattle.gix_ref_files.specs.Tree.{Tree, Path}
@@ -11,12 +11,12 @@ use Rattle.gix_ref_theory.specs.OnDisks.{IsAsBefore}
 use Rattle.gix_ref_theory.specs.OnRealTrees.{view_of}
 use Rattle.gix_ref_theory.proofs.LockDisks.{as_before}
 use Rattle.gix_ref_edits.specs.DoubledNames.{NoneDoubled}
-use Rattle.gix_ref_edits.specs.RefEdits.{AreUpdates}
 use Rattle.gix_ref_edits.specs.declared.transaction.RefEdit.{RefEdit}
-use Rattle.gix_ref_transaction.specs.Causes.{AllValid, IsAccepted, IsCounted, IsDoubling, IsFindCause, IsIoOrMemory, IsLockCause, IsPackedRefusal, IsPackedWell, names_of, packed_taken}
+use Rattle.gix_ref_transaction.specs.Causes.{AllValid, IsAccepted, IsCounted, IsDoubling, IsFindCause, IsLockCause, IsPackedRefusal, IsPackedWell, names_of, packed_taken}
 use Rattle.gix_ref_transaction.specs.OwnLocks.{AddsLocks, is_in, times}
 use Rattle.gix_ref_transaction.specs.PrepareSteps.{packed_ids, AreLockable, effects_on, files_at, HoldTexts, old_targets, own_locks, own_places}
-use Rattle.gix_ref_transaction.specs.Splits.{AreDirect, AreSplit, CanFollow, IsFirstMisnamed, IsSplitCause, IsTooLong, all_rounds}
+use Rattle.gix_ref_transaction.specs.SplitOutcomes.{IsNotSplit, IsSplitOf}
+use Rattle.gix_ref_transaction.specs.Splits.{AreDirect, IsSplitCause}
 use Rattle.gix_ref_files.specs.ReadOnly.{OnlyReads}
 use Rattle.gix_ref_transaction.specs.declared.prepare.error.Error.{Error}
 use Rattle.gix_ref_transaction.specs.declared.prepare.error.Error.TheVariants.{Memory}
@@ -167,15 +167,11 @@ refused_unread honest read means faults old given error left is none =
 
 -- The split list of edits, from what the splits say of it.
 module _ {F : Type 0} (honest : Type 0) (means : F → Meaning) (faults : F → ℕ) (old : Store F) (given : List RefEdit) (valid : AllValid (meaning_of old) (kind_of old) [] given) where
-  pub splits_from : (r : Result SplitEdits Error) →
-      (honest → IfOk r (λ split. AreSplit (meaning_of old) (view_of (tree_of means old)) given split.edits.items)) →
-      (honest → OnOk r (All (CanFollow (meaning_of old)) (all_rounds (meaning_of old) (view_of (tree_of means old)) given))) →
-      (AreUpdates given → IfOk r (λ split. AreUpdates split.edits.items)) → (AreDirect given → IfOk r (λ split. split.edits.items ≡ given)) → IfOk r (λ split. SplitsFrom honest means faults old given split.edits.items)
-  splits_from (Ok split) is can updates direct = record { is = is; can_follow = can; valid = valid; updates = updates; direct = direct }
-  splits_from (Err error) is can updates direct = tt
+  pub splits_from : (r : Result SplitEdits Error) → IfOk r (IsSplitOf honest (meaning_of old) (kind_of old) (tree_of means old) given) → (AreDirect given → IfOk r (λ split. split.edits.items ≡ given)) →
+      IfOk r (λ split. SplitsFrom honest means faults old given split.edits.items)
+  splits_from (Ok split) splits direct = record { is = splits.is; can_follow = splits.can_follow; valid = valid; updates = splits.updates; direct = direct }
+  splits_from (Err error) splits direct = tt
 
-  pub split_cause : (r : Result SplitEdits Error) →
-      IfErr r (λ error. IsIoOrMemory error ⊎ (IsFirstMisnamed (meaning_of old) (all_rounds (meaning_of old) (view_of (tree_of means old)) given) error ⊎ IsTooLong (meaning_of old) (view_of (tree_of means old)) given error)) →
-      IfErr r (IsSplitCause (meaning_of old) (kind_of old) (tree_of means old) given)
-  split_cause (Ok split) refused = tt
-  split_cause (Err error) refused = ⊎_elim (λ outside. inl outside) (λ cause. inr (inr (valid, cause))) refused
+  pub split_cause : (new : F) (r : Result SplitEdits Error) → IfErr r (IsNotSplit honest means faults (meaning_of old) given (files_of old) new) → honest → IfErr r (IsSplitCause (meaning_of old) (kind_of old) (tree_of means old) given)
+  split_cause new (Ok split) refused h = tt
+  split_cause new (Err error) refused h = ⊎_elim (λ outside. inl outside) (λ cause. inr (inr (valid, cause))) (refused.cause h)

@@ -1,7 +1,5 @@
 -- What `prepare` returns and leaves.
-use Rattle.std.specs.Prelude.{◌≡◌, ◌≤◌, ◌<◌, ◌+◌, ◌⊎◌, ℕ, List, [], true, false, Option, All, map, Vec, vec_len, length}
-use Rattle.std.specs.Vec.{vec_capacity}
-use Rattle.std.specs.declared.alloc.Global.{Global}
+use Rattle.std.specs.Prelude.{◌≡◌, ◌≤◌, ◌⊎◌, ℕ, List, [], true, false, Option, All, map, length}
 use Rattle.gix_ref_base.specs.Targets.{TargetValue}
 use Rattle.gix_ref_files.specs.Tree.{Tree, Path, is_file}
 use Rattle.gix_ref_files.specs.Disk.{Disk}
@@ -24,7 +22,6 @@ use Rattle.gix_ref_edits.specs.RefEdits.{AreUpdates}
 use Rattle.gix_ref_edits.specs.declared.transaction.RefEdit.{RefEdit}
 use Rattle.gix_ref_store.specs.declared.file.store.Store.{Store}
 use Rattle.gix_ref_transaction.specs.declared.edit.Edit.{Edit}
-use Rattle.gix_ref_transaction.specs.declared.release.Remains.{Remains}
 use Rattle.gix_ref_transaction.specs.declared.prepare.error.Error.{Error}
 use Rattle.gix_ref_transaction.specs.declared.prepare.error.Error.TheVariants.{Memory}
 use Rattle.gix_ref_store.specs.ComposedEdits.{AreAskedAs}
@@ -74,13 +71,6 @@ module _ {F : Type 0} (means : F → Meaning) where
   -- and so but for the locks of a transaction of these edits
   abbrev pub LosesNothing : (old new : Store F) → List RefEdit → Type 0
   LosesNothing old new edits = LosesNothingBut old new (places_in old edits)
-
--- There is room for what remains of these edits and of the lock of `packed-refs`, and nothing is in it yet.
-pub record HasRoom (held : Vec Edit Global) (remains : Remains) : Type 0 where
-  pub locks : vec_len held + vec_len remains.left < vec_capacity remains.left
-  pub edits : vec_len held ≤ vec_capacity remains.edits
-  pub no_edits : remains.edits.items ≡ []
-  pub no_locks : remains.left.items ≡ []
 
 module _ {F : Type 0} (honest read : Type 0) (means : F → Meaning) (faults : F → ℕ) where
   -- A refusal. Where `packed-refs` is well formed, its error is the first cause that applies; `Packed` is returned for a `packed-refs` that is

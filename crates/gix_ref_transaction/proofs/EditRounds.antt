@@ -31,6 +31,11 @@ pub on_ok : {X E P Q : Type 0} (r : Result X E) → (P → Q) → OnOk r P → O
 on_ok (Ok x) f p = f p
 on_ok (Err e) f p = p
 
+-- two facts that a success has, each on its own condition
+pub both_on_ok : {X E A B P Q R : Type 0} (r : Result X E) → (A → OnOk r P) → (B → OnOk r Q) → ((A → P) → (B → Q) → R) → OnOk r R
+both_on_ok (Ok x) first second both = both first second
+both_on_ok (Err e) first second both = tt
+
 module _ (s : Store) (kind : Kind) (all : List RefEdit) (first : Meaning) where
   abbrev locks : List Path
   locks = locks_of s all

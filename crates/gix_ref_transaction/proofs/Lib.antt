@@ -21,5 +21,6 @@ pub mod Rounds
 pub mod SplitLemmas
 pub mod SplitValidity
 pub mod Taking
+pub mod TakingRuns
 pub mod TimesLeft
 pub mod UnreadRecords

@@ -1,5 +1,5 @@
 -- The lock of `packed-refs`: where it is taken, and what it leaves of the edits.
-use Rattle.std.proofs.Common.{◌≡◌, ◌⊎◌, inl, inr, ⊎_elim, ℕ, List, [], ◌∷◌, Bool, true, false, Option, Some, None, Result, Ok, Err, IfOk, map, if◌then◌else◌, refl, sym, ◌∙◌, ap, subst}
+use Rattle.std.proofs.Common.{◌≡◌, ◌⊎◌, inl, inr, ⊎_elim, ℕ, List, [], ◌∷◌, Bool, true, false, Option, Some, None, Result, Ok, Err, IfOk, OnOk, map, if◌then◌else◌, refl, sym, ◌∙◌, ap, subst}
 use Rattle.std.specs.Prelude.{bytes_eq, is_some, IsSome, ◌||◌, ◌&&◌}
 use Rattle.std.specs.List.{list_all, list_any}
 use Rattle.std.specs.Option.{option_map, unwrap_or}
@@ -14,6 +14,7 @@ use Rattle.gix_ref_files.specs.DiskCalls.{CreatingOn}
 use Rattle.gix_ref_files.proofs.Puts.{put_at, put_other}
 use Rattle.gix_ref_files.specs.declared.files.Node.{Node}
 use Rattle.gix_ref_files.specs.declared.files.Node.TheVariants as node
+use Rattle.gix_ref_files.specs.Files.{Meaning, disk_of}
 use Rattle.gix_ref_files.specs.Lock.{lock_of}
 use Rattle.gix_ref_theory.specs.OnDisks.{IsAsBefore, IsSpokenOf, Rests}
 use Rattle.gix_ref_theory.specs.OnRealTrees.{view_of}
@@ -22,7 +23,8 @@ use Rattle.gix_ref_theory.specs.Views.{IsOwnLock}
 use Rattle.gix_ref_theory.proofs.Reached.{rests_create}
 use Rattle.gix_ref_edits.specs.declared.transaction.RefEdit.{RefEdit}
 use Rattle.gix_ref_transaction.specs.Causes.{ask_packed, has_key, packed_taken, IsInTheWay, IsPackedCause, IsPackedLocked}
-use Rattle.gix_ref_transaction.specs.PrepareSteps.{updates, packed_locks, packed_places, AreWholeLocks, IsPackedPlace, TakesPacked}
+use Rattle.gix_ref_transaction.specs.PackedLock.{IsPackedTakenWhereDue}
+use Rattle.gix_ref_transaction.specs.PrepareSteps.{updates, packed_locks, packed_places, AreWholeLocks, TakesPacked}
 use Rattle.gix_ref_transaction.specs.declared.edit.Edit.{Edit}
 use Rattle.gix_ref_transaction.specs.declared.prepare.error.Error.{Error}
 use Rattle.gix_ref_transaction.specs.declared.prepare.error.Error.TheVariants.{PackedTransactionAcquire}
@@ -125,10 +127,6 @@ not_blocked T (f ∷ fs) folders =
 pub free_way : (T : Tree) (lock : Path) → IsFree T lock → IsInTheWay T lock → ⊥
 free_way T lock free way = ⊎_elim (λ some. no_some some free.0) (λ blocked. clash blocked (not_blocked T (fronts lock) free.1)) way
 
-pub place_passed : (s : Store) (r : Result (Option Path) Error) → IfOk r (λ packed. packed ≡ None) → IfOk r (IsPackedPlace s)
-place_passed s (Ok packed) is = inl is
-place_passed s (Err e) is = tt
-
 -- where the lock is not asked for
 module _ (s : Store) (T : Tree) (edits : List RefEdit) (unasked : ask_packed s edits ≡ false) where
   pub unasked_taken : [] ≡ packed_taken s T edits
@@ -168,18 +166,18 @@ module _ (s : Store) (T : Tree) (edits : List RefEdit) (asks : ask_packed s edit
     pub something_there : (e : Error) → IsSome (T (lock_of lock)) → e ≡ PackedTransactionAcquire → IsPackedCause s T edits e
     something_there e some is = subst (IsPackedCause s T edits) (sym is) (asks, inl (subst (λ (p : Path). IsSome (T (lock_of p))) at some))
 
-    -- the results of the look at its path
-    pub passed : (r : Result (Option Path) Error) → IfOk r (λ packed. packed ≡ None) → IfOk r (λ packed. packed_places packed ≡ packed_taken s T edits)
-    passed (Ok packed) is = ap packed_places is ∙ none_taken none
-    passed (Err e) is = tt
-
-    pub passed_tree : (U : Tree) → U ≡ T → (r : Result (Option Path) Error) → IfOk r (λ packed. packed ≡ None) → IfOk r (λ packed. TakesPacked T packed U)
-    passed_tree U same (Ok packed) is = subst (λ (p : Option Path). TakesPacked T p U) (sym is) same
-    passed_tree U same (Err e) is = tt
-
-    pub passed_whole : (D : Disk) (r : Result (Option Path) Error) → IfOk r (λ packed. packed ≡ None) → IfOk r (λ packed. AreWholeLocks D (map lock_of (packed_places packed)))
-    passed_whole D (Ok packed) is = subst (λ (p : Option Path). AreWholeLocks D (map lock_of (packed_places p))) (sym is) tt
-    passed_whole D (Err e) is = tt
+-- the result of the look at its path, where `packed-refs` is no file
+pub passed : (honest : Type 0) (s : Store) (edits : List RefEdit) (old mid new : Meaning) → ask_packed s edits ≡ true → (honest → is_file (old.tree s.packed_path) ≡ false) → (lock : Path) → lock ≡ s.packed_path →
+    (honest → mid.tree ≡ old.tree) → (honest → new.tree ≡ old.tree) → (r : Result (Option Path) Error) → IfOk r (λ packed. packed ≡ None) → (honest → OnOk r (mid.tree (lock_of lock) ≡ None)) →
+    IfOk r (IsPackedTakenWhereDue honest s edits old new)
+passed honest s edits old mid new asks none lock at still same (Err e) is free = tt
+passed honest s edits old mid new asks none lock at still same (Ok packed) is free = record {
+  place = inl is;
+  due = λ h. ap packed_places is ∙ none_taken s old.tree edits asks (none h);
+  free = λ h. pass_free s old.tree edits asks (none h) lock at (ap (λ (T : Tree). T (lock_of lock)) (sym (still h)) ∙ free h);
+  takes = λ h. subst (λ (p : Option Path). TakesPacked old.tree p new.tree) (sym is) (same h);
+  whole = λ h. subst (λ (p : Option Path). AreWholeLocks (disk_of new) (map lock_of (packed_places p))) (sym is) tt;
+}
 
 -- the disks that are found while a lock is made alone
 pub creating_as_before : (locked staying : List Path) (first D E : Disk) (p : Path) → IsOwnLock locked p → IsAsBefore locked staying first D → CreatingOn D p E → IsAsBefore locked staying first E

@@ -125,10 +125,6 @@ taken_free T U packed xs is takes q within = by packed takes (subst (λ (l : Lis
     by (Some place) takes' within' = subst (λ (r : Path). T r ≡ None) (in_one (lock_of place) q within') takes'.0
 
 -- the locks that are named, where that of `packed-refs` may have been added
-pub still_named : (left named more : List Path) → (named ≡ left) ⊎ (named ≡ left ++ more) → (q : Path) → is_in left q ≡ true → is_in named q ≡ true
-still_named left named more (inl same) q h = subst (λ (l : List Path). is_in l q ≡ true) (sym same) h
-still_named left named more (inr is) q h = subst (λ (l : List Path). is_in l q ≡ true) (sym is) (in_left left more q h)
-
 pub possible : (s : Store) (all : List Path) (packed : Option Path) → IsPackedPlace s packed → (left named : List Path) → (named ≡ left) ⊎ (named ≡ left ++ map lock_of (packed_places packed)) →
     ((q : Path) → is_in left q ≡ true → is_in all q ≡ true) → (q : Path) → is_in named q ≡ true → is_in (lock_of s.packed_path ∷ all) q ≡ true
 possible s all packed place left named (inl same) ours q there = in_right (lock_of s.packed_path ∷ []) all q (ours q (subst (λ (l : List Path). is_in l q ≡ true) same there))

@@ -10,10 +10,6 @@ use Rattle.gix_ref_name.specs.declared.name.FullName.{FullName}
 use Rattle.gix_ref_base.specs.Layout.{Layout}
 use Rattle.gix_ref_base.specs.Targets.{TargetValue, target_name, target_value, stripped_target}
 use Rattle.gix_ref_base.specs.Targets.TargetValue.{object_id, symbolic_name}
-use Rattle.gix_ref_files.specs.Calls.{Unchanged}
-use Rattle.gix_ref_files.specs.DiskCalls.{Untouched}
-use Rattle.gix_ref_files.specs.Files.{Meaning, disk_of, Leaves, Passes}
-use Rattle.gix_ref_files.proofs.Moments.{joins, passes_joins, passes_starts, starts}
 use Rattle.gix_ref_theory.specs.ConcreteStore.{store_of}
 use Rattle.gix_ref_theory.specs.Readings.{Store, as_read}
 use Rattle.gix_ref_lookup.specs.StoreLayout.{git_options}
@@ -29,7 +25,6 @@ use Rattle.gix_ref_edits.proofs.Joining.{after_round-append}
 use Rattle.gix_ref_transaction.specs.Causes.{decoded, IsMisnamed}
 use Rattle.gix_ref_transaction.specs.Parents.{first_parents, level_parents, parent_list, parents_from, parents_given}
 use Rattle.gix_ref_transaction.specs.Splits.{symbolic_name_in, values_of, AreDirect, CanFollow, IsFirstMisnamed}
-use Rattle.gix_ref_files.specs.ReadOnly.{OnlyReads}
 use Rattle.gix_ref_transaction.specs.internal.SplitRounds.{name_by, led_to, led_by, after_by, child_values, children_by, parents_by}
 use Rattle.gix_ref_transaction.specs.declared.prepare.error.Error.{Error}
 use Rattle.gix_ref_transaction.proofs.Firsts.{next_of, seen_of}

@@ -2,11 +2,16 @@ pub mod CarriedEdits
 pub mod Causes
 pub mod CommitRenames
 pub mod CommittedEdits
+pub mod EditLocks
 pub mod Effects
 pub mod First
+pub mod HeldLocks
+pub mod LeftLocks
 pub mod OwnLocks
 pub mod PackedCauses
+pub mod PackedLock
 pub mod Parents
 pub mod PrepareSteps
+pub mod SplitOutcomes
 pub mod Splits
 pub mod internal

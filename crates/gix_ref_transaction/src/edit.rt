@@ -1,11 +1,9 @@
 //! An edit of a transaction, with its lock, what was found of its reference, and what becomes of the loose file.
-ghost use Rattle.std.specs.Prelude.{◌≡◌, ◌≤◌, ◌⊎◌, [], ◌∷◌, OnOk, OnErr, IfOk, IfErr, IsErrOf, IsSome, is_some, Some, true, false, if◌then◌else◌};
+ghost use Rattle.std.specs.Prelude.{◌≡◌, [], OnOk, OnErr, IfOk, IfErr, IsErrOf, IsSome, is_some, Some, true, false, if◌then◌else◌};
 ghost use Rattle.std.specs.Option.{option_map};
 ghost use Rattle.gix_ref_base.specs.Targets.{target_value};
 ghost use Rattle.gix_ref_base.specs.Targets.TargetValue.{object_id};
-ghost use Rattle.gix_ref_files.specs.Calls.{Unchanged};
 ghost use Rattle.gix_ref_files.specs.ReadOnly.{OnlyReads};
-ghost use Rattle.gix_ref_files.specs.DiskCalls.{Untouched};
 ghost use Rattle.gix_ref_files.specs.Files.{disk_of, Leaves, Passes, count_after};
 ghost use Rattle.gix_ref_files.specs.Lock.{lock_of, MakesLock, Readying, Acquiring, after_locking, LockingOn};
 ghost use Rattle.gix_ref_files.specs.Settled.{IsWholeAt};
@@ -16,9 +14,9 @@ ghost use Rattle.gix_ref_theory.specs.OnRealTrees.{view_of};
 ghost use Rattle.gix_ref_edits.specs.RefEdits.{name_of, new_of, is_of_reference};
 ghost use Rattle.gix_ref_transaction.specs.CommitRenames.{is_file_seen, is_no_folder_seen};
 ghost use Rattle.gix_ref_transaction.specs.PackedCauses.{deletes_reference};
-ghost use Rattle.gix_ref_transaction.specs.OwnLocks.{AddsLocks};
-ghost use Rattle.gix_ref_transaction.specs.Causes.{found, found_by, decoded, packed_of, IsCounted, IsNotIo, IsMismatch, IsIoOrMemory, IsPossible};
-ghost use Rattle.gix_ref_transaction.specs.PrepareSteps.{setting_of, value_of, lock_text, effect_value, text_of_new, decision, decision_of, given, is_new, is_damaged, is_loose_file, is_undecodable, target_by, IsDecided, IsSomeWhole, IsRefusedLock, IsNewLock, FillsLock, FillingOn};
+ghost use Rattle.gix_ref_transaction.specs.Causes.{found, found_by, decoded, IsCounted, IsNotIo, IsMismatch, IsIoOrMemory};
+ghost use Rattle.gix_ref_transaction.specs.EditLocks.{IsInPlace, IsLockTaken, IsNotAccepted, IsNotTaken, IsOutside, IsWritten, OnlyFills, TakesOne};
+ghost use Rattle.gix_ref_transaction.specs.PrepareSteps.{setting_of, value_of, lock_text, effect_value, text_of_new, decision, decision_of, given, is_new, is_damaged, is_loose_file, is_undecodable, target_by, IsSomeWhole, IsRefusedLock};
 
 use crate::prepare::Error;
 use crate::prepare::expect::check_expected;
@@ -290,16 +288,10 @@ fn write_lock<F: Files>(files: &mut F, lock: &LockFile, text: &[u8]) -> Result<(
     ensures filled { F.honest → (F.means files.old).tree (lock_of lock.now) ≡ Some (File []) →
         OnOk result ((F.means files.new).tree ≡ put (F.means files.old).tree (lock_of lock.now)
         (Some (File text.now))) }
-    ensures outside { IfErr result IsIoOrMemory }
-    ensures leaves { F.honest → (F.means files.old).tree (lock_of lock.now) ≡ Some (File []) →
-        Leaves (F.means files.old) (F.means files.new) (FillsLock (F.means files.old).tree
-        (lock_of lock.now)) }
     ensures whole { F.honest → IsWholeAt (disk_of (F.means files.old)) (lock_of lock.now) [] →
         OnOk result (IsWholeAt (disk_of (F.means files.new)) (lock_of lock.now) text.now) }
-    ensures passes { F.honest → Passes (F.means files.old) (F.means files.new)
-        (FillingOn (disk_of (F.means files.old)) (lock_of lock.now)) }
-    ensures no_fewer { F.faults files.old ≤ F.faults files.new }
-    ensures counted { IfErr result (IsCounted (F.faults files.old) (F.faults files.new)) }
+    ensures failed { IfErr result (IsOutside (F.faults files.old) (F.faults files.new)) }
+    ensures fills { OnlyFills F.honest F.means F.faults (lock_of lock.now) files.old files.new }
 {
     lock.write(files, text)?;
     Ok(())
@@ -357,21 +349,11 @@ impl Edit {
     pub fn take<F: Files>(&self, files: &mut F, is_ready: bool) -> Result<(), Error>
         requires ready { F.honest → is_ready ≡ true →
             has_folders (F.means files.old).tree self.now.lock ≡ true }
-        ensures taken { F.honest → OnOk result (IsNewLock (F.means files.old).tree
-            (lock_of self.now.lock) (F.means files.new).tree) }
-        ensures refused { F.honest → IfErr result (IsRefusedLock (F.means files.old).tree
-            (name_of self.now.update) (lock_of self.now.lock)) }
-        ensures kept { F.honest → OnErr result (AddsLocks [] (lock_of self.now.lock ∷ [])
-            (F.means files.old).tree (F.means files.new).tree) }
-        ensures leaves { F.honest → Leaves (F.means files.old) (F.means files.new)
-            (AddsLocks (lock_of self.now.lock ∷ []) (lock_of self.now.lock ∷ [])
-            (F.means files.old).tree) }
-        ensures whole { F.honest → OnOk result (IsWholeAt (disk_of (F.means files.new))
-            (lock_of self.now.lock) []) }
-        ensures passes { F.honest → Passes (F.means files.old) (F.means files.new)
-            (LockingOn (disk_of (F.means files.old)) self.now.lock) }
-        ensures no_fewer { F.faults files.old ≤ F.faults files.new }
-        ensures counted { IfErr result (IsCounted (F.faults files.old) (F.faults files.new)) }
+        ensures taken { F.honest → OnOk result (IsLockTaken (F.means files.old) (F.means files.new)
+            (lock_of self.now.lock)) }
+        ensures refused { IfErr result (IsNotTaken F.honest F.means F.faults
+            (name_of self.now.update) (lock_of self.now.lock) files.old files.new) }
+        ensures takes { TakesOne F.honest F.means F.faults self.now.lock files.old files.new }
     {
         match take_lock(files, &self.lock, is_ready) {
             Ok(Create::Made) => Ok(()),
@@ -400,16 +382,11 @@ impl Edit {
             (File []) → OnOk result ((F.means files.new).tree ≡ put (F.means files.old).tree
             (lock_of self.now.lock)
             (Some (File (lock_text (effect_value self.now.update.change self.now.effect))))) }
-        ensures outside { IfErr result IsIoOrMemory }
-        ensures leaves { F.honest → (F.means files.old).tree (lock_of self.now.lock) ≡ Some
-            (File []) → Leaves (F.means files.old) (F.means files.new)
-            (FillsLock (F.means files.old).tree (lock_of self.now.lock)) }
         ensures whole { F.honest → IsWholeAt (disk_of (F.means files.old)) (lock_of self.now.lock)
             [] → OnOk result (IsSomeWhole (disk_of (F.means files.new)) (lock_of self.now.lock)) }
-        ensures passes { F.honest → Passes (F.means files.old) (F.means files.new)
-            (FillingOn (disk_of (F.means files.old)) (lock_of self.now.lock)) }
-        ensures no_fewer { F.faults files.old ≤ F.faults files.new }
-        ensures counted { IfErr result (IsCounted (F.faults files.old) (F.faults files.new)) }
+        ensures failed { IfErr result (IsOutside (F.faults files.old) (F.faults files.new)) }
+        ensures fills { OnlyFills F.honest F.means F.faults (lock_of self.now.lock) files.old
+            files.new }
     {
         match self.effect {
             Effect::Write => {
@@ -428,29 +405,16 @@ impl Edit {
         files: &mut F,
         settings: &Settings<'_>,
     ) -> Result<(), Error>
-        requires place { self.old.lock ≡ (setting_of settings.now).place (name_of self.old.update) }
-        requires allowed { (setting_of settings.now).is_prohibited self.old.lock ≡ false }
-        requires possible { IsPossible self.old.update.change }
+        requires { IsInPlace (setting_of settings.now) self.old }
         ensures given { given self.new ≡ given self.old }
-        ensures decided { F.honest → self.old.packed ≡ packed_of (setting_of settings.now)
-            (view_of (F.means files.old).tree) (name_of self.old.update) →
-            (F.means files.old).tree (lock_of self.old.lock) ≡ Some (File []) →
-            OnOk result (IsDecided (setting_of settings.now) (F.means files.old).tree
-            (F.means files.new).tree self.old self.new) }
-        ensures refused { F.honest → self.old.packed ≡ packed_of (setting_of settings.now)
-            (view_of (F.means files.old).tree) (name_of self.old.update) →
-            IfErr result (λ error. IsIoOrMemory error ⊎ IsMismatch settings.now.kind self.old.update
+        ensures written { F.honest → OnOk result (IsWritten (setting_of settings.now)
+            (F.means files.old) (F.means files.new) self.old self.new) }
+        ensures refused { IfErr result (IsNotAccepted F.honest F.means F.faults
+            (setting_of settings.now) self.old (IsMismatch settings.now.kind self.old.update
             (found (setting_of settings.now) (view_of (F.means files.old).tree)
-            (name_of self.old.update)) error) }
-        ensures leaves { F.honest → (F.means files.old).tree (lock_of self.old.lock) ≡ Some
-            (File []) → Leaves (F.means files.old) (F.means files.new)
-            (FillsLock (F.means files.old).tree (lock_of self.old.lock)) }
-        ensures whole { F.honest → IsWholeAt (disk_of (F.means files.old)) (lock_of self.old.lock)
-            [] → OnOk result (IsSomeWhole (disk_of (F.means files.new)) (lock_of self.old.lock)) }
-        ensures passes { F.honest → Passes (F.means files.old) (F.means files.new)
-            (FillingOn (disk_of (F.means files.old)) (lock_of self.old.lock)) }
-        ensures no_fewer { F.faults files.old ≤ F.faults files.new }
-        ensures counted { IfErr result (IsCounted (F.faults files.old) (F.faults files.new)) }
+            (name_of self.old.update))) files.old files.new) }
+        ensures fills { OnlyFills F.honest F.means F.faults (lock_of self.old.lock) files.old
+            files.new }
     {
         let was = was_at(alloc, files, settings, self.lock.place(), self.packed)?;
         check_expected(&self.update, &was.target, settings.kind)?;

@@ -4,12 +4,13 @@ ghost use Rattle.std.specs.Vec.{vec_capacity};
 ghost use Rattle.std.specs.Bool.{OnFalse};
 ghost use Rattle.gix_ref_files.specs.Lock.{lock_of};
 ghost use Rattle.gix_ref_files.specs.Tree.{Path, is_file};
-ghost use Rattle.gix_ref_files.specs.Files.{disk_of, Leaves, Passes, HasRisen, HasRisenBy};
+ghost use Rattle.gix_ref_files.specs.Files.{disk_of, Leaves, Passes, HasRisen};
 ghost use Rattle.gix_ref_files.specs.DiskCalls.{RemovingFileOn};
-ghost use Rattle.gix_ref_transaction.specs.OwnLocks.{paths_of, RemovesLocks, OnlyRemoves, is_in, times};
-ghost use Rattle.gix_ref_transaction.specs.CommitRenames.{lock_at, log_at, path_in, place_at, stays_at};
+ghost use Rattle.gix_ref_transaction.specs.OwnLocks.{paths_of, RemovesLocks, is_in};
+ghost use Rattle.gix_ref_transaction.specs.CommitRenames.{lock_at, path_in, stays_at};
 ghost use Rattle.gix_ref_transaction.specs.Effects.{is_write};
-ghost use Rattle.gix_ref_transaction.specs.PrepareSteps.{held_locks, lock_paths, packed_places, updates};
+ghost use Rattle.gix_ref_transaction.specs.LeftLocks.{AddsEdit, AreNamedOnce, HandsBack, HasRoom, HasRoomForEdits, NamesMore, OnlyReleases};
+ghost use Rattle.gix_ref_transaction.specs.PrepareSteps.{held_locks, lock_paths, packed_places};
 
 use crate::edit::{Edit, LogEffect};
 use gix_ref_edits::transaction::RefEdit;
@@ -66,19 +67,11 @@ impl Remains {
     fn add(&mut self, edit: Edit, removed: bool, here: bool)
         requires room { vec_len self.old.left < vec_capacity self.old.left }
         requires room_for_edit { vec_len self.old.edits < vec_capacity self.old.edits }
-        ensures edits { self.new.edits.items ≡ self.old.edits.items
-            ++ edit.update ∷ [] }
-        ensures left { paths_of self.new.left.items ≡ paths_of self.old.left.items ++
-            (if removed then [] else lock_of edit.lock ∷ []) }
-        ensures same { removed ≡ true → self.new.left.items ≡ self.old.left.items }
+        ensures adds { AddsEdit edit removed self.old self.new }
         ensures place { self.new.place.items ≡ (if here then edit.lock else
             self.old.place.items) }
         ensures log { self.new.log.items ≡ (if here then path_in edit.log else
             self.old.log.items) }
-        ensures room { vec_capacity self.new.left ≡ vec_capacity self.old.left }
-        ensures room_for_edits { vec_capacity self.new.edits ≡ vec_capacity self.old.edits }
-        ensures len { vec_len self.new.left ≤ vec_len self.old.left + 1 }
-        ensures len_of_edits { vec_len self.new.edits ≡ vec_len self.old.edits + 1 }
     {
         let Edit {
             update,
@@ -125,17 +118,10 @@ pub fn release_packed<F: Files>(files: &mut F, packed: Option<LockFile>, left: &
         is_in (paths_of left.new.items) q ≡ false → is_file ((F.means files.new).tree q) ≡ false }
     ensures left { (paths_of left.new.items ≡ paths_of left.old.items) ⊎ (paths_of left.new.items
         ≡ paths_of left.old.items ++ map lock_of (packed_places packed)) }
-    ensures once { (q : Path) → times q (paths_of left.new.items)
-        ≤ times q (paths_of left.old.items) + times q (map lock_of (packed_places packed)) }
-    ensures leaves { F.honest → Leaves (F.means files.old) (F.means files.new)
-        (RemovesLocks (map lock_of (packed_places packed)) (F.means files.old).tree) }
-    ensures passes { F.honest → OnlyRemoves (map lock_of (packed_places packed))
-        (F.means files.old) (F.means files.new) }
-    ensures len { vec_len left.new ≤ vec_len left.old + 1 }
-    ensures room { vec_capacity left.new ≡ vec_capacity left.old }
-    ensures no_fewer { F.faults files.old ≤ F.faults files.new }
-    ensures counted { (base : ℕ) → HasRisenBy (vec_len left.old) base (F.faults files.old) →
-        HasRisenBy (vec_len left.new) base (F.faults files.new) }
+    ensures named { NamesMore (map lock_of (packed_places packed)) 1 left.old left.new
+        (F.faults files.old) (F.faults files.new) }
+    ensures releases { OnlyReleases F.honest F.means F.faults (map lock_of
+        (packed_places packed)) files.old files.new }
 {
     if let Some(lock) = packed {
         if !remove_lock(files, lock.path()) {
@@ -172,34 +158,17 @@ pub fn release_locks<F: Files>(
     mut edits: Vec<Edit>,
     mut remains: Remains,
 ) -> Remains
-    requires room { vec_len edits + vec_len remains.left ≤ vec_capacity remains.left }
-    requires room_for_edits { vec_len edits ≤ vec_capacity remains.edits }
-    requires none { remains.edits.items ≡ [] }
-    ensures edits { result.edits.items ≡ updates edits.items }
-    ensures place { done < vec_len edits → result.place.items ≡ place_at edits.items done }
-    ensures log { done < vec_len edits → result.log.items ≡ path_in
-        (log_at edits.items done) }
+    requires room { HasRoomForEdits edits remains }
+    ensures back { HandsBack edits done result }
     ensures renamed { ((k : ℕ) → k < vec_len edits → stays_at edits.items done k ≡ false) →
         files.new ≡ files.old }
     ensures gone { F.honest → (k : ℕ) → k < vec_len edits → stays_at edits.items done k ≡ true →
         is_in (paths_of result.left.items) (lock_at edits.items k) ≡ false →
         is_file ((F.means files.new).tree (lock_at edits.items k)) ≡ false }
-    ensures ours { (q : Path) → is_in (paths_of result.left.items) q ≡ true →
-        (is_in (paths_of remains.left.items) q ≡ true)
-        ⊎ (is_in (lock_paths edits.items) q ≡ true) }
-    ensures kept { (q : Path) → is_in (paths_of remains.left.items) q ≡ true →
-        is_in (paths_of result.left.items) q ≡ true }
-    ensures once { (q : Path) → times q (paths_of result.left.items)
-        ≤ times q (paths_of remains.left.items) + times q (lock_paths edits.items) }
-    ensures leaves { F.honest → Leaves (F.means files.old) (F.means files.new)
-        (RemovesLocks (lock_paths edits.items) (F.means files.old).tree) }
-    ensures passes { F.honest → OnlyRemoves (lock_paths edits.items) (F.means files.old)
-        (F.means files.new) }
-    ensures no_fewer { F.faults files.old ≤ F.faults files.new }
-    ensures len { vec_len result.left ≤ vec_len remains.left + vec_len edits }
-    ensures room { vec_capacity result.left ≡ vec_capacity remains.left }
-    ensures counted { (base : ℕ) → HasRisenBy (vec_len remains.left) base (F.faults files.old) →
-        HasRisenBy (vec_len result.left) base (F.faults files.new) }
+    ensures named { NamesMore (lock_paths edits.items) (vec_len edits) remains.left result.left
+        (F.faults files.old) (F.faults files.new) }
+    ensures releases { OnlyReleases F.honest F.means F.faults (lock_paths edits.items) files.old
+        files.new }
 {
     while let Some(edit) = edits.pop() {
         let at = edits.len();
@@ -218,14 +187,8 @@ pub fn release_all<F: Files>(
     edits: Vec<Edit>,
     mut remains: Remains,
 ) -> Remains
-    requires room { vec_len edits + 1 ≤ vec_capacity remains.left }
-    requires none_left { remains.left.items ≡ [] }
-    requires room_for_edits { vec_len edits ≤ vec_capacity remains.edits }
-    requires none { remains.edits.items ≡ [] }
-    ensures edits { result.edits.items ≡ updates edits.items }
-    ensures place { done < vec_len edits → result.place.items ≡ place_at edits.items done }
-    ensures log { done < vec_len edits → result.log.items ≡ path_in
-        (log_at edits.items done) }
+    requires room { HasRoom edits remains }
+    ensures back { HandsBack edits done result }
     ensures gone { F.honest → (k : ℕ) → k < vec_len edits → stays_at edits.items done k ≡ true →
         is_in (paths_of result.left.items) (lock_at edits.items k) ≡ false →
         is_file ((F.means files.new).tree (lock_at edits.items k)) ≡ false }
@@ -233,16 +196,10 @@ pub fn release_all<F: Files>(
         is_in (map lock_of (packed_places packed)) q ≡ true →
         is_in (paths_of result.left.items) q ≡ false →
         is_file ((F.means files.new).tree q) ≡ false }
-    ensures ours { (q : Path) → is_in (paths_of result.left.items) q ≡ true →
-        is_in (held_locks packed edits.items) q ≡ true }
-    ensures once { (q : Path) → times q (paths_of result.left.items)
-        ≤ times q (held_locks packed edits.items) }
-    ensures leaves { F.honest → Leaves (F.means files.old) (F.means files.new)
-        (RemovesLocks (held_locks packed edits.items) (F.means files.old).tree) }
-    ensures passes { F.honest → OnlyRemoves (held_locks packed edits.items)
-        (F.means files.old) (F.means files.new) }
-    ensures no_fewer { F.faults files.old ≤ F.faults files.new }
-    ensures named { HasRisenBy (vec_len result.left) (F.faults files.old) (F.faults files.new) }
+    ensures named { AreNamedOnce (held_locks packed edits.items) result.left
+        (F.faults files.old) (F.faults files.new) }
+    ensures releases { OnlyReleases F.honest F.means F.faults (held_locks packed edits.items)
+        files.old files.new }
 {
     release_packed(files, packed, &mut remains.left);
     release_locks(files, done, edits, remains)

@@ -3,8 +3,9 @@ ghost use Rattle.std.specs.Prelude.{◌≡◌, [], OnOk, IfOk, IfErr, length};
 ghost use Rattle.std.specs.Borrow.{sem, RestsIfErr};
 ghost use Rattle.gix_ref_files.specs.Files.{HasRisenBy};
 ghost use Rattle.gix_ref_packed.specs.OpenFiles.{HasReadFault};
+ghost use Rattle.gix_ref_transaction.specs.LeftLocks.{HasRoom};
 ghost use Rattle.gix_ref_transaction.specs.OwnLocks.{paths_of};
-ghost use Rattle.gix_ref_store.specs.Prepared.{RefusesGiven, PreparesGiven, RollsBackFrom, HasRoom};
+ghost use Rattle.gix_ref_store.specs.Prepared.{RefusesGiven, PreparesGiven, RollsBackFrom};
 
 pub mod commit;
 pub mod outcome;

@@ -1,16 +1,16 @@
 //! All locks of a transaction, or none.
-ghost use Rattle.std.specs.Prelude.{◌≡◌, ◌≤◌, ◌<◌, ◌+◌, ◌⊎◌, ℕ, List, [], None, true, OnOk, IfOk, IfErr, map, vec_len};
+ghost use Rattle.std.specs.Prelude.{◌≡◌, ◌<◌, ℕ, List, [], None, true, OnOk, IfOk, IfErr, vec_len};
 ghost use Rattle.std.specs.Vec.{vec_capacity};
-ghost use Rattle.gix_ref_files.specs.Files.{disk_of, Leaves, HasRisenBy};
-ghost use Rattle.gix_ref_files.specs.Lock.{lock_of};
+ghost use Rattle.gix_ref_files.specs.Files.{disk_of};
 ghost use Rattle.gix_ref_files.specs.Settled.{IsWholeAt};
 ghost use Rattle.gix_ref_files.specs.Tree.{Path};
 ghost use Rattle.gix_ref_packed.specs.OpenFiles.{HasReadFault};
 ghost use Rattle.gix_ref_lookup.specs.Lookups.{packed_refs_in};
-ghost use Rattle.gix_ref_transaction.specs.OwnLocks.{paths_of, is_in, times, AddsLocks, OnlyLocks};
-ghost use Rattle.gix_ref_transaction.specs.Causes.{AllValid, LocksAreApart, IsCounted, IsCountedWith, IsFindCause, IsFirstCause, IsIoOrMemory, IsLockCause, IsPackedLocked, IsPackedRefusal, IsPackedWell, locks_of, packed_taken};
+ghost use Rattle.gix_ref_transaction.specs.Causes.{IsFirstCause, IsLockCause, IsPackedWell, locks_of};
+ghost use Rattle.gix_ref_transaction.specs.HeldLocks.{AreHeld, AreReady, AreRemovedAgain, HoldsPackedLock, IsHeldBack, IsTakingFault, OnlyTakes};
+ghost use Rattle.gix_ref_transaction.specs.LeftLocks.{HasRoom};
 ghost use Rattle.gix_ref_transaction.specs.Parents.{parents_in};
-ghost use Rattle.gix_ref_transaction.specs.PrepareSteps.{setting_of, updates, all_asked, all_given, ids_in, packed_ids, place_paths, places_of, own_locks, packed_places, possible_locks, AreEmpty, AreSettled, AreLockable, AreWholeLocks, IsPackedPlace};
+ghost use Rattle.gix_ref_transaction.specs.PrepareSteps.{setting_of, updates, all_given, ids_in, packed_ids, place_paths, places_of, own_locks, possible_locks};
 
 use crate::edit::Edit;
 use crate::prepare::Error;
@@ -80,59 +80,28 @@ fn lock_all_or_none<F: Files>(
     mut edits: Vec<Edit>,
     remains: Remains,
 ) -> Result<HeldEdits, LockFailure>
-    requires places { place_paths edits.items ≡ places_of (setting_of settings.now)
-        (updates edits.items) }
-    requires apart { LocksAreApart (setting_of settings.now) (updates edits.items) }
-    requires valid { AllValid (setting_of settings.now) settings.now.kind [] (updates edits.items) }
-    requires room { vec_len edits + vec_len remains.left < vec_capacity remains.left }
-    requires room_for_edits { vec_len edits ≤ vec_capacity remains.edits }
-    requires no_edits { remains.edits.items ≡ [] }
-    requires none { remains.left.items ≡ [] }
+    requires ready { AreReady (setting_of settings.now) settings.now.kind edits.items }
+    requires room { HasRoom edits remains }
+    ensures held { IfOk result (λ held. AreHeld F.honest (ids_in edits.items ≡ packed_ids
+        (setting_of settings.now) (F.means files.old).tree (updates edits.items))
+        (setting_of settings.now) settings.now.kind
+        (locks_of (setting_of settings.now) (updates edits.items)) (F.means files.old)
+        (F.means files.new) edits.items held.edits.items remains held.remains) }
     ensures given { IfOk result (λ held. all_given held.edits.items ≡ all_given edits.items) }
-    ensures remains { IfOk result (λ held. held.remains ≡ remains) }
-    ensures settled { F.honest → ids_in edits.items ≡ packed_ids (setting_of settings.now)
-        (F.means files.old).tree (updates edits.items) →
-        IfOk result (λ held. AreSettled (setting_of settings.now) settings.now.kind
-        (F.means files.old).tree (F.means files.new).tree edits.items held.edits.items) }
-    ensures adds { F.honest →
-        OnOk result (AddsLocks (locks_of (setting_of settings.now) (updates edits.items))
-        (locks_of (setting_of settings.now) (updates edits.items)) (F.means files.old).tree
-        (F.means files.new).tree) }
-    ensures lockable { F.honest →
-        OnOk result (AreLockable (setting_of settings.now) settings.now.kind
-        (F.means files.old).tree [] (updates edits.items)) }
-    ensures refused { F.honest → ids_in edits.items ≡ packed_ids (setting_of settings.now)
-        (F.means files.old).tree (updates edits.items) →
-        IfErr result (λ failure. IsFirstCause (setting_of settings.now) settings.now.kind
-        (F.means files.old).tree [] (updates edits.items) failure.error) }
-    ensures as_before { F.honest →
-        IfErr result (λ failure. AddsLocks (paths_of failure.locks_left.items)
-        (locks_of (setting_of settings.now) (updates edits.items)) (F.means files.old).tree
-        (F.means files.new).tree) }
-    ensures ours { IfErr result (λ failure. (q : Path) →
-        is_in (paths_of failure.locks_left.items) q ≡ true →
-        is_in (locks_of (setting_of settings.now) (updates edits.items)) q ≡ true) }
-    ensures room { IfErr result (λ failure. vec_len failure.locks_left
-        < vec_capacity failure.locks_left) }
-    ensures once { IfErr result (λ failure. (q : Path) → times q (paths_of
-        failure.locks_left.items) ≤ times q (locks_of (setting_of settings.now)
-        (updates edits.items))) }
-    ensures named { IfErr result (λ failure. HasRisenBy (vec_len failure.locks_left)
-        (F.faults files.old) (F.faults files.new)) }
-    ensures leaves { F.honest → Leaves (F.means files.old) (F.means files.new)
-        (AddsLocks (locks_of (setting_of settings.now) (updates edits.items))
-        (locks_of (setting_of settings.now) (updates edits.items)) (F.means files.old).tree) }
-    ensures whole { F.honest →
-        OnOk result (AreWholeLocks (disk_of (F.means files.new))
-        (locks_of (setting_of settings.now) (updates edits.items))) }
     ensures wholes { F.honest → (q : Path) (text : List ℕ) →
         IsWholeAt (disk_of (F.means files.old)) q text →
         OnOk result (IsWholeAt (disk_of (F.means files.new)) q text) }
-    ensures passes { F.honest → OnlyLocks (locks_of (setting_of settings.now)
-        (updates edits.items)) (F.means files.old) (F.means files.new) }
-    ensures no_fewer { F.faults files.old ≤ F.faults files.new }
-    ensures counted { IfErr result (λ failure. IsCounted (F.faults files.old) (F.faults files.new)
+    ensures refused { IfErr result (λ failure. IsTakingFault F.honest F.means F.faults
+        (setting_of settings.now) settings.now.kind edits.items files.old files.new
         failure.error) }
+    ensures removed { IfErr result (λ failure. AreRemovedAgain F.honest F.means F.faults
+        (locks_of (setting_of settings.now) (updates edits.items))
+        (locks_of (setting_of settings.now) (updates edits.items)) failure.locks_left
+        files.old files.new) }
+    ensures room { IfErr result (λ failure. vec_len failure.locks_left
+        < vec_capacity failure.locks_left) }
+    ensures takes { OnlyTakes F.honest F.means F.faults (locks_of (setting_of settings.now)
+        (updates edits.items)) files.old files.new }
 {
     let mut taken = 0;
     match take_locks(alloc, files, settings, &mut edits, &mut taken) {
@@ -160,65 +129,28 @@ fn find_and_lock<F: Files>(
 ) -> Result<HeldEdits, LockFailure>
     requires absent { F.honest → is_absent ≡ true → packed_refs_in settings.now (F.means files.old)
         ≡ None }
-    requires places { place_paths edits.items ≡ places_of (setting_of settings.now)
-        (updates edits.items) }
-    requires apart { LocksAreApart (setting_of settings.now) (updates edits.items) }
-    requires valid { AllValid (setting_of settings.now) settings.now.kind [] (updates edits.items) }
-    requires room { vec_len edits + vec_len remains.left < vec_capacity remains.left }
-    requires room_for_edits { vec_len edits ≤ vec_capacity remains.edits }
-    requires no_edits { remains.edits.items ≡ [] }
-    requires none { remains.left.items ≡ [] }
-    ensures asked { IfOk result (λ held. all_asked held.edits.items ≡ all_asked edits.items) }
-    ensures remains { IfOk result (λ held. held.remains ≡ remains) }
-    ensures settled { F.honest → IsPackedWell settings.now.kind (packed_refs_in settings.now
-        (F.means files.old)) →
-        IfOk result (λ held. AreSettled (setting_of settings.now) settings.now.kind
-        (F.means files.old).tree (F.means files.new).tree edits.items held.edits.items) }
-    ensures adds { F.honest →
-        OnOk result (AddsLocks (locks_of (setting_of settings.now) (updates edits.items))
-        (locks_of (setting_of settings.now) (updates edits.items)) (F.means files.old).tree
-        (F.means files.new).tree) }
-    ensures lockable { F.honest →
-        OnOk result (AreLockable (setting_of settings.now) settings.now.kind
-        (F.means files.old).tree [] (updates edits.items)) }
-    ensures refused { F.honest → IsPackedWell settings.now.kind (packed_refs_in settings.now
-        (F.means files.old)) →
-        IfErr result (λ failure. IsIoOrMemory failure.error
-        ⊎ IsFirstCause (setting_of settings.now) settings.now.kind (F.means files.old).tree []
-        (updates edits.items) failure.error) }
-    ensures opened { F.honest → IfErr result (λ failure. IsPackedRefusal settings.now.kind
-        ((F.means files.old).tree (setting_of settings.now).packed_path) failure.error) }
-    ensures unread { F.honest → IfErr result (λ failure. IsFindCause (setting_of settings.now)
-        settings.now.kind (packed_refs_in settings.now (F.means files.old))
-        (updates edits.items) failure.error) }
-    ensures as_before { F.honest →
-        IfErr result (λ failure. AddsLocks (paths_of failure.locks_left.items)
-        (locks_of (setting_of settings.now) (updates edits.items)) (F.means files.old).tree
-        (F.means files.new).tree) }
-    ensures ours { IfErr result (λ failure. (q : Path) →
-        is_in (paths_of failure.locks_left.items) q ≡ true →
-        is_in (locks_of (setting_of settings.now) (updates edits.items)) q ≡ true) }
-    ensures room { IfErr result (λ failure. vec_len failure.locks_left
-        < vec_capacity failure.locks_left) }
-    ensures once { IfErr result (λ failure. (q : Path) → times q (paths_of
-        failure.locks_left.items) ≤ times q (locks_of (setting_of settings.now)
-        (updates edits.items))) }
-    ensures named { IfErr result (λ failure. HasRisenBy (vec_len failure.locks_left)
-        (F.faults files.old) (F.faults files.new)) }
-    ensures leaves { F.honest → Leaves (F.means files.old) (F.means files.new)
-        (AddsLocks (locks_of (setting_of settings.now) (updates edits.items))
-        (locks_of (setting_of settings.now) (updates edits.items)) (F.means files.old).tree) }
-    ensures whole { F.honest →
-        OnOk result (AreWholeLocks (disk_of (F.means files.new))
-        (locks_of (setting_of settings.now) (updates edits.items))) }
+    requires ready { AreReady (setting_of settings.now) settings.now.kind edits.items }
+    requires room { HasRoom edits remains }
+    ensures held { IfOk result (λ held. AreHeld F.honest (IsPackedWell settings.now.kind
+        (packed_refs_in settings.now (F.means files.old))) (setting_of settings.now)
+        settings.now.kind (locks_of (setting_of settings.now) (updates edits.items))
+        (F.means files.old) (F.means files.new) edits.items held.edits.items remains
+        held.remains) }
     ensures wholes { F.honest → (q : Path) (text : List ℕ) →
         IsWholeAt (disk_of (F.means files.old)) q text →
         OnOk result (IsWholeAt (disk_of (F.means files.new)) q text) }
-    ensures passes { F.honest → OnlyLocks (locks_of (setting_of settings.now)
-        (updates edits.items)) (F.means files.old) (F.means files.new) }
-    ensures no_fewer { F.faults files.old ≤ F.faults files.new }
-    ensures counted { IfErr result (λ failure. IsCountedWith F.honest (HasReadFault
-        F.Reader.faults) (F.faults files.old) (F.faults files.new) failure.error) }
+    ensures refused { IfErr result (λ failure. IsHeldBack F.honest F.means F.faults (HasReadFault
+        F.Reader.faults) (setting_of settings.now) settings.now.kind (updates edits.items)
+        (IsFirstCause (setting_of settings.now) settings.now.kind (F.means files.old).tree []
+        (updates edits.items)) files.old files.new failure.error) }
+    ensures removed { IfErr result (λ failure. AreRemovedAgain F.honest F.means F.faults
+        (locks_of (setting_of settings.now) (updates edits.items))
+        (locks_of (setting_of settings.now) (updates edits.items)) failure.locks_left
+        files.old files.new) }
+    ensures room { IfErr result (λ failure. vec_len failure.locks_left
+        < vec_capacity failure.locks_left) }
+    ensures takes { OnlyTakes F.honest F.means F.faults (locks_of (setting_of settings.now)
+        (updates edits.items)) files.old files.new }
 {
     match find_records(alloc, files, settings, is_absent, &mut edits) {
         Ok(()) => lock_all_or_none(alloc, files, settings, edits, remains),
@@ -238,68 +170,25 @@ pub fn lock_edits<F: Files>(
     edits: Vec<Edit>,
     remains: Remains,
 ) -> Result<HeldLocks, LockFailure>
-    requires places { place_paths edits.items ≡ places_of (setting_of settings.now)
-        (updates edits.items) }
-    requires apart { LocksAreApart (setting_of settings.now) (updates edits.items) }
-    requires valid { AllValid (setting_of settings.now) settings.now.kind [] (updates edits.items) }
-    requires room { vec_len edits + vec_len remains.left < vec_capacity remains.left }
-    requires room_for_edits { vec_len edits ≤ vec_capacity remains.edits }
-    requires no_edits { remains.edits.items ≡ [] }
-    requires none { remains.left.items ≡ [] }
-    ensures asked { IfOk result (λ held. all_asked held.edits.items ≡ all_asked edits.items) }
-    ensures remains { IfOk result (λ held. held.remains ≡ remains) }
-    ensures packed { F.honest → IfOk result (λ held. packed_places held.packed ≡ packed_taken
-        (setting_of settings.now) (F.means files.old).tree (updates edits.items)) }
-    ensures place { IfOk result (λ held. IsPackedPlace (setting_of settings.now) held.packed) }
-    ensures empty { F.honest → IfOk result (λ held. AreEmpty (F.means files.new).tree
-        (map lock_of (packed_places held.packed))) }
-    ensures free { F.honest → OnOk result (IsPackedLocked (setting_of settings.now)
-        (F.means files.old).tree (updates edits.items) → ⊥) }
-    ensures settled { F.honest → IsPackedWell settings.now.kind (packed_refs_in settings.now
-        (F.means files.old)) →
-        IfOk result (λ held. AreSettled (setting_of settings.now) settings.now.kind
-        (F.means files.old).tree (F.means files.new).tree edits.items held.edits.items) }
-    ensures adds { F.honest → OnOk result (AddsLocks (own_locks (setting_of settings.now)
-        (F.means files.old).tree (updates edits.items)) (own_locks (setting_of settings.now)
-        (F.means files.old).tree (updates edits.items)) (F.means files.old).tree
-        (F.means files.new).tree) }
-    ensures lockable { F.honest →
-        OnOk result (AreLockable (setting_of settings.now) settings.now.kind
-        (F.means files.old).tree [] (updates edits.items)) }
-    ensures refused { F.honest → IsPackedWell settings.now.kind (packed_refs_in settings.now
-        (F.means files.old)) →
-        IfErr result (λ failure. IsIoOrMemory failure.error ⊎ IsLockCause
-        (setting_of settings.now) settings.now.kind (F.means files.old).tree
-        (updates edits.items) failure.error) }
-    ensures opened { F.honest → IfErr result (λ failure. IsPackedRefusal settings.now.kind
-        ((F.means files.old).tree (setting_of settings.now).packed_path) failure.error) }
-    ensures unread { F.honest → IfErr result (λ failure. IsFindCause (setting_of settings.now)
-        settings.now.kind (packed_refs_in settings.now (F.means files.old))
-        (updates edits.items) failure.error) }
-    ensures as_before { F.honest →
-        IfErr result (λ failure. AddsLocks (paths_of failure.locks_left.items)
+    requires ready { AreReady (setting_of settings.now) settings.now.kind edits.items }
+    requires room { HasRoom edits remains }
+    ensures held { IfOk result (λ held. AreHeld F.honest (IsPackedWell settings.now.kind
+        (packed_refs_in settings.now (F.means files.old))) (setting_of settings.now)
+        settings.now.kind (own_locks (setting_of settings.now) (F.means files.old).tree
+        (updates edits.items)) (F.means files.old) (F.means files.new) edits.items
+        held.edits.items remains held.remains) }
+    ensures packed { IfOk result (λ held. HoldsPackedLock F.honest (setting_of settings.now)
+        (F.means files.old).tree (F.means files.new).tree (updates edits.items) held.packed) }
+    ensures refused { IfErr result (λ failure. IsHeldBack F.honest F.means F.faults (HasReadFault
+        F.Reader.faults) (setting_of settings.now) settings.now.kind (updates edits.items)
+        (IsLockCause (setting_of settings.now) settings.now.kind (F.means files.old).tree
+        (updates edits.items)) files.old files.new failure.error) }
+    ensures removed { IfErr result (λ failure. AreRemovedAgain F.honest F.means F.faults
         (own_locks (setting_of settings.now) (F.means files.old).tree (updates edits.items))
-        (F.means files.old).tree (F.means files.new).tree) }
-    ensures ours { IfErr result (λ failure. (q : Path) →
-        is_in (paths_of failure.locks_left.items) q ≡ true →
-        is_in (possible_locks (setting_of settings.now) (updates edits.items)) q ≡ true) }
-    ensures once { IfErr result (λ failure. (q : Path) → times q (paths_of
-        failure.locks_left.items) ≤ times q (possible_locks (setting_of settings.now)
-        (updates edits.items))) }
-    ensures named { IfErr result (λ failure. HasRisenBy (vec_len failure.locks_left)
-        (F.faults files.old) (F.faults files.new)) }
-    ensures leaves { F.honest → Leaves (F.means files.old) (F.means files.new)
-        (AddsLocks (own_locks (setting_of settings.now) (F.means files.old).tree
-        (updates edits.items)) (own_locks (setting_of settings.now) (F.means files.old).tree
-        (updates edits.items)) (F.means files.old).tree) }
-    ensures whole { F.honest →
-        OnOk result (AreWholeLocks (disk_of (F.means files.new)) (own_locks
-        (setting_of settings.now) (F.means files.old).tree (updates edits.items))) }
-    ensures passes { F.honest → OnlyLocks (own_locks (setting_of settings.now)
-        (F.means files.old).tree (updates edits.items)) (F.means files.old) (F.means files.new) }
-    ensures no_fewer { F.faults files.old ≤ F.faults files.new }
-    ensures counted { IfErr result (λ failure. IsCountedWith F.honest (HasReadFault
-        F.Reader.faults) (F.faults files.old) (F.faults files.new) failure.error) }
+        (possible_locks (setting_of settings.now) (updates edits.items)) failure.locks_left
+        files.old files.new) }
+    ensures takes { OnlyTakes F.honest F.means F.faults (own_locks (setting_of settings.now)
+        (F.means files.old).tree (updates edits.items)) files.old files.new }
 {
     let packed = match take_packed(alloc, files, settings, &edits) {
         Ok(packed) => packed,

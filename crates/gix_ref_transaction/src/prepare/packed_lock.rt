@@ -1,18 +1,15 @@
 //! The lock of `packed-refs`, which a transaction takes before it reads the records.
-ghost use Rattle.std.specs.Prelude.{◌≡◌, ◌≤◌, ◌⊎◌, [], true, Some, None, IsSome, OnOk, OnErr, IfOk, IfErr, map};
+ghost use Rattle.std.specs.Prelude.{◌≡◌, true, Some, None, IsSome, OnOk, IfOk, IfErr};
 ghost use Rattle.std.specs.List.{list_any};
-ghost use Rattle.gix_ref_files.specs.Calls.{Creating, Unchanged};
 ghost use Rattle.gix_ref_files.specs.ReadOnly.{OnlyReads};
-ghost use Rattle.gix_ref_files.specs.DiskCalls.{CreatingOn, Untouched};
-ghost use Rattle.gix_ref_files.specs.Files.{disk_of, Leaves, Passes};
 ghost use Rattle.gix_ref_files.specs.Lock.{lock_of};
-ghost use Rattle.gix_ref_files.specs.Settled.{IsWholeAt};
 ghost use Rattle.gix_ref_files.specs.Tree.{Tree};
 ghost use Rattle.gix_ref_theory.specs.OnRealTrees.{view_of};
 ghost use Rattle.gix_ref_edits.specs.RefEdits.{is_of_reference, mode_of};
-ghost use Rattle.gix_ref_transaction.specs.OwnLocks.{AddsLocks, OnlyLocks};
-ghost use Rattle.gix_ref_transaction.specs.Causes.{has_key as may_have_record, packed_taken, IsCounted, IsIoOrMemory, IsInTheWay, IsPackedCause, IsPackedLocked};
-ghost use Rattle.gix_ref_transaction.specs.PrepareSteps.{setting_of, updates, packed_locks, packed_places, AreWholeLocks, IsPackedPlace, TakesPacked};
+ghost use Rattle.gix_ref_transaction.specs.Causes.{has_key as may_have_record, packed_taken, IsInTheWay, IsPackedCause};
+ghost use Rattle.gix_ref_transaction.specs.HeldLocks.{OnlyTakes};
+ghost use Rattle.gix_ref_transaction.specs.PackedLock.{IsPackedFault, IsPackedTaken, IsPackedTakenWhereDue, OnlyCreates};
+ghost use Rattle.gix_ref_transaction.specs.PrepareSteps.{setting_of, updates, packed_locks, packed_places};
 
 use crate::edit::Edit;
 use crate::prepare::Error;
@@ -51,22 +48,12 @@ fn ask(settings: &Settings<'_>, edits: &[Edit]) -> bool
 
 /// Takes the lock of `packed-refs`, where that is a file.
 fn take_lock<F: Files>(files: &mut F, lock: LockFile) -> Result<Option<LockFile>, Error>
-    ensures same { IfOk result (λ packed. packed ≡ Some lock) }
-    ensures free { F.honest → OnOk result (IsInTheWay (F.means files.old).tree (lock_of lock)
-        → ⊥) }
-    ensures takes { F.honest → OnOk result (TakesPacked (F.means files.old).tree (Some lock)
-        (F.means files.new).tree) }
-    ensures refused { F.honest → IfErr result (λ error. IsIoOrMemory error ⊎ (IsInTheWay
-        (F.means files.old).tree (lock_of lock) × (error ≡ Error.PackedTransactionAcquire))) }
-    ensures kept { F.honest → OnErr result ((F.means files.new).tree ≡ (F.means files.old).tree) }
-    ensures leaves { F.honest → Leaves (F.means files.old) (F.means files.new)
-        (Creating (F.means files.old).tree (lock_of lock)) }
-    ensures whole { F.honest → OnOk result (IsWholeAt (disk_of (F.means files.new)) (lock_of lock)
-        []) }
-    ensures passes { F.honest → Passes (F.means files.old) (F.means files.new)
-        (CreatingOn (disk_of (F.means files.old)) (lock_of lock)) }
-    ensures no_fewer { F.faults files.old ≤ F.faults files.new }
-    ensures counted { IfErr result (IsCounted (F.faults files.old) (F.faults files.new)) }
+    ensures taken { IfOk result (λ packed. IsPackedTaken F.honest lock (F.means files.old)
+        (F.means files.new) packed) }
+    ensures refused { IfErr result (IsPackedFault F.honest F.means F.faults (λ error. IsInTheWay
+        (F.means files.old).tree (lock_of lock) × (error ≡ Error.PackedTransactionAcquire))
+        files.old files.new) }
+    ensures creates { OnlyCreates F.honest F.means F.faults (lock_of lock) files.old files.new }
 {
     match lock.create(files)? {
         Create::Made => Ok(Some(lock)),
@@ -78,11 +65,10 @@ fn take_lock<F: Files>(files: &mut F, lock: LockFile) -> Result<Option<LockFile>
 fn pass_lock<F: Files>(files: &mut F, lock: LockFile) -> Result<Option<LockFile>, Error>
     ensures none { IfOk result (λ packed. packed ≡ None) }
     ensures free { F.honest → OnOk result ((F.means files.old).tree (lock_of lock) ≡ None) }
-    ensures refused { F.honest → IfErr result (λ error. IsIoOrMemory error ⊎ (IsSome
-        ((F.means files.old).tree (lock_of lock)) × (error
-        ≡ Error.PackedTransactionAcquire))) }
+    ensures refused { IfErr result (IsPackedFault F.honest F.means F.faults (λ error. IsSome
+        ((F.means files.old).tree (lock_of lock)) × (error ≡ Error.PackedTransactionAcquire))
+        files.old files.new) }
     ensures reads { OnlyReads F.honest F.means F.faults files.old files.new }
-    ensures counted { IfErr result (IsCounted (F.faults files.old) (F.faults files.new)) }
 {
     match files.kind(lock.path())? {
         Node::Nothing | Node::Blocked => Ok(None),
@@ -107,26 +93,14 @@ pub fn take_packed<F: Files>(
     settings: &Settings<'_>,
     edits: &[Edit],
 ) -> Result<Option<LockFile>, Error>
-    ensures place { IfOk result (IsPackedPlace (setting_of settings.now)) }
-    ensures taken { F.honest → IfOk result (λ packed. packed_places packed ≡ packed_taken
-        (setting_of settings.now) (F.means files.old).tree (updates edits.now)) }
-    ensures free { F.honest → OnOk result (IsPackedLocked (setting_of settings.now)
-        (F.means files.old).tree (updates edits.now) → ⊥) }
-    ensures takes { F.honest → IfOk result (λ packed. TakesPacked (F.means files.old).tree packed
-        (F.means files.new).tree) }
-    ensures refused { F.honest → IfErr result (λ error. IsIoOrMemory error ⊎ IsPackedCause
-        (setting_of settings.now) (F.means files.old).tree (updates edits.now) error) }
-    ensures kept { F.honest → OnErr result ((F.means files.new).tree ≡ (F.means files.old).tree) }
-    ensures leaves { F.honest → Leaves (F.means files.old) (F.means files.new)
-        (AddsLocks (packed_locks (setting_of settings.now) (F.means files.old).tree
-        (updates edits.now)) (packed_locks (setting_of settings.now) (F.means files.old).tree
-        (updates edits.now)) (F.means files.old).tree) }
-    ensures whole { F.honest → IfOk result (λ packed. AreWholeLocks (disk_of (F.means files.new))
-        (map lock_of (packed_places packed))) }
-    ensures passes { F.honest → OnlyLocks (packed_locks (setting_of settings.now)
-        (F.means files.old).tree (updates edits.now)) (F.means files.old) (F.means files.new) }
-    ensures no_fewer { F.faults files.old ≤ F.faults files.new }
-    ensures counted { IfErr result (IsCounted (F.faults files.old) (F.faults files.new)) }
+    ensures taken { IfOk result (λ packed. IsPackedTakenWhereDue F.honest
+        (setting_of settings.now) (updates edits.now) (F.means files.old) (F.means files.new)
+        packed) }
+    ensures refused { IfErr result (IsPackedFault F.honest F.means F.faults (IsPackedCause
+        (setting_of settings.now) (F.means files.old).tree (updates edits.now)) files.old
+        files.new) }
+    ensures takes { OnlyTakes F.honest F.means F.faults (packed_locks (setting_of settings.now)
+        (F.means files.old).tree (updates edits.now)) files.old files.new }
 {
     if !ask(settings, edits) {
         return Ok(None);

@@ -1,18 +1,16 @@
 //! The records of the edits of a transaction in `packed-refs`.
-ghost use Rattle.std.specs.Prelude.{◌≡◌, ◌≤◌, ◌⊎◌, ℕ, List, Option, None, true, OnOk, IfOk, IfErr};
+ghost use Rattle.std.specs.Prelude.{◌≡◌, ◌⊎◌, ℕ, List, Option, None, true, OnOk, IfOk, IfErr};
 ghost use Rattle.gix_ref_hash.specs.declared.hash.Kind.{Kind};
 ghost use Rattle.gix_ref_name.specs.Names.{full_ref_bytes};
 ghost use Rattle.gix_ref_base.specs.PackedRecords.{Record, record_named};
 ghost use Rattle.gix_ref_files.specs.Tree.{Content};
 ghost use Rattle.gix_ref_files.specs.ReadOnly.{OnlyReads};
-ghost use Rattle.gix_ref_files.specs.Calls.{Unchanged};
-ghost use Rattle.gix_ref_files.specs.DiskCalls.{Untouched};
-ghost use Rattle.gix_ref_files.specs.Files.{disk_of, Leaves, Passes};
+ghost use Rattle.gix_ref_files.specs.Files.{Passes};
 ghost use Rattle.gix_ref_packed.specs.OpenFiles.{HasReadFault};
 ghost use Rattle.gix_ref_edits.specs.RefEdits.{name_of};
-ghost use Rattle.gix_ref_lookup.specs.Lookups.{packed_refs_in, ArePackedRecords, AreAsked, AreHonest, IsOpenedText, IsReady, IsSearched, OfKey};
-ghost use Rattle.gix_ref_transaction.specs.Causes.{id_of_record, packed_id, IsCounted, IsCountedWith, IsFindCause, IsIoOrMemory, IsPackedRefusal, OfFind, OfSomeKey};
-ghost use Rattle.gix_ref_transaction.specs.internal.StuckRecords.{IsStuckKey};
+ghost use Rattle.gix_ref_lookup.specs.Lookups.{packed_refs_in, ArePackedRecords, AreAsked, AreHonest, AreStillAsked, IsOpenedText, IsReady, IsSearched, OfKey};
+ghost use Rattle.gix_ref_transaction.specs.Causes.{id_of_record, packed_id, IsCounted, IsCountedWith, IsIoOrMemory, IsPackedRefusal, OfSomeKey};
+ghost use Rattle.gix_ref_transaction.specs.internal.StuckRecords.{AreNotFound, IsSearchFault, IsStuckKey};
 ghost use Rattle.gix_ref_transaction.specs.PackedCauses.{as_cause, ids_among};
 ghost use Rattle.gix_ref_transaction.specs.PrepareSteps.{setting_of, updates, all_asked, ids_in};
 
@@ -46,20 +44,11 @@ fn id_at<R: ReadAt + Drop>(
     requires { IsReady records.now }
     ensures found { (kind : Kind) (rs : List Record) → AreAsked kind None records.old rs →
         IfOk result (λ id. id ≡ id_of_record (record_named (full_ref_bytes key.entry) rs)) }
-    ensures sound { (kind : Kind) (rs : List Record) → AreAsked kind None records.old rs →
-        IfErr result IsIoOrMemory }
-    ensures refused { AreHonest records.old → (kind : Kind) (packed : Option Content) →
-        IfErr result (IsPackedRefusal kind packed) }
+    ensures failed { IfErr result (IsSearchFault records.old (λ kind. IsStuckKey kind records.old
+        (full_ref_bytes key.entry))) }
     ensures counted { (before now : ℕ) →
         IfErr result (IsCountedWith (AreHonest records.old) (HasReadFault R.faults) before now) }
-    ensures asked { (kind : Kind) (rs : List Record) → AreAsked kind None records.old rs →
-        AreAsked kind None records.new rs }
-    ensures unread { AreHonest records.old → (kind : Kind) →
-        IfErr result (OfFind (IsStuckKey kind records.old (full_ref_bytes key.entry))) }
-    ensures searched { (kind of_kind : Kind) (text : List ℕ) →
-        IsSearched kind None records.new of_kind text →
-        IsSearched kind None records.old of_kind text }
-    ensures honest { AreHonest records.old → AreHonest records.new }
+    ensures still { (kind : Kind) → AreStillAsked kind None records.old records.new }
     ensures ready { IsReady records.new }
 {
     match records.find(key) {
@@ -80,21 +69,11 @@ fn id_of<R: ReadAt + Drop>(
     ensures found { (kind : Kind) (rs : List Record) → AreAsked kind None records.old rs →
         IfOk result (λ id. id ≡ packed_id ((setting_of settings.now).key
         (full_ref_bytes name.entry)) rs) }
-    ensures sound { (kind : Kind) (rs : List Record) → AreAsked kind None records.old rs →
-        IfErr result IsIoOrMemory }
-    ensures refused { AreHonest records.old → (kind : Kind) (packed : Option Content) →
-        IfErr result (IsPackedRefusal kind packed) }
+    ensures failed { IfErr result (IsSearchFault records.old (λ kind. OfKey
+        (setting_of settings.now) (full_ref_bytes name.entry) (IsStuckKey kind records.old))) }
     ensures counted { (before now : ℕ) →
         IfErr result (IsCountedWith (AreHonest records.old) (HasReadFault R.faults) before now) }
-    ensures asked { (kind : Kind) (rs : List Record) → AreAsked kind None records.old rs →
-        AreAsked kind None records.new rs }
-    ensures unread { AreHonest records.old → (kind : Kind) →
-        IfErr result (OfFind (OfKey (setting_of settings.now) (full_ref_bytes name.entry)
-        (IsStuckKey kind records.old))) }
-    ensures searched { (kind of_kind : Kind) (text : List ℕ) →
-        IsSearched kind None records.new of_kind text →
-        IsSearched kind None records.old of_kind text }
-    ensures honest { AreHonest records.old → AreHonest records.new }
+    ensures still { (kind : Kind) → AreStillAsked kind None records.old records.new }
     ensures ready { IsReady records.new }
 {
     if settings.is_own_key(name) {
@@ -117,8 +96,8 @@ fn pass_hidden<F: Files>(
 ) -> Result<(), Error>
     ensures hidden { OnOk result (IsIoOrMemory error → ⊥) }
     ensures sound { IsIoOrMemory error → IfErr result IsIoOrMemory }
-    ensures refused { (packed : Option Content) → IsPackedRefusal kind packed error →
-        IfErr result (IsPackedRefusal kind packed) }
+    ensures refused { (of_kind : Kind) (packed : Option Content) →
+        IsPackedRefusal of_kind packed error → IfErr result (IsPackedRefusal of_kind packed) }
     ensures counted { IfErr result (λ e. (e ≡ error)
         ⊎ IsCounted (F.faults files.old) (F.faults files.new) e) }
     ensures reads { OnlyReads F.honest F.means F.faults files.old files.new }
@@ -144,21 +123,11 @@ fn id_unless_hidden<F: Files>(
     ensures found { (kind : Kind) (rs : List Record) → AreAsked kind None records.old rs →
         IfOk result (λ id. id ≡ packed_id ((setting_of settings.now).key
         (name_of edit.now.update)) rs) }
-    ensures sound { (kind : Kind) (rs : List Record) → AreAsked kind None records.old rs →
-        IfErr result IsIoOrMemory }
-    ensures refused { AreHonest records.old → (packed : Option Content) →
-        IfErr result (IsPackedRefusal settings.now.kind packed) }
+    ensures failed { IfErr result (IsSearchFault records.old (λ kind. OfKey
+        (setting_of settings.now) (name_of edit.now.update) (IsStuckKey kind records.old))) }
     ensures counted { IfErr result (IsCountedWith (AreHonest records.old)
         (HasReadFault F.Reader.faults) (F.faults files.old) (F.faults files.new)) }
-    ensures asked { (kind : Kind) (rs : List Record) → AreAsked kind None records.old rs →
-        AreAsked kind None records.new rs }
-    ensures unread { AreHonest records.old → (kind : Kind) →
-        IfErr result (OfFind (OfKey (setting_of settings.now) (name_of edit.now.update)
-        (IsStuckKey kind records.old))) }
-    ensures searched { (kind of_kind : Kind) (text : List ℕ) →
-        IsSearched kind None records.new of_kind text →
-        IsSearched kind None records.old of_kind text }
-    ensures honest { AreHonest records.old → AreHonest records.new }
+    ensures still { (kind : Kind) → AreStillAsked kind None records.old records.new }
     ensures ready { IsReady records.new }
     ensures reads { OnlyReads F.honest F.means F.faults files.old files.new }
 {
@@ -184,15 +153,10 @@ fn find_ids<F: Files>(
     ensures found { (kind : Kind) (rs : List Record) → AreAsked kind None records.old rs →
         OnOk result (ids_in edits.new ≡ ids_among (setting_of settings.now) rs
         (updates edits.old)) }
-    ensures sound { (kind : Kind) (rs : List Record) → AreAsked kind None records.old rs →
-        IfErr result IsIoOrMemory }
-    ensures refused { AreHonest records.old → (packed : Option Content) →
-        IfErr result (IsPackedRefusal settings.now.kind packed) }
+    ensures failed { IfErr result (IsSearchFault records.old (λ kind. OfSomeKey
+        (IsStuckKey kind records.old) (setting_of settings.now) (updates edits.old))) }
     ensures counted { IfErr result (IsCountedWith (AreHonest records.old)
         (HasReadFault F.Reader.faults) (F.faults files.old) (F.faults files.new)) }
-    ensures unread { AreHonest records.old → (kind : Kind) →
-        IfErr result (OfFind (OfSomeKey (IsStuckKey kind records.old) (setting_of settings.now)
-        (updates edits.old))) }
     ensures reads { OnlyReads F.honest F.means F.faults files.old files.new }
 {
     for edit in edits.iter_mut() {
@@ -234,16 +198,9 @@ pub fn find_records<F: Files>(
         ArePackedRecords settings.now.kind (packed_refs_in settings.now (F.means files.old)) rs →
         OnOk result (ids_in edits.new ≡ ids_among (setting_of settings.now) rs
         (updates edits.old)) }
-    ensures sound { F.honest → (rs : List Record) →
-        ArePackedRecords settings.now.kind (packed_refs_in settings.now (F.means files.old)) rs →
-        IfErr result IsIoOrMemory }
-    ensures refused { F.honest → IfErr result (IsPackedRefusal settings.now.kind
-        ((F.means files.old).tree (setting_of settings.now).packed_path)) }
-    ensures counted { IfErr result (IsCountedWith F.honest (HasReadFault F.Reader.faults)
-        (F.faults files.old) (F.faults files.new)) }
-    ensures unread { F.honest → IfErr result (IsFindCause (setting_of settings.now)
-        settings.now.kind (packed_refs_in settings.now (F.means files.old))
-        (updates edits.old)) }
+    ensures failed { IfErr result (AreNotFound F.honest (HasReadFault F.Reader.faults) F.means
+        F.faults (setting_of settings.now) settings.now.kind (updates edits.old) files.old
+        files.new) }
     ensures reads { OnlyReads F.honest F.means F.faults files.old files.new }
 {
     let mut records = unopened(is_absent);

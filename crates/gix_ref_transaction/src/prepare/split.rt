@@ -1,17 +1,18 @@
 //! The splits of edits that follow symbolic references.
-ghost use Rattle.std.specs.Prelude.{◌≡◌, ◌<◌, ◌+◌, ◌^◌, ◌⊎◌, [], true, OnOk, IfOk, IfErr, MatchBool, All, length, vec_len};
+ghost use Rattle.std.specs.Prelude.{◌≡◌, ◌<◌, ◌+◌, ◌^◌, ◌⊎◌, true, OnOk, IfOk, IfErr, MatchBool, All, length, vec_len};
 ghost use Rattle.std.specs.Option.{option_map};
 ghost use Rattle.gix_ref_name.specs.Names.{full_bytes, full_ref_bytes};
 ghost use Rattle.gix_ref_base.specs.Targets.{target_name, target_value};
 ghost use Rattle.gix_ref_theory.specs.OnRealTrees.{view_of};
 ghost use Rattle.gix_ref_lookup.specs.StoreLayout.{namespace_text};
 ghost use Rattle.gix_ref_edits.specs.EditValues.{edit_value};
-ghost use Rattle.gix_ref_edits.specs.RefEdits.{name_of, AreUpdates};
+ghost use Rattle.gix_ref_edits.specs.RefEdits.{name_of};
 ghost use Rattle.gix_ref_edits.specs.SplitLists.{child_list, looked_up, referent};
-ghost use Rattle.gix_ref_transaction.specs.Causes.{AllValid, IsCounted, IsIoOrMemory, IsMisnamed, IsWellNamed};
-ghost use Rattle.gix_ref_transaction.specs.Parents.{parents_from, parents_given, split_parents};
+ghost use Rattle.gix_ref_transaction.specs.Causes.{IsCounted, IsIoOrMemory, IsMisnamed};
+ghost use Rattle.gix_ref_transaction.specs.Parents.{parents_from, parents_given};
 ghost use Rattle.gix_ref_transaction.specs.PrepareSteps.{setting_of};
-ghost use Rattle.gix_ref_transaction.specs.Splits.{name_led_to, values_of, all_rounds, AreDirect, AreSplit, CanFollow, IsFirstMisnamed, IsTooLong};
+ghost use Rattle.gix_ref_transaction.specs.SplitOutcomes.{IsNotSplit, IsSplitOf};
+ghost use Rattle.gix_ref_transaction.specs.Splits.{name_led_to, values_of, AreDirect, CanFollow, IsFirstMisnamed};
 ghost use Rattle.gix_ref_files.specs.ReadOnly.{OnlyReads};
 ghost use Rattle.gix_ref_transaction.specs.internal.SplitRounds.{name_by, led_to, led_by, after_by, children_by, child_values, parents_by, IsRoundBy, IsRoundOver};
 
@@ -234,26 +235,11 @@ fn split_in_rounds<F: Files>(
     settings: &Settings<'_>,
     edits: Vec<RefEdit>,
 ) -> Result<SplitEdits, Error>
-    ensures split { F.honest → IfOk result (λ split. AreSplit (setting_of settings.now)
-        (view_of (F.means files.old).tree) edits.items split.edits.items) }
-    ensures parents { F.honest → IfOk result (λ split. split.parents.items ≡ split_parents
-        (name_led_to (setting_of settings.now) (view_of (F.means files.old).tree))
-        (values_of edits.items)) }
-    ensures len { IfOk result (λ split. vec_len split.parents ≡ vec_len split.edits) }
-    ensures can_follow { F.honest → OnOk result (All (CanFollow (setting_of settings.now))
-        (all_rounds (setting_of settings.now) (view_of (F.means files.old).tree) edits.items)) }
-    ensures valid { AllValid (setting_of settings.now) settings.now.kind [] edits.items →
-        IfOk result (λ split. AllValid (setting_of settings.now) settings.now.kind []
-        split.edits.items) }
-    ensures updates { AreUpdates edits.items → IfOk result (λ split. AreUpdates
-        split.edits.items) }
-    ensures refused { F.honest → IfErr result (λ error. IsIoOrMemory error
-        ⊎ IsFirstMisnamed (setting_of settings.now) (all_rounds (setting_of settings.now)
-        (view_of (F.means files.old).tree) edits.items) error
-        ⊎ IsTooLong (setting_of settings.now) (view_of (F.means files.old).tree) edits.items
-        error) }
+    ensures split { IfOk result (IsSplitOf F.honest (setting_of settings.now) settings.now.kind
+        (F.means files.old).tree edits.items) }
+    ensures refused { IfErr result (IsNotSplit F.honest F.means F.faults (setting_of settings.now)
+        edits.items files.old files.new) }
     ensures reads { OnlyReads F.honest F.means F.faults files.old files.new }
-    ensures counted { IfErr result (IsCounted (F.faults files.old) (F.faults files.new)) }
 {
     let mut done = SplitEdits {
         edits: Vec::with_capacity(alloc, edits.len())?,
@@ -292,26 +278,11 @@ pub fn split_edits<F: Files>(
     settings: &Settings<'_>,
     edits: Vec<RefEdit>,
 ) -> Result<SplitEdits, Error>
-    ensures split { F.honest → IfOk result (λ split. AreSplit (setting_of settings.now)
-        (view_of (F.means files.old).tree) edits.items split.edits.items) }
-    ensures parents { F.honest → IfOk result (λ split. split.parents.items ≡ split_parents
-        (name_led_to (setting_of settings.now) (view_of (F.means files.old).tree))
-        (values_of edits.items)) }
-    ensures len { IfOk result (λ split. vec_len split.parents ≡ vec_len split.edits) }
-    ensures can_follow { F.honest → OnOk result (All (CanFollow (setting_of settings.now))
-        (all_rounds (setting_of settings.now) (view_of (F.means files.old).tree) edits.items)) }
-    ensures valid { AllValid (setting_of settings.now) settings.now.kind [] edits.items →
-        IfOk result (λ split. AllValid (setting_of settings.now) settings.now.kind []
-        split.edits.items) }
-    ensures updates { AreUpdates edits.items → IfOk result (λ split. AreUpdates
-        split.edits.items) }
-    ensures refused { F.honest → IfErr result (λ error. IsIoOrMemory error
-        ⊎ IsFirstMisnamed (setting_of settings.now) (all_rounds (setting_of settings.now)
-        (view_of (F.means files.old).tree) edits.items) error
-        ⊎ IsTooLong (setting_of settings.now) (view_of (F.means files.old).tree) edits.items
-        error) }
+    ensures split { IfOk result (IsSplitOf F.honest (setting_of settings.now) settings.now.kind
+        (F.means files.old).tree edits.items) }
+    ensures refused { IfErr result (IsNotSplit F.honest F.means F.faults (setting_of settings.now)
+        edits.items files.old files.new) }
     ensures reads { OnlyReads F.honest F.means F.faults files.old files.new }
-    ensures counted { IfErr result (IsCounted (F.faults files.old) (F.faults files.new)) }
     ensures direct { AreDirect edits.items → IfOk result (λ split. split.edits.items
         ≡ edits.items) }
 {

@@ -1,11 +1,11 @@
 //! All locks of a transaction, one edit after the other.
-ghost use Rattle.std.specs.Prelude.{◌≡◌, ◌≤◌, ◌<◌, ◌-◌, ℕ, List, [], OnOk, IfErr, None, true, length, take, get_or};
+ghost use Rattle.std.specs.Prelude.{◌≡◌, ◌<◌, ◌-◌, ℕ, List, [], OnOk, IfErr, true, length, get_or};
 ghost use Rattle.gix_ref_files.specs.Tree.{Tree, Path, has_folders};
-ghost use Rattle.gix_ref_files.specs.Files.{disk_of, Leaves};
+ghost use Rattle.gix_ref_files.specs.Files.{disk_of};
 ghost use Rattle.gix_ref_files.specs.Settled.{IsWholeAt};
-ghost use Rattle.gix_ref_transaction.specs.OwnLocks.{AddsLocks, OnlyLocks, is_in};
-ghost use Rattle.gix_ref_transaction.specs.Causes.{AllValid, LocksAreApart, IsCounted, IsFirstCause, locks_of};
-ghost use Rattle.gix_ref_transaction.specs.PrepareSteps.{setting_of, updates, place_paths, places_of, all_given, ids_in, packed_ids, AreSettled, AreLockable, AreWholeLocks};
+ghost use Rattle.gix_ref_transaction.specs.Causes.{locks_of};
+ghost use Rattle.gix_ref_transaction.specs.HeldLocks.{AreReady, AreTaken, FirstAreTaken, IsTakingFault, OnlyTakes};
+ghost use Rattle.gix_ref_transaction.specs.PrepareSteps.{setting_of, updates, place_paths, all_given, ids_in, packed_ids};
 
 use crate::edit::Edit;
 use crate::prepare::Error;
@@ -49,45 +49,24 @@ pub fn take_locks<F: Files>(
     edits: &mut [Edit],
     taken: &mut usize,
 ) -> Result<(), Error>
-    requires places { place_paths edits.old ≡ places_of (setting_of settings.now)
-        (updates edits.old) }
-    requires apart { LocksAreApart (setting_of settings.now) (updates edits.old) }
-    requires valid { AllValid (setting_of settings.now) settings.now.kind [] (updates edits.old) }
+    requires ready { AreReady (setting_of settings.now) settings.now.kind edits.old }
     requires none { taken.old ≡ 0 }
     ensures given { all_given edits.new ≡ all_given edits.old }
-    ensures within { taken.new ≤ length edits.old }
+    ensures first { FirstAreTaken F.honest (setting_of settings.now) edits.old taken.new
+        (F.means files.old).tree (F.means files.new).tree }
     ensures every { OnOk result (taken.new ≡ length edits.old) }
-    ensures settled { F.honest → ids_in edits.old ≡ packed_ids (setting_of settings.now)
-        (F.means files.old).tree (updates edits.old) →
-        OnOk result (AreSettled (setting_of settings.now) settings.now.kind
-        (F.means files.old).tree (F.means files.new).tree edits.old edits.new) }
-    ensures refused { F.honest → ids_in edits.old ≡ packed_ids (setting_of settings.now)
-        (F.means files.old).tree (updates edits.old) →
-        IfErr result (IsFirstCause (setting_of settings.now) settings.now.kind
-        (F.means files.old).tree [] (updates edits.old)) }
-    ensures lockable { F.honest →
-        OnOk result (AreLockable (setting_of settings.now) settings.now.kind
-        (F.means files.old).tree [] (updates edits.old)) }
-    ensures adds { F.honest →
-        AddsLocks (locks_of (setting_of settings.now) (take taken.new (updates edits.old)))
-        (locks_of (setting_of settings.now) (updates edits.old)) (F.means files.old).tree
-        (F.means files.new).tree }
-    ensures free { F.honest → (q : Path) →
-        is_in (locks_of (setting_of settings.now) (take taken.new (updates edits.old))) q ≡ true →
-        (F.means files.old).tree q ≡ None }
-    ensures leaves { F.honest → Leaves (F.means files.old) (F.means files.new)
-        (AddsLocks (locks_of (setting_of settings.now) (updates edits.old))
-        (locks_of (setting_of settings.now) (updates edits.old)) (F.means files.old).tree) }
-    ensures whole { F.honest →
-        OnOk result (AreWholeLocks (disk_of (F.means files.new))
-        (locks_of (setting_of settings.now) (updates edits.old))) }
+    ensures taken { F.honest → OnOk result (AreTaken (ids_in edits.old ≡ packed_ids
+        (setting_of settings.now) (F.means files.old).tree (updates edits.old))
+        (setting_of settings.now) settings.now.kind
+        (locks_of (setting_of settings.now) (updates edits.old)) (F.means files.old)
+        (F.means files.new) edits.old edits.new) }
     ensures wholes { F.honest → (q : Path) (text : List ℕ) →
         IsWholeAt (disk_of (F.means files.old)) q text →
         OnOk result (IsWholeAt (disk_of (F.means files.new)) q text) }
-    ensures passes { F.honest → OnlyLocks (locks_of (setting_of settings.now)
-        (updates edits.old)) (F.means files.old) (F.means files.new) }
-    ensures no_fewer { F.faults files.old ≤ F.faults files.new }
-    ensures counted { IfErr result (IsCounted (F.faults files.old) (F.faults files.new)) }
+    ensures refused { IfErr result (IsTakingFault F.honest F.means F.faults
+        (setting_of settings.now) settings.now.kind edits.old files.old files.new) }
+    ensures takes { OnlyTakes F.honest F.means F.faults (locks_of (setting_of settings.now)
+        (updates edits.old)) files.old files.new }
 {
     for i in 0..edits.len() {
         let is_ready = is_led_to(edits, i);

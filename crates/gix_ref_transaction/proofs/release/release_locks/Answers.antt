@@ -58,18 +58,18 @@ loop-edit-preserved g c =
     let there : place_at all c.len-at.result ≡ own.lock = ap (λ (l : List Edit). place_at l c.len-at.result) whole ∙ (ap (place_at (rest ++ own ∷ tail)) len ∙ place_there rest own tail) in
     let log_is : log_at all c.len-at.result ≡ own.log = ap (λ (l : List Edit). log_at l c.len-at.result) whole ∙ (ap (log_at (rest ++ own ∷ tail)) len ∙ log_there rest own tail) in
     let names = paths_of c.loop-edit.remains.left.items in
-    let named : paths_of c.add.new.self.left.items ≡ names ++ (if removed then [] else lock ∷ []) = c.add.ensures.left in
+    let named : paths_of c.add.new.self.left.items ≡ names ++ (if removed then [] else lock ∷ []) = c.add.ensures.adds.left in
     record {
       no_fewer = omega (arith, x.no_fewer, c.release-removed.ensures.no_fewer);
-      counted = λ base so_far. risen_by_lock removed (vec_len c.loop-edit.remains.left) (vec_len c.add.new.self.left) base _ _ c.release-removed.ensures.no_fewer c.add.ensures.len (λ is. omega (arith, c.add.new.self.left.ok, c.loop-edit.remains.left.ok, ap length (c.add.ensures.same is)))
+      counted = λ base so_far. risen_by_lock removed (vec_len c.loop-edit.remains.left) (vec_len c.add.new.self.left) base _ _ c.release-removed.ensures.no_fewer c.add.ensures.adds.len (λ is. omega (arith, c.add.new.self.left.ok, c.loop-edit.remains.left.ok, ap length (c.add.ensures.adds.same is)))
           (λ kept. subst (λ b. OnFalse b (HasRisen (g.F.Files.faults c.loop-edit.files) (g.F.Files.faults c.release-removed.new.files))) kept c.release-removed.ensures.counted) (x.counted base so_far);
-      room = omega (arith, x.room, c.in-Some.ensures.len, c.add.ensures.len, c.add.ensures.room);
-      room_for_edits = omega (arith, x.room_for_edits, c.in-Some.ensures.len, c.add.ensures.len_of_edits, c.add.ensures.room_for_edits);
-      len = omega (arith, x.len, c.in-Some.ensures.len, c.add.ensures.len);
-      room_left = omega (arith, x.room_left, c.add.ensures.room);
+      room = omega (arith, x.room, c.in-Some.ensures.len, c.add.ensures.adds.len, c.add.ensures.adds.room);
+      room_for_edits = omega (arith, x.room_for_edits, c.in-Some.ensures.len, c.add.ensures.adds.len_of_edits, c.add.ensures.adds.room_for_edits);
+      len = omega (arith, x.len, c.in-Some.ensures.len, c.add.ensures.adds.len);
+      room_left = omega (arith, x.room_left, c.add.ensures.adds.room);
       bound = omega (arith, x.bound, c.in-Some.ensures.len);
       renamed = λ all_renamed. c.release-removed.ensures.renamed (subst (λ b. not (nat_lt c.len-at.result c.args.done && b) ≡ false) flag (all_renamed c.len-at.result (omega (arith, x.bound, c.in-Some.ensures.len, c.len-at.ensures)))) ∙ x.renamed all_renamed;
-      front = (own ∷ tail, whole, c.add.ensures.edits ∙ (ap (λ (l : List _). l ++ own.update ∷ []) x.front.2 ∙ sym (reverse-append (own.update ∷ []) (updates tail))));
+      front = (own ∷ tail, whole, c.add.ensures.adds.edits ∙ (ap (λ (l : List _). l ++ own.update ∷ []) x.front.2 ∙ sym (reverse-append (own.update ∷ []) (updates tail))));
       place = λ some less. place_then c.len-at.result c.args.done own.lock _ _ (place_at all c.args.done) c.add.ensures.place (λ same. sym there ∙ ap (place_at all) same) (λ more. x.place some (omega (arith, more, c.in-Some.ensures.len, c.len-at.ensures))) (omega (arith, less, c.len-at.ensures));
       log = λ some less. place_then c.len-at.result c.args.done (path_in own.log) _ _ (path_in (log_at all c.args.done)) c.add.ensures.log (λ same. sym (ap path_in log_is) ∙ ap (λ n. path_in (log_at all n)) same) (λ more. x.log some (omega (arith, more, c.in-Some.ensures.len, c.len-at.ensures))) (omega (arith, less, c.len-at.ensures));
       ours = λ q h. ⊎_elim (λ old. x.ours q old) (λ e. inr (subst (λ (p : Path). is_in (lock_paths all) p ≡ true) e within)) (named_cases names lock removed q (subst (λ (l : List Path). is_in l q ≡ true) named h));
@@ -89,9 +89,25 @@ loop-edit-preserved g c =
       leaves = λ h. leaves_then (lock_paths all) lock first mid now within (x.leaves h) (c.release-removed.ensures.leaves h);
     }
 
-pub returns-clause-edits : goal.returns-clause-edits
-returns-clause-edits g c =
+pub returns-clause-back : goal.returns-clause-back
+returns-clause-back g c =
     let x = c.loop-edit.invariant in
     let tail = x.front.0 in
     let none : c.loop-edit.edits.items ≡ [] = nothing c.loop-edit.edits.items (omega (arith, c.in_default.ensures.cases.0)) in
-    c.reverse.ensures.items ∙ (ap reverse x.front.2 ∙ (reverse-reverse (updates tail) ∙ ap updates (sym (x.front.1 ∙ ap (λ (l : List Edit). l ++ tail) none))))
+    record {
+      edits = c.reverse.ensures.items ∙ (ap reverse x.front.2 ∙ (reverse-reverse (updates tail) ∙ ap updates (sym (x.front.1 ∙ ap (λ (l : List Edit). l ++ tail) none))));
+      place = λ some. x.place some (omega (arith, c.in_default.ensures.cases.0));
+      log = λ some. x.log some (omega (arith, c.in_default.ensures.cases.0));
+    }
+
+pub returns-clause-named : goal.returns-clause-named
+returns-clause-named g c =
+    let x = c.loop-edit.invariant in
+    record {
+      ours = x.ours;
+      kept = x.kept;
+      once = λ q. omega (arith, x.once q);
+      len = omega (arith, x.len);
+      room = x.room_left;
+      counted = x.counted;
+    }

@@ -1,13 +1,13 @@
 //! A commit from its decisions to the release of its locks, from a store.
-ghost use Rattle.std.specs.Prelude.{◌≡◌, ◌⊎◌, [], OnOk, IfOk, IfErr, length};
+ghost use Rattle.std.specs.Prelude.{◌≡◌, OnOk, IfOk, IfErr, length};
 ghost use Rattle.gix_ref_files.specs.Files.{HasRisenBy};
+ghost use Rattle.gix_ref_transaction.specs.LeftLocks.{HasRoom};
 ghost use Rattle.gix_ref_transaction.specs.OwnLocks.{paths_of};
 ghost use Rattle.gix_ref_transaction.specs.PrepareSteps.{updates};
 ghost use Rattle.gix_ref_store.specs.CommitResult.{EveryStopFrom, EveryLossFrom, SettlesFrom, CommitsFrom, FailsFor, NoBadLineFrom, ReadsPacked};
 ghost use Rattle.gix_ref_store.specs.CommitLines.{LinesPass};
 ghost use Rattle.gix_ref_store.specs.CommittedFolders.{KeepsFolders};
 ghost use Rattle.gix_ref_store.specs.Decisions.{left_in};
-ghost use Rattle.gix_ref_store.specs.Prepared.{HasRoom};
 ghost use Rattle.gix_ref_store.specs.Store.{files_of, with_files};
 
 use crate::file::store::Store;

@@ -2,8 +2,9 @@
 ghost use Rattle.std.specs.Prelude.{◌≡◌, ◌+◌, [], IfOk, IfErr, vec_len};
 ghost use Rattle.gix_ref_packed.specs.OpenFiles.{HasReadFault};
 ghost use Rattle.gix_ref_theory.specs.OnRealTrees.{view_of};
+ghost use Rattle.gix_ref_transaction.specs.LeftLocks.{HasRoom};
 ghost use Rattle.gix_ref_transaction.specs.OwnLocks.{paths_of};
-ghost use Rattle.gix_ref_store.specs.Prepared.{RefusesFrom, RefusesGiven, RefusesSplit, HoldsFrom, HoldsGiven, SplitsFrom, HasGoodRecords, HoldsPacked, LosesNothing, HasRoom, locks_in, tree_of, disk_in};
+ghost use Rattle.gix_ref_store.specs.Prepared.{RefusesFrom, RefusesGiven, RefusesSplit, HoldsFrom, HoldsGiven, SplitsFrom, HasGoodRecords, HoldsPacked, LosesNothing, locks_in, tree_of, disk_in};
 ghost use Rattle.gix_ref_store.specs.Store.{files_of, kind_of, meaning_of, with_files};
 ghost use Rattle.gix_ref_transaction.specs.Parents.{parents_in, split_parents};
 ghost use Rattle.gix_ref_transaction.specs.Splits.{name_led_to, values_of, IsSplitCause};

@@ -1,19 +1,19 @@
 use Rattle.std.proofs.Common.{◌≡◌, is_some, refl, sym, ap, ◌∙◌, subst, [], false}
 use Rattle.gix_ref_files.specs.Lock.{lock_of}
 use Rattle.gix_ref_files.specs.Disk.{Disk}
-use Rattle.gix_ref_files.specs.Tree.{Path, Tree}
+use Rattle.gix_ref_files.specs.Tree.{Path}
 use Rattle.gix_ref_files.specs.Files.{disk_of}
 use Rattle.gix_ref_files.specs.Settled.{IsWholeAt}
 use Rattle.gix_ref_theory.specs.OnRealTrees.{view_of}
 use Rattle.gix_ref_edits.specs.RefEdits.{name_of, new_of, expected_of, Expects}
 use Rattle.gix_ref_transaction.specs.Causes.{found, found_by, decoded}
 use Rattle.gix_ref_transaction.specs.PrepareSteps.{setting_of, value_of, decision, effect_value, is_damaged, IsSomeWhole}
-use Rattle.gix_ref_transaction.proofs.EditRounds.{on_ok}
+use Rattle.gix_ref_transaction.proofs.EditRounds.{both_on_ok}
 use Rattle.gix_ref_transaction.proofs.LookupLemmas.{decided_is, filled_with}
 use Rattle.gix_ref_transaction.proofs.edit.Edit.compare_and_write.Goals as goal
 
-pub returns-clause-decided : goal.returns-clause-decided
-returns-clause-decided g c h asked empty =
+pub returns-clause-written : goal.returns-clause-written
+returns-clause-written g c h =
     let s = setting_of c.args.settings.now in
     let T = (g.F.Files.means c.args.files.now).tree in
     let T' = (g.F.Files.means c.was_at.new.files).tree in
@@ -23,31 +23,26 @@ returns-clause-decided g c h asked empty =
     let name = name_of old.update in
     let was = c.in_ok-was.was' in
     let placed : c.place.result.now ≡ s.place name = c.place.ensures ∙ c.requires.place in
-    let is : value_of was.target ≡ found s view name =
-    c.in_ok-was.ensures.target h ∙ (ap (λ (p : Path). found_by s (decoded s (view p)) old.packed) placed ∙ ap (found_by s (decoded s (view (s.place name)))) asked) in
     let bad : was.damaged ≡ is_damaged s (view (s.place name)) = c.in_ok-was.ensures.damaged h ∙ ap (λ (p : Path). is_damaged s (view p)) placed in
     let allowed : s.is_prohibited (s.place name) ≡ false = subst (λ (p : Path). s.is_prohibited p ≡ false) c.requires.place c.requires.allowed in
-    let told : new.effect ≡ decision old.update.change (found s view name) (is_damaged s (view (s.place name))) =
-    c.decide.ensures.effect ∙ (ap (λ w. decision old.update.change w was.damaged) is ∙ ap (decision old.update.change (found s view name)) bad) in
-    let what : effect_value old.update.change new.effect ≡ _ = decided_is s view old.update allowed (λ t. refl) new.effect told in
     let same : T' ≡ T = (c.was_at.ensures.reads.leaves h).tree in
     let at : lock_of new.lock ≡ lock_of old.lock = ap (λ p. lock_of p.1) c.decide.ensures.given in
-    let text : effect_value new.update.change new.effect ≡ _ = ap (λ p. effect_value p.0.change new.effect) c.decide.ensures.given ∙ what in
-    on_ok c.write.result
-    (λ fills. record {
-      was = ap value_of c.decide.ensures.found ∙ is;
-      file = c.decide.ensures.file ∙ (c.in_ok-was.ensures.file h ∙ ap (λ (p : Path). is_some (view p)) placed);
-      what = what;
-      expects = subst (λ w. Expects (expected_of old.update.change) (new_of old.update.change) w) is c.in_ok-check_expected.ensures;
-      filled = filled_with T T' (g.F.Files.means c.write.new.files).tree (lock_of old.lock) (lock_of new.lock) _ _ same at text empty (λ here. fills);
-    })
-    (c.write.ensures.filled h (ap (λ (R : Tree). R (lock_of new.lock)) same ∙ (ap T at ∙ empty)))
-
-pub returns-clause-whole : goal.returns-clause-whole
-returns-clause-whole g c h whole =
-    let old = c.args.self.now in
-    let new = c.decide.new.self in
-    let at : lock_of new.lock ≡ lock_of old.lock = ap (λ p. lock_of p.1) c.decide.ensures.given in
     let still = (c.was_at.ensures.reads.passes h).disk in
-    on_ok c.write.result (λ here. subst (IsSomeWhole (disk_of (g.F.Files.means c.write.new.files))) at here)
-    (c.write.ensures.whole h (subst (λ (l : Path). IsWholeAt (disk_of (g.F.Files.means c.was_at.new.files)) l []) (sym at) (subst (λ (D : Disk). IsWholeAt D (lock_of old.lock) []) (sym still) whole)))
+    both_on_ok c.write.result (c.write.ensures.filled h) (c.write.ensures.whole h) (λ fills wholes. record {
+      decided = λ asked empty.
+          let is : value_of was.target ≡ found s view name =
+          c.in_ok-was.ensures.target h ∙ (ap (λ (p : Path). found_by s (decoded s (view p)) old.packed) placed ∙ ap (found_by s (decoded s (view (s.place name)))) asked) in
+          let told : new.effect ≡ decision old.update.change (found s view name) (is_damaged s (view (s.place name))) =
+          c.decide.ensures.effect ∙ (ap (λ w. decision old.update.change w was.damaged) is ∙ ap (decision old.update.change (found s view name)) bad) in
+          let what : effect_value old.update.change new.effect ≡ _ = decided_is s view old.update allowed (λ t. refl) new.effect told in
+          let text : effect_value new.update.change new.effect ≡ _ = ap (λ p. effect_value p.0.change new.effect) c.decide.ensures.given ∙ what in
+          record {
+            was = ap value_of c.decide.ensures.found ∙ is;
+            file = c.decide.ensures.file ∙ (c.in_ok-was.ensures.file h ∙ ap (λ (p : Path). is_some (view p)) placed);
+            what = what;
+            expects = subst (λ w. Expects (expected_of old.update.change) (new_of old.update.change) w) is c.in_ok-check_expected.ensures;
+            filled = filled_with T T' (g.F.Files.means c.write.new.files).tree (lock_of old.lock) (lock_of new.lock) _ _ same at text empty fills;
+          };
+      whole = λ whole. subst (IsSomeWhole (disk_of (g.F.Files.means c.write.new.files))) at
+          (wholes (subst (λ (l : Path). IsWholeAt (disk_of (g.F.Files.means c.was_at.new.files)) l []) (sym at) (subst (λ (D : Disk). IsWholeAt D (lock_of old.lock) []) (sym still) whole)));
+    })

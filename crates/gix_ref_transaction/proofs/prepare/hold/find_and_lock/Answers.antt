@@ -1,236 +1,170 @@
-use Rattle.std.proofs.Common.{◌≡◌, ◌≤◌, inl, inr, ℕ, List, [], ◌++◌, OnOk, IfErr, ap, sym, ◌∙◌, subst, true, take, drop, length, arith, Vec, Global}
-use Rattle.gix_ref_files.specs.Disk.{Disk}
-use Rattle.gix_ref_files.specs.Files.{disk_of, Leaves}
-use Rattle.gix_ref_files.specs.Tree.{Tree, Path}
-use Rattle.gix_ref_files.proofs.Moments.{weaken, joins, passes_weaken, passes_joins}
+use Rattle.std.proofs.Common.{◌≡◌, ◌≤◌, inl, inr, ℕ, List, [], ◌++◌, ap, refl, sym, ◌∙◌, subst, true, take, drop, length, arith, Vec, Global}
+use Rattle.gix_ref_files.specs.Files.{disk_of}
+use Rattle.gix_ref_files.specs.Tree.{Tree}
 use Rattle.gix_ref_lookup.specs.StoreLayout.{folders_of}
 use Rattle.gix_ref_edits.specs.declared.transaction.RefEdit.{RefEdit}
-use Rattle.gix_ref_theory.specs.OnDisks.{IsAsBefore}
-use Rattle.gix_ref_transaction.specs.OwnLocks.{paths_of, is_in, times, AddsLocks, OnlyLocks}
-use Rattle.gix_ref_transaction.specs.Causes.{AllValid, IsFirstCause, LocksAreApart, locks_of}
+use Rattle.gix_ref_theory.specs.OnRealTrees.{view_of}
+use Rattle.gix_ref_transaction.specs.OwnLocks.{paths_of, is_in, times, AddsLocks}
+use Rattle.gix_ref_transaction.specs.Causes.{AllValid, IsFirstCause, IsPackedWell, LocksAreApart, locks_of}
+use Rattle.gix_ref_transaction.specs.HeldLocks.{AreHeld, AreRemovedAgain, IsTakingFault, OnlyTakes}
 use Rattle.gix_ref_transaction.specs.PackedCauses.{ids_among}
 use Rattle.gix_ref_transaction.specs.PrepareSteps.{setting_of, all_asked, ids_in, packed_ids, places_of, updates, AreLockable, AreSettled, AreWholeLocks}
 use Rattle.gix_ref_transaction.specs.declared.edit.Edit.{Edit}
 use Rattle.gix_ref_transaction.specs.declared.prepare.hold.HeldEdits.{HeldEdits}
 use Rattle.gix_ref_transaction.specs.declared.prepare.hold.LockFailure.{LockFailure}
-use Rattle.gix_ref_transaction.proofs.PackedLemmas.{asked_alike, asked_ids, asked_over, if_err, if_ok, places_alike, settled_alike, updates_alike}
+use Rattle.gix_ref_transaction.proofs.PackedLemmas.{asked_ids, asked_over, counted_later, if_err, if_ok, not_packed, places_alike, settled_alike, updates_alike}
+use Rattle.gix_ref_transaction.proofs.Adds.{clash}
+use Rattle.gix_ref_transaction.proofs.Faults.{risen_by_before, risen_by_none_left}
+use Rattle.gix_ref_transaction.proofs.TakingRuns.{reads_take, reads_then_takes}
 use Rattle.gix_ref_transaction.proofs.UnreadRecords.{no_find}
 use Rattle.gix_ref_transaction.proofs.prepare.hold.find_and_lock.Goals as goal
 
-pub lock_all_or_none-requires-clause-places : goal.lock_all_or_none-requires-clause-places
-lock_all_or_none-requires-clause-places g c =
+pub lock_all_or_none-requires-clause-ready : goal.lock_all_or_none-requires-clause-ready
+lock_all_or_none-requires-clause-ready g c =
     let s = setting_of c.args.settings.now in
-    let given = c.args.edits.items in
-    let found = c.find_records.new.edits in
-    let now = take c.args.edits.len (found ++ drop (length found) given) in
-    let over : now ≡ found = asked_over c.args.edits.len c.deref_mut.result.now found (drop (length found) given) c.find_records.ensures.asked c.deref_mut.ensures.len in
-    let asked : all_asked now ≡ all_asked given = ap all_asked over ∙ (c.find_records.ensures.asked ∙ ap all_asked c.deref_mut.ensures.value) in
-    let U : updates now ≡ updates given = updates_alike given now asked in
-    places_alike given now asked ∙ (c.requires.places ∙ ap (places_of s) (sym U))
-
-pub lock_all_or_none-requires-clause-apart : goal.lock_all_or_none-requires-clause-apart
-lock_all_or_none-requires-clause-apart g c =
-    let s = setting_of c.args.settings.now in
-    let given = c.args.edits.items in
-    let found = c.find_records.new.edits in
-    let now = take c.args.edits.len (found ++ drop (length found) given) in
-    let over : now ≡ found = asked_over c.args.edits.len c.deref_mut.result.now found (drop (length found) given) c.find_records.ensures.asked c.deref_mut.ensures.len in
-    let asked : all_asked now ≡ all_asked given = ap all_asked over ∙ (c.find_records.ensures.asked ∙ ap all_asked c.deref_mut.ensures.value) in
-    let U : updates now ≡ updates given = updates_alike given now asked in
-    subst (LocksAreApart s) (sym U) c.requires.apart
-
-pub lock_all_or_none-requires-clause-valid : goal.lock_all_or_none-requires-clause-valid
-lock_all_or_none-requires-clause-valid g c =
-    let s = setting_of c.args.settings.now in
-    let given = c.args.edits.items in
-    let found = c.find_records.new.edits in
-    let now = take c.args.edits.len (found ++ drop (length found) given) in
-    let over : now ≡ found = asked_over c.args.edits.len c.deref_mut.result.now found (drop (length found) given) c.find_records.ensures.asked c.deref_mut.ensures.len in
-    let asked : all_asked now ≡ all_asked given = ap all_asked over ∙ (c.find_records.ensures.asked ∙ ap all_asked c.deref_mut.ensures.value) in
-    let U : updates now ≡ updates given = updates_alike given now asked in
-    subst (AllValid s c.args.settings.now.kind []) (sym U) c.requires.valid
-
-pub returns-in-Ok-clause-asked : goal.returns-in-Ok-clause-asked
-returns-in-Ok-clause-asked g c =
-    let s = setting_of c.args.settings.now in
-    let given = c.args.edits.items in
-    let found = c.find_records.new.edits in
-    let now = take c.args.edits.len (found ++ drop (length found) given) in
-    let over : now ≡ found = asked_over c.args.edits.len c.deref_mut.result.now found (drop (length found) given) c.find_records.ensures.asked c.deref_mut.ensures.len in
-    let asked : all_asked now ≡ all_asked given = ap all_asked over ∙ (c.find_records.ensures.asked ∙ ap all_asked c.deref_mut.ensures.value) in
-    let U : updates now ≡ updates given = updates_alike given now asked in
-    if_ok c.lock_all_or_none.result (λ (held : HeldEdits) same. asked_alike now held.edits.items same ∙ asked) c.lock_all_or_none.ensures.given
-
-pub returns-in-Ok-clause-settled : goal.returns-in-Ok-clause-settled
-returns-in-Ok-clause-settled g c h good =
-    let s = setting_of c.args.settings.now in
-    let given = c.args.edits.items in
-    let found = c.find_records.new.edits in
-    let now = take c.args.edits.len (found ++ drop (length found) given) in
-    let over : now ≡ found = asked_over c.args.edits.len c.deref_mut.result.now found (drop (length found) given) c.find_records.ensures.asked c.deref_mut.ensures.len in
-    let asked : all_asked now ≡ all_asked given = ap all_asked over ∙ (c.find_records.ensures.asked ∙ ap all_asked c.deref_mut.ensures.value) in
-    let U : updates now ≡ updates given = updates_alike given now asked in
-    let old = g.F.Files.means c.args.files.now in
-    let mid = g.F.Files.means c.find_records.new.files in
-    let same : mid.tree ≡ old.tree = (c.find_records.ensures.reads.leaves h).tree in
     let kind = c.args.settings.now.kind in
-    let last = g.F.Files.means c.lock_all_or_none.new.files in
-    let ids : ids_in now ≡ packed_ids s mid.tree (updates now) =
+    let given = c.args.edits.items in
+    let found = c.find_records.new.edits in
+    let now = take c.args.edits.len (found ++ drop (length found) given) in
+    let over : now ≡ found = asked_over c.args.edits.len c.deref_mut.result.now found (drop (length found) given) c.find_records.ensures.asked c.deref_mut.ensures.len in
+    let asked : all_asked now ≡ all_asked given = ap all_asked over ∙ (c.find_records.ensures.asked ∙ ap all_asked c.deref_mut.ensures.value) in
+    let U : updates now ≡ updates given = updates_alike given now asked in
+    let ready = c.requires.ready in
+    record {
+      places = places_alike given now asked ∙ (ready.places ∙ ap (places_of s) (sym U));
+      apart = subst (LocksAreApart s) (sym U) ready.apart;
+      valid = subst (AllValid s kind []) (sym U) ready.valid;
+    }
+
+pub returns-in-Ok-clause-held : goal.returns-in-Ok-clause-held
+returns-in-Ok-clause-held g c =
+    let s = setting_of c.args.settings.now in
+    let kind = c.args.settings.now.kind in
+    let given = c.args.edits.items in
+    let found = c.find_records.new.edits in
+    let now = take c.args.edits.len (found ++ drop (length found) given) in
+    let over : now ≡ found = asked_over c.args.edits.len c.deref_mut.result.now found (drop (length found) given) c.find_records.ensures.asked c.deref_mut.ensures.len in
+    let asked : all_asked now ≡ all_asked given = ap all_asked over ∙ (c.find_records.ensures.asked ∙ ap all_asked c.deref_mut.ensures.value) in
+    let U : updates now ≡ updates given = updates_alike given now asked in
+    let F = g.F.Files in
+    let old = F.means c.args.files.now in
+    let mid = F.means c.find_records.new.files in
+    let last = F.means c.lock_all_or_none.new.files in
+    let same : F.honest → mid.tree ≡ old.tree = λ h. (c.find_records.ensures.reads.leaves h).tree in
+    let ids : F.honest → IsPackedWell kind (view_of old.tree s.packed_path) → ids_in now ≡ packed_ids s mid.tree (updates now) = λ h good.
     asked_ids (folders_of c.args.settings.now.dirs.now c.args.settings.now.namespace.now) kind c.args.settings.now.prohibit_windows_device_names old.tree mid.tree (updates now) good.0 (ids_in now) good.1
     (ap ids_in over ∙ (c.in-Ok.ensures.found h good.0 good.1
     ∙ (ap (λ (l : List Edit). ids_among s good.0 (updates l)) c.deref_mut.ensures.value
-    ∙ ap (ids_among s good.0) (sym U)))) same in
-    if_ok c.lock_all_or_none.result (λ (held : HeldEdits) settled. subst (λ (T : Tree). AreSettled s kind T last.tree given held.edits.items) same (settled_alike s kind mid.tree last.tree now given held.edits.items U settled)) (c.lock_all_or_none.ensures.settled h ids)
-
-pub returns-in-Ok-clause-adds : goal.returns-in-Ok-clause-adds
-returns-in-Ok-clause-adds g c h =
-    let s = setting_of c.args.settings.now in
-    let given = c.args.edits.items in
-    let found = c.find_records.new.edits in
-    let now = take c.args.edits.len (found ++ drop (length found) given) in
-    let over : now ≡ found = asked_over c.args.edits.len c.deref_mut.result.now found (drop (length found) given) c.find_records.ensures.asked c.deref_mut.ensures.len in
-    let asked : all_asked now ≡ all_asked given = ap all_asked over ∙ (c.find_records.ensures.asked ∙ ap all_asked c.deref_mut.ensures.value) in
-    let U : updates now ≡ updates given = updates_alike given now asked in
-    let old = g.F.Files.means c.args.files.now in
-    let mid = g.F.Files.means c.find_records.new.files in
-    let same : mid.tree ≡ old.tree = (c.find_records.ensures.reads.leaves h).tree in
-    let last = g.F.Files.means c.lock_all_or_none.new.files in
-    subst (λ (u : List RefEdit). OnOk c.lock_all_or_none.result (AddsLocks (locks_of s u) (locks_of s u) old.tree last.tree)) U
-    (subst (λ (T : Tree). OnOk c.lock_all_or_none.result (AddsLocks (locks_of s (updates now)) (locks_of s (updates now)) T last.tree)) same (c.lock_all_or_none.ensures.adds h))
-
-pub returns-in-Ok-clause-lockable : goal.returns-in-Ok-clause-lockable
-returns-in-Ok-clause-lockable g c h =
-    let s = setting_of c.args.settings.now in
-    let given = c.args.edits.items in
-    let found = c.find_records.new.edits in
-    let now = take c.args.edits.len (found ++ drop (length found) given) in
-    let over : now ≡ found = asked_over c.args.edits.len c.deref_mut.result.now found (drop (length found) given) c.find_records.ensures.asked c.deref_mut.ensures.len in
-    let asked : all_asked now ≡ all_asked given = ap all_asked over ∙ (c.find_records.ensures.asked ∙ ap all_asked c.deref_mut.ensures.value) in
-    let U : updates now ≡ updates given = updates_alike given now asked in
-    let old = g.F.Files.means c.args.files.now in
-    let mid = g.F.Files.means c.find_records.new.files in
-    let same : mid.tree ≡ old.tree = (c.find_records.ensures.reads.leaves h).tree in
-    let kind = c.args.settings.now.kind in
-    subst (λ (u : List RefEdit). OnOk c.lock_all_or_none.result (AreLockable s kind old.tree [] u)) U
-    (subst (λ (T : Tree). OnOk c.lock_all_or_none.result (AreLockable s kind T [] (updates now))) same (c.lock_all_or_none.ensures.lockable h))
+    ∙ ap (ids_among s good.0) (sym U)))) (same h) in
+    let r = c.lock_all_or_none.result in
+    let all = locks_of s (updates now) in
+    if_ok r (λ (held : HeldEdits) (is : AreHeld F.honest (ids_in now ≡ packed_ids s mid.tree (updates now)) s kind all mid last now held.edits.items c.args.remains held.remains). record {
+      asked = is.asked ∙ asked;
+      remains = is.remains;
+      adds = λ h. subst (λ (u : List RefEdit). AddsLocks (locks_of s u) (locks_of s u) old.tree last.tree) U (subst (λ (T : Tree). AddsLocks all all T last.tree) (same h) (is.adds h));
+      taken = λ h. let taken = is.taken h in record {
+        settled = λ good. subst (λ (T : Tree). AreSettled s kind T last.tree given held.edits.items) (same h) (settled_alike s kind mid.tree last.tree now given held.edits.items U (taken.settled (ids h good)));
+        lockable = subst (λ (u : List RefEdit). AreLockable s kind old.tree [] u) U (subst (λ (T : Tree). AreLockable s kind T [] (updates now)) (same h) taken.lockable);
+        whole = subst (λ (u : List RefEdit). AreWholeLocks (disk_of last) (locks_of s u)) U taken.whole;
+      };
+    }) c.lock_all_or_none.ensures.held
 
 pub returns-in-Ok-clause-refused : goal.returns-in-Ok-clause-refused
-returns-in-Ok-clause-refused g c h good =
+returns-in-Ok-clause-refused g c =
     let s = setting_of c.args.settings.now in
+    let kind = c.args.settings.now.kind in
     let given = c.args.edits.items in
     let found = c.find_records.new.edits in
     let now = take c.args.edits.len (found ++ drop (length found) given) in
     let over : now ≡ found = asked_over c.args.edits.len c.deref_mut.result.now found (drop (length found) given) c.find_records.ensures.asked c.deref_mut.ensures.len in
     let asked : all_asked now ≡ all_asked given = ap all_asked over ∙ (c.find_records.ensures.asked ∙ ap all_asked c.deref_mut.ensures.value) in
     let U : updates now ≡ updates given = updates_alike given now asked in
-    let old = g.F.Files.means c.args.files.now in
-    let mid = g.F.Files.means c.find_records.new.files in
-    let same : mid.tree ≡ old.tree = (c.find_records.ensures.reads.leaves h).tree in
-    let kind = c.args.settings.now.kind in
-    let ids : ids_in now ≡ packed_ids s mid.tree (updates now) =
+    let F = g.F.Files in
+    let old = F.means c.args.files.now in
+    let mid = F.means c.find_records.new.files in
+    let last = F.means c.lock_all_or_none.new.files in
+    let same : F.honest → mid.tree ≡ old.tree = λ h. (c.find_records.ensures.reads.leaves h).tree in
+    let ids : F.honest → IsPackedWell kind (view_of old.tree s.packed_path) → ids_in now ≡ packed_ids s mid.tree (updates now) = λ h good.
     asked_ids (folders_of c.args.settings.now.dirs.now c.args.settings.now.namespace.now) kind c.args.settings.now.prohibit_windows_device_names old.tree mid.tree (updates now) good.0 (ids_in now) good.1
     (ap ids_in over ∙ (c.in-Ok.ensures.found h good.0 good.1
     ∙ (ap (λ (l : List Edit). ids_among s good.0 (updates l)) c.deref_mut.ensures.value
-    ∙ ap (ids_among s good.0) (sym U)))) same in
-    if_err c.lock_all_or_none.result (λ (failure : LockFailure) first. inr (subst (λ (u : List RefEdit). IsFirstCause s kind old.tree [] u failure.error) U
-    (subst (λ (T : Tree). IsFirstCause s kind T [] (updates now) failure.error) same first))) (c.lock_all_or_none.ensures.refused h ids)
+    ∙ ap (ids_among s good.0) (sym U)))) (same h) in
+    let a = F.faults c.args.files.now in
+    let b = F.faults c.find_records.new.files in
+    let d = F.faults c.lock_all_or_none.new.files in
+    if_err c.lock_all_or_none.result (λ (failure : LockFailure) (why : IsTakingFault F.honest F.means F.faults s kind now c.find_records.new.files c.lock_all_or_none.new.files failure.error). record {
+      cause = λ h good. inr (subst (λ (u : List RefEdit). IsFirstCause s kind old.tree [] u failure.error) U
+          (subst (λ (T : Tree). IsFirstCause s kind T [] (updates now) failure.error) (same h) (why.first h (ids h good))));
+      opened = λ h. (not_packed kind (old.tree s.packed_path) b d failure.error why.counted).0;
+      unread = λ h. no_find _ b d failure.error why.counted;
+      counted = counted_later _ _ a b d failure.error c.find_records.ensures.reads.no_fewer why.counted;
+    }) c.lock_all_or_none.ensures.refused
 
-pub returns-in-Ok-clause-as_before : goal.returns-in-Ok-clause-as_before
-returns-in-Ok-clause-as_before g c h =
+pub returns-in-Ok-clause-removed : goal.returns-in-Ok-clause-removed
+returns-in-Ok-clause-removed g c =
     let s = setting_of c.args.settings.now in
+    let kind = c.args.settings.now.kind in
     let given = c.args.edits.items in
     let found = c.find_records.new.edits in
     let now = take c.args.edits.len (found ++ drop (length found) given) in
     let over : now ≡ found = asked_over c.args.edits.len c.deref_mut.result.now found (drop (length found) given) c.find_records.ensures.asked c.deref_mut.ensures.len in
     let asked : all_asked now ≡ all_asked given = ap all_asked over ∙ (c.find_records.ensures.asked ∙ ap all_asked c.deref_mut.ensures.value) in
     let U : updates now ≡ updates given = updates_alike given now asked in
-    let old = g.F.Files.means c.args.files.now in
-    let mid = g.F.Files.means c.find_records.new.files in
-    let same : mid.tree ≡ old.tree = (c.find_records.ensures.reads.leaves h).tree in
-    let last = g.F.Files.means c.lock_all_or_none.new.files in
-    if_err c.lock_all_or_none.result (λ (failure : LockFailure) adds. subst (λ (u : List RefEdit). AddsLocks (paths_of failure.locks_left.items) (locks_of s u) old.tree last.tree) U
-    (subst (λ (T : Tree). AddsLocks (paths_of failure.locks_left.items) (locks_of s (updates now)) T last.tree) same adds)) (c.lock_all_or_none.ensures.as_before h)
+    let F = g.F.Files in
+    let old = F.means c.args.files.now in
+    let mid = F.means c.find_records.new.files in
+    let last = F.means c.lock_all_or_none.new.files in
+    let same : F.honest → mid.tree ≡ old.tree = λ h. (c.find_records.ensures.reads.leaves h).tree in
+    let all = locks_of s (updates now) in
+    if_err c.lock_all_or_none.result (λ (failure : LockFailure) (is : AreRemovedAgain F.honest F.means F.faults all all failure.locks_left c.find_records.new.files c.lock_all_or_none.new.files). record {
+      as_before = λ h. subst (λ (u : List RefEdit). AddsLocks (paths_of failure.locks_left.items) (locks_of s u) old.tree last.tree) U
+          (subst (λ (T : Tree). AddsLocks (paths_of failure.locks_left.items) all T last.tree) (same h) (is.as_before h));
+      named = record {
+        ours = λ q left. subst (λ (u : List RefEdit). is_in (locks_of s u) q ≡ true) U (is.named.ours q left);
+        once = λ q. subst (λ (u : List RefEdit). times q (paths_of failure.locks_left.items) ≤ times q (locks_of s u)) U (is.named.once q);
+        named = risen_by_before _ _ _ _ c.find_records.ensures.reads.no_fewer is.named.named;
+      };
+    }) c.lock_all_or_none.ensures.removed
 
-pub returns-in-Ok-clause-ours : goal.returns-in-Ok-clause-ours
-returns-in-Ok-clause-ours g c =
+pub returns-in-Ok-clause-takes : goal.returns-in-Ok-clause-takes
+returns-in-Ok-clause-takes g c =
     let s = setting_of c.args.settings.now in
+    let kind = c.args.settings.now.kind in
     let given = c.args.edits.items in
     let found = c.find_records.new.edits in
     let now = take c.args.edits.len (found ++ drop (length found) given) in
     let over : now ≡ found = asked_over c.args.edits.len c.deref_mut.result.now found (drop (length found) given) c.find_records.ensures.asked c.deref_mut.ensures.len in
     let asked : all_asked now ≡ all_asked given = ap all_asked over ∙ (c.find_records.ensures.asked ∙ ap all_asked c.deref_mut.ensures.value) in
     let U : updates now ≡ updates given = updates_alike given now asked in
-    if_err c.lock_all_or_none.result (λ (failure : LockFailure) ours q left. subst (λ (u : List RefEdit). is_in (locks_of s u) q ≡ true) U (ours q left)) c.lock_all_or_none.ensures.ours
-
-pub returns-in-Ok-clause-leaves : goal.returns-in-Ok-clause-leaves
-returns-in-Ok-clause-leaves g c h =
-    let s = setting_of c.args.settings.now in
-    let given = c.args.edits.items in
-    let found = c.find_records.new.edits in
-    let now = take c.args.edits.len (found ++ drop (length found) given) in
-    let over : now ≡ found = asked_over c.args.edits.len c.deref_mut.result.now found (drop (length found) given) c.find_records.ensures.asked c.deref_mut.ensures.len in
-    let asked : all_asked now ≡ all_asked given = ap all_asked over ∙ (c.find_records.ensures.asked ∙ ap all_asked c.deref_mut.ensures.value) in
-    let U : updates now ≡ updates given = updates_alike given now asked in
-    let old = g.F.Files.means c.args.files.now in
-    let mid = g.F.Files.means c.find_records.new.files in
-    let same : mid.tree ≡ old.tree = (c.find_records.ensures.reads.leaves h).tree in
-    let last = g.F.Files.means c.lock_all_or_none.new.files in
-    let all = locks_of s (updates given) in
-    joins (weaken (c.find_records.ensures.reads.leaves h) (λ T is q. inl (ap (λ (R : Tree). R q) is)))
-    (subst (λ (T : Tree). Leaves mid last (AddsLocks all all T)) same
-    (subst (λ (u : List RefEdit). Leaves mid last (AddsLocks (locks_of s u) (locks_of s u) mid.tree)) U (c.lock_all_or_none.ensures.leaves h)))
-
-pub returns-in-Ok-clause-whole : goal.returns-in-Ok-clause-whole
-returns-in-Ok-clause-whole g c h =
-    let s = setting_of c.args.settings.now in
-    let given = c.args.edits.items in
-    let found = c.find_records.new.edits in
-    let now = take c.args.edits.len (found ++ drop (length found) given) in
-    let over : now ≡ found = asked_over c.args.edits.len c.deref_mut.result.now found (drop (length found) given) c.find_records.ensures.asked c.deref_mut.ensures.len in
-    let asked : all_asked now ≡ all_asked given = ap all_asked over ∙ (c.find_records.ensures.asked ∙ ap all_asked c.deref_mut.ensures.value) in
-    let U : updates now ≡ updates given = updates_alike given now asked in
-    let last = g.F.Files.means c.lock_all_or_none.new.files in
-    subst (λ (u : List RefEdit). OnOk c.lock_all_or_none.result (AreWholeLocks (disk_of last) (locks_of s u))) U (c.lock_all_or_none.ensures.whole h)
-
-pub returns-in-Ok-clause-passes : goal.returns-in-Ok-clause-passes
-returns-in-Ok-clause-passes g c h locked staying D own here =
-    let s = setting_of c.args.settings.now in
-    let given = c.args.edits.items in
-    let found = c.find_records.new.edits in
-    let now = take c.args.edits.len (found ++ drop (length found) given) in
-    let over : now ≡ found = asked_over c.args.edits.len c.deref_mut.result.now found (drop (length found) given) c.find_records.ensures.asked c.deref_mut.ensures.len in
-    let asked : all_asked now ≡ all_asked given = ap all_asked over ∙ (c.find_records.ensures.asked ∙ ap all_asked c.deref_mut.ensures.value) in
-    let U : updates now ≡ updates given = updates_alike given now asked in
-    let old = g.F.Files.means c.args.files.now in
-    let mid = g.F.Files.means c.find_records.new.files in
-    let same : mid.tree ≡ old.tree = (c.find_records.ensures.reads.leaves h).tree in
-    let last = g.F.Files.means c.lock_all_or_none.new.files in
-    let still : disk_of mid ≡ disk_of old = (c.find_records.ensures.reads.passes h).disk in
-    let first = passes_weaken (c.find_records.ensures.reads.passes h) (λ (E : Disk) is. subst (IsAsBefore locked staying D) (sym is) here) in
-    passes_joins first ((subst (λ (u : List RefEdit). OnlyLocks (locks_of s u) mid last) U (c.lock_all_or_none.ensures.passes h)) locked staying D own (subst (IsAsBefore locked staying D) (sym still) here))
-
-pub returns-in-Ok-clause-once : goal.returns-in-Ok-clause-once
-returns-in-Ok-clause-once g c =
-    let s = setting_of c.args.settings.now in
-    let given = c.args.edits.items in
-    let found = c.find_records.new.edits in
-    let now = take c.args.edits.len (found ++ drop (length found) given) in
-    let over : now ≡ found = asked_over c.args.edits.len c.deref_mut.result.now found (drop (length found) given) c.find_records.ensures.asked c.deref_mut.ensures.len in
-    let asked : all_asked now ≡ all_asked given = ap all_asked over ∙ (c.find_records.ensures.asked ∙ ap all_asked c.deref_mut.ensures.value) in
-    let U : updates now ≡ updates given = updates_alike given now asked in
-    subst (λ (u : List RefEdit). IfErr c.lock_all_or_none.result (λ failure. (q : Path) → times q (paths_of failure.locks_left.items) ≤ times q (locks_of s u))) U c.lock_all_or_none.ensures.once
-
-pub returns-in-Err-clause-once : goal.returns-in-Err-clause-once
-returns-in-Err-clause-once g c q =
-    let none : times q (paths_of c.args.remains.left.items) ≡ 0 = ap (λ (l : List (Vec ℕ Global)). times q (paths_of l)) c.requires.none in
-    omega (arith, none)
-
-pub returns-in-Ok-clause-unread : goal.returns-in-Ok-clause-unread
-returns-in-Ok-clause-unread g c h =
-    if_err c.lock_all_or_none.result (λ (failure : LockFailure) counted. no_find _ (g.F.Files.faults c.find_records.new.files) (g.F.Files.faults c.lock_all_or_none.new.files) failure.error counted) c.lock_all_or_none.ensures.counted
-
-pub returns-in-Err-clause-unread : goal.returns-in-Err-clause-unread
-returns-in-Err-clause-unread g c h = rw c.deref_mut.ensures.value at (c.in-Err.ensures.unread h)
+    let F = g.F.Files in
+    reads_then_takes F.honest F.means F.faults (locks_of s (updates given)) c.args.files.now c.find_records.new.files c.lock_all_or_none.new.files c.find_records.ensures.reads
+    (subst (λ (u : List RefEdit). OnlyTakes F.honest F.means F.faults (locks_of s u) c.find_records.new.files c.lock_all_or_none.new.files) U c.lock_all_or_none.ensures.takes)
 
 pub returns-in-Err-clause-refused : goal.returns-in-Err-clause-refused
-returns-in-Err-clause-refused g c h good = inl (c.in-Err.ensures.sound h good.0 good.1)
+returns-in-Err-clause-refused g c =
+    let why = c.in-Err.ensures.failed in
+    record {
+      cause = λ h good. inl (why.sound h good.0 good.1);
+      opened = why.refused;
+      unread = λ h. rw c.deref_mut.ensures.value at (why.unread h);
+      counted = why.counted;
+    }
+
+pub returns-in-Err-clause-removed : goal.returns-in-Err-clause-removed
+returns-in-Err-clause-removed g c =
+    let no_locks = c.requires.room.no_locks in
+    record {
+      as_before = λ h q. inl (ap (λ (T : Tree). T q) (c.find_records.ensures.reads.leaves h).tree);
+      named = record {
+        ours = λ q left. clash (ap (λ (l : List (Vec ℕ Global)). is_in (paths_of l) q) (sym no_locks) ∙ left) refl;
+        once = λ q.
+            let none : times q (paths_of c.args.remains.left.items) ≡ 0 = ap (λ (l : List (Vec ℕ Global)). times q (paths_of l)) no_locks in
+            omega (arith, none);
+        named = risen_by_none_left c.args.remains.left _ _ no_locks c.find_records.ensures.reads.no_fewer;
+      };
+    }
+
+pub returns-in-Err-clause-takes : goal.returns-in-Err-clause-takes
+returns-in-Err-clause-takes g c =
+    let F = g.F.Files in
+    reads_take F.honest F.means F.faults _ c.args.files.now c.find_records.new.files c.find_records.ensures.reads

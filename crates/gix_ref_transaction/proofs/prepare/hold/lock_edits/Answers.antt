@@ -1,185 +1,205 @@
-use Rattle.gix_ref_transaction.proofs.Faults.{risen_by_before}
-use Rattle.std.proofs.Common.{◌≡◌, ◌+◌, inl, inr, ⊎_elim, ℕ, List, [], ◌∷◌, Option, true, map, sym, ap, subst, arith, Vec, Global}
+use Rattle.gix_ref_transaction.proofs.Faults.{risen_by_before, risen_by_none_left}
+use Rattle.std.proofs.Common.{rules, ◌≡◌, ◌≢◌, ◌+◌, ◌∙◌, refl, inl, inr, ⊎_elim, ℕ, List, [], ◌∷◌, Option, true, map, sym, ap, subst, arith, Vec, Global}
 use Rattle.gix_ref_files.specs.Files.{disk_of, Leaves}
 use Rattle.gix_ref_files.specs.Lock.{lock_of}
-use Rattle.gix_ref_files.specs.Tree.{Path}
-use Rattle.gix_ref_transaction.specs.Causes.{locks_of, IsFindCause, IsPackedWell}
+use Rattle.gix_ref_files.specs.Tree.{Tree, Path, Content}
+use Rattle.gix_ref_transaction.specs.Causes.{locks_of, IsFindCause, IsPackedRefusal, IsPackedWell}
+use Rattle.gix_ref_transaction.specs.HeldLocks.{OnlyTakes}
 use Rattle.gix_ref_transaction.specs.OwnLocks.{is_in, paths_of, times, OnlyRemoves, RemovesLocks}
 use Rattle.gix_ref_transaction.specs.PrepareSteps.{packed_locks, packed_places, setting_of, updates, AreWholeLocks}
-use Rattle.gix_ref_transaction.proofs.PackedLemmas.{counted_on}
+use Rattle.gix_ref_transaction.proofs.PackedLemmas.{counted_on, not_packed}
+use Rattle.gix_ref_transaction.proofs.Adds.{clash}
+use Rattle.gix_ref_transaction.proofs.TakingRuns.{takes_alone, takes_then_more}
 use Rattle.gix_ref_transaction.proofs.PackedHeld.{first_cause_on, lockable_all_on, off_lock, same_packed, settled_on}
-use Rattle.gix_ref_transaction.proofs.PackedRuns.{adds_again, counted_after, leaves_again, leaves_both, takes_both, takes_first, possible, still_named, taken_free, takes_less, whole_both}
+use Rattle.gix_ref_transaction.proofs.PackedRuns.{adds_again, counted_after, leaves_again, possible, taken_free, takes_less, whole_both}
 use Rattle.gix_ref_transaction.proofs.Removing.{times_append}
 use Rattle.gix_ref_transaction.proofs.TimesLeft.{times_packed}
 use Rattle.gix_ref_transaction.proofs.UnreadRecords.{no_find}
 use Rattle.gix_ref_transaction.proofs.prepare.hold.lock_edits.Goals as goal
 
-pub returns-in-Ok-find_and_lock-clause-settled : goal.returns-in-Ok-find_and_lock-clause-settled
-returns-in-Ok-find_and_lock-clause-settled g c h good =
+pub returns-in-Ok-find_and_lock-clause-held : goal.returns-in-Ok-find_and_lock-clause-held
+returns-in-Ok-find_and_lock-clause-held g c =
+    let F = g.F.Files in
     let s = setting_of c.args.settings.now in
-    let T0 = (g.F.Files.means c.args.files.now).tree in
-    let T1 = (g.F.Files.means c.take_packed.new.files).tree in
-    let off = off_lock s T0 T1 c.in-Ok.packed c.in-Ok.ensures.place (c.in-Ok.ensures.takes h) in
-    let apart = c.requires.apart in
-    settled_on s c.args.settings.now.kind T0 T1 off apart.packed_lock _ c.args.edits.items _ apart.packed_locks
-    (c.in-Ok-find_and_lock.ensures.settled h (subst (IsPackedWell c.args.settings.now.kind) (sym (same_packed s c.args.settings.now.kind T0 T1 off apart.packed_lock)) good))
-
-pub returns-in-Ok-find_and_lock-clause-lockable : goal.returns-in-Ok-find_and_lock-clause-lockable
-returns-in-Ok-find_and_lock-clause-lockable g c h =
-    let s = setting_of c.args.settings.now in
-    let T0 = (g.F.Files.means c.args.files.now).tree in
-    let T1 = (g.F.Files.means c.take_packed.new.files).tree in
-    let off = off_lock s T0 T1 c.in-Ok.packed c.in-Ok.ensures.place (c.in-Ok.ensures.takes h) in
-    let apart = c.requires.apart in
-    lockable_all_on s c.args.settings.now.kind T0 T1 off apart.packed_lock [] (updates c.args.edits.items) apart.packed_locks (c.in-Ok-find_and_lock.ensures.lockable h)
-
-pub returns-in-Ok-find_and_lock-clause-leaves : goal.returns-in-Ok-find_and_lock-clause-leaves
-returns-in-Ok-find_and_lock-clause-leaves g c h =
-    let s = setting_of c.args.settings.now in
-    let old = g.F.Files.means c.args.files.now in
-    let mid = g.F.Files.means c.take_packed.new.files in
+    let kind = c.args.settings.now.kind in
+    let apart = c.requires.ready.apart in
+    let old = F.means c.args.files.now in
+    let mid = F.means c.take_packed.new.files in
     let U = updates c.args.edits.items in
     let xs = packed_locks s old.tree U in
     let all = locks_of s U in
-    leaves_both xs all old mid (g.F.Files.means c.find_and_lock.new.files) (rw c.deref.ensures.value at (c.take_packed.ensures.leaves h)) (c.find_and_lock.ensures.leaves h)
+    let first : OnlyTakes F.honest F.means F.faults xs c.args.files.now c.take_packed.new.files = rw c.deref.ensures.value at c.take_packed.ensures.takes in
+    let off : F.honest → (q : Path) → q ≢ lock_of s.packed_path → mid.tree q ≡ old.tree q = λ h. off_lock s old.tree mid.tree c.in-Ok.packed c.in-Ok.ensures.taken.place (c.in-Ok.ensures.taken.takes h) in
+    let held : F.honest → map lock_of (packed_places c.in-Ok.packed) ≡ xs = λ h. ap (map lock_of) (rw c.deref.ensures.value at (c.in-Ok.ensures.taken.due h)) in
+    let end = F.means c.find_and_lock.new.files in
+    let is = c.in-Ok-find_and_lock.ensures.held in
+    record {
+      asked = is.asked;
+      remains = is.remains;
+      adds = λ h. ((takes_then_more F.honest F.means F.faults xs all _ _ _ first c.find_and_lock.ensures.takes).leaves h).tree;
+      taken = λ h. let taken = is.taken h in record {
+        settled = λ good. settled_on s kind old.tree mid.tree (off h) apart.packed_lock _ c.args.edits.items _ apart.packed_locks
+            (taken.settled (subst (IsPackedWell kind) (sym (same_packed s kind old.tree mid.tree (off h) apart.packed_lock)) good));
+        lockable = lockable_all_on s kind old.tree mid.tree (off h) apart.packed_lock [] U apart.packed_locks taken.lockable;
+        whole = whole_both (disk_of mid) (disk_of end) xs all (λ q text. c.in-Ok-find_and_lock.ensures.wholes h q text)
+            (subst (AreWholeLocks (disk_of mid)) (held h) (c.in-Ok.ensures.taken.whole h)) taken.whole;
+      };
+    }
 
-pub returns-in-Ok-find_and_lock-clause-whole : goal.returns-in-Ok-find_and_lock-clause-whole
-returns-in-Ok-find_and_lock-clause-whole g c h =
+pub returns-in-Ok-find_and_lock-clause-packed : goal.returns-in-Ok-find_and_lock-clause-packed
+returns-in-Ok-find_and_lock-clause-packed g c =
+    record {
+      place = c.in-Ok.ensures.taken.place;
+      due = λ h. rw c.deref.ensures.value at (c.in-Ok.ensures.taken.due h);
+      empty = search rules;
+      free = λ h. rw c.deref.ensures.value at (c.in-Ok.ensures.taken.free h);
+    }
+
+pub returns-in-Ok-find_and_lock-clause-takes : goal.returns-in-Ok-find_and_lock-clause-takes
+returns-in-Ok-find_and_lock-clause-takes g c =
+    let F = g.F.Files in
     let s = setting_of c.args.settings.now in
-    let old = g.F.Files.means c.args.files.now in
-    let mid = g.F.Files.means c.take_packed.new.files in
+    let kind = c.args.settings.now.kind in
+    let apart = c.requires.ready.apart in
+    let old = F.means c.args.files.now in
+    let mid = F.means c.take_packed.new.files in
     let U = updates c.args.edits.items in
     let xs = packed_locks s old.tree U in
     let all = locks_of s U in
-    let held : map lock_of (packed_places c.in-Ok.packed) ≡ xs = ap (map lock_of) (rw c.deref.ensures.value at (c.in-Ok.ensures.taken h)) in
-    let new = g.F.Files.means c.find_and_lock.new.files in
-    whole_both (disk_of mid) (disk_of new) xs all (λ q text. c.in-Ok-find_and_lock.ensures.wholes h q text)
-    (subst (AreWholeLocks (disk_of mid)) held (c.in-Ok.ensures.whole h)) (c.in-Ok-find_and_lock.ensures.whole h)
+    let first : OnlyTakes F.honest F.means F.faults xs c.args.files.now c.take_packed.new.files = rw c.deref.ensures.value at c.take_packed.ensures.takes in
+    takes_then_more F.honest F.means F.faults xs all _ _ _ first c.find_and_lock.ensures.takes
 
-pub returns-in-Ok-find_and_lock-clause-passes : goal.returns-in-Ok-find_and_lock-clause-passes
-returns-in-Ok-find_and_lock-clause-passes g c h =
+pub returns-in-Err-clause-refused : goal.returns-in-Err-clause-refused
+returns-in-Err-clause-refused g c =
+    let F = g.F.Files in
     let s = setting_of c.args.settings.now in
-    let old = g.F.Files.means c.args.files.now in
-    let mid = g.F.Files.means c.take_packed.new.files in
+    let kind = c.args.settings.now.kind in
+    let apart = c.requires.ready.apart in
+    let old = F.means c.args.files.now in
+    let mid = F.means c.take_packed.new.files in
     let U = updates c.args.edits.items in
     let xs = packed_locks s old.tree U in
     let all = locks_of s U in
-    takes_both xs all old mid (g.F.Files.means c.find_and_lock.new.files) (rw c.deref.ensures.value at (c.take_packed.ensures.passes h)) (c.find_and_lock.ensures.passes h)
+    let a = F.faults c.args.files.now in
+    let b = F.faults c.take_packed.new.files in
+    let outside = not_packed kind (old.tree s.packed_path) a b c.in-Err.error c.in-Err.ensures.refused.counted in
+    record {
+      cause = λ h good. ⊎_elim (λ fault. inl fault) (λ way. inr (inl way)) (rw c.deref.ensures.value at (c.in-Err.ensures.refused.cause h));
+      opened = λ h. outside.0;
+      unread = λ h. no_find _ a b c.in-Err.error c.in-Err.ensures.refused.counted;
+      counted = outside.1 _ _;
+    }
 
-pub returns-in-Err-clause-passes : goal.returns-in-Err-clause-passes
-returns-in-Err-clause-passes g c h =
+pub returns-in-Err-clause-removed : goal.returns-in-Err-clause-removed
+returns-in-Err-clause-removed g c =
+    let no_locks = c.requires.room.no_locks in
+    record {
+      as_before = λ h q. inl (ap (λ (T : Tree). T q) (c.in-Err.ensures.refused.kept h));
+      named = record {
+        ours = λ q left. clash (ap (λ (l : List (Vec ℕ Global)). is_in (paths_of l) q) (sym no_locks) ∙ left) refl;
+        once = λ q.
+            let none : times q (paths_of c.args.remains.left.items) ≡ 0 = ap (λ (l : List (Vec ℕ Global)). times q (paths_of l)) no_locks in
+            omega (arith, none);
+        named = risen_by_none_left c.args.remains.left _ _ no_locks c.take_packed.ensures.takes.no_fewer;
+      };
+    }
+
+pub returns-in-Err-clause-takes : goal.returns-in-Err-clause-takes
+returns-in-Err-clause-takes g c =
+    let F = g.F.Files in
     let s = setting_of c.args.settings.now in
-    let old = g.F.Files.means c.args.files.now in
-    let mid = g.F.Files.means c.take_packed.new.files in
+    let kind = c.args.settings.now.kind in
+    let apart = c.requires.ready.apart in
+    let old = F.means c.args.files.now in
+    let mid = F.means c.take_packed.new.files in
     let U = updates c.args.edits.items in
     let xs = packed_locks s old.tree U in
     let all = locks_of s U in
-    takes_first xs all old mid (rw c.deref.ensures.value at (c.take_packed.ensures.passes h))
+    let first : OnlyTakes F.honest F.means F.faults xs c.args.files.now c.take_packed.new.files = rw c.deref.ensures.value at c.take_packed.ensures.takes in
+    takes_alone F.honest F.means F.faults xs all _ _ first
 
 pub returns-in-Err-find_and_lock-clause-refused : goal.returns-in-Err-find_and_lock-clause-refused
-returns-in-Err-find_and_lock-clause-refused g c h good =
-    let s = setting_of c.args.settings.now in
-    let old = g.F.Files.means c.args.files.now in
-    let mid = g.F.Files.means c.take_packed.new.files in
-    let U = updates c.args.edits.items in
-    let xs = packed_locks s old.tree U in
-    let all = locks_of s U in
-    let kind = c.args.settings.now.kind in
-    let off = off_lock s old.tree mid.tree c.in-Ok.packed c.in-Ok.ensures.place (c.in-Ok.ensures.takes h) in
-    let apart = c.requires.apart in
-    ⊎_elim (λ outside. inl outside)
-    (λ first. inr (inr (rw c.deref.ensures.value at (c.in-Ok.ensures.free h), first_cause_on s kind old.tree mid.tree off apart.packed_lock [] U c.in-Err-find_and_lock.failure.error apart.packed_locks first)))
-    (c.in-Err-find_and_lock.ensures.refused h (subst (IsPackedWell kind) (sym (same_packed s kind old.tree mid.tree off apart.packed_lock)) good))
-
-pub returns-in-Err-find_and_lock-clause-as_before : goal.returns-in-Err-find_and_lock-clause-as_before
-returns-in-Err-find_and_lock-clause-as_before g c h =
-    let s = setting_of c.args.settings.now in
-    let old = g.F.Files.means c.args.files.now in
-    let mid = g.F.Files.means c.take_packed.new.files in
-    let U = updates c.args.edits.items in
-    let xs = packed_locks s old.tree U in
-    let all = locks_of s U in
-    let end = g.F.Files.means c.find_and_lock.new.files in
-    let new = g.F.Files.means c.release_packed.new.files in
-    let left = paths_of c.in-Err-find_and_lock.failure.locks_left.items in
-    let named = paths_of c.release_packed.new.left.items in
-    let held : map lock_of (packed_places c.in-Ok.packed) ≡ xs = ap (map lock_of) (rw c.deref.ensures.value at (c.in-Ok.ensures.taken h)) in
-    adds_again xs all left named old.tree mid.tree end.tree new.tree (taken_free old.tree mid.tree c.in-Ok.packed xs held (c.in-Ok.ensures.takes h))
-    (rw c.deref.ensures.value at (c.take_packed.ensures.leaves h)).tree
-    (c.in-Err-find_and_lock.ensures.as_before h)
-    (subst (λ (l : List Path). RemovesLocks l end.tree new.tree) held (c.release_packed.ensures.leaves h).tree)
-    (λ q mine out. c.release_packed.ensures.gone h q (subst (λ (l : List Path). is_in l q ≡ true) (sym held) mine) out)
-    (λ q h'. still_named left named _ c.release_packed.ensures.left q h')
-
-pub returns-in-Err-find_and_lock-clause-leaves : goal.returns-in-Err-find_and_lock-clause-leaves
-returns-in-Err-find_and_lock-clause-leaves g c h =
-    let s = setting_of c.args.settings.now in
-    let old = g.F.Files.means c.args.files.now in
-    let mid = g.F.Files.means c.take_packed.new.files in
-    let U = updates c.args.edits.items in
-    let xs = packed_locks s old.tree U in
-    let all = locks_of s U in
-    let end = g.F.Files.means c.find_and_lock.new.files in
-    let new = g.F.Files.means c.release_packed.new.files in
-    let left = paths_of c.in-Err-find_and_lock.failure.locks_left.items in
-    let named = paths_of c.release_packed.new.left.items in
-    let held : map lock_of (packed_places c.in-Ok.packed) ≡ xs = ap (map lock_of) (rw c.deref.ensures.value at (c.in-Ok.ensures.taken h)) in
-    leaves_again xs all old mid end new left (taken_free old.tree mid.tree c.in-Ok.packed xs held (c.in-Ok.ensures.takes h))
-    (rw c.deref.ensures.value at (c.take_packed.ensures.leaves h)) (c.find_and_lock.ensures.leaves h) (c.in-Err-find_and_lock.ensures.as_before h) c.in-Err-find_and_lock.ensures.ours
-    (subst (λ (l : List Path). Leaves end new (RemovesLocks l end.tree)) held (c.release_packed.ensures.leaves h))
-
-pub returns-in-Err-find_and_lock-clause-ours : goal.returns-in-Err-find_and_lock-clause-ours
-returns-in-Err-find_and_lock-clause-ours g c q there =
-    let s = setting_of c.args.settings.now in
-    possible s (locks_of s (updates c.args.edits.items)) c.in-Ok.packed c.in-Ok.ensures.place (paths_of c.in-Err-find_and_lock.failure.locks_left.items) (paths_of c.release_packed.new.left.items)
-    c.release_packed.ensures.left c.in-Err-find_and_lock.ensures.ours q there
-
-pub returns-in-Err-find_and_lock-clause-passes : goal.returns-in-Err-find_and_lock-clause-passes
-returns-in-Err-find_and_lock-clause-passes g c h =
-    let s = setting_of c.args.settings.now in
-    let old = g.F.Files.means c.args.files.now in
-    let mid = g.F.Files.means c.take_packed.new.files in
-    let U = updates c.args.edits.items in
-    let xs = packed_locks s old.tree U in
-    let all = locks_of s U in
-    let end = g.F.Files.means c.find_and_lock.new.files in
-    let new = g.F.Files.means c.release_packed.new.files in
-    let left = paths_of c.in-Err-find_and_lock.failure.locks_left.items in
-    let named = paths_of c.release_packed.new.left.items in
-    let held : map lock_of (packed_places c.in-Ok.packed) ≡ xs = ap (map lock_of) (rw c.deref.ensures.value at (c.in-Ok.ensures.taken h)) in
-    takes_less xs all old end new (takes_both xs all old mid end (rw c.deref.ensures.value at (c.take_packed.ensures.passes h)) (c.find_and_lock.ensures.passes h))
-    (subst (λ (l : List Path). OnlyRemoves l end new) held (c.release_packed.ensures.passes h))
-
-pub returns-in-Err-find_and_lock-clause-counted : goal.returns-in-Err-find_and_lock-clause-counted
-returns-in-Err-find_and_lock-clause-counted g c =
-    counted_on _ _ _ _ _ c.in-Err-find_and_lock.failure.error c.take_packed.ensures.no_fewer (counted_after _ _ _ _ _ c.in-Err-find_and_lock.failure.error c.release_packed.ensures.no_fewer c.in-Err-find_and_lock.ensures.counted)
-
-pub returns-in-Err-clause-once : goal.returns-in-Err-clause-once
-returns-in-Err-clause-once g c q =
-    let none : times q (paths_of c.args.remains.left.items) ≡ 0 = ap (λ (l : List (Vec ℕ Global)). times q (paths_of l)) c.requires.none in
-    omega (arith, none)
-
-pub returns-in-Err-find_and_lock-clause-once : goal.returns-in-Err-find_and_lock-clause-once
-returns-in-Err-find_and_lock-clause-once g c q =
-    let s = setting_of c.args.settings.now in
-    let locks = locks_of s (updates c.args.edits.items) in
-    let both : times q (lock_of s.packed_path ∷ locks) ≡ times q (lock_of s.packed_path ∷ []) + times q locks = times_append q (lock_of s.packed_path ∷ []) locks in
-    omega (arith, both, c.release_packed.ensures.once q, c.in-Err-find_and_lock.ensures.once q, times_packed s q c.in-Ok.packed c.in-Ok.ensures.place)
-
-pub returns-in-Err-clause-unread : goal.returns-in-Err-clause-unread
-returns-in-Err-clause-unread g c h = no_find _ (g.F.Files.faults c.args.files.now) (g.F.Files.faults c.take_packed.new.files) c.in-Err.error c.in-Err.ensures.counted
-
-pub returns-in-Err-find_and_lock-clause-unread : goal.returns-in-Err-find_and_lock-clause-unread
-returns-in-Err-find_and_lock-clause-unread g c h =
+returns-in-Err-find_and_lock-clause-refused g c =
+    let F = g.F.Files in
     let s = setting_of c.args.settings.now in
     let kind = c.args.settings.now.kind in
-    let old = g.F.Files.means c.args.files.now in
-    let mid = g.F.Files.means c.take_packed.new.files in
-    let off = off_lock s old.tree mid.tree c.in-Ok.packed c.in-Ok.ensures.place (c.in-Ok.ensures.takes h) in
-    subst (λ (packed : Option (List ℕ)). IsFindCause s kind packed (updates c.args.edits.items) c.in-Err-find_and_lock.failure.error) (same_packed s kind old.tree mid.tree off c.requires.apart.packed_lock)
-    (c.in-Err-find_and_lock.ensures.unread h)
+    let apart = c.requires.ready.apart in
+    let old = F.means c.args.files.now in
+    let mid = F.means c.take_packed.new.files in
+    let U = updates c.args.edits.items in
+    let xs = packed_locks s old.tree U in
+    let all = locks_of s U in
+    let off : F.honest → (q : Path) → q ≢ lock_of s.packed_path → mid.tree q ≡ old.tree q = λ h. off_lock s old.tree mid.tree c.in-Ok.packed c.in-Ok.ensures.taken.place (c.in-Ok.ensures.taken.takes h) in
+    let why = c.in-Err-find_and_lock.ensures.refused in
+    let error = c.in-Err-find_and_lock.failure.error in
+    record {
+      cause = λ h good. ⊎_elim (λ outside. inl outside)
+          (λ first. inr (inr (rw c.deref.ensures.value at (c.in-Ok.ensures.taken.free h), first_cause_on s kind old.tree mid.tree (off h) apart.packed_lock [] U error apart.packed_locks first)))
+          (why.cause h (subst (IsPackedWell kind) (sym (same_packed s kind old.tree mid.tree (off h) apart.packed_lock)) good));
+      opened = λ h. subst (λ (content : Option Content). IsPackedRefusal kind content error) (off h s.packed_path apart.packed_lock) (why.opened h);
+      unread = λ h. subst (λ (packed : Option (List ℕ)). IsFindCause s kind packed U error) (same_packed s kind old.tree mid.tree (off h) apart.packed_lock) (why.unread h);
+      counted = counted_on _ _ _ _ _ error c.take_packed.ensures.takes.no_fewer (counted_after _ _ _ _ _ error c.release_packed.ensures.releases.no_fewer why.counted);
+    }
 
-pub returns-in-Err-find_and_lock-clause-named : goal.returns-in-Err-find_and_lock-clause-named
-returns-in-Err-find_and_lock-clause-named g c =
-    c.release_packed.ensures.counted (g.F.Files.faults c.args.files.now)
-    (risen_by_before _ _ _ _ c.take_packed.ensures.no_fewer c.in-Err-find_and_lock.ensures.named)
+pub returns-in-Err-find_and_lock-clause-removed : goal.returns-in-Err-find_and_lock-clause-removed
+returns-in-Err-find_and_lock-clause-removed g c =
+    let F = g.F.Files in
+    let s = setting_of c.args.settings.now in
+    let kind = c.args.settings.now.kind in
+    let apart = c.requires.ready.apart in
+    let old = F.means c.args.files.now in
+    let mid = F.means c.take_packed.new.files in
+    let U = updates c.args.edits.items in
+    let xs = packed_locks s old.tree U in
+    let all = locks_of s U in
+    let held : F.honest → map lock_of (packed_places c.in-Ok.packed) ≡ xs = λ h. ap (map lock_of) (rw c.deref.ensures.value at (c.in-Ok.ensures.taken.due h)) in
+    let end = F.means c.find_and_lock.new.files in
+    let new = F.means c.release_packed.new.files in
+    let left = paths_of c.in-Err-find_and_lock.failure.locks_left.items in
+    let named = paths_of c.release_packed.new.left.items in
+    let removed = c.in-Err-find_and_lock.ensures.removed in
+    record {
+      as_before = λ h. adds_again xs all left named old.tree mid.tree end.tree new.tree (taken_free old.tree mid.tree c.in-Ok.packed xs (held h) (c.in-Ok.ensures.taken.takes h))
+          (rw c.deref.ensures.value at (c.take_packed.ensures.takes.leaves h)).tree
+          (removed.as_before h)
+          (subst (λ (l : List Path). RemovesLocks l end.tree new.tree) (held h) (c.release_packed.ensures.releases.leaves h).tree)
+          (λ q mine out. c.release_packed.ensures.gone h q (subst (λ (l : List Path). is_in l q ≡ true) (sym (held h)) mine) out)
+          (λ q there. c.release_packed.ensures.named.kept q there);
+      named = record {
+        ours = possible s all c.in-Ok.packed c.in-Ok.ensures.taken.place left named c.release_packed.ensures.left removed.named.ours;
+        once = λ q.
+            let both : times q (lock_of s.packed_path ∷ all) ≡ times q (lock_of s.packed_path ∷ []) + times q all = times_append q (lock_of s.packed_path ∷ []) all in
+            omega (arith, both, c.release_packed.ensures.named.once q, removed.named.once q, times_packed s q c.in-Ok.packed c.in-Ok.ensures.taken.place);
+        named = c.release_packed.ensures.named.counted (F.faults c.args.files.now)
+            (risen_by_before _ _ _ _ c.take_packed.ensures.takes.no_fewer removed.named.named);
+      };
+    }
+
+pub returns-in-Err-find_and_lock-clause-takes : goal.returns-in-Err-find_and_lock-clause-takes
+returns-in-Err-find_and_lock-clause-takes g c =
+    let F = g.F.Files in
+    let s = setting_of c.args.settings.now in
+    let kind = c.args.settings.now.kind in
+    let apart = c.requires.ready.apart in
+    let old = F.means c.args.files.now in
+    let mid = F.means c.take_packed.new.files in
+    let U = updates c.args.edits.items in
+    let xs = packed_locks s old.tree U in
+    let all = locks_of s U in
+    let first : OnlyTakes F.honest F.means F.faults xs c.args.files.now c.take_packed.new.files = rw c.deref.ensures.value at c.take_packed.ensures.takes in
+    let held : F.honest → map lock_of (packed_places c.in-Ok.packed) ≡ xs = λ h. ap (map lock_of) (rw c.deref.ensures.value at (c.in-Ok.ensures.taken.due h)) in
+    let end = F.means c.find_and_lock.new.files in
+    let new = F.means c.release_packed.new.files in
+    let left = paths_of c.in-Err-find_and_lock.failure.locks_left.items in
+    let named = paths_of c.release_packed.new.left.items in
+    let removed = c.in-Err-find_and_lock.ensures.removed in
+    let both = takes_then_more F.honest F.means F.faults xs all _ _ _ first c.find_and_lock.ensures.takes in
+    let less = c.release_packed.ensures.releases in
+    record {
+      leaves = λ h. leaves_again xs all old mid end new left (taken_free old.tree mid.tree c.in-Ok.packed xs (held h) (c.in-Ok.ensures.taken.takes h))
+          (first.leaves h) (c.find_and_lock.ensures.takes.leaves h) (removed.as_before h) removed.named.ours
+          (subst (λ (l : List Path). Leaves end new (RemovesLocks l end.tree)) (held h) (less.leaves h));
+      passes = λ h. takes_less xs all old end new (both.passes h)
+          (subst (λ (l : List Path). OnlyRemoves l end new) (held h) (less.passes h));
+      no_fewer = omega (arith, both.no_fewer, less.no_fewer);
+    }

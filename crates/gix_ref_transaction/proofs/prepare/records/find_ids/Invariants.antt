@@ -1,11 +1,8 @@
-use Rattle.std.proofs.Common.{◌≡◌, ◌≤◌, ℕ, List, None, take}
-use Rattle.gix_ref_files.specs.Calls.{Unchanged}
+use Rattle.std.proofs.Common.{◌≡◌, List, None, take}
 use Rattle.gix_ref_files.specs.ReadOnly.{OnlyReads}
-use Rattle.gix_ref_files.specs.DiskCalls.{Untouched}
-use Rattle.gix_ref_files.specs.Files.{disk_of, Leaves, Passes}
 use Rattle.gix_ref_hash.specs.declared.hash.Kind.{Kind}
 use Rattle.gix_ref_base.specs.PackedRecords.{Record}
-use Rattle.gix_ref_lookup.specs.Lookups.{AreAsked, AreHonest, IsReady, IsSearched}
+use Rattle.gix_ref_lookup.specs.Lookups.{AreAsked, AreStillAsked, IsReady}
 use Rattle.gix_ref_transaction.specs.PackedCauses.{ids_among}
 use Rattle.gix_ref_transaction.specs.PrepareSteps.{setting_of, all_asked, ids_in, updates}
 use Rattle.gix_ref_transaction.proofs.prepare.records.find_ids.Given as goal
@@ -15,9 +12,7 @@ abbrev pub invariant-loop-edit : goal.invariant-loop-edit
 invariant-loop-edit g l = record {
   ready : IsReady l.records;
   same : all_asked l.edits ≡ all_asked l.fn.edits;
-  asked : (kind : Kind) (rs : List Record) → AreAsked kind None l.fn.records rs → AreAsked kind None l.records rs;
-  searched : (kind of_kind : Kind) (text : List ℕ) → IsSearched kind None l.records of_kind text → IsSearched kind None l.fn.records of_kind text;
-  honest : AreHonest l.fn.records → AreHonest l.records;
+  still : (kind : Kind) → AreStillAsked kind None l.fn.records l.records;
   reads : OnlyReads g.F.Files.honest g.F.Files.means g.F.Files.faults l.fn.files l.files;
   found : (kind : Kind) (rs : List Record) → AreAsked kind None l.fn.records rs → ids_in (take l.edit-index l.edits) ≡ ids_among (setting_of l.settings) rs (take l.edit-index (updates l.fn.edits));
 }

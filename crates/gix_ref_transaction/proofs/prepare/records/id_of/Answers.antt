@@ -3,7 +3,7 @@ use Rattle.gix_ref_name.specs.Names.{full_bytes, full_ref_bytes}
 use Rattle.gix_ref_lookup.specs.Lookups.{OfKey}
 use Rattle.gix_ref_lookup.proofs.NamedRecords.{without_key}
 use Rattle.gix_ref_transaction.specs.PrepareSteps.{setting_of}
-use Rattle.gix_ref_transaction.specs.internal.StuckRecords.{IsStuckKey}
+use Rattle.gix_ref_transaction.specs.internal.StuckRecords.{IsSearchFault, IsStuckKey}
 use Rattle.gix_ref_transaction.specs.declared.prepare.error.Error.{Error}
 use Rattle.gix_ref_transaction.proofs.PackedLemmas.{if_err, no_id}
 use Rattle.gix_ref_transaction.proofs.UnreadRecords.{find_wider}
@@ -15,19 +15,27 @@ returns-in-None-clause-found g c kind rs asked =
     let name = full_ref_bytes c.args.name in
     sym (no_id s (s.key name) rs (without_key c.args.settings.now kind None c.args.records.now rs name asked (rw c.in-None.is at c.in_ok-key.ensures)))
 
-pub returns-then-is_own_key-clause-unread : goal.returns-then-is_own_key-clause-unread
-returns-then-is_own_key-clause-unread g c h kind =
+pub returns-then-is_own_key-clause-failed : goal.returns-then-is_own_key-clause-failed
+returns-then-is_own_key-clause-failed g c =
     let s = setting_of c.args.settings.now in
     let name = full_ref_bytes c.args.name in
-    let stuck = IsStuckKey kind c.args.records.now in
-    if_err c.id_at.result (λ (e : Error) told. find_wider (stuck name) (OfKey s name stuck) e (λ bad. (name, c.if-is_own_key.ensures, bad)) told) (c.id_at.ensures.unread h kind)
+    let records = c.args.records.now in
+    if_err c.id_at.result (λ (e : Error) (why : IsSearchFault records (λ kind. IsStuckKey kind records name) e). record {
+      sound = why.sound;
+      refused = why.refused;
+      unread = λ h kind. let stuck = IsStuckKey kind records in find_wider (stuck name) (OfKey s name stuck) e (λ bad. (name, c.if-is_own_key.ensures, bad)) (why.unread h kind);
+    }) c.id_at.ensures.failed
 
-pub returns-in-Some-clause-unread : goal.returns-in-Some-clause-unread
-returns-in-Some-clause-unread g c h kind =
+pub returns-in-Some-clause-failed : goal.returns-in-Some-clause-failed
+returns-in-Some-clause-failed g c =
     let s = setting_of c.args.settings.now in
     let name = full_ref_bytes c.args.name in
     let key = full_ref_bytes c.as_ref.result in
-    let stuck = IsStuckKey kind c.args.records.now in
+    let records = c.args.records.now in
     let own : s.key name ≡ Some (full_bytes c.in-Some.key) = rw c.in-Some.is at c.in_ok-key.ensures in
     let is : s.key name ≡ Some key = own ∙ ap Some (sym c.as_ref.ensures) in
-    if_err c.id_at-in-Some.result (λ (e : Error) told. find_wider (stuck key) (OfKey s name stuck) e (λ bad. (key, is, bad)) told) (c.id_at-in-Some.ensures.unread h kind)
+    if_err c.id_at-in-Some.result (λ (e : Error) (why : IsSearchFault records (λ kind. IsStuckKey kind records key) e). record {
+      sound = why.sound;
+      refused = why.refused;
+      unread = λ h kind. let stuck = IsStuckKey kind records in find_wider (stuck key) (OfKey s name stuck) e (λ bad. (key, is, bad)) (why.unread h kind);
+    }) c.id_at-in-Some.ensures.failed

@@ -11,10 +11,24 @@ use Rattle.gix_ref_transaction.proofs.UnreadRecords.{no_find}
 use Rattle.gix_ref_transaction.proofs.PackedLemmas.{counted_later}
 use Rattle.gix_ref_transaction.proofs.prepare.records.id_unless_hidden.Goals as goal
 
-pub returns-in_err-pass_hidden-in-Err-clause-refused : goal.returns-in_err-pass_hidden-in-Err-clause-refused
-returns-in_err-pass_hidden-in-Err-clause-refused g c h packed =
+pub returns-in_err-pass_hidden-in-Err-clause-failed : goal.returns-in_err-pass_hidden-in-Err-clause-failed
+returns-in_err-pass_hidden-in-Err-clause-failed g c =
     let told = err_from_is_err_and c.from_residual.result c.from_residual.ensures.1 in
-    rw (told.1, told.2) (c.in_err-pass_hidden-in-Err.ensures.refused packed (c.in-Err.ensures.refused h c.args.settings.now.kind packed))
+    let s = setting_of c.args.settings.now in
+    let failed = c.in-Err.ensures.failed in
+    let passed = c.in_err-pass_hidden-in-Err.ensures in
+    rw (told.1, told.2) (record {
+      sound = λ kind rs asked. passed.sound (failed.sound kind rs asked);
+      refused = λ h kind packed. passed.refused kind packed (failed.refused h kind packed);
+      unread = λ h kind.
+          let stuck = IsStuckKey kind c.args.records.now in
+          let P = OfKey s (name_of c.args.edit.now.update) stuck in
+          let first : OfFind P c.in-Err.error = subst (λ (n : List ℕ). OfFind (OfKey s n stuck) c.in-Err.error) c.as_ref.ensures (failed.unread h kind) in
+          ⊎_elim
+          (λ same. subst (OfFind P) (sym same) first)
+          (λ own. no_find P (g.F.Files.faults c.args.files.now) (g.F.Files.faults c.pass_hidden.new.files) _ own)
+          passed.counted;
+    })
 
 pub returns-in_err-pass_hidden-in-Err-clause-counted : goal.returns-in_err-pass_hidden-in-Err-clause-counted
 returns-in_err-pass_hidden-in-Err-clause-counted g c =
@@ -26,18 +40,6 @@ returns-in_err-pass_hidden-in-Err-clause-counted g c =
     (λ own. counted_later _ _ before before now _ (omega arith) own)
     c.in_err-pass_hidden-in-Err.ensures.counted)
 
-pub returns-in_err-pass_hidden-in-Err-clause-unread : goal.returns-in_err-pass_hidden-in-Err-clause-unread
-returns-in_err-pass_hidden-in-Err-clause-unread g c h kind =
-    let told = err_from_is_err_and c.from_residual.result c.from_residual.ensures.1 in
-    let s = setting_of c.args.settings.now in
-    let stuck = IsStuckKey kind c.args.records.now in
-    let P = OfKey s (name_of c.args.edit.now.update) stuck in
-    let first : OfFind P c.in-Err.error = subst (λ (n : List ℕ). OfFind (OfKey s n stuck) c.in-Err.error) c.as_ref.ensures (c.in-Err.ensures.unread h kind) in
-    rw (told.1, told.2) (⊎_elim
-    (λ same. subst (OfFind P) (sym same) first)
-    (λ own. no_find P (g.F.Files.faults c.args.files.now) (g.F.Files.faults c.pass_hidden.new.files) _ own)
-    c.in_err-pass_hidden-in-Err.ensures.counted)
-
 pub returns-in_ok-pass_hidden-in-Err-clause-found : goal.returns-in_ok-pass_hidden-in-Err-clause-found
 returns-in_ok-pass_hidden-in-Err-clause-found g c kind rs asked =
-    absurd (c.in_ok-pass_hidden-in-Err.ensures.hidden (c.in-Err.ensures.sound kind rs asked))
+    absurd (c.in_ok-pass_hidden-in-Err.ensures.hidden (c.in-Err.ensures.failed.sound kind rs asked))

@@ -6,7 +6,7 @@ use Rattle.std.proofs.lemmas.Result.{err_from_is_err_and}
 use Rattle.gix_ref_files.specs.Tree.{Tree}
 use Rattle.gix_ref_theory.specs.OnRealTrees.{view_of}
 use Rattle.gix_ref_edits.specs.EditValues.{edit_value}
-use Rattle.gix_ref_edits.specs.SplitLists.{first_levels, level}
+use Rattle.gix_ref_edits.specs.SplitLists.{after_round, first_levels, level}
 use Rattle.gix_ref_transaction.specs.Parents.{first_parents, parents_from}
 use Rattle.gix_ref_transaction.specs.PrepareSteps.{setting_of}
 use Rattle.gix_ref_transaction.specs.Splits.{name_led_to, values_of, CanFollow}
@@ -43,7 +43,7 @@ loop-round-init g c =
     }
 
 pub returns-in_err-children-clause-refused : goal.returns-in_err-children-clause-refused
-returns-in_err-children-clause-refused g c h =
+returns-in_err-children-clause-refused g c =
     let F = g.F.Files in
     let x = c.loop-round.invariant in
     let s = setting_of c.args.settings.now in
@@ -52,10 +52,12 @@ returns-in_err-children-clause-refused g c h =
     let n = c.loop-round._round in
     let lt : n < 5 = omega (arith, c.loop-round-test.true, c.loop-round.auto._round-end) in
     let told = err_from_is_err_and c.from_residual-in_err-children.result c.from_residual-in_err-children.ensures.1 in
-    rw (told.1, told.2)
-    (⊎_elim (λ outside. inl outside)
-    (λ bad. inr (inl (misnamed_on find s given n 5 (values_of c.loop-round.level.edits.items) _ lt (x.next h) (x.can_follow h) bad)))
-    c.in_err-children.ensures.refused)
+    rw (told.1, told.2) (record {
+      cause = λ h. ⊎_elim (λ outside. inl outside)
+          (λ bad. inr (inl (misnamed_on find s given n 5 (values_of c.loop-round.level.edits.items) _ lt (x.next h) (x.can_follow h) bad)))
+          c.in_err-children.ensures.refused;
+      counted = search rules;
+    })
 
 pub loop-round-preserved : goal.loop-round-preserved
 loop-round-preserved g c =
@@ -114,38 +116,42 @@ loop-round-preserved g c =
           );
     }
 
-pub returns-then-is_empty-clause-can_follow : goal.returns-then-is_empty-clause-can_follow
-returns-then-is_empty-clause-can_follow g c h =
+pub returns-then-is_empty-clause-split : goal.returns-then-is_empty-clause-split
+returns-then-is_empty-clause-split g c =
     let s = setting_of c.args.settings.now in
     let find = name_led_to s (view_of (g.F.Files.means c.args.files.now).tree) in
+    let given = values_of c.args.edits.items in
+    let x = c.loop-round.invariant in
     let five : c.loop-round._round ≡ 5 = omega (arith, c.loop-round-test.false, c.loop-round.auto._round-end) in
-    subst (λ n. All (CanFollow s) (first_levels find (values_of c.args.edits.items) n)) five (c.loop-round.invariant.can_follow h)
-
-pub returns-then-is_empty-clause-parents : goal.returns-then-is_empty-clause-parents
-returns-then-is_empty-clause-parents g c h =
-    let find = name_led_to (setting_of c.args.settings.now) (view_of (g.F.Files.means c.args.files.now).tree) in
-    let five : c.loop-round._round ≡ 5 = omega (arith, c.loop-round-test.false, c.loop-round.auto._round-end) in
-    c.loop-round.invariant.done_parents h ∙ ap (first_parents find (values_of c.args.edits.items)) five
-
-pub returns-then-is_empty-clause-valid : goal.returns-then-is_empty-clause-valid
-returns-then-is_empty-clause-valid g c valid =
-    all_valid (setting_of c.args.settings.now) c.args.settings.now.kind [] c.loop-round.done.edits.items (c.loop-round.invariant.valid valid).0
-
-pub returns-then-is_empty-clause-updates : goal.returns-then-is_empty-clause-updates
-returns-then-is_empty-clause-updates g c updates = all_updates c.loop-round.done.edits.items (c.loop-round.invariant.updates updates).0
+    let left = c.loop-round.level.edits.items in
+    let empty : length left ≡ 0 = first_of (search rules, grind (arith, common_steps)) in
+    record {
+      is = λ h. record {
+        ends = subst (λ n. level find given n ≡ []) five (sym (x.next h) ∙ ap values_of (nil_from_length left empty));
+        levels = x.done h ∙ ap (λ n. after_round find (first_levels find given n)) five;
+      };
+      parents = λ h. x.done_parents h ∙ ap (first_parents find given) five;
+      len = x.done_len;
+      can_follow = λ h. subst (λ n. All (CanFollow s) (first_levels find given n)) five (x.can_follow h);
+      valid = λ valid. all_valid s c.args.settings.now.kind [] c.loop-round.done.edits.items (x.valid valid).0;
+      updates = λ updates. all_updates c.loop-round.done.edits.items (x.updates updates).0;
+    }
 
 pub returns-else-is_empty-clause-refused : goal.returns-else-is_empty-clause-refused
-returns-else-is_empty-clause-refused g c h =
+returns-else-is_empty-clause-refused g c =
     let s = setting_of c.args.settings.now in
     let find = name_led_to s (view_of (g.F.Files.means c.args.files.now).tree) in
     let given = values_of c.args.edits.items in
     let left = c.loop-round.level.edits.items in
     let five : c.loop-round._round ≡ 5 = omega (arith, c.loop-round-test.false, c.loop-round.auto._round-end) in
     let some : left ≡ [] → ⊥ = λ none. let empty : length left ≡ 0 = ap length none in first_of (search rules, grind (arith, common_steps)) in
-    inr (inr (
-      refl,
-      subst (λ n. All (CanFollow s) (first_levels find given n)) five (c.loop-round.invariant.can_follow h),
-      λ none.
-          let empty : values_of left ≡ [] = c.loop-round.invariant.next h ∙ (ap (level find given) five ∙ none) in
-          some (nil_from_length left (sym (length-map left edit_value) ∙ ap length empty)),
-    ))
+    record {
+      cause = λ h. inr (inr (
+        refl,
+        subst (λ n. All (CanFollow s) (first_levels find given n)) five (c.loop-round.invariant.can_follow h),
+        λ none.
+            let empty : values_of left ≡ [] = c.loop-round.invariant.next h ∙ (ap (level find given) five ∙ none) in
+            some (nil_from_length left (sym (length-map left edit_value) ∙ ap length empty)),
+      ));
+      counted = search rules;
+    }

@@ -38,8 +38,8 @@ returns-in-Err-clause-failed g c =
     let held = c.args.edits.items in
     let e = c.release_all-remains.ensures in
     undecided_fails F.honest F.means F.faults start new c.args.committer c.args.packed held c.decide.new.edits.items c.decide.ensures.alike c.in-Err.error
-    (undecided_wider F.honest F.means F.faults start c.decide.new.self new c.args.committer held c.in-Err.error e.no_fewer c.in-Err.ensures.failed)
-    (λ h empty. only_locks F.honest F.means F.faults start new c.args.committer c.args.packed held c.decide.new.edits.items c.decide.ensures.alike false (F.means c.decide.new.self.files).tree (c.decide.ensures.leaves h empty).tree (e.leaves h).tree)
+    (undecided_wider F.honest F.means F.faults start c.decide.new.self new c.args.committer held c.in-Err.error e.releases.no_fewer c.in-Err.ensures.failed)
+    (λ h empty. only_locks F.honest F.means F.faults start new c.args.committer c.args.packed held c.decide.new.edits.items c.decide.ensures.alike false (F.means c.decide.new.self.files).tree (c.decide.ensures.leaves h empty).tree (e.releases.leaves h).tree)
 
 pub returns-in-Err-clause-sound : goal.returns-in-Err-clause-sound
 returns-in-Err-clause-sound g c old given from h good bad =
@@ -56,7 +56,7 @@ returns-in-Err-clause-ended g c old given from =
     let ran = c.decide.new.edits in
     undecided_well F.honest F.means F.faults old c.args.self.now c.args.committer given c.args.packed c.args.edits.items from ran.items c.decide.ensures.alike _ (paths_of c.release_all-remains.result.left.items) (F.means c.decide.new.self.files)
     (λ h. c.decide.ensures.leaves h (from.packed.empty h)) (λ h. c.decide.ensures.passes h (from.packed.empty h))
-    (λ h. e.leaves h) (λ h. e.passes h) (λ h. e.packed_gone h) (λ h k lt. e.gone h k (omega (arith, lt, ran.ok))) e.ours e.once
+    (λ h. e.releases.leaves h) (λ h. e.releases.passes h) (λ h. e.packed_gone h) (λ h k lt. e.gone h k (omega (arith, lt, ran.ok))) e.named.ours e.named.once
 
 pub returns-in-Err-clause-lost : goal.returns-in-Err-clause-lost
 returns-in-Err-clause-lost g c old given from h good at_rest =
@@ -65,14 +65,14 @@ returns-in-Err-clause-lost g c old given from h good at_rest =
     let ran = c.decide.new.edits in
     undecided_lost F.honest F.means F.faults old c.args.self.now c.args.committer given c.args.packed c.args.edits.items from ran.items c.decide.ensures.alike _ (paths_of c.release_all-remains.result.left.items) (F.means c.decide.new.self.files)
     (λ h. c.decide.ensures.leaves h (from.packed.empty h)) (λ h. c.decide.ensures.passes h (from.packed.empty h))
-    (λ h. e.leaves h) (λ h. e.passes h) (λ h. e.packed_gone h) (λ h k lt. e.gone h k (omega (arith, lt, ran.ok))) e.ours e.once h good at_rest
+    (λ h. e.releases.leaves h) (λ h. e.releases.passes h) (λ h. e.packed_gone h) (λ h k lt. e.gone h k (omega (arith, lt, ran.ok))) e.named.ours e.named.once h good at_rest
 
 pub failure-requires : goal.failure-requires
 failure-requires g c =
     let F = g.F.Files in
     let ran = c.decide.new.edits in
     let edits = c.release_all-edits.result.edits in
-    subst (λ n. AllOfEdits n c.in-Err-publish.unfinished) (omega (arith, edits.ok, ap length c.release_all-edits.ensures.edits, length-map ran.items (λ (e : Edit). e.update)))
+    subst (λ n. AllOfEdits n c.in-Err-publish.unfinished) (omega (arith, edits.ok, ap length c.release_all-edits.ensures.back.edits, length-map ran.items (λ (e : Edit). e.update)))
     (all_of_edits F.honest c.decide.new.self.dirs ran.items c.args.packed c.in-Ok.decided.rewrite c.in-Ok.decided.ways.items (F.means c.decide.new.self.files).tree (F.means c.publish.new.self.files).tree c.in-Err-publish.unfinished
     (rw c.deref-2.ensures.value at (rw c.deref.ensures.value at c.in-Err-publish.ensures.ended)))
 
@@ -96,7 +96,7 @@ returns-in-Err-publish-clause-failed g c =
     let ends : EndsIn F.honest (commit_entries start.dirs ran.items packed rewrite ways) decided.tree mid.tree u =
     subst (λ (d : Dirs). EndsIn F.honest (commit_entries d ran.items packed rewrite ways) decided.tree mid.tree u) same (rw c.deref-2.ensures.value at (rw c.deref.ensures.value at c.in-Err-publish.ensures.ended)) in
     let released = F.means c.release_all-edits.new.files in
-    let less : F.honest → RemovesLocks (held_locks (if renamed then None else packed) ran.items) mid.tree released.tree = λ h. rw c.unless_renamed-packed.ensures at (e.leaves h).tree in
+    let less : F.honest → RemovesLocks (held_locks (if renamed then None else packed) ran.items) mid.tree released.tree = λ h. rw c.unless_renamed-packed.ensures at (e.releases.leaves h).tree in
     let still : c.publish.new.self.dirs ≡ start.dirs = ap (λ (st : Store g.row.F.Denot). st.dirs) c.publish.ensures.same ∙ same in
     let removed : paths_of c.deref-in-Err-publish.result.now ≡ all_removed ran.items = ap paths_of c.deref-in-Err-publish.ensures.value ∙ c.in-Ok.ensures.removed in
     let tidied : F.honest → FoldersGo start.dirs (paths_of (tried_after u c.deref-in-Err-publish.result.now)) released.tree (tree_of F.means new) = λ h.
@@ -110,15 +110,15 @@ returns-in-Err-publish-clause-failed g c =
     let log = c.release_all-edits.result.log.items in
     let told = c.in-Ok.decided.path.items in
     let says : SaysWhy (updates held) place log told u c.failure.result =
-    subst (λ (l : List RefEdit). SaysWhy l place log told u c.failure.result) (e.edits ∙ updates_alike ran.items held alike) c.failure.ensures in
+    subst (λ (l : List RefEdit). SaysWhy l place log told u c.failure.result) (e.back.edits ∙ updates_alike ran.items held alike) c.failure.ensures in
     let here : done_of (length ran.items) u < length ran.items → place ≡ place_at ran.items (done_of (length ran.items) u) =
-    subst (λ n. n < length ran.items → place ≡ place_at ran.items n) done (λ lt. e.place (omega (arith, lt, ran.ok))) in
+    subst (λ n. n < length ran.items → place ≡ place_at ran.items n) done (λ lt. e.back.place (omega (arith, lt, ran.ok))) in
     let logged : done_of (length ran.items) u < length ran.items → log ≡ path_in (log_at ran.items (done_of (length ran.items) u)) =
-    subst (λ n. n < length ran.items → log ≡ path_in (log_at ran.items n)) done (λ lt. e.log (omega (arith, lt, ran.ok))) in
+    subst (λ n. n < length ran.items → log ≡ path_in (log_at ran.items n)) done (λ lt. e.back.log (omega (arith, lt, ran.ok))) in
     run_fails F.honest F.means F.faults start new c.args.committer packed held ran.items alike c.in-Ok.ensures.logs c.in-Ok.ensures.logged c.in-Ok.ensures.passed rewrite c.in-Ok.ensures.repacked decided.tree mid.tree released.tree ways c.in-Ok.ensures.in_way
     (λ h empty. c.in-Ok.ensures.filled h empty) (λ h. held_less F.honest F.means F.faults start new c.args.committer packed held ran.items alike renamed mid.tree released.tree (less h)) tidies
     place log told u c.failure.result ends (record { here = here; logged = logged; at_packed = c.in-Ok.ensures.path }) says
-    (raised_wider (F.faults start.files) (F.faults c.decide.new.self.files) (F.faults c.publish.new.self.files) (F.faults c.remove_empty_folders.new.files) u c.decide.ensures.no_fewer (omega (arith, e.no_fewer, c.remove_empty_folders.ensures.no_fewer)) c.in-Err-publish.ensures.counted)
+    (raised_wider (F.faults start.files) (F.faults c.decide.new.self.files) (F.faults c.publish.new.self.files) (F.faults c.remove_empty_folders.new.files) u c.decide.ensures.no_fewer (omega (arith, e.releases.no_fewer, c.remove_empty_folders.ensures.no_fewer)) c.in-Err-publish.ensures.counted)
     (λ none h empty.
     let still' : mid.tree ≡ decided.tree = ap (λ files. (F.means files).tree) (c.in-Err-publish.ensures.memory none) in
     only_locks F.honest F.means F.faults start new c.args.committer packed held ran.items alike renamed decided.tree (c.decide.ensures.leaves h empty).tree
@@ -156,7 +156,7 @@ returns-in-Err-publish-clause-ended g c old given from =
     subst (λ (d : Dirs). Leaves released tidied (FoldersGo d paths released.tree)) still (c.remove_empty_folders.ensures.leaves h) in
     let runs : F.honest → Leaves decided mid (IsLeftBy (bare_steps (commit_entries old.dirs ran.items packed rewrite ways)) decided.tree) = λ h.
     subst (λ (d : Dirs). Leaves decided mid (IsLeftBy (bare_steps (commit_entries d ran.items packed rewrite ways)) decided.tree)) same (rw c.deref-2.ensures.value at (rw c.deref.ensures.value at (c.publish.ensures.leaves h))) in
-    let releases : F.honest → Leaves mid (F.means c.release_all-edits.new.files) (RemovesLocks (held_locks (if renamed then None else packed) ran.items) mid.tree) = λ h. rw c.unless_renamed-packed.ensures at (e.leaves h) in
+    let releases : F.honest → Leaves mid (F.means c.release_all-edits.new.files) (RemovesLocks (held_locks (if renamed then None else packed) ran.items) mid.tree) = λ h. rw c.unless_renamed-packed.ensures at (e.releases.leaves h) in
     let u = c.in-Err-publish.unfinished in
     let ends : EndsIn F.honest (commit_entries old.dirs ran.items packed rewrite ways) decided.tree mid.tree u =
     subst (λ (d : Dirs). EndsIn F.honest (commit_entries d ran.items packed rewrite ways) decided.tree mid.tree u) same (rw c.deref-2.ensures.value at (rw c.deref.ensures.value at c.in-Err-publish.ensures.ended)) in
@@ -177,7 +177,7 @@ returns-in-Err-publish-clause-ended g c old given from =
     (λ h. c.decide.ensures.leaves h (from.packed.empty h)) (λ h. c.decide.ensures.passes h (from.packed.empty h))
     c.in-Ok.ensures.logs rewrite c.in-Ok.ensures.repacked (λ h. c.in-Ok.ensures.filled h (from.packed.empty h)) (λ h. c.in-Ok.ensures.wholes h (from.packed.empty h)) ways in_way
     mid released renamed paths runs releases tidies u ends h k lt (subst (λ n. k < n) done_is early) written)
-    (rw c.unless_renamed-packed.ensures at e.ours) (rw c.unless_renamed-packed.ensures at e.once)
+    (rw c.unless_renamed-packed.ensures at e.named.ours) (rw c.unless_renamed-packed.ensures at e.named.once)
 
 pub returns-clause-ended : goal.returns-clause-ended
 returns-clause-ended g c old given from =
@@ -206,7 +206,7 @@ returns-clause-ended g c old given from =
     subst (λ (d : Dirs). Leaves released tidied (FoldersGo d paths released.tree)) still (c.remove_empty_folders-2.ensures.leaves h) in
     let runs : F.honest → Leaves decided mid (IsLeftBy (bare_steps (commit_entries old.dirs ran.items packed rewrite ways)) decided.tree) = λ h.
     subst (λ (d : Dirs). Leaves decided mid (IsLeftBy (bare_steps (commit_entries d ran.items packed rewrite ways)) decided.tree)) same (rw c.deref-2.ensures.value at (rw c.deref.ensures.value at (c.publish.ensures.leaves h))) in
-    let releases : F.honest → Leaves mid (F.means c.release_all-released.new.files) (RemovesLocks (held_locks (if renamed then None else packed) ran.items) mid.tree) = λ h. rw c.unless_renamed-packed-2.ensures at (e.leaves h) in
+    let releases : F.honest → Leaves mid (F.means c.release_all-released.new.files) (RemovesLocks (held_locks (if renamed then None else packed) ran.items) mid.tree) = λ h. rw c.unless_renamed-packed-2.ensures at (e.releases.leaves h) in
     let after : F.honest → IsAfter (bare_steps (commit_entries old.dirs ran.items packed rewrite ways)) decided.tree mid.tree = λ h.
     subst (λ (d : Dirs). IsAfter (bare_steps (commit_entries d ran.items packed rewrite ways)) decided.tree mid.tree) same (rw c.deref-2.ensures.value at (rw c.deref.ensures.value at (c.in_default.ensures.done h))) in
     let done = c.len-done.result in
@@ -224,7 +224,7 @@ returns-clause-ended g c old given from =
     (λ h. c.decide.ensures.leaves h (from.packed.empty h)) (λ h. c.decide.ensures.passes h (from.packed.empty h))
     c.in-Ok.ensures.logs rewrite c.in-Ok.ensures.repacked (λ h. c.in-Ok.ensures.filled h (from.packed.empty h)) (λ h. c.in-Ok.ensures.wholes h (from.packed.empty h)) ways in_way
     mid released renamed paths runs releases tidies after h k lt written)
-    (rw c.unless_renamed-packed-2.ensures at e.ours) (rw c.unless_renamed-packed-2.ensures at e.once)
+    (rw c.unless_renamed-packed-2.ensures at e.named.ours) (rw c.unless_renamed-packed-2.ensures at e.named.once)
 
 pub returns-clause-committed : goal.returns-clause-committed
 returns-clause-committed g c old given from h good =
@@ -253,7 +253,7 @@ returns-clause-committed g c old given from h good =
     subst (λ (d : Dirs). Leaves released tidied (FoldersGo d paths released.tree)) still (c.remove_empty_folders-2.ensures.leaves h) in
     let runs : F.honest → Leaves decided mid (IsLeftBy (bare_steps (commit_entries old.dirs ran.items packed rewrite ways)) decided.tree) = λ h.
     subst (λ (d : Dirs). Leaves decided mid (IsLeftBy (bare_steps (commit_entries d ran.items packed rewrite ways)) decided.tree)) same (rw c.deref-2.ensures.value at (rw c.deref.ensures.value at (c.publish.ensures.leaves h))) in
-    let releases : F.honest → Leaves mid (F.means c.release_all-released.new.files) (RemovesLocks (held_locks (if renamed then None else packed) ran.items) mid.tree) = λ h. rw c.unless_renamed-packed-2.ensures at (e.leaves h) in
+    let releases : F.honest → Leaves mid (F.means c.release_all-released.new.files) (RemovesLocks (held_locks (if renamed then None else packed) ran.items) mid.tree) = λ h. rw c.unless_renamed-packed-2.ensures at (e.releases.leaves h) in
     let after : F.honest → IsAfter (bare_steps (commit_entries old.dirs ran.items packed rewrite ways)) decided.tree mid.tree = λ h.
     subst (λ (d : Dirs). IsAfter (bare_steps (commit_entries d ran.items packed rewrite ways)) decided.tree mid.tree) same (rw c.deref-2.ensures.value at (rw c.deref.ensures.value at (c.in_default.ensures.done h))) in
     committed F.honest F.means F.faults old start c.args.committer given packed held from ran.items alike new left decided
@@ -288,10 +288,10 @@ returns-in-Err-publish-clause-lost g c old given from h good at_rest =
     subst (λ (d : Dirs). Leaves released tidied (FoldersGo d paths released.tree)) still (c.remove_empty_folders.ensures.leaves h) in
     let runs : F.honest → Leaves decided mid (IsLeftBy (bare_steps (commit_entries old.dirs ran.items packed rewrite ways)) decided.tree) = λ h.
     subst (λ (d : Dirs). Leaves decided mid (IsLeftBy (bare_steps (commit_entries d ran.items packed rewrite ways)) decided.tree)) same (rw c.deref-2.ensures.value at (rw c.deref.ensures.value at (c.publish.ensures.leaves h))) in
-    let releases : F.honest → Leaves mid (F.means c.release_all-edits.new.files) (RemovesLocks (held_locks (if renamed then None else packed) ran.items) mid.tree) = λ h. rw c.unless_renamed-packed.ensures at (e.leaves h) in
+    let releases : F.honest → Leaves mid (F.means c.release_all-edits.new.files) (RemovesLocks (held_locks (if renamed then None else packed) ran.items) mid.tree) = λ h. rw c.unless_renamed-packed.ensures at (e.releases.leaves h) in
     let passes : Passes decided mid (IsReachedBy (steps_in (commit_entries old.dirs ran.items packed rewrite ways)) (disk_of decided)) =
     subst (λ (d : Dirs). Passes decided mid (IsReachedBy (steps_in (commit_entries d ran.items packed rewrite ways)) (disk_of decided))) same (rw c.deref-2.ensures.value at (rw c.deref.ensures.value at (c.publish.ensures.passes h))) in
-    let only : OnlyRemoves (held_locks (if renamed then None else packed) ran.items) mid (F.means c.release_all-edits.new.files) = rw c.unless_renamed-packed.ensures at (e.passes h) in
+    let only : OnlyRemoves (held_locks (if renamed then None else packed) ran.items) mid (F.means c.release_all-edits.new.files) = rw c.unless_renamed-packed.ensures at (e.releases.passes h) in
     let less : Passes released tidied (LosesNoMore (disk_of released)) = c.remove_empty_folders.ensures.loses h in
     lost F.honest F.means F.faults old start c.args.committer given packed held from ran.items alike new left decided
     (λ h. c.decide.ensures.leaves h (from.packed.empty h)) (λ h. c.decide.ensures.passes h (from.packed.empty h))
@@ -325,10 +325,10 @@ returns-clause-lost g c old given from h good at_rest =
     subst (λ (d : Dirs). Leaves released tidied (FoldersGo d paths released.tree)) still (c.remove_empty_folders-2.ensures.leaves h) in
     let runs : F.honest → Leaves decided mid (IsLeftBy (bare_steps (commit_entries old.dirs ran.items packed rewrite ways)) decided.tree) = λ h.
     subst (λ (d : Dirs). Leaves decided mid (IsLeftBy (bare_steps (commit_entries d ran.items packed rewrite ways)) decided.tree)) same (rw c.deref-2.ensures.value at (rw c.deref.ensures.value at (c.publish.ensures.leaves h))) in
-    let releases : F.honest → Leaves mid (F.means c.release_all-released.new.files) (RemovesLocks (held_locks (if renamed then None else packed) ran.items) mid.tree) = λ h. rw c.unless_renamed-packed-2.ensures at (e.leaves h) in
+    let releases : F.honest → Leaves mid (F.means c.release_all-released.new.files) (RemovesLocks (held_locks (if renamed then None else packed) ran.items) mid.tree) = λ h. rw c.unless_renamed-packed-2.ensures at (e.releases.leaves h) in
     let passes : Passes decided mid (IsReachedBy (steps_in (commit_entries old.dirs ran.items packed rewrite ways)) (disk_of decided)) =
     subst (λ (d : Dirs). Passes decided mid (IsReachedBy (steps_in (commit_entries d ran.items packed rewrite ways)) (disk_of decided))) same (rw c.deref-2.ensures.value at (rw c.deref.ensures.value at (c.publish.ensures.passes h))) in
-    let only : OnlyRemoves (held_locks (if renamed then None else packed) ran.items) mid (F.means c.release_all-released.new.files) = rw c.unless_renamed-packed-2.ensures at (e.passes h) in
+    let only : OnlyRemoves (held_locks (if renamed then None else packed) ran.items) mid (F.means c.release_all-released.new.files) = rw c.unless_renamed-packed-2.ensures at (e.releases.passes h) in
     let less : Passes released tidied (LosesNoMore (disk_of released)) = c.remove_empty_folders-2.ensures.loses h in
     lost F.honest F.means F.faults old start c.args.committer given packed held from ran.items alike new left decided
     (λ h. c.decide.ensures.leaves h (from.packed.empty h)) (λ h. c.decide.ensures.passes h (from.packed.empty h))
@@ -362,10 +362,10 @@ returns-clause-settled g c old given from h at_rest =
     subst (λ (d : Dirs). Leaves released tidied (FoldersGo d paths released.tree)) still (c.remove_empty_folders-2.ensures.leaves h) in
     let runs : F.honest → Leaves decided mid (IsLeftBy (bare_steps (commit_entries old.dirs ran.items packed rewrite ways)) decided.tree) = λ h.
     subst (λ (d : Dirs). Leaves decided mid (IsLeftBy (bare_steps (commit_entries d ran.items packed rewrite ways)) decided.tree)) same (rw c.deref-2.ensures.value at (rw c.deref.ensures.value at (c.publish.ensures.leaves h))) in
-    let releases : F.honest → Leaves mid (F.means c.release_all-released.new.files) (RemovesLocks (held_locks (if renamed then None else packed) ran.items) mid.tree) = λ h. rw c.unless_renamed-packed-2.ensures at (e.leaves h) in
+    let releases : F.honest → Leaves mid (F.means c.release_all-released.new.files) (RemovesLocks (held_locks (if renamed then None else packed) ran.items) mid.tree) = λ h. rw c.unless_renamed-packed-2.ensures at (e.releases.leaves h) in
     let done : IsSyncedAfter (steps_in (commit_entries old.dirs ran.items packed rewrite ways)) (disk_of decided) (disk_of mid) =
     subst (λ (d : Dirs). IsSyncedAfter (steps_in (commit_entries d ran.items packed rewrite ways)) (disk_of decided) (disk_of mid)) same (rw c.deref-2.ensures.value at (rw c.deref.ensures.value at (c.in_default.ensures.synced h))) in
-    let only : OnlyRemoves (held_locks (if renamed then None else packed) ran.items) mid (F.means c.release_all-released.new.files) = rw c.unless_renamed-packed-2.ensures at (e.passes h) in
+    let only : OnlyRemoves (held_locks (if renamed then None else packed) ran.items) mid (F.means c.release_all-released.new.files) = rw c.unless_renamed-packed-2.ensures at (e.releases.passes h) in
     settled F.honest F.means F.faults old start c.args.committer given packed held from ran.items alike new left decided
     (λ h. c.decide.ensures.leaves h (from.packed.empty h)) (λ h. c.decide.ensures.passes h (from.packed.empty h))
     c.in-Ok.ensures.logs rewrite c.in-Ok.ensures.repacked (λ h. c.in-Ok.ensures.filled h (from.packed.empty h)) (λ h. c.in-Ok.ensures.wholes h (from.packed.empty h)) ways in_way
@@ -374,7 +374,7 @@ returns-clause-settled g c old given from h at_rest =
     (ap (λ (st : Store g.row.F.Denot). st.namespace) c.publish.ensures.same ∙ ap (λ (st : Store g.row.F.Denot). st.namespace) c.decide.ensures.same)
 
 pub returns-clause-edits : goal.returns-clause-edits
-returns-clause-edits g c = c.release_all-released.ensures.edits ∙ updates_alike c.decide.new.edits.items c.args.edits.items c.decide.ensures.alike
+returns-clause-edits g c = c.release_all-released.ensures.back.edits ∙ updates_alike c.decide.new.edits.items c.args.edits.items c.decide.ensures.alike
 
 pub returns-in-Err-clause-folders : goal.returns-in-Err-clause-folders
 returns-in-Err-clause-folders g c h empty =
@@ -383,7 +383,7 @@ returns-in-Err-clause-folders g c h empty =
     let held = c.args.edits.items in
     let packed = c.args.packed in
     no_folder_gone start.dirs packed (written_in F.honest F.means F.faults start c.args.committer packed held) (flat_map (deleted_by (meaning_of start)) held) (held_locks packed c.decide.new.edits.items) (F.means start.files).tree (F.means c.decide.new.self.files).tree (F.means c.release_all-remains.new.files).tree
-    empty (c.decide.ensures.leaves h empty).tree (c.release_all-remains.ensures.leaves h).tree
+    empty (c.decide.ensures.leaves h empty).tree (c.release_all-remains.ensures.releases.leaves h).tree
 
 pub returns-in-Err-publish-clause-folders : goal.returns-in-Err-publish-clause-folders
 returns-in-Err-publish-clause-folders g c h empty =
@@ -404,7 +404,7 @@ returns-in-Err-publish-clause-folders g c h empty =
     let still : c.publish.new.self.dirs ≡ start.dirs = ap (λ (st : Store g.row.F.Denot). st.dirs) c.publish.ensures.same ∙ same in
     let left : IsLeftBy (bare_steps (commit_entries start.dirs ran.items packed rewrite ways)) decided.tree mid.tree =
     subst (λ (d : Dirs). IsLeftBy (bare_steps (commit_entries d ran.items packed rewrite ways)) decided.tree mid.tree) same (rw c.deref-2.ensures.value at (rw c.deref.ensures.value at (c.publish.ensures.leaves h).tree)) in
-    let releases : Leaves mid released (RemovesLocks (held_locks (if renamed then None else packed) ran.items) mid.tree) = rw c.unless_renamed-packed.ensures at (c.release_all-edits.ensures.leaves h) in
+    let releases : Leaves mid released (RemovesLocks (held_locks (if renamed then None else packed) ran.items) mid.tree) = rw c.unless_renamed-packed.ensures at (c.release_all-edits.ensures.releases.leaves h) in
     let removed : paths_of c.deref-in-Err-publish.result.now ≡ all_removed ran.items = ap paths_of c.deref-in-Err-publish.ensures.value ∙ c.in-Ok.ensures.removed in
     let u = c.in-Err-publish.unfinished in
     let tried : FoldersGo start.dirs (paths_of (tried_after u c.deref-in-Err-publish.result.now)) released.tree tidied.tree =
@@ -434,7 +434,7 @@ returns-clause-folders g c h empty =
     let still : c.publish.new.self.dirs ≡ start.dirs = ap (λ (st : Store g.row.F.Denot). st.dirs) c.publish.ensures.same ∙ same in
     let left : IsLeftBy (bare_steps (commit_entries start.dirs ran.items packed rewrite ways)) decided.tree mid.tree =
     subst (λ (d : Dirs). IsLeftBy (bare_steps (commit_entries d ran.items packed rewrite ways)) decided.tree mid.tree) same (rw c.deref-2.ensures.value at (rw c.deref.ensures.value at (c.publish.ensures.leaves h).tree)) in
-    let releases : Leaves mid released (RemovesLocks (held_locks (if renamed then None else packed) ran.items) mid.tree) = rw c.unless_renamed-packed-2.ensures at (c.release_all-released.ensures.leaves h) in
+    let releases : Leaves mid released (RemovesLocks (held_locks (if renamed then None else packed) ran.items) mid.tree) = rw c.unless_renamed-packed-2.ensures at (c.release_all-released.ensures.releases.leaves h) in
     let removed : paths_of c.deref-3.result.now ≡ all_removed ran.items = ap paths_of c.deref-3.ensures.value ∙ c.in-Ok.ensures.removed in
     let tidies : FoldersGo start.dirs (all_removed ran.items) released.tree tidied.tree =
     subst (λ (paths : List Path). FoldersGo start.dirs paths released.tree tidied.tree) removed

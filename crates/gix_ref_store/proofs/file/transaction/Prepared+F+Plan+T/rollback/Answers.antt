@@ -20,11 +20,11 @@ returns-clause-rolled g c =
       gone = λ h q within out. ⊎_elim (λ mine. e.packed_gone h q mine out)
           (λ own. all_gone held plan.edits.len (paths_of left) now.tree (sym plan.edits.ok.0) (e.gone h) q own out)
           (any_cases (λ r. bytes_eq r q) (map lock_of (packed_places plan.packed)) (lock_paths held) within);
-      ours = e.ours;
-      once = e.once;
-      named = paths_risen c.release_all-remains.result.left _ _ e.named;
-      leaves = e.leaves;
-      removes = e.passes;
-      lost = λ h places own. removing_loses F.means _ _ (held_locks plan.packed held) places (e.passes h) own;
+      ours = e.named.ours;
+      once = e.named.once;
+      named = paths_risen c.release_all-remains.result.left _ _ e.named.named;
+      leaves = e.releases.leaves;
+      removes = e.releases.passes;
+      lost = λ h places own. removing_loses F.means _ _ (held_locks plan.packed held) places (e.releases.passes h) own;
       same = record { dirs = refl; namespace = refl; of_kind = refl; reflogs = refl; composes = refl; prohibits = refl; threshold = refl };
     }
