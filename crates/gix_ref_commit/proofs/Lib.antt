@@ -5,7 +5,7 @@ pub mod Cleared
 pub mod Clearing
 pub mod Endings
 pub mod Ends
-mod Filling
+pub mod Filling
 pub mod Gone
 pub mod Held
 pub mod Lined

@@ -1,15 +1,15 @@
--- Where and why the run of a plan ended early.
-use Rattle.std.specs.Prelude.{◌≡◌, ◌≢◌, ℕ, List, [], ◌∷◌, ◌++◌, get_or}
+-- The run of a plan: that all of it was run, or where and why it ended early.
+use Rattle.std.specs.Prelude.{◌≡◌, ◌≢◌, ◌≤◌, ℕ, List, [], ◌∷◌, ◌++◌, get_or}
 use Rattle.gix_ref_files.specs.Tree.{Tree}
-use Rattle.gix_ref_files.specs.Files.{HasRisen}
-use Rattle.gix_ref_files.specs.Steps.{IsAfter, EndsBy}
-use Rattle.gix_ref_files.specs.DiskSteps.{Synced}
+use Rattle.gix_ref_files.specs.Files.{HasRisen, Meaning, disk_of, Leaves, Passes}
+use Rattle.gix_ref_files.specs.Steps.{IsAfter, IsLeftBy, EndsBy}
+use Rattle.gix_ref_files.specs.DiskSteps.{Synced, IsReachedBy, IsSyncedAfter}
 use Rattle.gix_ref_files.specs.declared.files.FileError.TheVariants.{Memory as no_memory}
 use Rattle.gix_ref_files.specs.declared.steps.Cause.{Cause}
 use Rattle.gix_ref_files.specs.declared.steps.Cause.TheVariants.{File, Sync, Unexpected, Asked}
 use Rattle.gix_ref_files.specs.declared.steps.Ended.{Ended}
 use Rattle.gix_ref_files.specs.declared.steps.Planned.{Planned}
-use Rattle.gix_ref_commit.specs.Entries.{Entry, bare, bare_steps}
+use Rattle.gix_ref_commit.specs.Entries.{Entry, bare, bare_steps, steps_in}
 use Rattle.gix_ref_commit.specs.declared.plan.About.{About}
 use Rattle.gix_ref_commit.specs.declared.run.Unfinished.{Unfinished}
 use Rattle.gix_ref_commit.specs.declared.run.Unfinished.TheVariants.{Memory, Step}
@@ -41,6 +41,32 @@ IsRaisedBy before now Asked = Unit {0}
 abbrev pub IsRaised : (before now : ℕ) → Unfinished → Type 0
 IsRaised before now Memory = Unit {0}
 IsRaised before now (Step about cause) = IsRaisedBy before now cause
+
+-- All of these entries were run.
+pub record RunsAll (honest : Type 0) (entries : List Entry) (old new : Meaning) : Type 0 where
+  -- in their order, from the first to the last
+  pub done : honest → IsAfter (bare_steps entries) old.tree new.tree
+  -- each with its syncs
+  pub synced : honest → IsSyncedAfter (steps_in entries) (disk_of old) (disk_of new)
+
+module _ {F : Type 0} (honest : Type 0) (means : F → Meaning) (faults : F → ℕ) where
+  -- Nothing but these entries was run, in their order, and perhaps not all.
+  pub record RunsOnly (entries : List Entry) (old new : F) : Type 0 where
+    -- every stop leaves the tree after some of them, with perhaps a beginning of the next
+    pub leaves : honest → Leaves (means old) (means new) (IsLeftBy (bare_steps entries) (means old).tree)
+    -- every disk that is found is one after some of them with their syncs, with perhaps a beginning of the next
+    pub passes : honest → Passes (means old) (means new) (IsReachedBy (steps_in entries) (disk_of (means old)))
+    -- no fault is forgotten
+    pub no_fewer : faults old ≤ faults new
+
+  -- Where and why the run of these entries ended early.
+  pub record StopsEarly (entries : List Entry) (old new : F) (unfinished : Unfinished) : Type 0 where
+    -- for want of memory, and then nothing was done
+    pub memory : unfinished ≡ Memory → new ≡ old
+    -- or at a step, those before it being done
+    pub ended : EndsIn honest entries (means old).tree (means new).tree unfinished
+    -- a fault of files was counted
+    pub counted : IsRaised (faults old) (faults new) unfinished
 
 -- the paths above which empty folders are tried: those of all that the plan removes, or none where no step was begun
 abbrev pub tried_after : {A : Type 0} → Unfinished → List A → List A

@@ -1,11 +1,7 @@
 //! The run of the plan of a commit.
-ghost use Rattle.std.specs.Prelude.{◌≡◌, ◌≤◌, ◌<◌, OnOk, IfErr, length};
-ghost use Rattle.gix_ref_files.specs.Files.{Leaves, Passes, disk_of};
-ghost use Rattle.gix_ref_files.specs.Steps.{IsAfter, IsLeftBy};
-ghost use Rattle.gix_ref_files.specs.DiskSteps.{IsReachedBy, IsSyncedAfter};
+ghost use Rattle.std.specs.Prelude.{◌<◌, OnOk, IfErr, length};
 ghost use Rattle.gix_ref_commit.specs.Cleared.{commit_entries};
-ghost use Rattle.gix_ref_commit.specs.Entries.{bare_steps, steps_in};
-ghost use Rattle.gix_ref_commit.specs.Unfinished.{EndsIn, IsStepAt, IsRaised};
+ghost use Rattle.gix_ref_commit.specs.Unfinished.{IsStepAt, RunsAll, RunsOnly, StopsEarly};
 
 use crate::folders::{InWay, clear};
 use crate::plan::{About, plan_commit};
@@ -53,28 +49,14 @@ pub fn run_plan<F: Files>(
     rewrite: &Rewrite,
     ways: &[InWay],
 ) -> Result<(), Unfinished>
-    ensures done { F.honest → OnOk result
-        (IsAfter (bare_steps
-        (commit_entries dirs.now edits.now packed.now rewrite.now ways.now))
-        (F.means files.old).tree (F.means files.new).tree) }
-    ensures synced { F.honest → OnOk result
-        (IsSyncedAfter (steps_in
-        (commit_entries dirs.now edits.now packed.now rewrite.now ways.now))
-        (disk_of (F.means files.old)) (disk_of (F.means files.new))) }
-    ensures leaves { F.honest → Leaves (F.means files.old) (F.means files.new)
-        (IsLeftBy (bare_steps
-        (commit_entries dirs.now edits.now packed.now rewrite.now ways.now))
-        (F.means files.old).tree) }
-    ensures passes { F.honest → Passes (F.means files.old) (F.means files.new)
-        (IsReachedBy (steps_in
-        (commit_entries dirs.now edits.now packed.now rewrite.now ways.now))
-        (disk_of (F.means files.old))) }
-    ensures memory { IfErr result (λ e. e ≡ Unfinished.Memory → files.new ≡ files.old) }
-    ensures ended { IfErr result
-        (EndsIn F.honest (commit_entries dirs.now edits.now packed.now rewrite.now ways.now)
-        (F.means files.old).tree (F.means files.new).tree) }
-    ensures no_fewer { F.faults files.old ≤ F.faults files.new }
-    ensures counted { IfErr result (IsRaised (F.faults files.old) (F.faults files.new)) }
+    ensures finished { OnOk result (RunsAll F.honest
+        (commit_entries dirs.now edits.now packed.now rewrite.now ways.now)
+        (F.means files.old) (F.means files.new)) }
+    ensures stopped { IfErr result (StopsEarly F.honest F.means F.faults
+        (commit_entries dirs.now edits.now packed.now rewrite.now ways.now)
+        files.old files.new) }
+    ensures runs { RunsOnly F.honest F.means F.faults
+        (commit_entries dirs.now edits.now packed.now rewrite.now ways.now) files.old files.new }
 {
     let Ok(plan) = plan_commit(alloc, dirs, edits, packed, rewrite) else {
         return Err(Unfinished::Memory);

@@ -1,6 +1,6 @@
 -- An update whose preparation succeeded: what its commit returns, seen from before the preparation.
 use Rattle.gix_ref_transaction.proofs.Faults.{risen_by_before}
-use Rattle.std.proofs.Common.{◌≡◌, inl, inr, ⊎_elim, ℕ, List, Option, Some, None, Result, Ok, Err, OnOk, IfOk, IfErr, IfSome, sym, ◌∙◌, subst, arith, length}
+use Rattle.std.proofs.Common.{◌≡◌, inl, inr, ⊎_elim, ℕ, List, Option, Some, None, Result, Ok, Err, IfOk, IfErr, IfSome, sym, ◌∙◌, subst, arith, length}
 use Rattle.gix_ref_files.specs.Tree.{Tree, Path}
 use Rattle.gix_ref_files.specs.Files.{Meaning, Leaves, Loses, HasRisenBy}
 use Rattle.gix_ref_files.proofs.Moments.{weaken, joins}
@@ -11,10 +11,10 @@ use Rattle.gix_ref_transaction.specs.OwnLocks.{paths_of}
 use Rattle.gix_ref_transaction.specs.declared.edit.Edit.{Edit}
 use Rattle.gix_ref_transaction.specs.declared.prepare.error.Error.{Error as Cause}
 use Rattle.gix_ref_transaction.proofs.CommitLosses.{rest_kept}
-use Rattle.gix_ref_store.specs.CommitResult.{CommitsFrom, EveryStopFrom, EveryLossFrom, SettlesFrom, FailsFor, NoBadLineFrom, left_of}
+use Rattle.gix_ref_store.specs.CommitOutcomes.{HasSucceeded, HasEndedEarly, EveryMomentIsSafe, KeepsTheRest}
+use Rattle.gix_ref_store.specs.CommitResult.{EveryStopFrom, EveryLossFrom, left_of}
 use Rattle.gix_ref_store.specs.Prepared.{PreparesGiven, HasGoodRecords, RefusesGiven, IsAtRest, disk_in, places_in, tree_of}
-use Rattle.gix_ref_store.specs.CommitLines.{LinesPass, lines_due}
-use Rattle.gix_ref_store.specs.CommittedFolders.{KeepsFolders}
+use Rattle.gix_ref_store.specs.CommitLines.{lines_due}
 use Rattle.gix_ref_commit.specs.CommittedTrees.{IsOldOrNew}
 use Rattle.gix_ref_store.specs.Store.{files_of, folders, meaning_of}
 use Rattle.gix_ref_store.specs.declared.file.store.Store.{Store}
@@ -80,12 +80,12 @@ module _ {F : Type 0} (honest : Type 0) (means : F → Meaning) (faults : F → 
   rises left rose = risen_by_before _ _ _ _ from.prepared.held.no_fewer rose
 
   pub done : {T : Type 0} (answer : Result (Done T) (Failed T)) (error : Option UpdateError) (left : List Path) → error ≡ error_of answer → left ≡ left_of answer →
-      IfOk answer (λ d. CommitsFrom honest means faults mid new committer packed held (paths_of d.locks_left.items)) → OnOk answer (LinesPass honest means mid committer held) → KeepsFolders honest means faults mid new committer packed held → EveryStopFrom honest means faults mid new committer packed held (left_of answer) →
-      HasRisenBy (length (left_of answer)) (faults (files_of mid)) (faults (files_of new)) → error ≡ None → UpdateMade honest means faults old new committer edits left
-  done (Ok d) error left told same commits passed kept ends counted none =
+      IfOk answer (λ d. HasSucceeded honest means faults mid new committer packed held d.edits.items (paths_of d.locks_left.items)) → EveryMomentIsSafe honest means faults mid new committer packed held (left_of answer) → KeepsTheRest honest means faults mid new committer packed held (left_of answer) →
+      error ≡ None → UpdateMade honest means faults old new committer edits left
+  done (Ok d) error left told same succeeded safe kept none =
       subst (λ l. UpdateMade honest means faults old new committer edits l) (sym same)
-      (record { begun = begun; commits = commits; lines = passed; folders = kept; stops = ends; named = rises (paths_of d.locks_left.items) counted })
-  done (Err f) error left told same commits passed kept ends counted none = absurd (differ (Commit f.error) (sym told ∙ none))
+      (record { begun = begun; commits = succeeded.commits; lines = succeeded.passed; folders = kept.folders; stops = safe.stops; named = rises (paths_of d.locks_left.items) kept.named })
+  done (Err f) error left told same succeeded safe kept none = absurd (differ (Commit f.error) (sym told ∙ none))
 
   pub loses : honest → HasGoodRecords means old → IsAtRest means old → EveryLossFrom honest means faults mid new committer packed held → Loses (means (files_of old)) (means (files_of new)) (IsLossOf honest means faults old committer edits)
   loses h good at_rest losses =
@@ -94,18 +94,18 @@ module _ {F : Type 0} (honest : Type 0) (means : F → Meaning) (faults : F → 
       loses_joins (loses_weaken (from.prepared.lost h).loses (λ T kept. inl (split, split_tried h, kept)))
       (loses_weaken (losses old split from.prepared h good at_rest).loses (λ T well. inr (begun, (disk_in means mid, started.0, well))))
 
-  pub settles : {T : Type 0} (answer : Result (Done T) (Failed T)) (error : Option UpdateError) → error ≡ error_of answer → OnOk answer (SettlesFrom honest means faults mid new packed held) → honest → error ≡ None → IsAtRest means old → IsAtRest means new
-  settles (Ok d) error is settled h none at_rest = settled old from.split from.prepared h at_rest
-  settles (Err f) error is settled h none at_rest = absurd (differ (Commit f.error) (sym is ∙ none))
+  pub settles : {T : Type 0} (answer : Result (Done T) (Failed T)) (error : Option UpdateError) → error ≡ error_of answer → IfOk answer (λ d. HasSucceeded honest means faults mid new committer packed held d.edits.items (paths_of d.locks_left.items)) → honest → error ≡ None → IsAtRest means old → IsAtRest means new
+  settles (Ok d) error is succeeded h none at_rest = succeeded.settled old from.split from.prepared h at_rest
+  settles (Err f) error is succeeded h none at_rest = absurd (differ (Commit f.error) (sym is ∙ none))
 
   pub told : (read : Type 0) {T : Type 0} (answer : Result (Done T) (Failed T)) (error : Option UpdateError) (left : List Path) → error ≡ error_of answer → left ≡ left_of answer →
-      IfErr answer (λ f. FailsFor honest means faults mid new committer packed held f.error) → IfErr answer (λ f. NoBadLineFrom honest means faults mid packed held f.error) → KeepsFolders honest means faults mid new committer packed held → EveryStopFrom honest means faults mid new committer packed held (left_of answer) →
-      HasRisenBy (length (left_of answer)) (faults (files_of mid)) (faults (files_of new)) → IfSome error (λ u. IsUpdateError honest means faults read old new committer edits u left)
-  told read (Ok d) error left is same fails sound kept ends counted = subst (λ r. IfSome r (λ u. IsUpdateError honest means faults read old new committer edits u left)) (sym is) tt
-  told read (Err f) error left is same fails sound kept ends counted =
+      IfErr answer (λ f. HasEndedEarly honest means faults mid new committer packed held f.error) → EveryMomentIsSafe honest means faults mid new committer packed held (left_of answer) → KeepsTheRest honest means faults mid new committer packed held (left_of answer) →
+      IfSome error (λ u. IsUpdateError honest means faults read old new committer edits u left)
+  told read (Ok d) error left is same ended safe kept = subst (λ r. IfSome r (λ u. IsUpdateError honest means faults read old new committer edits u left)) (sym is) tt
+  told read (Err f) error left is same ended safe kept =
       subst (λ r. IfSome r (λ u. IsUpdateError honest means faults read old new committer edits u left)) (sym is)
       (subst (λ l. UpdateFailed honest means faults old new committer edits f.error l) (sym same)
-      (record { begun = begun; fails = fails; sound = sound; folders = kept; stops = ends; named = rises (paths_of f.locks_left.items) counted }))
+      (record { begun = begun; fails = ended.cause; sound = ended.sound; folders = kept.folders; stops = safe.stops; named = rises (paths_of f.locks_left.items) kept.named }))
 
   pub stops : (left : List Path) → EveryStopFrom honest means faults mid new committer packed held left → honest →
       Leaves (means (files_of old)) (means (files_of new)) (IsStopOf honest means faults old committer edits)

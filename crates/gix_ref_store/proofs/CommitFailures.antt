@@ -2,10 +2,7 @@
 use Rattle.std.proofs.Common.{◌≡◌, ◌≢◌, inl, inr, ⊎_elim, ◌⊎◌, ℕ, zero, suc, ◌<◌, ◌≤◌, List, [], ◌∷◌, ◌++◌, Bool, true, false, Option, Some, None, map, refl, sym, ◌∙◌, ap, subst, length, arith, get_or}
 use Rattle.std.specs.Prelude.{bytes_eq, if◌then◌else◌}
 use Rattle.std.proofs.lemmas.List.{length-map}
-use Rattle.gix_ref_files.specs.DiskCalls.{Untouched}
-use Rattle.gix_ref_files.specs.Files.{Meaning, HasRisen, Passes, disk_of}
-use Rattle.gix_ref_files.proofs.Moments.{passes_joins, passes_weaken}
-use Rattle.gix_ref_theory.specs.OnDisks.{IsAsBefore}
+use Rattle.gix_ref_files.specs.Files.{Meaning, HasRisen}
 use Rattle.gix_ref_files.specs.Lock.{lock_of}
 use Rattle.gix_ref_files.specs.Steps.{Step, IsAfter}
 use Rattle.gix_ref_files.specs.Tree.{Tree, Path, is_blocked, is_folder}
@@ -31,7 +28,7 @@ use Rattle.gix_ref_lines.specs.DueLines.{log_outcomes}
 use Rattle.gix_ref_lines.specs.LineCauses.{IsCountedError}
 use Rattle.gix_ref_lines.specs.declared.create_or_update.Error.{Error as LogError}
 use Rattle.gix_ref_lines.specs.declared.create_or_update.Error.TheVariants.{CreateLeadingDirectories, Append, MessageWithNewlines, MissingCommitter, SignatureUnwritable}
-use Rattle.gix_ref_transaction.specs.OwnLocks.{is_in, OnlyLocks, RemovesLocks}
+use Rattle.gix_ref_transaction.specs.OwnLocks.{is_in, RemovesLocks}
 use Rattle.gix_ref_transaction.specs.PrepareSteps.{held_locks, lock_paths, packed_places, updates, IsPackedPlace}
 use Rattle.gix_ref_transaction.specs.declared.edit.Edit.{Edit}
 use Rattle.gix_ref_transaction.proofs.Adds.{any_cases, any_left, any_right, clash, in_here}
@@ -84,12 +81,6 @@ counted_from a b c (repack.Io fault) le is = (risen_wider a b c c le (omega arit
 counted_from a b c (repack.Iteration line) le is = tt
 counted_from a b c repack.Memory le is = tt
 counted_from a b c (repack.Commit error) le is = is
-
--- a call that touches nothing, and then others that take locks alone
-pub only_after : (locks : List Path) (old mid new : Meaning) → Passes old mid (Untouched (disk_of old)) → OnlyLocks locks mid new → OnlyLocks locks old new
-only_after locks old mid new passes only locked staying first own here =
-    let early = passes_weaken passes (λ E same. subst (IsAsBefore locked staying first) (sym same) here) in
-    passes_joins early (only locked staying first own early.disk)
 
 -- An error that a decision returned, by what is said of that of `packed-refs`.
 pub undecided_by : {F : Type 0} (honest : Type 0) (means : F → Meaning) (faults : F → ℕ) (start new : Store F) (committer : Option SignatureRef) (held ran : List Edit) (error : RepackError) → all_but_logs ran ≡ all_but_logs held →
@@ -231,12 +222,6 @@ all_of_edits honest dirs ran packed rewrite ways S T (AtStep a cause) e =
     let c = cut_of Any (folder_lists ways) (planned_entries dirs ran packed rewrite) (any_ways (folder_lists ways) (planned_entries dirs ran packed rewrite)) e.before (e.step, a) e.rest e.cut in
     subst (IsOfEdit (length ran)) c.about
     (names_edit ran packed c.step.1 (bare c.step.0) (shape_at ran packed c.seen c.step c.later (subst (AllShaped ran packed) c.cut (all_shaped ran packed dirs rewrite))))
-
--- a call that touches nothing, after others that take locks alone
-pub only_before : (locks : List Path) (old mid new : Meaning) → OnlyLocks locks old mid → Passes mid new (Untouched (disk_of mid)) → OnlyLocks locks old new
-only_before locks old mid new only passes locked staying first own here =
-    let early = only locked staying first own here in
-    passes_joins early (passes_weaken passes (λ E same. subst (IsAsBefore locked staying first) (sym same) early.disk))
 
 -- An error of a folder that could not be listed.
 pub unlisted_by : {F : Type 0} (honest : Type 0) (means : F → Meaning) (faults : F → ℕ) (start new : Store F) (committer : Option SignatureRef) (held ran : List Edit) (mid : ℕ) (error : Error) → all_but_logs ran ≡ all_but_logs held →

@@ -1,5 +1,5 @@
 -- What `commit` returns and leaves.
-use Rattle.std.specs.Prelude.{◌≡◌, ◌≢◌, ◌<◌, ◌≤◌, ◌⊎◌, ℕ, List, true, false, Option, Some, None, Result, Ok, Err, map, length, ◌++◌}
+use Rattle.std.specs.Prelude.{◌≡◌, ◌≢◌, ◌<◌, ◌≤◌, ◌⊎◌, ℕ, List, true, false, Option, Some, None, Result, Ok, Err, length, ◌++◌}
 use Rattle.std.specs.List.{list_any}
 use Rattle.gix_ref_base.specs.PackedRecords.{Record}
 use Rattle.gix_ref_files.specs.Tree.{Tree, Path, is_blocked, is_file, is_folder, IsEmptyFolder}
@@ -9,7 +9,6 @@ use Rattle.gix_ref_files.specs.declared.steps.Cause.{Cause}
 use Rattle.gix_ref_files.specs.declared.steps.Cause.TheVariants.{File, Sync, Unexpected}
 use Rattle.gix_ref_files.specs.Disk.{Lost, folder_of}
 use Rattle.gix_ref_files.specs.Files.{Meaning, Leaves, Loses, HasRisen}
-use Rattle.gix_ref_files.specs.Lock.{lock_of}
 use Rattle.gix_ref_lookup.specs.Lookups.{ArePackedRecords}
 use Rattle.gix_ref_lookup.specs.declared.folders.Dirs.{Dirs}
 use Rattle.gix_ref_rewrite.specs.declared.outcome.Rewrite.{Rewrite}
@@ -22,7 +21,7 @@ use Rattle.gix_ref_transaction.specs.CommitRenames.{SeeLogs, place_at}
 use Rattle.gix_ref_transaction.specs.CommittedEdits.{planned}
 use Rattle.gix_ref_transaction.specs.OwnLocks.{is_in, paths_of, times, RemovesLocks}
 use Rattle.gix_ref_transaction.specs.PackedCauses.{ids_among}
-use Rattle.gix_ref_transaction.specs.PrepareSteps.{AreEmpty, held_locks, ids_in, packed_places, possible_locks, updates, IsPackedPlace}
+use Rattle.gix_ref_transaction.specs.PrepareSteps.{held_locks, ids_in, possible_locks, updates, IsPackedPlace}
 use Rattle.gix_ref_transaction.specs.declared.edit.Edit.{Edit}
 use Rattle.gix_ref_log.specs.declared.actor.SignatureRef.{SignatureRef}
 use Rattle.gix_ref_lines.specs.AskedEdits.{all_but_logs, asked, outcomes_of}
@@ -35,7 +34,7 @@ use Rattle.gix_ref_repack.specs.Repacks.{IsRepack, removes_record}
 use Rattle.gix_ref_repack.specs.declared.error.Error.TheVariants as repack
 use Rattle.gix_ref_commit.specs.Cleared.{AllInWay, AreAllFolders, FoldersGo, HasEntries, HoldsMore, all_removed, commit_entries, folder_lists, is_seen, removals}
 use Rattle.gix_ref_commit.specs.CommittedTrees.{AreCommitted, IsOldOrNew}
-use Rattle.gix_ref_commit.specs.Decided.{IsFilled}
+use Rattle.gix_ref_commit.specs.Decided.{IsFilled, IsPackedLockEmpty}
 use Rattle.gix_ref_commit.specs.Entries.{Entry, planned_entries}
 use Rattle.gix_ref_commit.specs.Failures.{IsNameAt}
 use Rattle.gix_ref_commit.specs.LogEffects.{with_lines}
@@ -115,7 +114,7 @@ module _ {F : Type 0} (honest : Type 0) (means : F → Meaning) (faults : F → 
 
   -- the lock of `packed-refs` is empty, where it is held
   abbrev pub IsPackedEmpty : Store F → Option Path → Type 0
-  IsPackedEmpty start packed = AreEmpty (tree_of means start) (map lock_of (packed_places packed))
+  IsPackedEmpty start packed = IsPackedLockEmpty packed (tree_of means start)
 
   -- Where a commit ended early: at the step about this, for this cause. All lines and `packed-refs` were decided before, the new text of
   -- `packed-refs` is in its lock, the steps before that one are done, and none after it is begun; then locks were removed, and empty

@@ -1,28 +1,36 @@
--- How a commit ends inside of a store: why it could not decide what becomes of logs and of `packed-refs`, and the locks that it names.
-use Rattle.std.specs.Prelude.{◌≡◌, ◌<◌, ℕ, List, Option, Result, Ok, Err, length}
+-- What a commit decides inside of a store of logs, of `packed-refs` and of the folders in its way, or why it could not; and the locks that
+-- it names.
+use Rattle.std.specs.Prelude.{◌≡◌, ◌≢◌, ◌<◌, ℕ, List, Option, None, Result, Ok, Err, length}
 use Rattle.gix_ref_base.specs.PackedRecords.{Record}
 use Rattle.gix_ref_files.specs.Files.{Meaning}
 use Rattle.gix_ref_lookup.specs.Lookups.{ArePackedRecords}
 use Rattle.gix_ref_theory.specs.Between.{AreEdits}
 use Rattle.gix_ref_theory.specs.OnRealTrees.{view_of}
+use Rattle.gix_ref_transaction.specs.CommitRenames.{SeeLogs}
 use Rattle.gix_ref_transaction.specs.CommittedEdits.{planned}
-use Rattle.gix_ref_transaction.specs.PrepareSteps.{updates}
+use Rattle.gix_ref_transaction.specs.PrepareSteps.{updates, AreWholeLocks}
 use Rattle.gix_ref_transaction.specs.declared.edit.Edit.{Edit}
 use Rattle.gix_ref_log.specs.declared.actor.SignatureRef.{SignatureRef}
-use Rattle.gix_ref_lines.specs.AskedEdits.{asked}
+use Rattle.gix_ref_lines.specs.AskedEdits.{asked, outcomes_of}
+use Rattle.gix_ref_lines.specs.DueLines.{log_outcomes}
 use Rattle.gix_ref_lines.specs.LineCauses.{FirstFails, IsCountedError}
 use Rattle.gix_ref_repack.specs.Refusals.{IsBadLine}
 use Rattle.gix_ref_repack.specs.declared.error.Error.TheVariants as repack
 use Rattle.gix_ref_commit.specs.declared.error.Error.{Error}
 use Rattle.gix_ref_commit.specs.declared.error.Error.TheVariants.{CreateOrUpdateRefLog, LockCommit, PackedTransactionCommit, Memory}
+use Rattle.gix_ref_commit.specs.Cleared.{AllInWay, all_removed, folder_lists}
+use Rattle.gix_ref_commit.specs.Decided.{IsFilled}
+use Rattle.gix_ref_commit.specs.Entries.{planned_entries}
 use Rattle.gix_ref_commit.specs.Failures.{IsNameAt}
 use Rattle.gix_ref_lines.specs.declared.create_or_update.Error.TheVariants.{Append}
 use Rattle.gix_ref_store.specs.CommitLines.{LinesPass, line_rules, log_path_at}
-use Rattle.gix_ref_store.specs.CommitResult.{IsFaultBetween}
-use Rattle.gix_ref_store.specs.Prepared.{tree_of}
+use Rattle.gix_ref_store.specs.CommitResult.{IsFaultBetween, IsPackedEmpty, RepacksFrom}
+use Rattle.gix_ref_store.specs.Prepared.{disk_in, tree_of}
 use Rattle.gix_ref_store.specs.Store.{files_of, kind_of, meaning_of}
 use Rattle.gix_ref_store.specs.declared.file.store.Store.{Store}
 use Rattle.gix_ref_store.specs.declared.file.transaction.commit.carry_out.EndedEarly.{EndedEarly}
+use Rattle.gix_ref_store.specs.declared.file.transaction.commit.decide.Decisions.{Decisions}
+use Rattle.gix_ref_rewrite.specs.declared.outcome.Rewrite.{Rewrite}
 use Rattle.gix_ref_files.specs.Tree.{Path}
 use Rattle.gix_ref_transaction.specs.OwnLocks.{paths_of}
 use Rattle.gix_ref_transaction.specs.declared.release.Remains.{Remains}
@@ -52,3 +60,30 @@ module _ {F : Type 0} (honest : Type 0) (means : F → Meaning) (faults : F → 
       × LinesPass honest means start committer held
   IsUndecided start new committer held Memory = Unit {0}
   IsUndecided start new committer held other = ⊥
+
+  -- What was decided of the logs of these edits, which became `ran`, and of `packed-refs`, with the path that it has. The new text of
+  -- `packed-refs` is in its lock.
+  pub record TextsAreDecided (start new : Store F) (committer : Option SignatureRef) (packed : Option Path) (held ran : List Edit) (rewrite : Rewrite) (place : Path) : Type 0 where
+    -- each edit has what becomes of its log
+    pub logs : honest → outcomes_of ran ≡ log_outcomes (line_rules start committer) (view_of (tree_of means start)) (asked held)
+    -- and whether that was seen to be there
+    pub logged : honest → SeeLogs (tree_of means start) ran
+    -- each line that is due can be made and added
+    pub passed : LinesPass honest means start committer held
+    -- what becomes of `packed-refs`
+    pub repacked : RepacksFrom honest means faults start packed held rewrite
+    -- the path of `packed-refs`, where its lock is held
+    pub path : packed ≢ None → place ≡ (meaning_of start).packed_path
+    -- no other file has changed
+    pub filled : honest → IsPackedEmpty honest means faults start packed → IsFilled packed rewrite (tree_of means start) (tree_of means new)
+    -- each lock whose text was synced has a synced one still
+    pub wholes : honest → IsPackedEmpty honest means faults start packed → (locks : List Path) → AreWholeLocks (disk_in means start) locks → AreWholeLocks (disk_in means new) locks
+
+  -- All that a commit decides before its first write.
+  pub record AllIsDecided (start new : Store F) (committer : Option SignatureRef) (packed : Option Path) (held ran : List Edit) (decided : Decisions) : Type 0 where
+    -- what becomes of logs and of `packed-refs`
+    pub texts : TextsAreDecided start new committer packed held ran decided.rewrite decided.path.items
+    -- the paths of the logs and loose files that are removed
+    pub removed : paths_of decided.removed.items ≡ all_removed ran
+    -- the folders that are removed before each step
+    pub in_way : honest → AllInWay ran start.dirs (tree_of means new) (folder_lists decided.ways.items) (planned_entries start.dirs ran packed decided.rewrite)

@@ -1,4 +1,5 @@
 pub mod CommitLines
+pub mod CommitOutcomes
 pub mod CommitResult
 pub mod CommittedFolders
 pub mod ComposedEdits

@@ -1,7 +1,6 @@
 //! Transactions of references: prepared, with all locks held, and then committed or rolled back.
-ghost use Rattle.std.specs.Prelude.{◌≡◌, [], OnOk, IfOk, IfErr, length};
+ghost use Rattle.std.specs.Prelude.{◌≡◌, [], IfOk, IfErr};
 ghost use Rattle.std.specs.Borrow.{sem, RestsIfErr};
-ghost use Rattle.gix_ref_files.specs.Files.{HasRisenBy};
 ghost use Rattle.gix_ref_packed.specs.OpenFiles.{HasReadFault};
 ghost use Rattle.gix_ref_transaction.specs.LeftLocks.{HasRoom};
 ghost use Rattle.gix_ref_transaction.specs.OwnLocks.{paths_of};
@@ -177,12 +176,11 @@ impl<F: Files, T: Find> Transaction<'_, F, PackedRefs<T>> {
 }
 
 impl<F: Files, T: Find> Prepared<'_, F, Plan<T>> {
-    ghost use Rattle.gix_ref_store.specs.CommitLines.{LinesPass};
-    ghost use Rattle.gix_ref_store.specs.CommittedFolders.{KeepsFolders};
-    ghost use Rattle.gix_ref_store.specs.CommitResult.{left_of, mode_handed_back, EveryStopFrom, EveryLossFrom, SettlesFrom, CommitsFrom, FailsFor, NoBadLineFrom, ReadsPacked};
+    ghost use Rattle.gix_ref_store.specs.CommitOutcomes.{HasSucceeded, HasEndedEarly, EveryMomentIsSafe, KeepsTheRest};
+    ghost use Rattle.gix_ref_store.specs.CommitResult.{left_of, mode_handed_back};
     ghost use Rattle.gix_ref_transaction.specs.PrepareSteps.{held_locks};
     ghost use Rattle.gix_ref_store.specs.PreparedFields.{held_edits, held_packed, prepared_edits, prepared_mode};
-    ghost use Rattle.gix_ref_store.specs.Store.{files_of, IsSameStore};
+    ghost use Rattle.gix_ref_store.specs.Store.{IsSameStore};
 
     /// Carries the edits out, in this order (`commit` of `git update-ref`):
     ///
@@ -222,33 +220,19 @@ impl<F: Files, T: Find> Prepared<'_, F, Plan<T>> {
         alloc: Global,
         committer: Option<SignatureRef<'_>>,
     ) -> Result<Done<T>, Failed<T>>
-        ensures edits { IfOk result (λ done. done.edits.items ≡ prepared_edits self.entry.plan) }
-        ensures packed_refs { mode_handed_back result ≡ prepared_mode self.entry.plan }
-        ensures committed { IfOk result (λ done. CommitsFrom F.honest F.means F.faults
+        ensures committed { IfOk result (λ done. HasSucceeded F.honest F.means F.faults
             self.entry.store.now self.exit.0.now committer.entry (held_packed self.entry.plan)
-            (held_edits self.entry.plan) (paths_of done.locks_left.items)) }
-        ensures passed { OnOk result (LinesPass F.honest F.means self.entry.store.now
-            committer.entry (held_edits self.entry.plan)) }
-        ensures failed { IfErr result (λ f. FailsFor F.honest F.means F.faults self.entry.store.now
-            self.exit.0.now committer.entry (held_packed self.entry.plan)
+            (held_edits self.entry.plan) done.edits.items (paths_of done.locks_left.items)) }
+        ensures failed { IfErr result (λ f. HasEndedEarly F.honest F.means F.faults
+            self.entry.store.now self.exit.0.now committer.entry (held_packed self.entry.plan)
             (held_edits self.entry.plan) f.error) }
-        ensures read { OnOk result (ReadsPacked F.honest F.means F.faults self.entry.store.now
-            (held_packed self.entry.plan) (held_edits self.entry.plan)) }
-        ensures sound { IfErr result (λ f. NoBadLineFrom F.honest F.means F.faults
-            self.entry.store.now (held_packed self.entry.plan) (held_edits self.entry.plan)
-            f.error) }
-        ensures ended { EveryStopFrom F.honest F.means F.faults self.entry.store.now self.exit.0.now
-            committer.entry (held_packed self.entry.plan) (held_edits self.entry.plan)
-            (left_of result) }
-        ensures lost { EveryLossFrom F.honest F.means F.faults self.entry.store.now self.exit.0.now
-            committer.entry (held_packed self.entry.plan) (held_edits self.entry.plan) }
-        ensures folders { KeepsFolders F.honest F.means F.faults self.entry.store.now
+        ensures safe { EveryMomentIsSafe F.honest F.means F.faults self.entry.store.now
             self.exit.0.now committer.entry (held_packed self.entry.plan)
-            (held_edits self.entry.plan) }
-        ensures settled { OnOk result (SettlesFrom F.honest F.means F.faults self.entry.store.now
-            self.exit.0.now (held_packed self.entry.plan) (held_edits self.entry.plan)) }
-        ensures named { HasRisenBy (length (left_of result))
-            (F.faults (files_of self.entry.store.now)) (F.faults (files_of self.exit.0.now)) }
+            (held_edits self.entry.plan) (left_of result) }
+        ensures kept { KeepsTheRest F.honest F.means F.faults self.entry.store.now
+            self.exit.0.now committer.entry (held_packed self.entry.plan)
+            (held_edits self.entry.plan) (left_of result) }
+        ensures packed_refs { mode_handed_back result ≡ prepared_mode self.entry.plan }
         ensures same { IsSameStore self.entry.store.now self.exit.0.now }
     {
         let Prepared { store, plan } = self;

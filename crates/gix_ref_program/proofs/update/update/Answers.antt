@@ -21,7 +21,7 @@ returns-in-Ok-clause-done g c =
     let left = paths_of c.report_of_commit.result.locks_left.items in
     let from : PreparesGiven F.honest F.means F.faults old mid edits packed held = rw (c.packed_refs.ensures.value, c.transaction.ensures.value) at c.in-Ok.ensures.prepared in
     at_same (λ now. c.report_of_commit.result.error ≡ None → UpdateMade F.honest F.means F.faults old now c.args.committer edits left) {x = c.store-in-Ok-1.given.0} {y = new} (search rules)
-    (done F.honest F.means F.faults old mid new c.args.committer edits packed held from c.commit.result c.report_of_commit.result.error left c.report_of_commit.ensures.error c.report_of_commit.ensures.left c.commit.ensures.committed c.commit.ensures.passed c.commit.ensures.folders c.commit.ensures.ended c.commit.ensures.named)
+    (done F.honest F.means F.faults old mid new c.args.committer edits packed held from c.commit.result c.report_of_commit.result.error left c.report_of_commit.ensures.error c.report_of_commit.ensures.left c.commit.ensures.committed c.commit.ensures.safe c.commit.ensures.kept)
 
 pub returns-in-Ok-clause-error : goal.returns-in-Ok-clause-error
 returns-in-Ok-clause-error g c =
@@ -35,7 +35,7 @@ returns-in-Ok-clause-error g c =
     let left = paths_of c.report_of_commit.result.locks_left.items in
     let from : PreparesGiven F.honest F.means F.faults old mid edits packed held = rw (c.packed_refs.ensures.value, c.transaction.ensures.value) at c.in-Ok.ensures.prepared in
     at_same (λ now. IfSome c.report_of_commit.result.error (λ error. IsUpdateError F.honest F.means F.faults (HasReadFault g.F.Reader.ReadAt.faults) old now c.args.committer edits error left)) {x = c.store-in-Ok-1.given.0} {y = new} (search rules)
-    (told F.honest F.means F.faults old mid new c.args.committer edits packed held from (HasReadFault g.F.Reader.ReadAt.faults) c.commit.result c.report_of_commit.result.error left c.report_of_commit.ensures.error c.report_of_commit.ensures.left c.commit.ensures.failed c.commit.ensures.sound c.commit.ensures.folders c.commit.ensures.ended c.commit.ensures.named)
+    (told F.honest F.means F.faults old mid new c.args.committer edits packed held from (HasReadFault g.F.Reader.ReadAt.faults) c.commit.result c.report_of_commit.result.error left c.report_of_commit.ensures.error c.report_of_commit.ensures.left c.commit.ensures.failed c.commit.ensures.safe c.commit.ensures.kept)
 
 pub returns-in-Ok-clause-leaves : goal.returns-in-Ok-clause-leaves
 returns-in-Ok-clause-leaves g c =
@@ -49,7 +49,7 @@ returns-in-Ok-clause-leaves g c =
     let left = paths_of c.report_of_commit.result.locks_left.items in
     let from : PreparesGiven F.honest F.means F.faults old mid edits packed held = rw (c.packed_refs.ensures.value, c.transaction.ensures.value) at c.in-Ok.ensures.prepared in
     at_same (λ now. F.honest → Leaves (F.means (files_of old)) (F.means (files_of now)) (IsStopOf F.honest F.means F.faults old c.args.committer edits)) {x = c.store-in-Ok-1.given.0} {y = new} (search rules)
-    (stops F.honest F.means F.faults old mid new c.args.committer edits packed held from (left_of c.commit.result) c.commit.ensures.ended)
+    (stops F.honest F.means F.faults old mid new c.args.committer edits packed held from (left_of c.commit.result) c.commit.ensures.safe.stops)
 
 pub returns-in-Ok-clause-lost : goal.returns-in-Ok-clause-lost
 returns-in-Ok-clause-lost g c =
@@ -63,7 +63,7 @@ returns-in-Ok-clause-lost g c =
     let left = paths_of c.report_of_commit.result.locks_left.items in
     let from : PreparesGiven F.honest F.means F.faults old mid edits packed held = rw (c.packed_refs.ensures.value, c.transaction.ensures.value) at c.in-Ok.ensures.prepared in
     at_same (λ now. F.honest → HasGoodRecords F.means old → IsAtRest F.means old → Loses (F.means (files_of old)) (F.means (files_of now)) (IsLossOf F.honest F.means F.faults old c.args.committer edits)) {x = c.store-in-Ok-1.given.0} {y = new} (search rules)
-    (λ h good at_rest. loses F.honest F.means F.faults old mid new c.args.committer edits packed held from h good at_rest c.commit.ensures.lost)
+    (λ h good at_rest. loses F.honest F.means F.faults old mid new c.args.committer edits packed held from h good at_rest c.commit.ensures.safe.losses)
 
 pub returns-in-Ok-clause-settled : goal.returns-in-Ok-clause-settled
 returns-in-Ok-clause-settled g c =
@@ -77,7 +77,7 @@ returns-in-Ok-clause-settled g c =
     let left = paths_of c.report_of_commit.result.locks_left.items in
     let from : PreparesGiven F.honest F.means F.faults old mid edits packed held = rw (c.packed_refs.ensures.value, c.transaction.ensures.value) at c.in-Ok.ensures.prepared in
     at_same (λ now. F.honest → c.report_of_commit.result.error ≡ None → IsAtRest F.means old → IsAtRest F.means now) {x = c.store-in-Ok-1.given.0} {y = new} (search rules)
-    (settles F.honest F.means F.faults old mid new c.args.committer edits packed held from c.commit.result c.report_of_commit.result.error c.report_of_commit.ensures.error c.commit.ensures.settled)
+    (settles F.honest F.means F.faults old mid new c.args.committer edits packed held from c.commit.result c.report_of_commit.result.error c.report_of_commit.ensures.error c.commit.ensures.committed)
 
 pub returns-in-Err-clause-leaves : goal.returns-in-Err-clause-leaves
 returns-in-Err-clause-leaves g c =

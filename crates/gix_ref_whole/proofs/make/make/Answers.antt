@@ -22,22 +22,22 @@ returns-in-Err-commit-clause-not_made g c =
     let from : PreparesGiven F.honest F.means F.faults old mid edits packed held = rw c.transaction.ensures.value at c.in-Ok.ensures.prepared in
     let left = paths_of failed.locks_left.items in
     let stops : EveryStopFrom F.honest F.means F.faults mid new c.args.committer packed held left =
-    subst (λ (l : List Path). EveryStopFrom F.honest F.means F.faults mid new c.args.committer packed held l) (ap left_of c.in-Err-commit.is) c.commit.ensures.ended in
+    subst (λ (l : List Path). EveryStopFrom F.honest F.means F.faults mid new c.args.committer packed held l) (ap left_of c.in-Err-commit.is) c.commit.ensures.safe.stops in
     let named : HasRisenBy (length left) (F.faults (files_of mid)) (F.faults (files_of new)) =
-    subst (λ (l : List Path). HasRisenBy (length l) (F.faults (files_of mid)) (F.faults (files_of new))) (ap left_of c.in-Err-commit.is) c.commit.ensures.named in
+    subst (λ (l : List Path). HasRisenBy (length l) (F.faults (files_of mid)) (F.faults (files_of new))) (ap left_of c.in-Err-commit.is) c.commit.ensures.kept.named in
     at_same (λ now. HasFailed F.honest F.means F.faults old now c.args.committer edits failed.error left) {x = c.store-in-Ok-1.given.0} {y = new} (search rules)
     (record {
       mid = mid;
       packed = packed;
       held = held;
       prepared = from;
-      fails = c.in-Err-commit.ensures.failed;
-      sound = c.in-Err-commit.ensures.sound;
+      fails = c.in-Err-commit.ensures.failed.cause;
+      sound = c.in-Err-commit.ensures.failed.sound;
       named = named;
       stops = stops;
-      folders = c.commit.ensures.folders;
+      folders = c.commit.ensures.kept.folders;
       outside = stops_same F.honest F.means F.faults old mid new edits c.args.committer packed held left from stops;
-      losses = losses_same F.honest F.means F.faults old mid new edits c.args.committer packed held left from stops c.commit.ensures.lost;
+      losses = losses_same F.honest F.means F.faults old mid new edits c.args.committer packed held left from stops c.commit.ensures.safe.losses;
     })
 
 pub returns-in-Ok-commit-clause-made : goal.returns-in-Ok-commit-clause-made
@@ -52,28 +52,28 @@ returns-in-Ok-commit-clause-made g c =
     let left = paths_of c.in-Ok-commit.done.locks_left.items in
     let from : PreparesGiven F.honest F.means F.faults old mid edits packed held = rw c.transaction.ensures.value at c.in-Ok.ensures.prepared in
     let stops : EveryStopFrom F.honest F.means F.faults mid new c.args.committer packed held left =
-    subst (λ (l : List Path). EveryStopFrom F.honest F.means F.faults mid new c.args.committer packed held l) (ap left_of c.in-Ok-commit.is) c.commit.ensures.ended in
+    subst (λ (l : List Path). EveryStopFrom F.honest F.means F.faults mid new c.args.committer packed held l) (ap left_of c.in-Ok-commit.is) c.commit.ensures.safe.stops in
     let mode = ap mode_handed_back (sym c.in-Ok-commit.is) ∙ (c.commit.ensures.packed_refs ∙ (c.in-Ok.ensures.packed_refs ∙ c.transaction.ensures.packed_refs)) in
     let named : HasRisenBy (length left) (F.faults (files_of mid)) (F.faults (files_of new)) =
-    subst (λ (l : List Path). HasRisenBy (length l) (F.faults (files_of mid)) (F.faults (files_of new))) (ap left_of c.in-Ok-commit.is) c.commit.ensures.named in
+    subst (λ (l : List Path). HasRisenBy (length l) (F.faults (files_of mid)) (F.faults (files_of new))) (ap left_of c.in-Ok-commit.is) c.commit.ensures.kept.named in
     at_same (λ now. MakesEdited F.honest F.means F.faults old now c.args.committer edits c.in-Ok-commit.done) {x = c.store-in-Ok-1.given.0} {y = new} (search rules)
     (record {
-      kept = keeps F.honest F.means F.faults old mid new edits c.args.committer packed held left from stops (same_on old mid new from.prepared.held.same c.commit.ensures.same) c.in-Ok-commit.ensures.committed
-          c.in-Ok-commit.ensures.settled c.commit.ensures.lost;
+      kept = keeps F.honest F.means F.faults old mid new edits c.args.committer packed held left from stops (same_on old mid new from.prepared.held.same c.commit.ensures.same) c.in-Ok-commit.ensures.committed.commits
+          c.in-Ok-commit.ensures.committed.settled c.commit.ensures.safe.losses;
       commits = record {
         mid = mid;
         packed = packed;
         held = held;
         prepared = from;
-        edits = c.in-Ok-commit.ensures.edits;
+        edits = c.in-Ok-commit.ensures.committed.edits;
         mode = mode;
-        carried = λ h good. carried_before F.honest F.means F.faults old mid new edits c.args.committer packed held left from stops h good c.in-Ok-commit.done.edits.items c.in-Ok-commit.ensures.edits;
-        committed = λ h good. committed_before F.honest F.means F.faults old mid new edits c.args.committer packed held left from stops c.in-Ok-commit.ensures.committed h good;
-        passed = c.in-Ok-commit.ensures.passed;
-        read = c.in-Ok-commit.ensures.read;
-        folders = c.commit.ensures.folders;
+        carried = λ h good. carried_before F.honest F.means F.faults old mid new edits c.args.committer packed held left from stops h good c.in-Ok-commit.done.edits.items c.in-Ok-commit.ensures.committed.edits;
+        committed = λ h good. committed_before F.honest F.means F.faults old mid new edits c.args.committer packed held left from stops c.in-Ok-commit.ensures.committed.commits h good;
+        passed = c.in-Ok-commit.ensures.committed.passed;
+        read = c.in-Ok-commit.ensures.committed.read;
+        folders = c.commit.ensures.kept.folders;
         named = named;
       };
-      same = keeps_split F.honest F.means F.faults old mid new edits c.args.committer packed held left from stops (same_on old mid new from.prepared.held.same c.commit.ensures.same) c.in-Ok-commit.ensures.committed
-          c.in-Ok-commit.ensures.settled c.commit.ensures.lost;
+      same = keeps_split F.honest F.means F.faults old mid new edits c.args.committer packed held left from stops (same_on old mid new from.prepared.held.same c.commit.ensures.same) c.in-Ok-commit.ensures.committed.commits
+          c.in-Ok-commit.ensures.committed.settled c.commit.ensures.safe.losses;
     })

@@ -1,12 +1,8 @@
 //! A commit from its decisions to the release of its locks, from a store.
-ghost use Rattle.std.specs.Prelude.{◌≡◌, OnOk, IfOk, IfErr, length};
-ghost use Rattle.gix_ref_files.specs.Files.{HasRisenBy};
+ghost use Rattle.std.specs.Prelude.{◌≡◌, IfOk, IfErr};
 ghost use Rattle.gix_ref_transaction.specs.LeftLocks.{HasRoom};
 ghost use Rattle.gix_ref_transaction.specs.OwnLocks.{paths_of};
-ghost use Rattle.gix_ref_transaction.specs.PrepareSteps.{updates};
-ghost use Rattle.gix_ref_store.specs.CommitResult.{EveryStopFrom, EveryLossFrom, SettlesFrom, CommitsFrom, FailsFor, NoBadLineFrom, ReadsPacked};
-ghost use Rattle.gix_ref_store.specs.CommitLines.{LinesPass};
-ghost use Rattle.gix_ref_store.specs.CommittedFolders.{KeepsFolders};
+ghost use Rattle.gix_ref_store.specs.CommitOutcomes.{HasSucceeded, HasEndedEarly, EveryMomentIsSafe, KeepsTheRest};
 ghost use Rattle.gix_ref_store.specs.Decisions.{left_in};
 ghost use Rattle.gix_ref_store.specs.Store.{files_of, with_files};
 
@@ -43,27 +39,14 @@ impl<F: Files> Store<F> {
         remains: Remains,
     ) -> Result<Remains, EndedEarly>
         requires room { HasRoom edits remains }
-        ensures edits { IfOk result (λ r. r.edits.items ≡ updates edits.items) }
-        ensures committed { IfOk result (λ r. CommitsFrom F.honest F.means F.faults self.old
-            self.new committer.entry packed edits.items (paths_of r.left.items)) }
-        ensures passed { OnOk result (LinesPass F.honest F.means self.old committer.entry
-            edits.items) }
-        ensures failed { IfErr result (λ e. FailsFor F.honest F.means F.faults self.old self.new
-            committer.entry packed edits.items e.error) }
-        ensures sound { IfErr result (λ e. NoBadLineFrom F.honest F.means F.faults self.old
-            packed edits.items e.error) }
-        ensures ended { EveryStopFrom F.honest F.means F.faults self.old self.new committer.entry
+        ensures committed { IfOk result (λ r. HasSucceeded F.honest F.means F.faults self.old
+            self.new committer.entry packed edits.items r.edits.items (paths_of r.left.items)) }
+        ensures failed { IfErr result (λ e. HasEndedEarly F.honest F.means F.faults self.old
+            self.new committer.entry packed edits.items e.error) }
+        ensures safe { EveryMomentIsSafe F.honest F.means F.faults self.old self.new
+            committer.entry packed edits.items (left_in result) }
+        ensures kept { KeepsTheRest F.honest F.means F.faults self.old self.new committer.entry
             packed edits.items (left_in result) }
-        ensures lost { EveryLossFrom F.honest F.means F.faults self.old self.new committer.entry
-            packed edits.items }
-        ensures folders { KeepsFolders F.honest F.means F.faults self.old self.new committer.entry
-            packed edits.items }
-        ensures settled { OnOk result (SettlesFrom F.honest F.means F.faults self.old self.new
-            packed edits.items) }
-        ensures read { OnOk result (ReadsPacked F.honest F.means F.faults self.old packed
-            edits.items) }
-        ensures named { HasRisenBy (length (left_in result)) (F.faults (files_of self.old))
-            (F.faults (files_of self.new)) }
         ensures same { self.new ≡ with_files self.old (files_of self.new) }
     {
         let Decisions {

@@ -1,24 +1,11 @@
 //! What a commit decides before its first write, and the run of its steps, from a store.
-ghost use Rattle.std.specs.Prelude.{◌≡◌, ◌≢◌, ◌≤◌, List, None, OnOk, IfOk, IfErr, map};
-ghost use Rattle.gix_ref_files.specs.DiskSteps.{IsReachedBy, IsSyncedAfter};
-ghost use Rattle.gix_ref_files.specs.Files.{disk_of, Leaves, Passes};
-ghost use Rattle.gix_ref_files.specs.Steps.{IsAfter, IsLeftBy};
-ghost use Rattle.gix_ref_files.specs.Lock.{lock_of};
-ghost use Rattle.gix_ref_files.specs.Tree.{Path};
-ghost use Rattle.gix_ref_transaction.specs.CommitRenames.{SeeLogs};
-ghost use Rattle.gix_ref_transaction.specs.OwnLocks.{OnlyLocks, paths_of};
-ghost use Rattle.gix_ref_transaction.specs.PrepareSteps.{packed_places, AreWholeLocks};
-ghost use Rattle.gix_ref_commit.specs.Cleared.{AllInWay, all_removed, commit_entries, folder_lists};
-ghost use Rattle.gix_ref_commit.specs.Decided.{FillsPacked, IsFilled};
-ghost use Rattle.gix_ref_commit.specs.Entries.{bare_steps, planned_entries, steps_in};
-ghost use Rattle.gix_ref_theory.specs.OnRealTrees.{view_of};
-ghost use Rattle.gix_ref_lines.specs.AskedEdits.{all_but_logs, asked, outcomes_of};
-ghost use Rattle.gix_ref_lines.specs.DueLines.{log_outcomes};
-ghost use Rattle.gix_ref_commit.specs.Unfinished.{EndsIn, IsRaised};
-ghost use Rattle.gix_ref_store.specs.CommitLines.{LinesPass, line_rules};
-ghost use Rattle.gix_ref_store.specs.CommitResult.{IsPackedEmpty, RepacksFrom};
-ghost use Rattle.gix_ref_store.specs.Decisions.{IsUndecided};
-ghost use Rattle.gix_ref_store.specs.Store.{files_of, meaning_of, with_files};
+ghost use Rattle.std.specs.Prelude.{◌≡◌, OnOk, IfOk, IfErr};
+ghost use Rattle.gix_ref_lines.specs.AskedEdits.{all_but_logs};
+ghost use Rattle.gix_ref_commit.specs.Cleared.{commit_entries};
+ghost use Rattle.gix_ref_commit.specs.Decided.{OnlyFillsPacked};
+ghost use Rattle.gix_ref_commit.specs.Unfinished.{RunsAll, RunsOnly, StopsEarly};
+ghost use Rattle.gix_ref_store.specs.Decisions.{AllIsDecided, IsUndecided, TextsAreDecided};
+ghost use Rattle.gix_ref_store.specs.Store.{files_of, with_files};
 
 use crate::file::settings::settings;
 use crate::file::store::Store;
@@ -60,32 +47,13 @@ impl<F: Files> Store<F> {
         packed: &Option<LockFile>,
     ) -> Result<NewPacked, Error>
         ensures alike { all_but_logs edits.new.items ≡ all_but_logs edits.old.items }
-        ensures logs { F.honest → OnOk result (outcomes_of edits.new.items ≡ log_outcomes
-            (line_rules self.old committer.entry) (view_of (F.means (files_of self.old)).tree)
-            (asked edits.old.items)) }
-        ensures logged { F.honest → OnOk result (SeeLogs (F.means (files_of self.old)).tree
-            edits.new.items) }
-        ensures passed { OnOk result (LinesPass F.honest F.means self.old committer.entry
-            edits.old.items) }
-        ensures repacked { IfOk result (λ new. RepacksFrom F.honest F.means F.faults self.old
-            packed.now edits.old.items new.rewrite) }
-        ensures path { IfOk result (λ new. packed.now ≢ None →
-            new.path.items ≡ (meaning_of self.old).packed_path) }
-        ensures filled { F.honest → IsPackedEmpty F.honest F.means F.faults self.old packed.now →
-            IfOk result (λ new. IsFilled packed.now new.rewrite
-            (F.means (files_of self.old)).tree (F.means (files_of self.new)).tree) }
-        ensures leaves { F.honest → IsPackedEmpty F.honest F.means F.faults self.old packed.now →
-            Leaves (F.means (files_of self.old)) (F.means (files_of self.new))
-            (FillsPacked packed.now (F.means (files_of self.old)).tree) }
-        ensures wholes { F.honest → IsPackedEmpty F.honest F.means F.faults self.old packed.now →
-            (locks : List Path) → AreWholeLocks (disk_of (F.means (files_of self.old))) locks →
-            OnOk result (AreWholeLocks (disk_of (F.means (files_of self.new))) locks) }
-        ensures passes { F.honest → IsPackedEmpty F.honest F.means F.faults self.old packed.now →
-            OnlyLocks (map lock_of (packed_places packed.now)) (F.means (files_of self.old))
-            (F.means (files_of self.new)) }
-        ensures no_fewer { F.faults (files_of self.old) ≤ F.faults (files_of self.new) }
+        ensures decided { IfOk result (λ new. TextsAreDecided F.honest F.means F.faults self.old
+            self.new committer.entry packed.now edits.old.items edits.new.items new.rewrite
+            new.path.items) }
         ensures failed { IfErr result (IsUndecided F.honest F.means F.faults self.old self.new
             committer.entry edits.old.items) }
+        ensures fills { OnlyFillsPacked F.honest F.means F.faults packed.now (files_of self.old)
+            (files_of self.new) }
         ensures same { self.new ≡ with_files self.old (files_of self.new) }
     {
         let settings = settings!(self);
@@ -109,37 +77,12 @@ impl<F: Files> Store<F> {
         packed: &Option<LockFile>,
     ) -> Result<Decisions, Error>
         ensures alike { all_but_logs edits.new.items ≡ all_but_logs edits.old.items }
-        ensures logs { F.honest → OnOk result (outcomes_of edits.new.items ≡ log_outcomes
-            (line_rules self.old committer.entry) (view_of (F.means (files_of self.old)).tree)
-            (asked edits.old.items)) }
-        ensures logged { F.honest → OnOk result (SeeLogs (F.means (files_of self.old)).tree
-            edits.new.items) }
-        ensures passed { OnOk result (LinesPass F.honest F.means self.old committer.entry
-            edits.old.items) }
-        ensures repacked { IfOk result (λ new. RepacksFrom F.honest F.means F.faults self.old
-            packed.now edits.old.items new.rewrite) }
-        ensures path { IfOk result (λ new. packed.now ≢ None →
-            new.path.items ≡ (meaning_of self.old).packed_path) }
-        ensures filled { F.honest → IsPackedEmpty F.honest F.means F.faults self.old packed.now →
-            IfOk result (λ new. IsFilled packed.now new.rewrite
-            (F.means (files_of self.old)).tree (F.means (files_of self.new)).tree) }
-        ensures removed { IfOk result (λ new. paths_of new.removed.items
-            ≡ all_removed edits.new.items) }
-        ensures in_way { F.honest → IfOk result (λ new. AllInWay edits.new.items self.old.dirs
-            (F.means (files_of self.new)).tree (folder_lists new.ways.items)
-            (planned_entries self.old.dirs edits.new.items packed.now new.rewrite)) }
-        ensures leaves { F.honest → IsPackedEmpty F.honest F.means F.faults self.old packed.now →
-            Leaves (F.means (files_of self.old)) (F.means (files_of self.new))
-            (FillsPacked packed.now (F.means (files_of self.old)).tree) }
-        ensures wholes { F.honest → IsPackedEmpty F.honest F.means F.faults self.old packed.now →
-            (locks : List Path) → AreWholeLocks (disk_of (F.means (files_of self.old))) locks →
-            OnOk result (AreWholeLocks (disk_of (F.means (files_of self.new))) locks) }
-        ensures passes { F.honest → IsPackedEmpty F.honest F.means F.faults self.old packed.now →
-            OnlyLocks (map lock_of (packed_places packed.now)) (F.means (files_of self.old))
-            (F.means (files_of self.new)) }
-        ensures no_fewer { F.faults (files_of self.old) ≤ F.faults (files_of self.new) }
+        ensures decided { IfOk result (AllIsDecided F.honest F.means F.faults self.old self.new
+            committer.entry packed.now edits.old.items edits.new.items) }
         ensures failed { IfErr result (IsUndecided F.honest F.means F.faults self.old self.new
             committer.entry edits.old.items) }
+        ensures fills { OnlyFillsPacked F.honest F.means F.faults packed.now (files_of self.old)
+            (files_of self.new) }
         ensures same { self.new ≡ with_files self.old (files_of self.new) }
     {
         let NewPacked { rewrite, path } = self.decide_texts(alloc, committer, edits, packed)?;
@@ -175,32 +118,15 @@ impl<F: Files> Store<F> {
         rewrite: &Rewrite,
         ways: &[InWay],
     ) -> Result<(), Unfinished>
-        ensures done { F.honest → OnOk result (IsAfter
-            (bare_steps
-            (commit_entries self.old.dirs edits.now packed.now rewrite.now ways.now))
-            (F.means (files_of self.old)).tree (F.means (files_of self.new)).tree) }
-        ensures synced { F.honest → OnOk result (IsSyncedAfter
-            (steps_in
-            (commit_entries self.old.dirs edits.now packed.now rewrite.now ways.now))
-            (disk_of (F.means (files_of self.old))) (disk_of (F.means (files_of self.new)))) }
-        ensures leaves { F.honest → Leaves (F.means (files_of self.old))
-            (F.means (files_of self.new)) (IsLeftBy
-            (bare_steps
-            (commit_entries self.old.dirs edits.now packed.now rewrite.now ways.now))
-            (F.means (files_of self.old)).tree) }
-        ensures passes { F.honest → Passes (F.means (files_of self.old))
-            (F.means (files_of self.new)) (IsReachedBy
-            (steps_in
-            (commit_entries self.old.dirs edits.now packed.now rewrite.now ways.now))
-            (disk_of (F.means (files_of self.old)))) }
-        ensures memory { IfErr result (λ e. e ≡ Unfinished.Memory →
-            files_of self.new ≡ files_of self.old) }
-        ensures ended { IfErr result (EndsIn F.honest
+        ensures finished { OnOk result (RunsAll F.honest
             (commit_entries self.old.dirs edits.now packed.now rewrite.now ways.now)
-            (F.means (files_of self.old)).tree (F.means (files_of self.new)).tree) }
-        ensures no_fewer { F.faults (files_of self.old) ≤ F.faults (files_of self.new) }
-        ensures counted { IfErr result (IsRaised (F.faults (files_of self.old))
-            (F.faults (files_of self.new))) }
+            (F.means (files_of self.old)) (F.means (files_of self.new))) }
+        ensures stopped { IfErr result (StopsEarly F.honest F.means F.faults
+            (commit_entries self.old.dirs edits.now packed.now rewrite.now ways.now)
+            (files_of self.old) (files_of self.new)) }
+        ensures runs { RunsOnly F.honest F.means F.faults
+            (commit_entries self.old.dirs edits.now packed.now rewrite.now ways.now)
+            (files_of self.old) (files_of self.new) }
         ensures same { self.new ≡ with_files self.old (files_of self.new) }
     {
         let dirs = &self.dirs;

@@ -1,8 +1,8 @@
-use Rattle.std.proofs.Common.{◌≡◌, ◌∙◌, ◌<◌, List, None, false, length, sym, ap, subst, arith}
+use Rattle.std.proofs.Common.{◌≡◌, ◌∙◌, ◌<◌, ◌≤◌, ℕ, List, None, false, length, sym, ap, subst, arith, vec_len, Vec, Global}
 use Rattle.std.specs.Prelude.{if◌then◌else◌}
 use Rattle.std.specs.List.{flat_map}
 use Rattle.std.proofs.lemmas.List.{length-map}
-use Rattle.gix_ref_files.specs.Files.{disk_of, Leaves, Passes}
+use Rattle.gix_ref_files.specs.Files.{disk_of, HasRisenBy, Leaves, Passes}
 use Rattle.gix_ref_files.specs.DiskSteps.{IsReachedBy, IsSyncedAfter}
 use Rattle.gix_ref_files.specs.Steps.{IsAfter, IsLeftBy}
 use Rattle.gix_ref_files.specs.Tree.{Path, Tree}
@@ -12,6 +12,7 @@ use Rattle.gix_ref_transaction.specs.CommitRenames.{log_at, path_in, place_at}
 use Rattle.gix_ref_transaction.specs.OwnLocks.{paths_of, OnlyRemoves, RemovesLocks}
 use Rattle.gix_ref_transaction.specs.PrepareSteps.{held_locks, updates}
 use Rattle.gix_ref_transaction.specs.declared.edit.Edit.{Edit}
+use Rattle.gix_ref_transaction.proofs.Faults.{risen_by_before, risen_by_on, risen_by_paths}
 use Rattle.gix_ref_commit.specs.Cleared.{AllInWay, FoldersGo, LosesNoMore, OnlyFolders, all_removed, commit_entries, folder_lists}
 use Rattle.gix_ref_commit.specs.Entries.{bare_steps, done_of, planned_entries, steps_in}
 use Rattle.gix_ref_commit.proofs.Tidying.{none_tried, tried_go}
@@ -30,6 +31,11 @@ use Rattle.gix_ref_store.proofs.Commits.{committed, cut_gone, cut_packed_gone, l
 use Rattle.gix_ref_store.proofs.FolderRuns.{folders_stay, no_folder_gone}
 use Rattle.gix_ref_store.proofs.file.store.Store.carry_out.Goals as goal
 
+-- the locks that are named where they were released, of which each had a fault
+left_over : (left : Vec (Vec ℕ Global) Global) (a b d e : ℕ) → a ≤ b → HasRisenBy (vec_len left) b d → d ≤ e → HasRisenBy (length (paths_of left.items)) a e
+left_over left a b d e before rose after =
+    risen_by_paths left.items a e (subst (λ n. HasRisenBy n a e) (omega (arith, left.ok)) (risen_by_before (vec_len left) a b e before (risen_by_on (vec_len left) b d e after rose)))
+
 pub returns-in-Err-clause-failed : goal.returns-in-Err-clause-failed
 returns-in-Err-clause-failed g c =
     let F = g.F.Files in
@@ -37,35 +43,45 @@ returns-in-Err-clause-failed g c =
     let new = with_files c.decide.new.self c.release_all-remains.new.files in
     let held = c.args.edits.items in
     let e = c.release_all-remains.ensures in
-    undecided_fails F.honest F.means F.faults start new c.args.committer c.args.packed held c.decide.new.edits.items c.decide.ensures.alike c.in-Err.error
-    (undecided_wider F.honest F.means F.faults start c.decide.new.self new c.args.committer held c.in-Err.error e.releases.no_fewer c.in-Err.ensures.failed)
-    (λ h empty. only_locks F.honest F.means F.faults start new c.args.committer c.args.packed held c.decide.new.edits.items c.decide.ensures.alike false (F.means c.decide.new.self.files).tree (c.decide.ensures.leaves h empty).tree (e.releases.leaves h).tree)
+    record {
+      cause =
+          undecided_fails F.honest F.means F.faults start new c.args.committer c.args.packed held c.decide.new.edits.items c.decide.ensures.alike c.in-Err.error
+          (undecided_wider F.honest F.means F.faults start c.decide.new.self new c.args.committer held c.in-Err.error e.releases.no_fewer c.in-Err.ensures.failed)
+          (λ h empty. only_locks F.honest F.means F.faults start new c.args.committer c.args.packed held c.decide.new.edits.items c.decide.ensures.alike false (F.means c.decide.new.self.files).tree (c.decide.ensures.fills.leaves h empty).tree (e.releases.leaves h).tree);
+      sound = λ old given from h good bad.
+          never_bad F.honest F.means F.faults start c.decide.new.self c.args.committer c.args.edits.items c.in-Err.error c.in-Err.ensures.failed bad h
+          (start_edits F.honest F.means F.faults old start c.args.committer given c.args.packed c.args.edits.items from h good) good.0
+          (start_records F.honest F.means F.faults old start c.args.committer given c.args.packed c.args.edits.items from h good);
+    }
 
-pub returns-in-Err-clause-sound : goal.returns-in-Err-clause-sound
-returns-in-Err-clause-sound g c old given from h good bad =
+pub returns-in-Err-clause-safe : goal.returns-in-Err-clause-safe
+returns-in-Err-clause-safe g c =
+    let F = g.F.Files in
+    let e = c.release_all-remains.ensures in
+    let ran = c.decide.new.edits in
+    record {
+      stops = λ old given from.
+          undecided_well F.honest F.means F.faults old c.args.self.now c.args.committer given c.args.packed c.args.edits.items from ran.items c.decide.ensures.alike _ (paths_of c.release_all-remains.result.left.items) (F.means c.decide.new.self.files)
+          (λ h. c.decide.ensures.fills.leaves h (from.packed.empty h)) (λ h. c.decide.ensures.fills.passes h (from.packed.empty h))
+          (λ h. e.releases.leaves h) (λ h. e.releases.passes h) (λ h. e.packed_gone h) (λ h k lt. e.gone h k (omega (arith, lt, ran.ok))) e.named.ours e.named.once;
+      losses = λ old given from h good at_rest.
+          undecided_lost F.honest F.means F.faults old c.args.self.now c.args.committer given c.args.packed c.args.edits.items from ran.items c.decide.ensures.alike _ (paths_of c.release_all-remains.result.left.items) (F.means c.decide.new.self.files)
+          (λ h. c.decide.ensures.fills.leaves h (from.packed.empty h)) (λ h. c.decide.ensures.fills.passes h (from.packed.empty h))
+          (λ h. e.releases.leaves h) (λ h. e.releases.passes h) (λ h. e.packed_gone h) (λ h k lt. e.gone h k (omega (arith, lt, ran.ok))) e.named.ours e.named.once h good at_rest;
+    }
+
+pub returns-in-Err-clause-kept : goal.returns-in-Err-clause-kept
+returns-in-Err-clause-kept g c =
     let F = g.F.Files in
     let start = c.args.self.now in
-    never_bad F.honest F.means F.faults start c.decide.new.self c.args.committer c.args.edits.items c.in-Err.error c.in-Err.ensures.failed bad h
-    (start_edits F.honest F.means F.faults old start c.args.committer given c.args.packed c.args.edits.items from h good) good.0
-    (start_records F.honest F.means F.faults old start c.args.committer given c.args.packed c.args.edits.items from h good)
-
-pub returns-in-Err-clause-ended : goal.returns-in-Err-clause-ended
-returns-in-Err-clause-ended g c old given from =
-    let F = g.F.Files in
-    let e = c.release_all-remains.ensures in
-    let ran = c.decide.new.edits in
-    undecided_well F.honest F.means F.faults old c.args.self.now c.args.committer given c.args.packed c.args.edits.items from ran.items c.decide.ensures.alike _ (paths_of c.release_all-remains.result.left.items) (F.means c.decide.new.self.files)
-    (λ h. c.decide.ensures.leaves h (from.packed.empty h)) (λ h. c.decide.ensures.passes h (from.packed.empty h))
-    (λ h. e.releases.leaves h) (λ h. e.releases.passes h) (λ h. e.packed_gone h) (λ h k lt. e.gone h k (omega (arith, lt, ran.ok))) e.named.ours e.named.once
-
-pub returns-in-Err-clause-lost : goal.returns-in-Err-clause-lost
-returns-in-Err-clause-lost g c old given from h good at_rest =
-    let F = g.F.Files in
-    let e = c.release_all-remains.ensures in
-    let ran = c.decide.new.edits in
-    undecided_lost F.honest F.means F.faults old c.args.self.now c.args.committer given c.args.packed c.args.edits.items from ran.items c.decide.ensures.alike _ (paths_of c.release_all-remains.result.left.items) (F.means c.decide.new.self.files)
-    (λ h. c.decide.ensures.leaves h (from.packed.empty h)) (λ h. c.decide.ensures.passes h (from.packed.empty h))
-    (λ h. e.releases.leaves h) (λ h. e.releases.passes h) (λ h. e.packed_gone h) (λ h k lt. e.gone h k (omega (arith, lt, ran.ok))) e.named.ours e.named.once h good at_rest
+    let held = c.args.edits.items in
+    let packed = c.args.packed in
+    record {
+      folders = λ h empty.
+          no_folder_gone start.dirs packed (written_in F.honest F.means F.faults start c.args.committer packed held) (flat_map (deleted_by (meaning_of start)) held) (held_locks packed c.decide.new.edits.items) (F.means start.files).tree (F.means c.decide.new.self.files).tree (F.means c.release_all-remains.new.files).tree
+          empty (c.decide.ensures.fills.leaves h empty).tree (c.release_all-remains.ensures.releases.leaves h).tree;
+      named = left_over c.release_all-remains.result.left (g.F.Files.faults c.args.self.now.files) (g.F.Files.faults c.decide.new.self.files) (g.F.Files.faults c.release_all-remains.new.files) (g.F.Files.faults c.release_all-remains.new.files) c.decide.ensures.fills.no_fewer c.release_all-remains.ensures.named.named (omega arith);
+    }
 
 pub failure-requires : goal.failure-requires
 failure-requires g c =
@@ -74,7 +90,7 @@ failure-requires g c =
     let edits = c.release_all-edits.result.edits in
     subst (λ n. AllOfEdits n c.in-Err-publish.unfinished) (omega (arith, edits.ok, ap length c.release_all-edits.ensures.back.edits, length-map ran.items (λ (e : Edit). e.update)))
     (all_of_edits F.honest c.decide.new.self.dirs ran.items c.args.packed c.in-Ok.decided.rewrite c.in-Ok.decided.ways.items (F.means c.decide.new.self.files).tree (F.means c.publish.new.self.files).tree c.in-Err-publish.unfinished
-    (rw c.deref-2.ensures.value at (rw c.deref.ensures.value at c.in-Err-publish.ensures.ended)))
+    (rw c.deref-2.ensures.value at (rw c.deref.ensures.value at c.in-Err-publish.ensures.stopped.ended)))
 
 pub returns-in-Err-publish-clause-failed : goal.returns-in-Err-publish-clause-failed
 returns-in-Err-publish-clause-failed g c =
@@ -94,16 +110,10 @@ returns-in-Err-publish-clause-failed g c =
     let alike = c.decide.ensures.alike in
     let same : c.decide.new.self.dirs ≡ start.dirs = ap (λ (st : Store g.row.F.Denot). st.dirs) c.decide.ensures.same in
     let ends : EndsIn F.honest (commit_entries start.dirs ran.items packed rewrite ways) decided.tree mid.tree u =
-    subst (λ (d : Dirs). EndsIn F.honest (commit_entries d ran.items packed rewrite ways) decided.tree mid.tree u) same (rw c.deref-2.ensures.value at (rw c.deref.ensures.value at c.in-Err-publish.ensures.ended)) in
+    subst (λ (d : Dirs). EndsIn F.honest (commit_entries d ran.items packed rewrite ways) decided.tree mid.tree u) same (rw c.deref-2.ensures.value at (rw c.deref.ensures.value at c.in-Err-publish.ensures.stopped.ended)) in
     let released = F.means c.release_all-edits.new.files in
-    let less : F.honest → RemovesLocks (held_locks (if renamed then None else packed) ran.items) mid.tree released.tree = λ h. rw c.unless_renamed-packed.ensures at (e.releases.leaves h).tree in
     let still : c.publish.new.self.dirs ≡ start.dirs = ap (λ (st : Store g.row.F.Denot). st.dirs) c.publish.ensures.same ∙ same in
-    let removed : paths_of c.deref-in-Err-publish.result.now ≡ all_removed ran.items = ap paths_of c.deref-in-Err-publish.ensures.value ∙ c.in-Ok.ensures.removed in
-    let tidied : F.honest → FoldersGo start.dirs (paths_of (tried_after u c.deref-in-Err-publish.result.now)) released.tree (tree_of F.means new) = λ h.
-    subst (λ (d : Dirs). FoldersGo d (paths_of (tried_after u c.deref-in-Err-publish.result.now)) released.tree (tree_of F.means new)) still
-    (subst (λ ps. FoldersGo c.publish.new.self.dirs (paths_of ps) released.tree (tree_of F.means new)) c.tried.ensures (c.remove_empty_folders.ensures.leaves h).tree) in
-    let tidies : F.honest → FoldersGo start.dirs (all_removed ran.items) released.tree (tree_of F.means new) = λ h.
-    subst (λ ps. FoldersGo start.dirs ps released.tree (tree_of F.means new)) removed (tried_go start.dirs u c.deref-in-Err-publish.result.now released.tree (tree_of F.means new) (tidied h)) in
+    let removed : paths_of c.deref-in-Err-publish.result.now ≡ all_removed ran.items = ap paths_of c.deref-in-Err-publish.ensures.value ∙ c.in-Ok.ensures.decided.removed in
     let len : c.len.result ≡ length ran.items = omega (arith, c.len.ensures, ran.ok) in
     let done : c.done-done.result ≡ done_of (length ran.items) u = c.done-done.ensures ∙ ap (λ n. done_of n u) len in
     let place = c.release_all-edits.result.place.items in
@@ -115,22 +125,29 @@ returns-in-Err-publish-clause-failed g c =
     subst (λ n. n < length ran.items → place ≡ place_at ran.items n) done (λ lt. e.back.place (omega (arith, lt, ran.ok))) in
     let logged : done_of (length ran.items) u < length ran.items → log ≡ path_in (log_at ran.items (done_of (length ran.items) u)) =
     subst (λ n. n < length ran.items → log ≡ path_in (log_at ran.items n)) done (λ lt. e.back.log (omega (arith, lt, ran.ok))) in
-    run_fails F.honest F.means F.faults start new c.args.committer packed held ran.items alike c.in-Ok.ensures.logs c.in-Ok.ensures.logged c.in-Ok.ensures.passed rewrite c.in-Ok.ensures.repacked decided.tree mid.tree released.tree ways c.in-Ok.ensures.in_way
-    (λ h empty. c.in-Ok.ensures.filled h empty) (λ h. held_less F.honest F.means F.faults start new c.args.committer packed held ran.items alike renamed mid.tree released.tree (less h)) tidies
-    place log told u c.failure.result ends (record { here = here; logged = logged; at_packed = c.in-Ok.ensures.path }) says
-    (raised_wider (F.faults start.files) (F.faults c.decide.new.self.files) (F.faults c.publish.new.self.files) (F.faults c.remove_empty_folders.new.files) u c.decide.ensures.no_fewer (omega (arith, e.releases.no_fewer, c.remove_empty_folders.ensures.no_fewer)) c.in-Err-publish.ensures.counted)
-    (λ none h empty.
-    let still' : mid.tree ≡ decided.tree = ap (λ files. (F.means files).tree) (c.in-Err-publish.ensures.memory none) in
-    only_locks F.honest F.means F.faults start new c.args.committer packed held ran.items alike renamed decided.tree (c.decide.ensures.leaves h empty).tree
-    (subst (λ (S : Tree). RemovesLocks (held_locks (if renamed then None else packed) ran.items) S (tree_of F.means new)) still'
-    (subst (λ (T : Tree). RemovesLocks (held_locks (if renamed then None else packed) ran.items) mid.tree T) (none_tried start.dirs u c.deref-in-Err-publish.result.now released.tree (tree_of F.means new) none (tidied h)) (less h))))
+    record {
+      cause =
+          let less : F.honest → RemovesLocks (held_locks (if renamed then None else packed) ran.items) mid.tree released.tree = λ h. rw c.unless_renamed-packed.ensures at (e.releases.leaves h).tree in
+          let tidied : F.honest → FoldersGo start.dirs (paths_of (tried_after u c.deref-in-Err-publish.result.now)) released.tree (tree_of F.means new) = λ h.
+          subst (λ (d : Dirs). FoldersGo d (paths_of (tried_after u c.deref-in-Err-publish.result.now)) released.tree (tree_of F.means new)) still
+          (subst (λ ps. FoldersGo c.publish.new.self.dirs (paths_of ps) released.tree (tree_of F.means new)) c.tried.ensures (c.remove_empty_folders.ensures.leaves h).tree) in
+          let tidies : F.honest → FoldersGo start.dirs (all_removed ran.items) released.tree (tree_of F.means new) = λ h.
+          subst (λ ps. FoldersGo start.dirs ps released.tree (tree_of F.means new)) removed (tried_go start.dirs u c.deref-in-Err-publish.result.now released.tree (tree_of F.means new) (tidied h)) in
+          run_fails F.honest F.means F.faults start new c.args.committer packed held ran.items alike c.in-Ok.ensures.decided.texts.logs c.in-Ok.ensures.decided.texts.logged c.in-Ok.ensures.decided.texts.passed rewrite c.in-Ok.ensures.decided.texts.repacked decided.tree mid.tree released.tree ways c.in-Ok.ensures.decided.in_way
+          (λ h empty. c.in-Ok.ensures.decided.texts.filled h empty) (λ h. held_less F.honest F.means F.faults start new c.args.committer packed held ran.items alike renamed mid.tree released.tree (less h)) tidies
+          place log told u c.failure.result ends (record { here = here; logged = logged; at_packed = c.in-Ok.ensures.decided.texts.path }) says
+          (raised_wider (F.faults start.files) (F.faults c.decide.new.self.files) (F.faults c.publish.new.self.files) (F.faults c.remove_empty_folders.new.files) u c.decide.ensures.fills.no_fewer (omega (arith, e.releases.no_fewer, c.remove_empty_folders.ensures.no_fewer)) c.in-Err-publish.ensures.stopped.counted)
+          (λ none h empty.
+          let still' : mid.tree ≡ decided.tree = ap (λ files. (F.means files).tree) (c.in-Err-publish.ensures.stopped.memory none) in
+          only_locks F.honest F.means F.faults start new c.args.committer packed held ran.items alike renamed decided.tree (c.decide.ensures.fills.leaves h empty).tree
+          (subst (λ (S : Tree). RemovesLocks (held_locks (if renamed then None else packed) ran.items) S (tree_of F.means new)) still'
+          (subst (λ (T : Tree). RemovesLocks (held_locks (if renamed then None else packed) ran.items) mid.tree T) (none_tried start.dirs u c.deref-in-Err-publish.result.now released.tree (tree_of F.means new) none (tidied h)) (less h))));
+      sound = λ old given from h good bad.
+          of_no_line c.release_all-edits.result.edits.items c.release_all-edits.result.place.items c.release_all-edits.result.log.items c.in-Ok.decided.path.items c.in-Err-publish.unfinished c.failure.result c.failure.ensures bad;
+    }
 
-pub returns-in-Err-publish-clause-sound : goal.returns-in-Err-publish-clause-sound
-returns-in-Err-publish-clause-sound g c old given from h good bad =
-    of_no_line c.release_all-edits.result.edits.items c.release_all-edits.result.place.items c.release_all-edits.result.log.items c.in-Ok.decided.path.items c.in-Err-publish.unfinished c.failure.result c.failure.ensures bad
-
-pub returns-in-Err-publish-clause-ended : goal.returns-in-Err-publish-clause-ended
-returns-in-Err-publish-clause-ended g c old given from =
+pub returns-in-Err-publish-clause-safe : goal.returns-in-Err-publish-clause-safe
+returns-in-Err-publish-clause-safe g c =
     let F = g.F.Files in
     let start = c.args.self.now in
     let held = c.args.edits.items in
@@ -145,42 +162,98 @@ returns-in-Err-publish-clause-ended g c old given from =
     let new = with_files c.publish.new.self c.remove_empty_folders.new.files in
     let renamed = c.is_packed_renamed.result in
     let alike = c.decide.ensures.alike in
-    let same : c.decide.new.self.dirs ≡ old.dirs = ap (λ (st : Store g.row.F.Denot). st.dirs) c.decide.ensures.same ∙ from.held.same.dirs in
-    let in_way : F.honest → AllInWay ran.items old.dirs decided.tree (folder_lists ways) (planned_entries old.dirs ran.items packed rewrite) = λ h.
-    subst (λ (d : Dirs). AllInWay ran.items d decided.tree (folder_lists ways) (planned_entries d ran.items packed rewrite)) from.held.same.dirs (c.in-Ok.ensures.in_way h) in
     let released = F.means c.release_all-edits.new.files in
     let tidied = F.means c.remove_empty_folders.new.files in
     let paths = paths_of c.tried.result.now in
-    let still : c.publish.new.self.dirs ≡ old.dirs = ap (λ (st : Store g.row.F.Denot). st.dirs) c.publish.ensures.same ∙ same in
-    let tidies : F.honest → Leaves released tidied (FoldersGo old.dirs paths released.tree) = λ h.
-    subst (λ (d : Dirs). Leaves released tidied (FoldersGo d paths released.tree)) still (c.remove_empty_folders.ensures.leaves h) in
-    let runs : F.honest → Leaves decided mid (IsLeftBy (bare_steps (commit_entries old.dirs ran.items packed rewrite ways)) decided.tree) = λ h.
-    subst (λ (d : Dirs). Leaves decided mid (IsLeftBy (bare_steps (commit_entries d ran.items packed rewrite ways)) decided.tree)) same (rw c.deref-2.ensures.value at (rw c.deref.ensures.value at (c.publish.ensures.leaves h))) in
-    let releases : F.honest → Leaves mid (F.means c.release_all-edits.new.files) (RemovesLocks (held_locks (if renamed then None else packed) ran.items) mid.tree) = λ h. rw c.unless_renamed-packed.ensures at (e.releases.leaves h) in
     let u = c.in-Err-publish.unfinished in
-    let ends : EndsIn F.honest (commit_entries old.dirs ran.items packed rewrite ways) decided.tree mid.tree u =
-    subst (λ (d : Dirs). EndsIn F.honest (commit_entries d ran.items packed rewrite ways) decided.tree mid.tree u) same (rw c.deref-2.ensures.value at (rw c.deref.ensures.value at c.in-Err-publish.ensures.ended)) in
     let done = c.done-done.result in
     let len : c.len.result ≡ length ran.items = omega (arith, c.len.ensures, ran.ok) in
     let done_is : done ≡ done_of (length ran.items) u = c.done-done.ensures ∙ ap (λ n. done_of n u) len in
-    ran_well F.honest F.means F.faults old start c.args.committer given packed held from ran.items alike new left decided
-    (λ h. c.decide.ensures.leaves h (from.packed.empty h)) (λ h. c.decide.ensures.passes h (from.packed.empty h))
-    c.in-Ok.ensures.logs rewrite c.in-Ok.ensures.repacked (λ h. c.in-Ok.ensures.filled h (from.packed.empty h)) (λ h. c.in-Ok.ensures.wholes h (from.packed.empty h)) ways in_way
-    mid released renamed paths runs releases tidies done
-    (λ h. rw c.unless_renamed-packed.ensures at (e.packed_gone h))
-    (λ h text path some. cut_packed_gone F.honest F.means F.faults old start c.args.committer given packed held from ran.items alike new left decided
-    (λ h. c.decide.ensures.leaves h (from.packed.empty h)) (λ h. c.decide.ensures.passes h (from.packed.empty h))
-    c.in-Ok.ensures.logs rewrite c.in-Ok.ensures.repacked (λ h. c.in-Ok.ensures.filled h (from.packed.empty h)) (λ h. c.in-Ok.ensures.wholes h (from.packed.empty h)) ways in_way
-    mid released renamed paths runs releases tidies u ends h (sym c.is_packed_renamed.ensures ∙ text) path some)
-    (λ h k lt. e.gone h k (omega (arith, lt, ran.ok)))
-    (λ h k lt early written. cut_gone F.honest F.means F.faults old start c.args.committer given packed held from ran.items alike new left decided
-    (λ h. c.decide.ensures.leaves h (from.packed.empty h)) (λ h. c.decide.ensures.passes h (from.packed.empty h))
-    c.in-Ok.ensures.logs rewrite c.in-Ok.ensures.repacked (λ h. c.in-Ok.ensures.filled h (from.packed.empty h)) (λ h. c.in-Ok.ensures.wholes h (from.packed.empty h)) ways in_way
-    mid released renamed paths runs releases tidies u ends h k lt (subst (λ n. k < n) done_is early) written)
-    (rw c.unless_renamed-packed.ensures at e.named.ours) (rw c.unless_renamed-packed.ensures at e.named.once)
+    record {
+      stops = λ old given from.
+          let same : c.decide.new.self.dirs ≡ old.dirs = ap (λ (st : Store g.row.F.Denot). st.dirs) c.decide.ensures.same ∙ from.held.same.dirs in
+          let in_way : F.honest → AllInWay ran.items old.dirs decided.tree (folder_lists ways) (planned_entries old.dirs ran.items packed rewrite) = λ h.
+          subst (λ (d : Dirs). AllInWay ran.items d decided.tree (folder_lists ways) (planned_entries d ran.items packed rewrite)) from.held.same.dirs (c.in-Ok.ensures.decided.in_way h) in
+          let still : c.publish.new.self.dirs ≡ old.dirs = ap (λ (st : Store g.row.F.Denot). st.dirs) c.publish.ensures.same ∙ same in
+          let tidies : F.honest → Leaves released tidied (FoldersGo old.dirs paths released.tree) = λ h.
+          subst (λ (d : Dirs). Leaves released tidied (FoldersGo d paths released.tree)) still (c.remove_empty_folders.ensures.leaves h) in
+          let runs : F.honest → Leaves decided mid (IsLeftBy (bare_steps (commit_entries old.dirs ran.items packed rewrite ways)) decided.tree) = λ h.
+          subst (λ (d : Dirs). Leaves decided mid (IsLeftBy (bare_steps (commit_entries d ran.items packed rewrite ways)) decided.tree)) same (rw c.deref-2.ensures.value at (rw c.deref.ensures.value at (c.publish.ensures.runs.leaves h))) in
+          let releases : F.honest → Leaves mid (F.means c.release_all-edits.new.files) (RemovesLocks (held_locks (if renamed then None else packed) ran.items) mid.tree) = λ h. rw c.unless_renamed-packed.ensures at (e.releases.leaves h) in
+          let ends : EndsIn F.honest (commit_entries old.dirs ran.items packed rewrite ways) decided.tree mid.tree u =
+          subst (λ (d : Dirs). EndsIn F.honest (commit_entries d ran.items packed rewrite ways) decided.tree mid.tree u) same (rw c.deref-2.ensures.value at (rw c.deref.ensures.value at c.in-Err-publish.ensures.stopped.ended)) in
+          ran_well F.honest F.means F.faults old start c.args.committer given packed held from ran.items alike new left decided
+          (λ h. c.decide.ensures.fills.leaves h (from.packed.empty h)) (λ h. c.decide.ensures.fills.passes h (from.packed.empty h))
+          c.in-Ok.ensures.decided.texts.logs rewrite c.in-Ok.ensures.decided.texts.repacked (λ h. c.in-Ok.ensures.decided.texts.filled h (from.packed.empty h)) (λ h. c.in-Ok.ensures.decided.texts.wholes h (from.packed.empty h)) ways in_way
+          mid released renamed paths runs releases tidies done
+          (λ h. rw c.unless_renamed-packed.ensures at (e.packed_gone h))
+          (λ h text path some. cut_packed_gone F.honest F.means F.faults old start c.args.committer given packed held from ran.items alike new left decided
+          (λ h. c.decide.ensures.fills.leaves h (from.packed.empty h)) (λ h. c.decide.ensures.fills.passes h (from.packed.empty h))
+          c.in-Ok.ensures.decided.texts.logs rewrite c.in-Ok.ensures.decided.texts.repacked (λ h. c.in-Ok.ensures.decided.texts.filled h (from.packed.empty h)) (λ h. c.in-Ok.ensures.decided.texts.wholes h (from.packed.empty h)) ways in_way
+          mid released renamed paths runs releases tidies u ends h (sym c.is_packed_renamed.ensures ∙ text) path some)
+          (λ h k lt. e.gone h k (omega (arith, lt, ran.ok)))
+          (λ h k lt early written. cut_gone F.honest F.means F.faults old start c.args.committer given packed held from ran.items alike new left decided
+          (λ h. c.decide.ensures.fills.leaves h (from.packed.empty h)) (λ h. c.decide.ensures.fills.passes h (from.packed.empty h))
+          c.in-Ok.ensures.decided.texts.logs rewrite c.in-Ok.ensures.decided.texts.repacked (λ h. c.in-Ok.ensures.decided.texts.filled h (from.packed.empty h)) (λ h. c.in-Ok.ensures.decided.texts.wholes h (from.packed.empty h)) ways in_way
+          mid released renamed paths runs releases tidies u ends h k lt (subst (λ n. k < n) done_is early) written)
+          (rw c.unless_renamed-packed.ensures at e.named.ours) (rw c.unless_renamed-packed.ensures at e.named.once);
+      losses = λ old given from h good at_rest.
+          let same : c.decide.new.self.dirs ≡ old.dirs = ap (λ (st : Store g.row.F.Denot). st.dirs) c.decide.ensures.same ∙ from.held.same.dirs in
+          let in_way : F.honest → AllInWay ran.items old.dirs decided.tree (folder_lists ways) (planned_entries old.dirs ran.items packed rewrite) = λ h.
+          subst (λ (d : Dirs). AllInWay ran.items d decided.tree (folder_lists ways) (planned_entries d ran.items packed rewrite)) from.held.same.dirs (c.in-Ok.ensures.decided.in_way h) in
+          let still : c.publish.new.self.dirs ≡ old.dirs = ap (λ (st : Store g.row.F.Denot). st.dirs) c.publish.ensures.same ∙ same in
+          let tidies : F.honest → Leaves released tidied (FoldersGo old.dirs paths released.tree) = λ h.
+          subst (λ (d : Dirs). Leaves released tidied (FoldersGo d paths released.tree)) still (c.remove_empty_folders.ensures.leaves h) in
+          let runs : F.honest → Leaves decided mid (IsLeftBy (bare_steps (commit_entries old.dirs ran.items packed rewrite ways)) decided.tree) = λ h.
+          subst (λ (d : Dirs). Leaves decided mid (IsLeftBy (bare_steps (commit_entries d ran.items packed rewrite ways)) decided.tree)) same (rw c.deref-2.ensures.value at (rw c.deref.ensures.value at (c.publish.ensures.runs.leaves h))) in
+          let releases : F.honest → Leaves mid (F.means c.release_all-edits.new.files) (RemovesLocks (held_locks (if renamed then None else packed) ran.items) mid.tree) = λ h. rw c.unless_renamed-packed.ensures at (e.releases.leaves h) in
+          let passes : Passes decided mid (IsReachedBy (steps_in (commit_entries old.dirs ran.items packed rewrite ways)) (disk_of decided)) =
+          subst (λ (d : Dirs). Passes decided mid (IsReachedBy (steps_in (commit_entries d ran.items packed rewrite ways)) (disk_of decided))) same (rw c.deref-2.ensures.value at (rw c.deref.ensures.value at (c.publish.ensures.runs.passes h))) in
+          let only : OnlyRemoves (held_locks (if renamed then None else packed) ran.items) mid (F.means c.release_all-edits.new.files) = rw c.unless_renamed-packed.ensures at (e.releases.passes h) in
+          let less : Passes released tidied (LosesNoMore (disk_of released)) = c.remove_empty_folders.ensures.loses h in
+          lost F.honest F.means F.faults old start c.args.committer given packed held from ran.items alike new left decided
+          (λ h. c.decide.ensures.fills.leaves h (from.packed.empty h)) (λ h. c.decide.ensures.fills.passes h (from.packed.empty h))
+          c.in-Ok.ensures.decided.texts.logs rewrite c.in-Ok.ensures.decided.texts.repacked (λ h. c.in-Ok.ensures.decided.texts.filled h (from.packed.empty h)) (λ h. c.in-Ok.ensures.decided.texts.wholes h (from.packed.empty h)) ways in_way
+          mid released renamed paths runs releases tidies h at_rest only good passes less;
+    }
 
-pub returns-clause-ended : goal.returns-clause-ended
-returns-clause-ended g c old given from =
+pub returns-in-Err-publish-clause-kept : goal.returns-in-Err-publish-clause-kept
+returns-in-Err-publish-clause-kept g c =
+    let F = g.F.Files in
+    let start = c.args.self.now in
+    let held = c.args.edits.items in
+    let ran = c.decide.new.edits in
+    let packed = c.args.packed in
+    let rewrite = c.in-Ok.decided.rewrite in
+    let ways = c.in-Ok.decided.ways.items in
+    let first = F.means start.files in
+    let decided = F.means c.decide.new.self.files in
+    let mid = F.means c.publish.new.self.files in
+    let released = F.means c.release_all-edits.new.files in
+    let tidied = F.means c.remove_empty_folders.new.files in
+    let renamed = c.is_packed_renamed.result in
+    let same : c.decide.new.self.dirs ≡ start.dirs = ap (λ (st : Store g.row.F.Denot). st.dirs) c.decide.ensures.same in
+    let still : c.publish.new.self.dirs ≡ start.dirs = ap (λ (st : Store g.row.F.Denot). st.dirs) c.publish.ensures.same ∙ same in
+    let removed : paths_of c.deref-in-Err-publish.result.now ≡ all_removed ran.items = ap paths_of c.deref-in-Err-publish.ensures.value ∙ c.in-Ok.ensures.decided.removed in
+    let u = c.in-Err-publish.unfinished in
+    record {
+      folders = λ h empty.
+          let left : IsLeftBy (bare_steps (commit_entries start.dirs ran.items packed rewrite ways)) decided.tree mid.tree =
+          subst (λ (d : Dirs). IsLeftBy (bare_steps (commit_entries d ran.items packed rewrite ways)) decided.tree mid.tree) same (rw c.deref-2.ensures.value at (rw c.deref.ensures.value at (c.publish.ensures.runs.leaves h).tree)) in
+          let releases : Leaves mid released (RemovesLocks (held_locks (if renamed then None else packed) ran.items) mid.tree) = rw c.unless_renamed-packed.ensures at (c.release_all-edits.ensures.releases.leaves h) in
+          let tried : FoldersGo start.dirs (paths_of (tried_after u c.deref-in-Err-publish.result.now)) released.tree tidied.tree =
+          subst (λ (d : Dirs). FoldersGo d (paths_of (tried_after u c.deref-in-Err-publish.result.now)) released.tree tidied.tree) still
+          (subst (λ ps. FoldersGo c.publish.new.self.dirs (paths_of ps) released.tree tidied.tree) c.tried.ensures (c.remove_empty_folders.ensures.leaves h).tree) in
+          let tidies : FoldersGo start.dirs (all_removed ran.items) released.tree tidied.tree =
+          subst (λ (paths : List Path). FoldersGo start.dirs paths released.tree tidied.tree) removed (tried_go start.dirs u c.deref-in-Err-publish.result.now released.tree tidied.tree tried) in
+          folders_stay (meaning_of start) start.dirs held ran.items packed rewrite (folder_lists ways) first.tree decided.tree mid.tree released.tree tidied.tree (held_locks (if renamed then None else packed) ran.items) (outcomes_in F.honest F.means F.faults start c.args.committer held)
+          c.decide.ensures.alike (logs_are (line_rules start c.args.committer) (view_of first.tree) 0 held ran.items (c.in-Ok.ensures.decided.texts.logs h)) (c.in-Ok.ensures.decided.texts.logs h) empty (c.decide.ensures.fills.leaves h empty).tree (c.in-Ok.ensures.decided.in_way h) left releases.tree tidies;
+      named = left_over c.release_all-edits.result.left (g.F.Files.faults c.args.self.now.files) (g.F.Files.faults c.publish.new.self.files) (g.F.Files.faults c.release_all-edits.new.files) (g.F.Files.faults c.remove_empty_folders.new.files)
+          (omega (arith, c.decide.ensures.fills.no_fewer, c.publish.ensures.runs.no_fewer)) c.release_all-edits.ensures.named.named c.remove_empty_folders.ensures.no_fewer;
+    }
+
+pub returns-clause-safe : goal.returns-clause-safe
+returns-clause-safe g c =
     let F = g.F.Files in
     let start = c.args.self.now in
     let held = c.args.edits.items in
@@ -191,43 +264,98 @@ returns-clause-ended g c old given from =
     let paths = paths_of c.deref-3.result.now in
     let decided = F.means c.decide.new.self.files in
     let mid = F.means c.publish.new.self.files in
-    let e = c.release_all-released.ensures in
-    let left = paths_of c.release_all-released.result.left.items in
     let new = with_files c.publish.new.self c.remove_empty_folders-2.new.files in
     let renamed = c.is_renamed.result in
     let alike = c.decide.ensures.alike in
-    let same : c.decide.new.self.dirs ≡ old.dirs = ap (λ (st : Store g.row.F.Denot). st.dirs) c.decide.ensures.same ∙ from.held.same.dirs in
-    let in_way : F.honest → AllInWay ran.items old.dirs decided.tree (folder_lists ways) (planned_entries old.dirs ran.items packed rewrite) = λ h.
-    subst (λ (d : Dirs). AllInWay ran.items d decided.tree (folder_lists ways) (planned_entries d ran.items packed rewrite)) from.held.same.dirs (c.in-Ok.ensures.in_way h) in
     let released = F.means c.release_all-released.new.files in
     let tidied = F.means c.remove_empty_folders-2.new.files in
-    let still : c.publish.new.self.dirs ≡ old.dirs = ap (λ (st : Store g.row.F.Denot). st.dirs) c.publish.ensures.same ∙ same in
-    let tidies : F.honest → Leaves released tidied (FoldersGo old.dirs paths released.tree) = λ h.
-    subst (λ (d : Dirs). Leaves released tidied (FoldersGo d paths released.tree)) still (c.remove_empty_folders-2.ensures.leaves h) in
-    let runs : F.honest → Leaves decided mid (IsLeftBy (bare_steps (commit_entries old.dirs ran.items packed rewrite ways)) decided.tree) = λ h.
-    subst (λ (d : Dirs). Leaves decided mid (IsLeftBy (bare_steps (commit_entries d ran.items packed rewrite ways)) decided.tree)) same (rw c.deref-2.ensures.value at (rw c.deref.ensures.value at (c.publish.ensures.leaves h))) in
-    let releases : F.honest → Leaves mid (F.means c.release_all-released.new.files) (RemovesLocks (held_locks (if renamed then None else packed) ran.items) mid.tree) = λ h. rw c.unless_renamed-packed-2.ensures at (e.releases.leaves h) in
-    let after : F.honest → IsAfter (bare_steps (commit_entries old.dirs ran.items packed rewrite ways)) decided.tree mid.tree = λ h.
-    subst (λ (d : Dirs). IsAfter (bare_steps (commit_entries d ran.items packed rewrite ways)) decided.tree mid.tree) same (rw c.deref-2.ensures.value at (rw c.deref.ensures.value at (c.in_default.ensures.done h))) in
     let done = c.len-done.result in
-    ran_well F.honest F.means F.faults old start c.args.committer given packed held from ran.items alike new left decided
-    (λ h. c.decide.ensures.leaves h (from.packed.empty h)) (λ h. c.decide.ensures.passes h (from.packed.empty h))
-    c.in-Ok.ensures.logs rewrite c.in-Ok.ensures.repacked (λ h. c.in-Ok.ensures.filled h (from.packed.empty h)) (λ h. c.in-Ok.ensures.wholes h (from.packed.empty h)) ways in_way
-    mid released renamed paths runs releases tidies done
-    (λ h. rw c.unless_renamed-packed-2.ensures at (e.packed_gone h))
-    (λ h text path some. whole_packed_gone F.honest F.means F.faults old start c.args.committer given packed held from ran.items alike new left decided
-    (λ h. c.decide.ensures.leaves h (from.packed.empty h)) (λ h. c.decide.ensures.passes h (from.packed.empty h))
-    c.in-Ok.ensures.logs rewrite c.in-Ok.ensures.repacked (λ h. c.in-Ok.ensures.filled h (from.packed.empty h)) (λ h. c.in-Ok.ensures.wholes h (from.packed.empty h)) ways in_way
-    mid released renamed paths runs releases tidies after h (sym c.is_renamed.ensures ∙ text) path some)
-    (λ h k lt. e.gone h k (omega (arith, lt, ran.ok)))
-    (λ h k lt early written. whole_gone F.honest F.means F.faults old start c.args.committer given packed held from ran.items alike new left decided
-    (λ h. c.decide.ensures.leaves h (from.packed.empty h)) (λ h. c.decide.ensures.passes h (from.packed.empty h))
-    c.in-Ok.ensures.logs rewrite c.in-Ok.ensures.repacked (λ h. c.in-Ok.ensures.filled h (from.packed.empty h)) (λ h. c.in-Ok.ensures.wholes h (from.packed.empty h)) ways in_way
-    mid released renamed paths runs releases tidies after h k lt written)
-    (rw c.unless_renamed-packed-2.ensures at e.named.ours) (rw c.unless_renamed-packed-2.ensures at e.named.once)
+    record {
+      stops = λ old given from.
+          let e = c.release_all-released.ensures in
+          let left = paths_of c.release_all-released.result.left.items in
+          let same : c.decide.new.self.dirs ≡ old.dirs = ap (λ (st : Store g.row.F.Denot). st.dirs) c.decide.ensures.same ∙ from.held.same.dirs in
+          let in_way : F.honest → AllInWay ran.items old.dirs decided.tree (folder_lists ways) (planned_entries old.dirs ran.items packed rewrite) = λ h.
+          subst (λ (d : Dirs). AllInWay ran.items d decided.tree (folder_lists ways) (planned_entries d ran.items packed rewrite)) from.held.same.dirs (c.in-Ok.ensures.decided.in_way h) in
+          let still : c.publish.new.self.dirs ≡ old.dirs = ap (λ (st : Store g.row.F.Denot). st.dirs) c.publish.ensures.same ∙ same in
+          let tidies : F.honest → Leaves released tidied (FoldersGo old.dirs paths released.tree) = λ h.
+          subst (λ (d : Dirs). Leaves released tidied (FoldersGo d paths released.tree)) still (c.remove_empty_folders-2.ensures.leaves h) in
+          let runs : F.honest → Leaves decided mid (IsLeftBy (bare_steps (commit_entries old.dirs ran.items packed rewrite ways)) decided.tree) = λ h.
+          subst (λ (d : Dirs). Leaves decided mid (IsLeftBy (bare_steps (commit_entries d ran.items packed rewrite ways)) decided.tree)) same (rw c.deref-2.ensures.value at (rw c.deref.ensures.value at (c.publish.ensures.runs.leaves h))) in
+          let releases : F.honest → Leaves mid (F.means c.release_all-released.new.files) (RemovesLocks (held_locks (if renamed then None else packed) ran.items) mid.tree) = λ h. rw c.unless_renamed-packed-2.ensures at (e.releases.leaves h) in
+          let after : F.honest → IsAfter (bare_steps (commit_entries old.dirs ran.items packed rewrite ways)) decided.tree mid.tree = λ h.
+          subst (λ (d : Dirs). IsAfter (bare_steps (commit_entries d ran.items packed rewrite ways)) decided.tree mid.tree) same (rw c.deref-2.ensures.value at (rw c.deref.ensures.value at (c.in_default.ensures.finished.done h))) in
+          ran_well F.honest F.means F.faults old start c.args.committer given packed held from ran.items alike new left decided
+          (λ h. c.decide.ensures.fills.leaves h (from.packed.empty h)) (λ h. c.decide.ensures.fills.passes h (from.packed.empty h))
+          c.in-Ok.ensures.decided.texts.logs rewrite c.in-Ok.ensures.decided.texts.repacked (λ h. c.in-Ok.ensures.decided.texts.filled h (from.packed.empty h)) (λ h. c.in-Ok.ensures.decided.texts.wholes h (from.packed.empty h)) ways in_way
+          mid released renamed paths runs releases tidies done
+          (λ h. rw c.unless_renamed-packed-2.ensures at (e.packed_gone h))
+          (λ h text path some. whole_packed_gone F.honest F.means F.faults old start c.args.committer given packed held from ran.items alike new left decided
+          (λ h. c.decide.ensures.fills.leaves h (from.packed.empty h)) (λ h. c.decide.ensures.fills.passes h (from.packed.empty h))
+          c.in-Ok.ensures.decided.texts.logs rewrite c.in-Ok.ensures.decided.texts.repacked (λ h. c.in-Ok.ensures.decided.texts.filled h (from.packed.empty h)) (λ h. c.in-Ok.ensures.decided.texts.wholes h (from.packed.empty h)) ways in_way
+          mid released renamed paths runs releases tidies after h (sym c.is_renamed.ensures ∙ text) path some)
+          (λ h k lt. e.gone h k (omega (arith, lt, ran.ok)))
+          (λ h k lt early written. whole_gone F.honest F.means F.faults old start c.args.committer given packed held from ran.items alike new left decided
+          (λ h. c.decide.ensures.fills.leaves h (from.packed.empty h)) (λ h. c.decide.ensures.fills.passes h (from.packed.empty h))
+          c.in-Ok.ensures.decided.texts.logs rewrite c.in-Ok.ensures.decided.texts.repacked (λ h. c.in-Ok.ensures.decided.texts.filled h (from.packed.empty h)) (λ h. c.in-Ok.ensures.decided.texts.wholes h (from.packed.empty h)) ways in_way
+          mid released renamed paths runs releases tidies after h k lt written)
+          (rw c.unless_renamed-packed-2.ensures at e.named.ours) (rw c.unless_renamed-packed-2.ensures at e.named.once);
+      losses = λ old given from h good at_rest.
+          let e = c.release_all-released.ensures in
+          let left = paths_of c.release_all-released.result.left.items in
+          let same : c.decide.new.self.dirs ≡ old.dirs = ap (λ (st : Store g.row.F.Denot). st.dirs) c.decide.ensures.same ∙ from.held.same.dirs in
+          let in_way : F.honest → AllInWay ran.items old.dirs decided.tree (folder_lists ways) (planned_entries old.dirs ran.items packed rewrite) = λ h.
+          subst (λ (d : Dirs). AllInWay ran.items d decided.tree (folder_lists ways) (planned_entries d ran.items packed rewrite)) from.held.same.dirs (c.in-Ok.ensures.decided.in_way h) in
+          let still : c.publish.new.self.dirs ≡ old.dirs = ap (λ (st : Store g.row.F.Denot). st.dirs) c.publish.ensures.same ∙ same in
+          let tidies : F.honest → Leaves released tidied (FoldersGo old.dirs paths released.tree) = λ h.
+          subst (λ (d : Dirs). Leaves released tidied (FoldersGo d paths released.tree)) still (c.remove_empty_folders-2.ensures.leaves h) in
+          let runs : F.honest → Leaves decided mid (IsLeftBy (bare_steps (commit_entries old.dirs ran.items packed rewrite ways)) decided.tree) = λ h.
+          subst (λ (d : Dirs). Leaves decided mid (IsLeftBy (bare_steps (commit_entries d ran.items packed rewrite ways)) decided.tree)) same (rw c.deref-2.ensures.value at (rw c.deref.ensures.value at (c.publish.ensures.runs.leaves h))) in
+          let releases : F.honest → Leaves mid (F.means c.release_all-released.new.files) (RemovesLocks (held_locks (if renamed then None else packed) ran.items) mid.tree) = λ h. rw c.unless_renamed-packed-2.ensures at (e.releases.leaves h) in
+          let passes : Passes decided mid (IsReachedBy (steps_in (commit_entries old.dirs ran.items packed rewrite ways)) (disk_of decided)) =
+          subst (λ (d : Dirs). Passes decided mid (IsReachedBy (steps_in (commit_entries d ran.items packed rewrite ways)) (disk_of decided))) same (rw c.deref-2.ensures.value at (rw c.deref.ensures.value at (c.publish.ensures.runs.passes h))) in
+          let only : OnlyRemoves (held_locks (if renamed then None else packed) ran.items) mid (F.means c.release_all-released.new.files) = rw c.unless_renamed-packed-2.ensures at (e.releases.passes h) in
+          let less : Passes released tidied (LosesNoMore (disk_of released)) = c.remove_empty_folders-2.ensures.loses h in
+          lost F.honest F.means F.faults old start c.args.committer given packed held from ran.items alike new left decided
+          (λ h. c.decide.ensures.fills.leaves h (from.packed.empty h)) (λ h. c.decide.ensures.fills.passes h (from.packed.empty h))
+          c.in-Ok.ensures.decided.texts.logs rewrite c.in-Ok.ensures.decided.texts.repacked (λ h. c.in-Ok.ensures.decided.texts.filled h (from.packed.empty h)) (λ h. c.in-Ok.ensures.decided.texts.wholes h (from.packed.empty h)) ways in_way
+          mid released renamed paths runs releases tidies h at_rest only good passes less;
+    }
+
+pub returns-clause-kept : goal.returns-clause-kept
+returns-clause-kept g c =
+    let F = g.F.Files in
+    let start = c.args.self.now in
+    let held = c.args.edits.items in
+    let ran = c.decide.new.edits in
+    let packed = c.args.packed in
+    let rewrite = c.in-Ok.decided.rewrite in
+    let ways = c.in-Ok.decided.ways.items in
+    let first = F.means start.files in
+    let decided = F.means c.decide.new.self.files in
+    let mid = F.means c.publish.new.self.files in
+    let released = F.means c.release_all-released.new.files in
+    let tidied = F.means c.remove_empty_folders-2.new.files in
+    let renamed = c.is_renamed.result in
+    let same : c.decide.new.self.dirs ≡ start.dirs = ap (λ (st : Store g.row.F.Denot). st.dirs) c.decide.ensures.same in
+    let still : c.publish.new.self.dirs ≡ start.dirs = ap (λ (st : Store g.row.F.Denot). st.dirs) c.publish.ensures.same ∙ same in
+    let removed : paths_of c.deref-3.result.now ≡ all_removed ran.items = ap paths_of c.deref-3.ensures.value ∙ c.in-Ok.ensures.decided.removed in
+    record {
+      folders = λ h empty.
+          let left : IsLeftBy (bare_steps (commit_entries start.dirs ran.items packed rewrite ways)) decided.tree mid.tree =
+          subst (λ (d : Dirs). IsLeftBy (bare_steps (commit_entries d ran.items packed rewrite ways)) decided.tree mid.tree) same (rw c.deref-2.ensures.value at (rw c.deref.ensures.value at (c.publish.ensures.runs.leaves h).tree)) in
+          let releases : Leaves mid released (RemovesLocks (held_locks (if renamed then None else packed) ran.items) mid.tree) = rw c.unless_renamed-packed-2.ensures at (c.release_all-released.ensures.releases.leaves h) in
+          let tidies : FoldersGo start.dirs (all_removed ran.items) released.tree tidied.tree =
+          subst (λ (paths : List Path). FoldersGo start.dirs paths released.tree tidied.tree) removed
+          (subst (λ (d : Dirs). FoldersGo d (paths_of c.deref-3.result.now) released.tree tidied.tree) still (c.remove_empty_folders-2.ensures.leaves h).tree) in
+          folders_stay (meaning_of start) start.dirs held ran.items packed rewrite (folder_lists ways) first.tree decided.tree mid.tree released.tree tidied.tree (held_locks (if renamed then None else packed) ran.items) (outcomes_in F.honest F.means F.faults start c.args.committer held)
+          c.decide.ensures.alike (logs_are (line_rules start c.args.committer) (view_of first.tree) 0 held ran.items (c.in-Ok.ensures.decided.texts.logs h)) (c.in-Ok.ensures.decided.texts.logs h) empty (c.decide.ensures.fills.leaves h empty).tree (c.in-Ok.ensures.decided.in_way h) left releases.tree tidies;
+      named = left_over c.release_all-released.result.left (g.F.Files.faults c.args.self.now.files) (g.F.Files.faults c.publish.new.self.files) (g.F.Files.faults c.release_all-released.new.files) (g.F.Files.faults c.remove_empty_folders-2.new.files)
+          (omega (arith, c.decide.ensures.fills.no_fewer, c.publish.ensures.runs.no_fewer)) c.release_all-released.ensures.named.named c.remove_empty_folders-2.ensures.no_fewer;
+    }
 
 pub returns-clause-committed : goal.returns-clause-committed
-returns-clause-committed g c old given from h good =
+returns-clause-committed g c =
     let F = g.F.Files in
     let start = c.args.self.now in
     let held = c.args.edits.items in
@@ -238,209 +366,55 @@ returns-clause-committed g c old given from h good =
     let paths = paths_of c.deref-3.result.now in
     let decided = F.means c.decide.new.self.files in
     let mid = F.means c.publish.new.self.files in
-    let e = c.release_all-released.ensures in
-    let left = paths_of c.release_all-released.result.left.items in
     let new = with_files c.publish.new.self c.remove_empty_folders-2.new.files in
     let renamed = c.is_renamed.result in
     let alike = c.decide.ensures.alike in
-    let same : c.decide.new.self.dirs ≡ old.dirs = ap (λ (st : Store g.row.F.Denot). st.dirs) c.decide.ensures.same ∙ from.held.same.dirs in
-    let in_way : F.honest → AllInWay ran.items old.dirs decided.tree (folder_lists ways) (planned_entries old.dirs ran.items packed rewrite) = λ h.
-    subst (λ (d : Dirs). AllInWay ran.items d decided.tree (folder_lists ways) (planned_entries d ran.items packed rewrite)) from.held.same.dirs (c.in-Ok.ensures.in_way h) in
     let released = F.means c.release_all-released.new.files in
     let tidied = F.means c.remove_empty_folders-2.new.files in
-    let still : c.publish.new.self.dirs ≡ old.dirs = ap (λ (st : Store g.row.F.Denot). st.dirs) c.publish.ensures.same ∙ same in
-    let tidies : F.honest → Leaves released tidied (FoldersGo old.dirs paths released.tree) = λ h.
-    subst (λ (d : Dirs). Leaves released tidied (FoldersGo d paths released.tree)) still (c.remove_empty_folders-2.ensures.leaves h) in
-    let runs : F.honest → Leaves decided mid (IsLeftBy (bare_steps (commit_entries old.dirs ran.items packed rewrite ways)) decided.tree) = λ h.
-    subst (λ (d : Dirs). Leaves decided mid (IsLeftBy (bare_steps (commit_entries d ran.items packed rewrite ways)) decided.tree)) same (rw c.deref-2.ensures.value at (rw c.deref.ensures.value at (c.publish.ensures.leaves h))) in
-    let releases : F.honest → Leaves mid (F.means c.release_all-released.new.files) (RemovesLocks (held_locks (if renamed then None else packed) ran.items) mid.tree) = λ h. rw c.unless_renamed-packed-2.ensures at (e.releases.leaves h) in
-    let after : F.honest → IsAfter (bare_steps (commit_entries old.dirs ran.items packed rewrite ways)) decided.tree mid.tree = λ h.
-    subst (λ (d : Dirs). IsAfter (bare_steps (commit_entries d ran.items packed rewrite ways)) decided.tree mid.tree) same (rw c.deref-2.ensures.value at (rw c.deref.ensures.value at (c.in_default.ensures.done h))) in
-    committed F.honest F.means F.faults old start c.args.committer given packed held from ran.items alike new left decided
-    (λ h. c.decide.ensures.leaves h (from.packed.empty h)) (λ h. c.decide.ensures.passes h (from.packed.empty h))
-    c.in-Ok.ensures.logs rewrite c.in-Ok.ensures.repacked (λ h. c.in-Ok.ensures.filled h (from.packed.empty h)) (λ h. c.in-Ok.ensures.wholes h (from.packed.empty h)) ways in_way
-    mid released renamed paths runs releases tidies h good (after h) ((returns-clause-ended g c old given from).gone h)
-
-pub returns-in-Err-publish-clause-lost : goal.returns-in-Err-publish-clause-lost
-returns-in-Err-publish-clause-lost g c old given from h good at_rest =
-    let F = g.F.Files in
-    let start = c.args.self.now in
-    let held = c.args.edits.items in
-    let ran = c.decide.new.edits in
-    let packed = c.args.packed in
-    let rewrite = c.in-Ok.decided.rewrite in
-    let ways = c.in-Ok.decided.ways.items in
-    let decided = F.means c.decide.new.self.files in
-    let mid = F.means c.publish.new.self.files in
-    let e = c.release_all-edits.ensures in
-    let left = paths_of c.release_all-edits.result.left.items in
-    let new = with_files c.publish.new.self c.remove_empty_folders.new.files in
-    let renamed = c.is_packed_renamed.result in
-    let alike = c.decide.ensures.alike in
-    let same : c.decide.new.self.dirs ≡ old.dirs = ap (λ (st : Store g.row.F.Denot). st.dirs) c.decide.ensures.same ∙ from.held.same.dirs in
-    let in_way : F.honest → AllInWay ran.items old.dirs decided.tree (folder_lists ways) (planned_entries old.dirs ran.items packed rewrite) = λ h.
-    subst (λ (d : Dirs). AllInWay ran.items d decided.tree (folder_lists ways) (planned_entries d ran.items packed rewrite)) from.held.same.dirs (c.in-Ok.ensures.in_way h) in
-    let released = F.means c.release_all-edits.new.files in
-    let tidied = F.means c.remove_empty_folders.new.files in
-    let paths = paths_of c.tried.result.now in
-    let still : c.publish.new.self.dirs ≡ old.dirs = ap (λ (st : Store g.row.F.Denot). st.dirs) c.publish.ensures.same ∙ same in
-    let tidies : F.honest → Leaves released tidied (FoldersGo old.dirs paths released.tree) = λ h.
-    subst (λ (d : Dirs). Leaves released tidied (FoldersGo d paths released.tree)) still (c.remove_empty_folders.ensures.leaves h) in
-    let runs : F.honest → Leaves decided mid (IsLeftBy (bare_steps (commit_entries old.dirs ran.items packed rewrite ways)) decided.tree) = λ h.
-    subst (λ (d : Dirs). Leaves decided mid (IsLeftBy (bare_steps (commit_entries d ran.items packed rewrite ways)) decided.tree)) same (rw c.deref-2.ensures.value at (rw c.deref.ensures.value at (c.publish.ensures.leaves h))) in
-    let releases : F.honest → Leaves mid (F.means c.release_all-edits.new.files) (RemovesLocks (held_locks (if renamed then None else packed) ran.items) mid.tree) = λ h. rw c.unless_renamed-packed.ensures at (e.releases.leaves h) in
-    let passes : Passes decided mid (IsReachedBy (steps_in (commit_entries old.dirs ran.items packed rewrite ways)) (disk_of decided)) =
-    subst (λ (d : Dirs). Passes decided mid (IsReachedBy (steps_in (commit_entries d ran.items packed rewrite ways)) (disk_of decided))) same (rw c.deref-2.ensures.value at (rw c.deref.ensures.value at (c.publish.ensures.passes h))) in
-    let only : OnlyRemoves (held_locks (if renamed then None else packed) ran.items) mid (F.means c.release_all-edits.new.files) = rw c.unless_renamed-packed.ensures at (e.releases.passes h) in
-    let less : Passes released tidied (LosesNoMore (disk_of released)) = c.remove_empty_folders.ensures.loses h in
-    lost F.honest F.means F.faults old start c.args.committer given packed held from ran.items alike new left decided
-    (λ h. c.decide.ensures.leaves h (from.packed.empty h)) (λ h. c.decide.ensures.passes h (from.packed.empty h))
-    c.in-Ok.ensures.logs rewrite c.in-Ok.ensures.repacked (λ h. c.in-Ok.ensures.filled h (from.packed.empty h)) (λ h. c.in-Ok.ensures.wholes h (from.packed.empty h)) ways in_way
-    mid released renamed paths runs releases tidies h at_rest only good passes less
-
-pub returns-clause-lost : goal.returns-clause-lost
-returns-clause-lost g c old given from h good at_rest =
-    let F = g.F.Files in
-    let start = c.args.self.now in
-    let held = c.args.edits.items in
-    let ran = c.decide.new.edits in
-    let packed = c.args.packed in
-    let rewrite = c.in-Ok.decided.rewrite in
-    let ways = c.in-Ok.decided.ways.items in
-    let paths = paths_of c.deref-3.result.now in
-    let decided = F.means c.decide.new.self.files in
-    let mid = F.means c.publish.new.self.files in
-    let e = c.release_all-released.ensures in
-    let left = paths_of c.release_all-released.result.left.items in
-    let new = with_files c.publish.new.self c.remove_empty_folders-2.new.files in
-    let renamed = c.is_renamed.result in
-    let alike = c.decide.ensures.alike in
-    let same : c.decide.new.self.dirs ≡ old.dirs = ap (λ (st : Store g.row.F.Denot). st.dirs) c.decide.ensures.same ∙ from.held.same.dirs in
-    let in_way : F.honest → AllInWay ran.items old.dirs decided.tree (folder_lists ways) (planned_entries old.dirs ran.items packed rewrite) = λ h.
-    subst (λ (d : Dirs). AllInWay ran.items d decided.tree (folder_lists ways) (planned_entries d ran.items packed rewrite)) from.held.same.dirs (c.in-Ok.ensures.in_way h) in
-    let released = F.means c.release_all-released.new.files in
-    let tidied = F.means c.remove_empty_folders-2.new.files in
-    let still : c.publish.new.self.dirs ≡ old.dirs = ap (λ (st : Store g.row.F.Denot). st.dirs) c.publish.ensures.same ∙ same in
-    let tidies : F.honest → Leaves released tidied (FoldersGo old.dirs paths released.tree) = λ h.
-    subst (λ (d : Dirs). Leaves released tidied (FoldersGo d paths released.tree)) still (c.remove_empty_folders-2.ensures.leaves h) in
-    let runs : F.honest → Leaves decided mid (IsLeftBy (bare_steps (commit_entries old.dirs ran.items packed rewrite ways)) decided.tree) = λ h.
-    subst (λ (d : Dirs). Leaves decided mid (IsLeftBy (bare_steps (commit_entries d ran.items packed rewrite ways)) decided.tree)) same (rw c.deref-2.ensures.value at (rw c.deref.ensures.value at (c.publish.ensures.leaves h))) in
-    let releases : F.honest → Leaves mid (F.means c.release_all-released.new.files) (RemovesLocks (held_locks (if renamed then None else packed) ran.items) mid.tree) = λ h. rw c.unless_renamed-packed-2.ensures at (e.releases.leaves h) in
-    let passes : Passes decided mid (IsReachedBy (steps_in (commit_entries old.dirs ran.items packed rewrite ways)) (disk_of decided)) =
-    subst (λ (d : Dirs). Passes decided mid (IsReachedBy (steps_in (commit_entries d ran.items packed rewrite ways)) (disk_of decided))) same (rw c.deref-2.ensures.value at (rw c.deref.ensures.value at (c.publish.ensures.passes h))) in
-    let only : OnlyRemoves (held_locks (if renamed then None else packed) ran.items) mid (F.means c.release_all-released.new.files) = rw c.unless_renamed-packed-2.ensures at (e.releases.passes h) in
-    let less : Passes released tidied (LosesNoMore (disk_of released)) = c.remove_empty_folders-2.ensures.loses h in
-    lost F.honest F.means F.faults old start c.args.committer given packed held from ran.items alike new left decided
-    (λ h. c.decide.ensures.leaves h (from.packed.empty h)) (λ h. c.decide.ensures.passes h (from.packed.empty h))
-    c.in-Ok.ensures.logs rewrite c.in-Ok.ensures.repacked (λ h. c.in-Ok.ensures.filled h (from.packed.empty h)) (λ h. c.in-Ok.ensures.wholes h (from.packed.empty h)) ways in_way
-    mid released renamed paths runs releases tidies h at_rest only good passes less
-
-pub returns-clause-settled : goal.returns-clause-settled
-returns-clause-settled g c old given from h at_rest =
-    let F = g.F.Files in
-    let start = c.args.self.now in
-    let held = c.args.edits.items in
-    let ran = c.decide.new.edits in
-    let packed = c.args.packed in
-    let rewrite = c.in-Ok.decided.rewrite in
-    let ways = c.in-Ok.decided.ways.items in
-    let paths = paths_of c.deref-3.result.now in
-    let decided = F.means c.decide.new.self.files in
-    let mid = F.means c.publish.new.self.files in
-    let e = c.release_all-released.ensures in
-    let left = paths_of c.release_all-released.result.left.items in
-    let new = with_files c.publish.new.self c.remove_empty_folders-2.new.files in
-    let renamed = c.is_renamed.result in
-    let alike = c.decide.ensures.alike in
-    let same : c.decide.new.self.dirs ≡ old.dirs = ap (λ (st : Store g.row.F.Denot). st.dirs) c.decide.ensures.same ∙ from.held.same.dirs in
-    let in_way : F.honest → AllInWay ran.items old.dirs decided.tree (folder_lists ways) (planned_entries old.dirs ran.items packed rewrite) = λ h.
-    subst (λ (d : Dirs). AllInWay ran.items d decided.tree (folder_lists ways) (planned_entries d ran.items packed rewrite)) from.held.same.dirs (c.in-Ok.ensures.in_way h) in
-    let released = F.means c.release_all-released.new.files in
-    let tidied = F.means c.remove_empty_folders-2.new.files in
-    let still : c.publish.new.self.dirs ≡ old.dirs = ap (λ (st : Store g.row.F.Denot). st.dirs) c.publish.ensures.same ∙ same in
-    let tidies : F.honest → Leaves released tidied (FoldersGo old.dirs paths released.tree) = λ h.
-    subst (λ (d : Dirs). Leaves released tidied (FoldersGo d paths released.tree)) still (c.remove_empty_folders-2.ensures.leaves h) in
-    let runs : F.honest → Leaves decided mid (IsLeftBy (bare_steps (commit_entries old.dirs ran.items packed rewrite ways)) decided.tree) = λ h.
-    subst (λ (d : Dirs). Leaves decided mid (IsLeftBy (bare_steps (commit_entries d ran.items packed rewrite ways)) decided.tree)) same (rw c.deref-2.ensures.value at (rw c.deref.ensures.value at (c.publish.ensures.leaves h))) in
-    let releases : F.honest → Leaves mid (F.means c.release_all-released.new.files) (RemovesLocks (held_locks (if renamed then None else packed) ran.items) mid.tree) = λ h. rw c.unless_renamed-packed-2.ensures at (e.releases.leaves h) in
-    let done : IsSyncedAfter (steps_in (commit_entries old.dirs ran.items packed rewrite ways)) (disk_of decided) (disk_of mid) =
-    subst (λ (d : Dirs). IsSyncedAfter (steps_in (commit_entries d ran.items packed rewrite ways)) (disk_of decided) (disk_of mid)) same (rw c.deref-2.ensures.value at (rw c.deref.ensures.value at (c.in_default.ensures.synced h))) in
-    let only : OnlyRemoves (held_locks (if renamed then None else packed) ran.items) mid (F.means c.release_all-released.new.files) = rw c.unless_renamed-packed-2.ensures at (e.releases.passes h) in
-    settled F.honest F.means F.faults old start c.args.committer given packed held from ran.items alike new left decided
-    (λ h. c.decide.ensures.leaves h (from.packed.empty h)) (λ h. c.decide.ensures.passes h (from.packed.empty h))
-    c.in-Ok.ensures.logs rewrite c.in-Ok.ensures.repacked (λ h. c.in-Ok.ensures.filled h (from.packed.empty h)) (λ h. c.in-Ok.ensures.wholes h (from.packed.empty h)) ways in_way
-    mid released renamed paths runs releases tidies h at_rest only done (subst (λ (d : Dirs). OnlyFolders d released tidied) still (c.remove_empty_folders-2.ensures.passes h))
-    (ap (λ (st : Store g.row.F.Denot). st.dirs) c.publish.ensures.same ∙ ap (λ (st : Store g.row.F.Denot). st.dirs) c.decide.ensures.same)
-    (ap (λ (st : Store g.row.F.Denot). st.namespace) c.publish.ensures.same ∙ ap (λ (st : Store g.row.F.Denot). st.namespace) c.decide.ensures.same)
-
-pub returns-clause-edits : goal.returns-clause-edits
-returns-clause-edits g c = c.release_all-released.ensures.back.edits ∙ updates_alike c.decide.new.edits.items c.args.edits.items c.decide.ensures.alike
-
-pub returns-in-Err-clause-folders : goal.returns-in-Err-clause-folders
-returns-in-Err-clause-folders g c h empty =
-    let F = g.F.Files in
-    let start = c.args.self.now in
-    let held = c.args.edits.items in
-    let packed = c.args.packed in
-    no_folder_gone start.dirs packed (written_in F.honest F.means F.faults start c.args.committer packed held) (flat_map (deleted_by (meaning_of start)) held) (held_locks packed c.decide.new.edits.items) (F.means start.files).tree (F.means c.decide.new.self.files).tree (F.means c.release_all-remains.new.files).tree
-    empty (c.decide.ensures.leaves h empty).tree (c.release_all-remains.ensures.releases.leaves h).tree
-
-pub returns-in-Err-publish-clause-folders : goal.returns-in-Err-publish-clause-folders
-returns-in-Err-publish-clause-folders g c h empty =
-    let F = g.F.Files in
-    let start = c.args.self.now in
-    let held = c.args.edits.items in
-    let ran = c.decide.new.edits in
-    let packed = c.args.packed in
-    let rewrite = c.in-Ok.decided.rewrite in
-    let ways = c.in-Ok.decided.ways.items in
-    let first = F.means start.files in
-    let decided = F.means c.decide.new.self.files in
-    let mid = F.means c.publish.new.self.files in
-    let released = F.means c.release_all-edits.new.files in
-    let tidied = F.means c.remove_empty_folders.new.files in
-    let renamed = c.is_packed_renamed.result in
-    let same : c.decide.new.self.dirs ≡ start.dirs = ap (λ (st : Store g.row.F.Denot). st.dirs) c.decide.ensures.same in
-    let still : c.publish.new.self.dirs ≡ start.dirs = ap (λ (st : Store g.row.F.Denot). st.dirs) c.publish.ensures.same ∙ same in
-    let left : IsLeftBy (bare_steps (commit_entries start.dirs ran.items packed rewrite ways)) decided.tree mid.tree =
-    subst (λ (d : Dirs). IsLeftBy (bare_steps (commit_entries d ran.items packed rewrite ways)) decided.tree mid.tree) same (rw c.deref-2.ensures.value at (rw c.deref.ensures.value at (c.publish.ensures.leaves h).tree)) in
-    let releases : Leaves mid released (RemovesLocks (held_locks (if renamed then None else packed) ran.items) mid.tree) = rw c.unless_renamed-packed.ensures at (c.release_all-edits.ensures.releases.leaves h) in
-    let removed : paths_of c.deref-in-Err-publish.result.now ≡ all_removed ran.items = ap paths_of c.deref-in-Err-publish.ensures.value ∙ c.in-Ok.ensures.removed in
-    let u = c.in-Err-publish.unfinished in
-    let tried : FoldersGo start.dirs (paths_of (tried_after u c.deref-in-Err-publish.result.now)) released.tree tidied.tree =
-    subst (λ (d : Dirs). FoldersGo d (paths_of (tried_after u c.deref-in-Err-publish.result.now)) released.tree tidied.tree) still
-    (subst (λ ps. FoldersGo c.publish.new.self.dirs (paths_of ps) released.tree tidied.tree) c.tried.ensures (c.remove_empty_folders.ensures.leaves h).tree) in
-    let tidies : FoldersGo start.dirs (all_removed ran.items) released.tree tidied.tree =
-    subst (λ (paths : List Path). FoldersGo start.dirs paths released.tree tidied.tree) removed (tried_go start.dirs u c.deref-in-Err-publish.result.now released.tree tidied.tree tried) in
-    folders_stay (meaning_of start) start.dirs held ran.items packed rewrite (folder_lists ways) first.tree decided.tree mid.tree released.tree tidied.tree (held_locks (if renamed then None else packed) ran.items) (outcomes_in F.honest F.means F.faults start c.args.committer held)
-    c.decide.ensures.alike (logs_are (line_rules start c.args.committer) (view_of first.tree) 0 held ran.items (c.in-Ok.ensures.logs h)) (c.in-Ok.ensures.logs h) empty (c.decide.ensures.leaves h empty).tree (c.in-Ok.ensures.in_way h) left releases.tree tidies
-
-pub returns-clause-folders : goal.returns-clause-folders
-returns-clause-folders g c h empty =
-    let F = g.F.Files in
-    let start = c.args.self.now in
-    let held = c.args.edits.items in
-    let ran = c.decide.new.edits in
-    let packed = c.args.packed in
-    let rewrite = c.in-Ok.decided.rewrite in
-    let ways = c.in-Ok.decided.ways.items in
-    let first = F.means start.files in
-    let decided = F.means c.decide.new.self.files in
-    let mid = F.means c.publish.new.self.files in
-    let released = F.means c.release_all-released.new.files in
-    let tidied = F.means c.remove_empty_folders-2.new.files in
-    let renamed = c.is_renamed.result in
-    let same : c.decide.new.self.dirs ≡ start.dirs = ap (λ (st : Store g.row.F.Denot). st.dirs) c.decide.ensures.same in
-    let still : c.publish.new.self.dirs ≡ start.dirs = ap (λ (st : Store g.row.F.Denot). st.dirs) c.publish.ensures.same ∙ same in
-    let left : IsLeftBy (bare_steps (commit_entries start.dirs ran.items packed rewrite ways)) decided.tree mid.tree =
-    subst (λ (d : Dirs). IsLeftBy (bare_steps (commit_entries d ran.items packed rewrite ways)) decided.tree mid.tree) same (rw c.deref-2.ensures.value at (rw c.deref.ensures.value at (c.publish.ensures.leaves h).tree)) in
-    let releases : Leaves mid released (RemovesLocks (held_locks (if renamed then None else packed) ran.items) mid.tree) = rw c.unless_renamed-packed-2.ensures at (c.release_all-released.ensures.releases.leaves h) in
-    let removed : paths_of c.deref-3.result.now ≡ all_removed ran.items = ap paths_of c.deref-3.ensures.value ∙ c.in-Ok.ensures.removed in
-    let tidies : FoldersGo start.dirs (all_removed ran.items) released.tree tidied.tree =
-    subst (λ (paths : List Path). FoldersGo start.dirs paths released.tree tidied.tree) removed
-    (subst (λ (d : Dirs). FoldersGo d (paths_of c.deref-3.result.now) released.tree tidied.tree) still (c.remove_empty_folders-2.ensures.leaves h).tree) in
-    folders_stay (meaning_of start) start.dirs held ran.items packed rewrite (folder_lists ways) first.tree decided.tree mid.tree released.tree tidied.tree (held_locks (if renamed then None else packed) ran.items) (outcomes_in F.honest F.means F.faults start c.args.committer held)
-    c.decide.ensures.alike (logs_are (line_rules start c.args.committer) (view_of first.tree) 0 held ran.items (c.in-Ok.ensures.logs h)) (c.in-Ok.ensures.logs h) empty (c.decide.ensures.leaves h empty).tree (c.in-Ok.ensures.in_way h) left releases.tree tidies
+    record {
+      edits = c.release_all-released.ensures.back.edits ∙ updates_alike c.decide.new.edits.items c.args.edits.items c.decide.ensures.alike;
+      commits = λ old given from h good.
+          let e = c.release_all-released.ensures in
+          let left = paths_of c.release_all-released.result.left.items in
+          let same : c.decide.new.self.dirs ≡ old.dirs = ap (λ (st : Store g.row.F.Denot). st.dirs) c.decide.ensures.same ∙ from.held.same.dirs in
+          let in_way : F.honest → AllInWay ran.items old.dirs decided.tree (folder_lists ways) (planned_entries old.dirs ran.items packed rewrite) = λ h.
+          subst (λ (d : Dirs). AllInWay ran.items d decided.tree (folder_lists ways) (planned_entries d ran.items packed rewrite)) from.held.same.dirs (c.in-Ok.ensures.decided.in_way h) in
+          let still : c.publish.new.self.dirs ≡ old.dirs = ap (λ (st : Store g.row.F.Denot). st.dirs) c.publish.ensures.same ∙ same in
+          let tidies : F.honest → Leaves released tidied (FoldersGo old.dirs paths released.tree) = λ h.
+          subst (λ (d : Dirs). Leaves released tidied (FoldersGo d paths released.tree)) still (c.remove_empty_folders-2.ensures.leaves h) in
+          let runs : F.honest → Leaves decided mid (IsLeftBy (bare_steps (commit_entries old.dirs ran.items packed rewrite ways)) decided.tree) = λ h.
+          subst (λ (d : Dirs). Leaves decided mid (IsLeftBy (bare_steps (commit_entries d ran.items packed rewrite ways)) decided.tree)) same (rw c.deref-2.ensures.value at (rw c.deref.ensures.value at (c.publish.ensures.runs.leaves h))) in
+          let releases : F.honest → Leaves mid (F.means c.release_all-released.new.files) (RemovesLocks (held_locks (if renamed then None else packed) ran.items) mid.tree) = λ h. rw c.unless_renamed-packed-2.ensures at (e.releases.leaves h) in
+          let after : F.honest → IsAfter (bare_steps (commit_entries old.dirs ran.items packed rewrite ways)) decided.tree mid.tree = λ h.
+          subst (λ (d : Dirs). IsAfter (bare_steps (commit_entries d ran.items packed rewrite ways)) decided.tree mid.tree) same (rw c.deref-2.ensures.value at (rw c.deref.ensures.value at (c.in_default.ensures.finished.done h))) in
+          committed F.honest F.means F.faults old start c.args.committer given packed held from ran.items alike new left decided
+          (λ h. c.decide.ensures.fills.leaves h (from.packed.empty h)) (λ h. c.decide.ensures.fills.passes h (from.packed.empty h))
+          c.in-Ok.ensures.decided.texts.logs rewrite c.in-Ok.ensures.decided.texts.repacked (λ h. c.in-Ok.ensures.decided.texts.filled h (from.packed.empty h)) (λ h. c.in-Ok.ensures.decided.texts.wholes h (from.packed.empty h)) ways in_way
+          mid released renamed paths runs releases tidies h good (after h) (((returns-clause-safe g c).stops old given from).gone h);
+      passed = c.in-Ok.ensures.decided.texts.passed;
+      read = c.in-Ok.ensures.decided.texts.repacked.read;
+      settled = λ old given from h at_rest.
+          let e = c.release_all-released.ensures in
+          let left = paths_of c.release_all-released.result.left.items in
+          let same : c.decide.new.self.dirs ≡ old.dirs = ap (λ (st : Store g.row.F.Denot). st.dirs) c.decide.ensures.same ∙ from.held.same.dirs in
+          let in_way : F.honest → AllInWay ran.items old.dirs decided.tree (folder_lists ways) (planned_entries old.dirs ran.items packed rewrite) = λ h.
+          subst (λ (d : Dirs). AllInWay ran.items d decided.tree (folder_lists ways) (planned_entries d ran.items packed rewrite)) from.held.same.dirs (c.in-Ok.ensures.decided.in_way h) in
+          let still : c.publish.new.self.dirs ≡ old.dirs = ap (λ (st : Store g.row.F.Denot). st.dirs) c.publish.ensures.same ∙ same in
+          let tidies : F.honest → Leaves released tidied (FoldersGo old.dirs paths released.tree) = λ h.
+          subst (λ (d : Dirs). Leaves released tidied (FoldersGo d paths released.tree)) still (c.remove_empty_folders-2.ensures.leaves h) in
+          let runs : F.honest → Leaves decided mid (IsLeftBy (bare_steps (commit_entries old.dirs ran.items packed rewrite ways)) decided.tree) = λ h.
+          subst (λ (d : Dirs). Leaves decided mid (IsLeftBy (bare_steps (commit_entries d ran.items packed rewrite ways)) decided.tree)) same (rw c.deref-2.ensures.value at (rw c.deref.ensures.value at (c.publish.ensures.runs.leaves h))) in
+          let releases : F.honest → Leaves mid (F.means c.release_all-released.new.files) (RemovesLocks (held_locks (if renamed then None else packed) ran.items) mid.tree) = λ h. rw c.unless_renamed-packed-2.ensures at (e.releases.leaves h) in
+          let done : IsSyncedAfter (steps_in (commit_entries old.dirs ran.items packed rewrite ways)) (disk_of decided) (disk_of mid) =
+          subst (λ (d : Dirs). IsSyncedAfter (steps_in (commit_entries d ran.items packed rewrite ways)) (disk_of decided) (disk_of mid)) same (rw c.deref-2.ensures.value at (rw c.deref.ensures.value at (c.in_default.ensures.finished.synced h))) in
+          let only : OnlyRemoves (held_locks (if renamed then None else packed) ran.items) mid (F.means c.release_all-released.new.files) = rw c.unless_renamed-packed-2.ensures at (e.releases.passes h) in
+          settled F.honest F.means F.faults old start c.args.committer given packed held from ran.items alike new left decided
+          (λ h. c.decide.ensures.fills.leaves h (from.packed.empty h)) (λ h. c.decide.ensures.fills.passes h (from.packed.empty h))
+          c.in-Ok.ensures.decided.texts.logs rewrite c.in-Ok.ensures.decided.texts.repacked (λ h. c.in-Ok.ensures.decided.texts.filled h (from.packed.empty h)) (λ h. c.in-Ok.ensures.decided.texts.wholes h (from.packed.empty h)) ways in_way
+          mid released renamed paths runs releases tidies h at_rest only done (subst (λ (d : Dirs). OnlyFolders d released tidied) still (c.remove_empty_folders-2.ensures.passes h))
+          (ap (λ (st : Store g.row.F.Denot). st.dirs) c.publish.ensures.same ∙ ap (λ (st : Store g.row.F.Denot). st.dirs) c.decide.ensures.same)
+          (ap (λ (st : Store g.row.F.Denot). st.namespace) c.publish.ensures.same ∙ ap (λ (st : Store g.row.F.Denot). st.namespace) c.decide.ensures.same);
+    }
 
 pub done-done-requires : goal.done-done-requires
 done-done-requires g c =
@@ -448,4 +422,4 @@ done-done-requires g c =
     let ran = c.decide.new.edits in
     subst (λ n. AllOfEdits n c.in-Err-publish.unfinished) (omega (arith, ran.ok, c.len.ensures))
     (all_of_edits F.honest c.decide.new.self.dirs ran.items c.args.packed c.in-Ok.decided.rewrite c.in-Ok.decided.ways.items (F.means c.decide.new.self.files).tree (F.means c.publish.new.self.files).tree c.in-Err-publish.unfinished
-    (rw c.deref-2.ensures.value at (rw c.deref.ensures.value at c.in-Err-publish.ensures.ended)))
+    (rw c.deref-2.ensures.value at (rw c.deref.ensures.value at c.in-Err-publish.ensures.stopped.ended)))
