@@ -8,7 +8,7 @@ use Rattle.gix_ref_files.specs.Files.{Meaning, Leaves}
 use Rattle.gix_ref_edits.specs.DoubledNames.{NoneDoubled}
 use Rattle.gix_ref_edits.specs.declared.transaction.RefEdit.{RefEdit}
 use Rattle.gix_ref_transaction.specs.Causes.{IsLockCause, IsPackedLocked, names_of, packed_taken}
-use Rattle.gix_ref_transaction.specs.HeldLocks.{AreHeld, AreRemovedAgain, HoldsPackedLock, IsHeldBack, OnlyTakes}
+use Rattle.gix_ref_transaction.specs.HeldLocks.{HoldAllLocks, AreRemovedAgain, HoldsPackedLock, IsHeldBack, OnlyTakes}
 use Rattle.gix_ref_transaction.specs.LeftLocks.{HasRoom}
 use Rattle.gix_ref_transaction.specs.OwnLocks.{AddsLocks, paths_of}
 use Rattle.gix_ref_transaction.specs.Causes.{AllValid, NoCause}
@@ -47,7 +47,7 @@ refused_split honest read means faults old new edits (Err u) same single back re
 module _ {F : Type 0} (honest : Type 0) (means : F → Meaning) (faults : F → ℕ) (old new : Store F) (begun : Vec Edit Global) (room : Remains) (split : List RefEdit) (asked : updates begun.items ≡ split) where
   -- what is ensured of them, and of the lock of `packed-refs`
   abbrev Held : HeldLocks → Type 0
-  Held h = AreHeld honest (HasGoodRecords means old) (meaning_of old) (kind_of old) (locks_in means old (updates begun.items)) (means (files_of old)) (means (files_of new)) begun.items h.edits.items room h.remains
+  Held h = HoldAllLocks honest (HasGoodRecords means old) (meaning_of old) (kind_of old) (locks_in means old (updates begun.items)) (means (files_of old)) (means (files_of new)) begun.items h.edits.items room h.remains
 
   abbrev HeldPacked : HeldLocks → Type 0
   HeldPacked h = HoldsPackedLock honest (meaning_of old) (tree_of means old) (tree_of means new) (updates begun.items) h.packed

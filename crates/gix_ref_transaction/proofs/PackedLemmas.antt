@@ -102,13 +102,14 @@ records_are f kind prohibits None rs are = sym are
 records_are f kind prohibits (Some text) rs are = records_computed kind text are.0 rs are.1.whole
 
 -- carried through a result
-pub both_err : {X E : Type 0} {P Q R : E → Type 0} (r : Result X E) → ((e : E) → P e → Q e → R e) → IfErr r P → IfErr r Q → IfErr r R
-both_err (Ok x) wider first second = tt
-both_err (Err e) wider first second = wider e first second
-
 pub if_err : {X E : Type 0} {P Q : E → Type 0} (r : Result X E) → ((e : E) → P e → Q e) → IfErr r P → IfErr r Q
 if_err (Ok x) wider holds = tt
 if_err (Err e) wider holds = wider e holds
+
+-- and so two facts together
+pub both_err : {X E : Type 0} {P Q R : E → Type 0} (r : Result X E) → ((e : E) → P e → Q e → R e) → IfErr r P → IfErr r Q → IfErr r R
+both_err (Ok x) wider first second = tt
+both_err (Err e) wider first second = wider e first second
 
 -- the ids of edits among the records of a well-formed `packed-refs` are those that `prepare` asks for
 pub asked_ids : (f : Layout) (kind : Kind) (prohibits : Bool) (T U : Tree) (edits : List RefEdit) (rs : List Record) (ids : List (Option ObjectId)) →

@@ -31,14 +31,14 @@ pub record IsLockTaken (old new : Meaning) (lock : Path) : Type 0 where
   pub whole : IsWholeAt (disk_of new) lock []
 
 -- A fault of files or of memory; it is `Io` only where the count of faults rose.
-pub record IsOutside (before now : ℕ) (error : Error) : Type 0 where
+pub record IsFileOrMemoryFault (before now : ℕ) (error : Error) : Type 0 where
   pub outside : IsIoOrMemory error
   pub counted : IsCounted before now error
 
 module _ {F : Type 0} (honest : Type 0) (means : F → Meaning) (faults : F → ℕ) where
   -- A run that takes the lock of this place, or fails to, and does nothing else but make folders that lead to it: on honest files no stop in
   -- it leaves another tree, and none finds another disk; and no fault is forgotten.
-  pub record TakesOne (place : Path) (before now : F) : Type 0 where
+  pub record TakesItsLock (place : Path) (before now : F) : Type 0 where
     pub leaves : honest → Leaves (means before) (means now) (AddsLocks (lock_of place ∷ []) (lock_of place ∷ []) (means before).tree)
     pub passes : honest → Passes (means before) (means now) (LockingOn (disk_of (means before)) place)
     pub no_fewer : faults before ≤ faults now

@@ -38,7 +38,7 @@ pub record AreTaken (known : Type 0) (s : Store) (kind : Kind) (locks : List Pat
 
 -- All locks of these edits are held: what is asked for and the room for what remains are the same; on honest files nothing was added but the
 -- locks and folders that lead to them, and all are taken.
-pub record AreHeld (honest known : Type 0) (s : Store) (kind : Kind) (locks : List Path) (old new : Meaning) (before now : List Edit) (room rest : Remains) : Type 0 where
+pub record HoldAllLocks (honest known : Type 0) (s : Store) (kind : Kind) (locks : List Path) (old new : Meaning) (before now : List Edit) (room rest : Remains) : Type 0 where
   pub asked : all_asked now ≡ all_asked before
   pub remains : rest ≡ room
   pub adds : honest → AddsLocks locks locks old.tree new.tree

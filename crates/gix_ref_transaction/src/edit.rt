@@ -15,7 +15,7 @@ ghost use Rattle.gix_ref_edits.specs.RefEdits.{name_of, new_of, is_of_reference}
 ghost use Rattle.gix_ref_transaction.specs.CommitRenames.{is_file_seen, is_no_folder_seen};
 ghost use Rattle.gix_ref_transaction.specs.PackedCauses.{deletes_reference};
 ghost use Rattle.gix_ref_transaction.specs.Causes.{found, found_by, decoded, IsCounted, IsNotIo, IsMismatch, IsIoOrMemory};
-ghost use Rattle.gix_ref_transaction.specs.EditLocks.{IsInPlace, IsLockTaken, IsNotAccepted, IsNotTaken, IsOutside, IsWritten, OnlyFills, TakesOne};
+ghost use Rattle.gix_ref_transaction.specs.EditLocks.{IsInPlace, IsLockTaken, IsNotAccepted, IsNotTaken, IsFileOrMemoryFault, IsWritten, OnlyFills, TakesItsLock};
 ghost use Rattle.gix_ref_transaction.specs.PrepareSteps.{setting_of, value_of, lock_text, effect_value, text_of_new, decision, decision_of, given, is_new, is_damaged, is_loose_file, is_undecodable, target_by, IsSomeWhole, IsRefusedLock};
 
 use crate::prepare::Error;
@@ -290,7 +290,7 @@ fn write_lock<F: Files>(files: &mut F, lock: &LockFile, text: &[u8]) -> Result<(
         (Some (File text.now))) }
     ensures whole { F.honest → IsWholeAt (disk_of (F.means files.old)) (lock_of lock.now) [] →
         OnOk result (IsWholeAt (disk_of (F.means files.new)) (lock_of lock.now) text.now) }
-    ensures failed { IfErr result (IsOutside (F.faults files.old) (F.faults files.new)) }
+    ensures failed { IfErr result (IsFileOrMemoryFault (F.faults files.old) (F.faults files.new)) }
     ensures fills { OnlyFills F.honest F.means F.faults (lock_of lock.now) files.old files.new }
 {
     lock.write(files, text)?;
@@ -353,7 +353,7 @@ impl Edit {
             (lock_of self.now.lock)) }
         ensures refused { IfErr result (IsNotTaken F.honest F.means F.faults
             (name_of self.now.update) (lock_of self.now.lock) files.old files.new) }
-        ensures takes { TakesOne F.honest F.means F.faults self.now.lock files.old files.new }
+        ensures takes { TakesItsLock F.honest F.means F.faults self.now.lock files.old files.new }
     {
         match take_lock(files, &self.lock, is_ready) {
             Ok(Create::Made) => Ok(()),
@@ -384,7 +384,7 @@ impl Edit {
             (Some (File (lock_text (effect_value self.now.update.change self.now.effect))))) }
         ensures whole { F.honest → IsWholeAt (disk_of (F.means files.old)) (lock_of self.now.lock)
             [] → OnOk result (IsSomeWhole (disk_of (F.means files.new)) (lock_of self.now.lock)) }
-        ensures failed { IfErr result (IsOutside (F.faults files.old) (F.faults files.new)) }
+        ensures failed { IfErr result (IsFileOrMemoryFault (F.faults files.old) (F.faults files.new)) }
         ensures fills { OnlyFills F.honest F.means F.faults (lock_of self.now.lock) files.old
             files.new }
     {

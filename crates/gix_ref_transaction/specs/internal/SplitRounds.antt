@@ -1,5 +1,5 @@
 -- Rounds of splits, by where each edit leads.
-use Rattle.std.specs.Prelude.{◌≡◌, ℕ, suc, List, [], ◌∷◌, ◌++◌, Option, Some, None, false, map, IsSome, length}
+use Rattle.std.specs.Prelude.{◌≡◌, ◌⊎◌, ℕ, suc, List, [], ◌∷◌, ◌++◌, Option, Some, None, false, map, All, IsSome, length, vec_len}
 use Rattle.std.specs.Option.{option_map}
 use Rattle.gix_ref_hash.specs.declared.hash.Kind.{Kind}
 use Rattle.gix_ref_name.specs.Names.{full_bytes}
@@ -13,8 +13,13 @@ use Rattle.gix_ref_edits.specs.EditValues.ChangeValue.{update, delete}
 use Rattle.gix_ref_edits.specs.EditValues.ExpectedValue.{must_not_exist, must_match, may_match}
 use Rattle.gix_ref_edits.specs.SplitLists.{looked_up, child_list, referent, after_round, children}
 use Rattle.gix_ref_edits.specs.declared.transaction.RefEdit.{RefEdit}
-use Rattle.gix_ref_transaction.specs.Causes.{IsFullTarget, IsOfKind, IsWellNamed, IsWholeTarget}
-use Rattle.gix_ref_transaction.specs.Parents.{parent_list}
+use Rattle.gix_ref_transaction.specs.Causes.{IsCounted, IsFullTarget, IsIoOrMemory, IsOfKind, IsWellNamed, IsWholeTarget}
+use Rattle.gix_ref_transaction.specs.Parents.{parent_list, parents_from}
+use Rattle.gix_ref_transaction.specs.Splits.{name_led_to, values_of, CanFollow, IsFirstMisnamed}
+use Rattle.gix_ref_transaction.specs.declared.prepare.error.Error.{Error}
+use Rattle.gix_ref_transaction.specs.declared.prepare.split.SplitEdits.{SplitEdits}
+use Rattle.gix_ref_files.specs.Tree.{Tree}
+use Rattle.gix_ref_theory.specs.OnRealTrees.{view_of}
 
 -- the name that a loose file leads to
 abbrev pub name_by : List ℕ → Loose → Option (List ℕ)
@@ -102,3 +107,17 @@ IsSoundValue s kind edit = (edit.deref ≡ false → IsWellNamed s edit.name) ×
 -- an edit is an update
 abbrev pub IsUpdateValue : EditValue → Type 0
 IsUpdateValue edit = IsSome (new_in edit.change)
+
+-- One round of these edits, before which there are `first` others: what they are after it, their children, and the places of the parents of
+-- these. Each edit that is looked up may be.
+pub record IsSplitRound (honest : Type 0) (s : Store) (T : Tree) (first : ℕ) (old new : List RefEdit) (kids : SplitEdits) : Type 0 where
+  pub round : honest → IsRoundOver (name_led_to s (view_of T)) (values_of old) (values_of new) (values_of kids.edits.items)
+  pub parents : honest → kids.parents.items ≡ parents_from (name_led_to s (view_of T)) first (values_of old)
+  pub len : vec_len kids.parents ≡ vec_len kids.edits
+  pub by : IsRoundBy (values_of old) (values_of new) (values_of kids.edits.items)
+  pub can_follow : All (CanFollow s) (values_of old)
+
+-- Why a round fails: a fault of files or of memory, or the name of an edit that is looked up; and `Io` only where the count of faults rose.
+pub record IsRoundFault (s : Store) (edits : List RefEdit) (before now : ℕ) (error : Error) : Type 0 where
+  pub cause : IsIoOrMemory error ⊎ IsFirstMisnamed s (values_of edits) error
+  pub counted : IsCounted before now error

@@ -7,7 +7,7 @@ ghost use Rattle.gix_ref_files.specs.Tree.{Path};
 ghost use Rattle.gix_ref_packed.specs.OpenFiles.{HasReadFault};
 ghost use Rattle.gix_ref_lookup.specs.Lookups.{packed_refs_in};
 ghost use Rattle.gix_ref_transaction.specs.Causes.{IsFirstCause, IsLockCause, IsPackedWell, locks_of};
-ghost use Rattle.gix_ref_transaction.specs.HeldLocks.{AreHeld, AreReady, AreRemovedAgain, HoldsPackedLock, IsHeldBack, IsTakingFault, OnlyTakes};
+ghost use Rattle.gix_ref_transaction.specs.HeldLocks.{HoldAllLocks, AreReady, AreRemovedAgain, HoldsPackedLock, IsHeldBack, IsTakingFault, OnlyTakes};
 ghost use Rattle.gix_ref_transaction.specs.LeftLocks.{HasRoom};
 ghost use Rattle.gix_ref_transaction.specs.Parents.{parents_in};
 ghost use Rattle.gix_ref_transaction.specs.PrepareSteps.{setting_of, updates, all_given, ids_in, packed_ids, place_paths, places_of, own_locks, possible_locks};
@@ -82,7 +82,7 @@ fn lock_all_or_none<F: Files>(
 ) -> Result<HeldEdits, LockFailure>
     requires ready { AreReady (setting_of settings.now) settings.now.kind edits.items }
     requires room { HasRoom edits remains }
-    ensures held { IfOk result (λ held. AreHeld F.honest (ids_in edits.items ≡ packed_ids
+    ensures held { IfOk result (λ held. HoldAllLocks F.honest (ids_in edits.items ≡ packed_ids
         (setting_of settings.now) (F.means files.old).tree (updates edits.items))
         (setting_of settings.now) settings.now.kind
         (locks_of (setting_of settings.now) (updates edits.items)) (F.means files.old)
@@ -131,7 +131,7 @@ fn find_and_lock<F: Files>(
         ≡ None }
     requires ready { AreReady (setting_of settings.now) settings.now.kind edits.items }
     requires room { HasRoom edits remains }
-    ensures held { IfOk result (λ held. AreHeld F.honest (IsPackedWell settings.now.kind
+    ensures held { IfOk result (λ held. HoldAllLocks F.honest (IsPackedWell settings.now.kind
         (packed_refs_in settings.now (F.means files.old))) (setting_of settings.now)
         settings.now.kind (locks_of (setting_of settings.now) (updates edits.items))
         (F.means files.old) (F.means files.new) edits.items held.edits.items remains
@@ -172,7 +172,7 @@ pub fn lock_edits<F: Files>(
 ) -> Result<HeldLocks, LockFailure>
     requires ready { AreReady (setting_of settings.now) settings.now.kind edits.items }
     requires room { HasRoom edits remains }
-    ensures held { IfOk result (λ held. AreHeld F.honest (IsPackedWell settings.now.kind
+    ensures held { IfOk result (λ held. HoldAllLocks F.honest (IsPackedWell settings.now.kind
         (packed_refs_in settings.now (F.means files.old))) (setting_of settings.now)
         settings.now.kind (own_locks (setting_of settings.now) (F.means files.old).tree
         (updates edits.items)) (F.means files.old) (F.means files.new) edits.items

@@ -5,7 +5,6 @@ ghost use Rattle.gix_ref_name.specs.Names.{full_ref_bytes};
 ghost use Rattle.gix_ref_base.specs.PackedRecords.{Record, record_named};
 ghost use Rattle.gix_ref_files.specs.Tree.{Content};
 ghost use Rattle.gix_ref_files.specs.ReadOnly.{OnlyReads};
-ghost use Rattle.gix_ref_files.specs.Files.{Passes};
 ghost use Rattle.gix_ref_packed.specs.OpenFiles.{HasReadFault};
 ghost use Rattle.gix_ref_edits.specs.RefEdits.{name_of};
 ghost use Rattle.gix_ref_lookup.specs.Lookups.{packed_refs_in, ArePackedRecords, AreAsked, AreHonest, AreStillAsked, IsOpenedText, IsReady, IsSearched, OfKey};

@@ -9,12 +9,12 @@ ghost use Rattle.gix_ref_edits.specs.EditValues.{edit_value};
 ghost use Rattle.gix_ref_edits.specs.RefEdits.{name_of};
 ghost use Rattle.gix_ref_edits.specs.SplitLists.{child_list, looked_up, referent};
 ghost use Rattle.gix_ref_transaction.specs.Causes.{IsCounted, IsIoOrMemory, IsMisnamed};
-ghost use Rattle.gix_ref_transaction.specs.Parents.{parents_from, parents_given};
+ghost use Rattle.gix_ref_transaction.specs.Parents.{parents_given};
 ghost use Rattle.gix_ref_transaction.specs.PrepareSteps.{setting_of};
 ghost use Rattle.gix_ref_transaction.specs.SplitOutcomes.{IsNotSplit, IsSplitOf};
 ghost use Rattle.gix_ref_transaction.specs.Splits.{name_led_to, values_of, AreDirect, CanFollow, IsFirstMisnamed};
 ghost use Rattle.gix_ref_files.specs.ReadOnly.{OnlyReads};
-ghost use Rattle.gix_ref_transaction.specs.internal.SplitRounds.{name_by, led_to, led_by, after_by, children_by, child_values, parents_by, IsRoundBy, IsRoundOver};
+ghost use Rattle.gix_ref_transaction.specs.internal.SplitRounds.{name_by, led_to, led_by, after_by, children_by, child_values, parents_by, IsSplitRound, IsRoundFault};
 
 use crate::prepare::Error;
 use crate::prepare::check::check_name;
@@ -193,21 +193,11 @@ fn split_round<F: Files>(
     first: usize,
 ) -> Result<SplitEdits, Error>
     requires { first + vec_len edits.old < 2 ^ 64 }
-    ensures round { F.honest → IfOk result (λ kids. IsRoundOver
-        (name_led_to (setting_of settings.now) (view_of (F.means files.old).tree))
-        (values_of edits.old.items) (values_of edits.new.items) (values_of kids.edits.items)) }
-    ensures parents { F.honest → IfOk result (λ kids. kids.parents.items ≡ parents_from
-        (name_led_to (setting_of settings.now) (view_of (F.means files.old).tree)) first
-        (values_of edits.old.items)) }
-    ensures len { IfOk result (λ kids. vec_len kids.parents ≡ vec_len kids.edits) }
-    ensures by { IfOk result (λ kids. IsRoundBy (values_of edits.old.items)
-        (values_of edits.new.items) (values_of kids.edits.items)) }
-    ensures can_follow { OnOk result (All (CanFollow (setting_of settings.now)) (values_of
-        edits.old.items)) }
-    ensures refused { IfErr result (λ error. IsIoOrMemory error
-        ⊎ IsFirstMisnamed (setting_of settings.now) (values_of edits.old.items) error) }
+    ensures over { IfOk result (IsSplitRound F.honest (setting_of settings.now)
+        (F.means files.old).tree first edits.old.items edits.new.items) }
+    ensures refused { IfErr result (IsRoundFault (setting_of settings.now) edits.old.items
+        (F.faults files.old) (F.faults files.new)) }
     ensures reads { OnlyReads F.honest F.means F.faults files.old files.new }
-    ensures counted { IfErr result (IsCounted (F.faults files.old) (F.faults files.new)) }
 {
     let names = follow_all(alloc, files, settings, edits)?;
     let children = split_all(alloc, edits, names, first)?;

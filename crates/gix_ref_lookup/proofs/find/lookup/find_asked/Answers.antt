@@ -1,4 +1,4 @@
-use Rattle.std.proofs.Common.{◌≡◌, ◌⊎◌, inl, inr, ⊎_elim, ℕ, None, ◌∙◌}
+use Rattle.std.proofs.Common.{◌⊎◌, inl, inr, ⊎_elim, None}
 use Rattle.gix_ref_name.specs.Candidates.{candidates, remote_head}
 use Rattle.gix_ref_name.specs.Names.{partial_ref_bytes}
 use Rattle.gix_ref_theory.specs.OnRealTrees.{view_of}

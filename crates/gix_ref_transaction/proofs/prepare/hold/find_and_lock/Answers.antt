@@ -6,7 +6,7 @@ use Rattle.gix_ref_edits.specs.declared.transaction.RefEdit.{RefEdit}
 use Rattle.gix_ref_theory.specs.OnRealTrees.{view_of}
 use Rattle.gix_ref_transaction.specs.OwnLocks.{paths_of, is_in, times, AddsLocks}
 use Rattle.gix_ref_transaction.specs.Causes.{AllValid, IsFirstCause, IsPackedWell, LocksAreApart, locks_of}
-use Rattle.gix_ref_transaction.specs.HeldLocks.{AreHeld, AreRemovedAgain, IsTakingFault, OnlyTakes}
+use Rattle.gix_ref_transaction.specs.HeldLocks.{HoldAllLocks, AreRemovedAgain, IsTakingFault, OnlyTakes}
 use Rattle.gix_ref_transaction.specs.PackedCauses.{ids_among}
 use Rattle.gix_ref_transaction.specs.PrepareSteps.{setting_of, all_asked, ids_in, packed_ids, places_of, updates, AreLockable, AreSettled, AreWholeLocks}
 use Rattle.gix_ref_transaction.specs.declared.edit.Edit.{Edit}
@@ -58,7 +58,7 @@ returns-in-Ok-clause-held g c =
     ∙ ap (ids_among s good.0) (sym U)))) (same h) in
     let r = c.lock_all_or_none.result in
     let all = locks_of s (updates now) in
-    if_ok r (λ (held : HeldEdits) (is : AreHeld F.honest (ids_in now ≡ packed_ids s mid.tree (updates now)) s kind all mid last now held.edits.items c.args.remains held.remains). record {
+    if_ok r (λ (held : HeldEdits) (is : HoldAllLocks F.honest (ids_in now ≡ packed_ids s mid.tree (updates now)) s kind all mid last now held.edits.items c.args.remains held.remains). record {
       asked = is.asked ∙ asked;
       remains = is.remains;
       adds = λ h. subst (λ (u : List RefEdit). AddsLocks (locks_of s u) (locks_of s u) old.tree last.tree) U (subst (λ (T : Tree). AddsLocks all all T last.tree) (same h) (is.adds h));

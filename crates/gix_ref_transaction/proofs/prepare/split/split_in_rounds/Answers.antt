@@ -55,7 +55,7 @@ returns-in_err-children-clause-refused g c =
     rw (told.1, told.2) (record {
       cause = λ h. ⊎_elim (λ outside. inl outside)
           (λ bad. inr (inl (misnamed_on find s given n 5 (values_of c.loop-round.level.edits.items) _ lt (x.next h) (x.can_follow h) bad)))
-          c.in_err-children.ensures.refused;
+          c.in_err-children.ensures.refused.cause;
       counted = search rules;
     })
 
@@ -68,7 +68,7 @@ loop-round-preserved g c =
     let find = name_led_to s (view_of (F.means c.args.files.now).tree) in
     let given = values_of c.args.edits.items in
     let n = c.loop-round._round in
-    let here = c.in_ok-children.ensures in
+    let here = c.in_ok-children.ensures.over in
     let done = values_of c.loop-round.done.edits.items in
     let back = values_of c.loop-round.level.edits.items in
     let after = values_of c.split_round.new.edits.items in
@@ -102,7 +102,7 @@ loop-round-preserved g c =
       );
       next_len = here.len;
       can_follow = λ h. can_more find (CanFollow s) given n back (x.next h) (x.can_follow h) here.can_follow;
-      reads = reads_more F.honest F.means F.faults c.args.files.now c.loop-round.files c.split_round.new.files x.reads here.reads;
+      reads = reads_more F.honest F.means F.faults c.args.files.now c.loop-round.files c.split_round.new.files x.reads c.in_ok-children.ensures.reads;
       valid = λ valid.
           let before = x.valid valid in
           let now = now_valid s kind back before.1 here.can_follow in (
