@@ -159,8 +159,8 @@ fn walk<F: Files>(
     requires alone { paths_of found.old.items ≡ top.now ∷ [] }
     ensures walked { IsWalked dirs.now top.now (paths_of found.new.items) }
     ensures stops { F.honest → IfOk result (StopsFor dirs.now (F.means files.old).tree top.now) }
-    ensures whole { F.honest → IfOk result (λ all. all ≡ true → AreClosedFolders (F.means files.old).tree
-        (paths_of found.new.items)) }
+    ensures whole { F.honest → IfOk result (λ all. all ≡ true →
+        AreClosedFolders (F.means files.old).tree (paths_of found.new.items)) }
     ensures reads { OnlyReads F.honest F.means F.faults files.old files.new }
     ensures counted { IfErr result (IsCountedFault (F.faults files.old) (F.faults files.new)) }
 {

@@ -100,10 +100,11 @@ fn arrive<F>(
     ensures moved { OnOk result (reference.new ≡ next) }
     ensures first { OnOk result (is_one_of (full_bytes next.name) (bytes_of_names reached.old.items)
         ≡ false) }
-    ensures reached { OnOk result (bytes_of_names reached.new.items ≡ bytes_of_names reached.old.items
-        ++ full_bytes next.name ∷ []) }
+    ensures reached { OnOk result (bytes_of_names reached.new.items
+        ≡ bytes_of_names reached.old.items ++ full_bytes next.name ∷ []) }
     ensures kept { OnErr result (reference.new ≡ reference.old) }
-    ensures refused { IfErr result (IsReturn (full_bytes next.name) (bytes_of_names reached.old.items)
+    ensures refused { IfErr result (IsReturn (full_bytes next.name)
+        (bytes_of_names reached.old.items)
         ((meaning_of store.now).place (full_bytes reference.old.name))) }
 {
     if is_reached(reached, &next.name) {
@@ -141,8 +142,8 @@ fn take_step<F: Files>(
     ensures failed { IfErr result (IsNotFollowed F.honest F.means F.faults asks_records store.old
         store.new
         asked.old reference.old) }
-    ensures reached { OnOk result (bytes_of_names reached.new.items ≡ bytes_of_names reached.old.items
-        ++ full_bytes reference.new.name ∷ []) }
+    ensures reached { OnOk result (bytes_of_names reached.new.items
+        ≡ bytes_of_names reached.old.items ++ full_bytes reference.new.name ∷ []) }
     ensures kept { OnErr result (reference.new ≡ reference.old) }
     ensures asked { F.honest → OnOk result
         (AreStillAskedIn F.means store.old asked.old asked.new) }

@@ -384,7 +384,8 @@ impl Edit {
             (Some (File (lock_text (effect_value self.now.update.change self.now.effect))))) }
         ensures whole { F.honest → IsWholeAt (disk_of (F.means files.old)) (lock_of self.now.lock)
             [] → OnOk result (IsSomeWhole (disk_of (F.means files.new)) (lock_of self.now.lock)) }
-        ensures failed { IfErr result (IsFileOrMemoryFault (F.faults files.old) (F.faults files.new)) }
+        ensures failed { IfErr result
+            (IsFileOrMemoryFault (F.faults files.old) (F.faults files.new)) }
         ensures fills { OnlyFills F.honest F.means F.faults (lock_of self.now.lock) files.old
             files.new }
     {

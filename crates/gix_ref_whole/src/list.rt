@@ -36,7 +36,8 @@ fn take_next<F: Files>(
     ensures takes { IfOk result (TakesNext F.honest F.means F.faults items.old items.new
         all.old.items all.new.items) }
     ensures unchanged { LooksUp F.honest F.means (store_listed items.old) (store_listed items.new) }
-    ensures left { IfOk result (λ more. more ≡ true → items_ahead items.new < items_ahead items.old) }
+    ensures left { IfOk result
+        (λ more. more ≡ true → items_ahead items.new < items_ahead items.old) }
 {
     match items.next() {
         Some(item) => {

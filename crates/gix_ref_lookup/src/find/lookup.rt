@@ -107,9 +107,9 @@ pub fn find_asked<F: Files>(
     ensures found { F.honest → (rs : List Record) →
         AreAsked settings.entry.kind (packed_refs_in settings.entry (F.means files.old))
         records.old rs →
-        IfOk result (ReturnsHit (lookup (meaning_in settings.entry) (view_of (F.means files.old).tree)
-        rs (candidates (partial_ref_bytes name.entry)) (remote_head (partial_ref_bytes
-        name.entry)))) }
+        IfOk result (ReturnsHit (lookup (meaning_in settings.entry)
+        (view_of (F.means files.old).tree) rs (candidates (partial_ref_bytes name.entry))
+        (remote_head (partial_ref_bytes name.entry)))) }
     ensures sound { F.honest → (rs : List Record) →
         AreAsked settings.entry.kind (packed_refs_in settings.entry (F.means files.old))
         records.old rs →

@@ -142,8 +142,8 @@ impl<R: ReadAt + Drop> PackedFile<R> {
     pub fn find(&mut self, name: FullNameRef<'_>) -> Result<Option<Found>, FindError>
         ensures same { packed_file_text self.new ≡ packed_file_text self.old }
         ensures kind { packed_file_kind self.new ≡ packed_file_kind self.old }
-        ensures finds { R.honest → FindsInFile (packed_file_kind self.old) (packed_file_text self.old)
-            (full_ref_bytes name.entry) result }
+        ensures finds { R.honest → FindsInFile (packed_file_kind self.old)
+            (packed_file_text self.old) (full_ref_bytes name.entry) result }
 
         // A fault is counted where the file could not be read, and nowhere else.
         ensures no_fault { IfOk result

@@ -139,7 +139,8 @@ impl<'s, F: Files> Platform<'s, F> {
         ensures looks_up { IfOk result
             (λ it. LooksUp F.honest F.means (platform_store self.entry.now) it.store.now) }
         ensures lists { F.honest → (records : List Record) → HasRecords self.entry.now records →
-            IfOk result (IteratesListing F.honest F.means F.faults (platform_store self.entry.now) records
+            IfOk result (IteratesListing F.honest F.means F.faults
+            (platform_store self.entry.now) records
             (prefix_of_all (platform_store self.entry.now).namespace)) }
         ensures memory { IfErr result (λ error. error ≡ Memory) }
     {
@@ -167,8 +168,8 @@ impl<'s, F: Files> Platform<'s, F> {
         ensures looks_up { IfOk result
             (λ it. LooksUp F.honest F.means (platform_store self.entry.now) it.store.now) }
         ensures lists { F.honest → (records : List Record) → HasRecords self.entry.now records →
-            IfOk result (IteratesListing F.honest F.means F.faults (platform_store self.entry.now) records
-            prefix.now) }
+            IfOk result (IteratesListing F.honest F.means F.faults
+            (platform_store self.entry.now) records prefix.now) }
         ensures taken { OnOk result
             (IsAcceptedPrefix (platform_store self.entry.now).namespace prefix.now) }
         ensures refused { IfErr result (λ error. (error ≡ Memory)
@@ -258,7 +259,8 @@ impl<F: Files> Store<F> {
             (λ it. LooksUp F.honest F.means self.entry.now it.store.now) }
         ensures lists { F.honest → (records : List Record) →
             AreHeldFor self.entry.now prefix.now packed.entry records →
-            IfOk result (IteratesListing F.honest F.means F.faults self.entry.now records prefix.now) }
+            IfOk result
+            (IteratesListing F.honest F.means F.faults self.entry.now records prefix.now) }
         ensures memory { IfErr result (λ error. error ≡ Memory) }
     {
         let settings = settings!(self);
@@ -336,7 +338,8 @@ impl<F: Files> Store<F> {
             (λ it. LooksUp F.honest F.means self.entry.now it.store.now) }
         ensures lists { F.honest → (records : List Record) →
             AreHeldFor self.entry.now prefix.now packed.entry records →
-            IfOk result (IteratesListing F.honest F.means F.faults self.entry.now records prefix.now) }
+            IfOk result
+            (IteratesListing F.honest F.means F.faults self.entry.now records prefix.now) }
         ensures taken { OnOk result (IsAcceptedPrefix self.entry.now.namespace prefix.now) }
         ensures refused { IfErr result (λ error. (error ≡ Memory)
             ⊎ IsRefusedPrefix self.entry.now.namespace prefix.now error) }
@@ -356,7 +359,8 @@ impl<F: Files> Store<F> {
             (λ it. it.store.ghost_name ≡ self.entry.ghost_name) }
         ensures looks_up { IfOk result
             (λ it. LooksUp F.honest F.means self.entry.now it.store.now) }
-        ensures lists { F.honest → IfOk result (IteratesListing F.honest F.means F.faults self.entry.now []
+        ensures lists { F.honest → IfOk result
+            (IteratesListing F.honest F.means F.faults self.entry.now []
             (prefix_of_all self.entry.now.namespace)) }
         ensures memory { IfErr result (λ error. error ≡ Memory) }
     {

@@ -44,7 +44,8 @@ pub(crate) fn assure_single_names<T: EditEntry>(
     entries: &[T],
 ) -> Result<(), EditError>
     ensures single { OnOk result (NoneDoubled (entry_names T.edit_of entries.now)) }
-    ensures doubled { IfErr result (IsNameFault (IsLeastDoubled (entry_names T.edit_of entries.now))) }
+    ensures doubled { IfErr result
+        (IsNameFault (IsLeastDoubled (entry_names T.edit_of entries.now))) }
 {
     let mut names = names_of_entries(alloc, entries)?;
     names.sort_unstable();
