@@ -35,7 +35,8 @@ git_log f n = below f.git (codes "logs/" ++ (f.namespace ++ n))
 
 -- C/worktrees/w/logs/s
 abbrev pub linked_log : Layout → List ℕ → List ℕ → List ℕ
-linked_log f w s = below f.common (codes "worktrees/" ++ (w ++ 47 ∷ (codes "logs/" ++ (f.namespace ++ s))))
+linked_log f w s =
+    below f.common (codes "worktrees/" ++ (w ++ 47 ∷ (codes "logs/" ++ (f.namespace ++ s))))
 
 -- n, as a key
 abbrev pub packed_key : Layout → List ℕ → Option (List ℕ)
@@ -58,7 +59,8 @@ ref_paths place log key = record { place = place; log = log; key = key }
 -- a name below `refs/` of which each worktree has its own
 abbrev pub is_private_ref : List ℕ → Bool
 is_private_ref s =
-    starts_with nat_eq s (codes "refs/bisect/") || starts_with nat_eq s (codes "refs/rewritten/") || starts_with nat_eq s (codes "refs/worktree/")
+    starts_with nat_eq s (codes "refs/bisect/") || starts_with nat_eq s (codes "refs/rewritten/")
+    || starts_with nat_eq s (codes "refs/worktree/")
 
 -- the table, for a name `n` of the category with the short name `s`
 abbrev pub paths_in : Layout → Category → (n s : List ℕ) → RefPaths
@@ -70,7 +72,8 @@ paths_in f PseudoRef n s = ref_paths (in_git f n) (git_log f n) None
 paths_in f Bisect n s = ref_paths (in_git f n) (git_log f n) None
 paths_in f Rewritten n s = ref_paths (in_git f n) (git_log f n) None
 paths_in f WorktreePrivate n s = ref_paths (in_git f n) (git_log f n) None
-paths_in f MainRef n s = ref_paths (in_common f s) (common_log f s) (if is_private_ref s then None else packed_key f s)
+paths_in f MainRef n s = ref_paths (in_common f s) (common_log f s)
+    (if is_private_ref s then None else packed_key f s)
 paths_in f MainPseudoRef n s = ref_paths (in_common f s) (common_log f s) None
 paths_in f (LinkedPseudoRef w) n s = ref_paths (in_common f n) (linked_log f w.now s) None
 paths_in f (LinkedRef w) n s =
@@ -83,7 +86,8 @@ paths_of_others f n = ref_paths (in_common f n) (common_log f n) (packed_key f n
 
 -- the paths that the table gives a name
 abbrev pub HasPaths : Layout → List ℕ → RefPaths → Type 0
-HasPaths f n r = ((c : Category) × (s : List ℕ) × HasCategory n c s × (r ≡ paths_in f c n s)) ⊎ (NoCategory n × (r ≡ paths_of_others f n))
+HasPaths f n r = ((c : Category) × (s : List ℕ) × HasCategory n c s × (r ≡ paths_in f c n s))
+    ⊎ (NoCategory n × (r ≡ paths_of_others f n))
 
 -- a safe name begins with `refs/` or has a category: no other may be the name of a reference
 abbrev pub IsSafe : List ℕ → Type 0
@@ -108,4 +112,5 @@ AreCompatible git common =
 
 -- and a namespace begins with `refs/namespaces/`
 abbrev pub IsLayout : Layout → Type 0
-IsLayout f = AreCompatible f.git f.common × ((f.namespace ≡ []) ⊎ BeginsWith f.namespace (codes "refs/namespaces/"))
+IsLayout f = AreCompatible f.git f.common
+    × ((f.namespace ≡ []) ⊎ BeginsWith f.namespace (codes "refs/namespaces/"))

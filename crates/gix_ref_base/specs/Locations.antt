@@ -21,13 +21,15 @@ rest_after (x ∷ front) (y ∷ name) = if x == y then rest_after front name els
 -- what is before the first slash, and what after it
 abbrev pub cut_at_slash : List ℕ → Option (List ℕ × List ℕ)
 cut_at_slash [] = None
-cut_at_slash (x ∷ name) = if x == 47 then Some ([], name) else option_map (λ parts. (x ∷ parts.0, parts.1)) (cut_at_slash name)
+cut_at_slash (x ∷ name) = if x == 47 then Some ([], name)
+    else option_map (λ parts. (x ∷ parts.0, parts.1)) (cut_at_slash name)
 
 -- the location of a pseudo name or a name below `refs/`; `private` is its location if it is private
 abbrev pub location_by : (List ℕ → Location) → List ℕ → Option Location
 location_by private name =
     if list_all is_pseudo_byte name then Some (private name)
-    else if is_some (rest_after (codes "refs/") name) then (if is_private_ref name then Some (private name) else Some (Common name))
+    else if is_some (rest_after (codes "refs/") name)
+    then (if is_private_ref name then Some (private name) else Some (Common name))
     else None
 
 -- behind `worktrees/`: the worktree's name and the short name
@@ -63,7 +65,8 @@ abbrev pub row_of : Layout → Location → RefPaths
 row_of f (Common n) = ref_paths (in_common f n) (common_log f n) (packed_key f n)
 row_of f (ThisWorktree n) = ref_paths (in_git f n) (git_log f n) None
 row_of f (MainWorktree s) = ref_paths (in_common f s) (common_log f s) None
-row_of f (LinkedWorktree w s) = ref_paths (in_common f (codes "worktrees/" ++ (w ++ 47 ∷ s))) (linked_log f w s) None
+row_of f (LinkedWorktree w s) = ref_paths (in_common f (codes "worktrees/" ++ (w ++ 47 ∷ s)))
+    (linked_log f w s) None
 
 -- the row of any name
 abbrev pub paths_at : Layout → List ℕ → RefPaths

@@ -14,7 +14,8 @@ use Rattle.gix_ref_base.specs.Targets.TargetValue.{object_id, symbolic_name}
 
 -- by the category, and then by the name of the linked worktree
 abbrev pub category_cmp : Category → Category → Ordering
-category_cmp a b = ordering_then (nat_cmp (code_of a) (code_of b)) (slice_cmp nat_cmp (worktree_of a) (worktree_of b))
+category_cmp a b = ordering_then (nat_cmp (code_of a) (code_of b))
+    (slice_cmp nat_cmp (worktree_of a) (worktree_of b))
 
 -- the place of a kind among the kinds
 abbrev pub target_kind_rank : Kind → ℕ

@@ -73,8 +73,7 @@ fn location_in<'a>(category: Category<'a>, name: &'a [u8], short: &'a [u8]) -> L
 pub fn location_of(name: FullNameRef<'_>) -> Option<Location<'_>>
     ensures { MatchOption result (is_safe (full_ref_bytes name.entry) ≡ false)
         (λ at. (is_safe (full_ref_bytes name.entry) ≡ true)
-        × ((f : Layout) → paths_at f (full_ref_bytes name.entry)
-        ≡ row_of f (location_value at))) }
+        × ((f : Layout) → paths_at f (full_ref_bytes name.entry) ≡ row_of f (location_value at))) }
 {
     if let Some((category, short)) = name.category_and_short_name() {
         return Some(location_in(category, name.to_path(), short));
@@ -109,8 +108,7 @@ fn is_elsewhere(name: &[u8]) -> bool
 /// Whether some bytes of a name show that all worktrees share its reference under the same name: so they do for most
 /// names, and then no category need be looked for.
 fn is_shared(name: &[u8]) -> bool
-    ensures { OnTrue result ((f : Layout) →
-        paths_at f name.now ≡ row_of f (CommonName name.now)) }
+    ensures { OnTrue result ((f : Layout) → paths_at f name.now ≡ row_of f (CommonName name.now)) }
 {
     match strip_front(name, b"refs/") {
         Some(rest) => is_shared_below_refs(rest),
@@ -233,8 +231,8 @@ impl<'a> RefLayout<'a> {
     /// layout.loose(alloc, FullNameRef::try_from("refs/heads/x")?)? // /r/refs/heads/x
     /// ```
     pub fn loose(self, alloc: Global, name: FullNameRef<'_>) -> Result<Vec<u8>, AllocError>
-        ensures { IfOk result (λ path.
-            path.items ≡ (paths_at (layout_of self.entry) (full_ref_bytes name.entry)).place) }
+        ensures { IfOk result (λ path. path.items
+            ≡ (paths_at (layout_of self.entry) (full_ref_bytes name.entry)).place) }
     {
         self.loose_in(alloc, location_or_common(name))
     }
@@ -246,8 +244,8 @@ impl<'a> RefLayout<'a> {
     /// layout.log(alloc, FullNameRef::try_from("HEAD")?)? // /r/logs/HEAD
     /// ```
     pub fn log(self, alloc: Global, name: FullNameRef<'_>) -> Result<Vec<u8>, AllocError>
-        ensures { IfOk result (λ path.
-            path.items ≡ (paths_at (layout_of self.entry) (full_ref_bytes name.entry)).log) }
+        ensures { IfOk result (λ path. path.items
+            ≡ (paths_at (layout_of self.entry) (full_ref_bytes name.entry)).log) }
     {
         self.log_in(alloc, location_or_common(name))
     }
@@ -260,9 +258,8 @@ impl<'a> RefLayout<'a> {
         alloc: Global,
         name: FullNameRef<'_>,
     ) -> Result<Option<Vec<u8>>, AllocError>
-        ensures { IfOk result (λ key.
-            option_map vec_items key ≡ (paths_at (layout_of self.entry) (full_ref_bytes
-            name.entry)).key) }
+        ensures { IfOk result (λ key. option_map vec_items key
+            ≡ (paths_at (layout_of self.entry) (full_ref_bytes name.entry)).key) }
     {
         self.key_in(alloc, location_or_common(name))
     }
@@ -283,8 +280,8 @@ impl<'a> RefLayout<'a> {
 
     /// The path of the loose file of a location.
     fn loose_in(self, alloc: Global, location: Location<'_>) -> Result<Vec<u8>, AllocError>
-        ensures { IfOk result (λ path.
-            path.items ≡ (row_of (layout_of self.entry) (location_value location.entry)).place) }
+        ensures { IfOk result (λ path. path.items
+            ≡ (row_of (layout_of self.entry) (location_value location.entry)).place) }
     {
         match location {
             Location::Common(name) | Location::MainWorktree(name) => {
@@ -300,8 +297,8 @@ impl<'a> RefLayout<'a> {
 
     /// The path of the log of a location.
     fn log_in(self, alloc: Global, location: Location<'_>) -> Result<Vec<u8>, AllocError>
-        ensures { IfOk result (λ path.
-            path.items ≡ (row_of (layout_of self.entry) (location_value location.entry)).log) }
+        ensures { IfOk result (λ path. path.items
+            ≡ (row_of (layout_of self.entry) (location_value location.entry)).log) }
     {
         match location {
             Location::Common(name) | Location::MainWorktree(name) => {
@@ -319,9 +316,8 @@ impl<'a> RefLayout<'a> {
 
     /// The key of a location.
     fn key_in(self, alloc: Global, location: Location<'_>) -> Result<Option<Vec<u8>>, AllocError>
-        ensures { IfOk result (λ key.
-            option_map vec_items key ≡ (row_of (layout_of self.entry) (location_value
-            location.entry)).key) }
+        ensures { IfOk result (λ key. option_map vec_items key
+            ≡ (row_of (layout_of self.entry) (location_value location.entry)).key) }
     {
         match location {
             Location::Common(name) => Ok(Some(concatenated(alloc, self.namespace, name)?)),

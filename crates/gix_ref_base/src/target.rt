@@ -68,8 +68,8 @@ impl Target {
     /// the rest is not a valid partial name (`git help gitnamespaces`). As gix-ref's `Reference::strip_namespace` does
     /// with the target.
     pub fn strip_namespace(&mut self, namespace: &Namespace)
-        ensures { target_value self.new
-            ≡ stripped_target (namespace_bytes namespace.now) (target_value self.old) }
+        ensures { target_value self.new ≡ stripped_target (namespace_bytes namespace.now)
+            (target_value self.old) }
     {
         match self {
             Target::Symbolic(name) => name.strip_namespace(namespace),

@@ -36,8 +36,8 @@ pub fn namespaced_path(
     namespace: &Namespace,
     name: FullNameRef<'_>,
 ) -> Result<Vec<u8>, AllocError>
-    ensures path { IfOk result (λ path.
-        path.items ≡ namespace_bytes namespace.now ++ full_ref_bytes name.entry) }
+    ensures path { IfOk result (λ path. path.items
+        ≡ namespace_bytes namespace.now ++ full_ref_bytes name.entry) }
     ensures valid { IfOk result (λ path. IsPartialName path.items) }
 {
     let mut path = Vec::from_slice(alloc, namespace.to_path())?;
@@ -47,8 +47,8 @@ pub fn namespaced_path(
 
 /// All that a partial name may be short for, in the order of a lookup.
 pub fn candidates_of(alloc: Global, name: PartialNameRef<'_>) -> Result<Vec<FullName>, AllocError>
-    ensures { IfOk result
-        (λ found. map full_bytes found.items ≡ candidates (partial_ref_bytes name.entry)) }
+    ensures { IfOk result (λ found. map full_bytes found.items
+        ≡ candidates (partial_ref_bytes name.entry)) }
 {
     let mut found = Vec::new(alloc);
     for front in fronts_of(name) {

@@ -44,7 +44,8 @@ IsOfStore dirs path = (path ≡ dirs.git_dir.items) ⊎ (path ≡ common_of dirs
 
 -- more than empty folders is in a folder: a file, or a folder of the store
 abbrev pub HoldsMore : Dirs → Tree → (folder : Path) → Type 0
-HoldsMore dirs T folder = (path : Path) × IsAtOrBelow folder path × ((is_file (T path) ≡ true) ⊎ IsOfStore dirs path)
+HoldsMore dirs T folder = (path : Path) × IsAtOrBelow folder path
+    × ((is_file (T path) ≡ true) ⊎ IsOfStore dirs path)
 
 -- the path at which a step writes a file: a log, a loose file, or `packed-refs`
 abbrev pub written_at : Step → Option Path
@@ -62,7 +63,8 @@ is_seen edits other = false
 -- nothing is in a folder but folders, which are among these
 abbrev pub HoldsOnly : Tree → (folders : List Path) → (folder : Path) → Type 0
 HoldsOnly T folders folder =
-    is_folder (T folder) ≡ true → (name : List ℕ) → IsEntryName name → IsSome (T (folder ++ 47 ∷ name)) →
+    is_folder (T folder) ≡ true → (name : List ℕ) → IsEntryName name →
+    IsSome (T (folder ++ 47 ∷ name)) →
     (is_folder (T (folder ++ 47 ∷ name)) ≡ true) × IsIn (folder ++ 47 ∷ name) folders
 
 -- The folder at a path and all that are below it, where nothing else is.
@@ -78,17 +80,20 @@ pub record AreAllFolders (T : Tree) (path : Path) (folders : List Path) : Type 0
 abbrev pub HasEntries : Tree → (path : Path) → Type 0
 HasEntries T path =
     (rest : List ℕ) → IsSome (T (path ++ 47 ∷ rest)) →
-    (folder : Path) × (name : List ℕ) × (path ++ 47 ∷ rest ≡ folder ++ 47 ∷ name) × IsEntryName name × (is_folder (T folder) ≡ true)
+    (folder : Path) × (name : List ℕ) × (path ++ 47 ∷ rest ≡ folder ++ 47 ∷ name) × IsEntryName name
+    × (is_folder (T folder) ≡ true)
 
 -- What is removed before a file is written at a path, where it was seen that no folder is there, or not.
-pub record AreInWay (dirs : Dirs) (T : Tree) (seen : Bool) (path : Path) (folders : List Path) : Type 0 where
+pub record AreInWay (dirs : Dirs) (T : Tree) (seen : Bool) (path : Path)
+    (folders : List Path) : Type 0 where
   -- nothing but the folder there, and folders in it
   pub inside : All (IsAtOrBelow path) folders
   -- and no folder of the store, or above it
   pub outside : All (λ f. IsIn f (roots_of dirs) → ⊥) folders
   -- Either nothing is removed, and a folder there holds more than empty folders, unless it was seen that none is there: then none is
   -- sought. Or the folder there is removed, and all that are below it.
-  pub none_or_all : ((folders ≡ []) × (seen ≡ false → is_folder (T path) ≡ true → HoldsMore dirs T path)) ⊎ AreAllFolders T path folders
+  pub none_or_all : ((folders ≡ []) × (seen ≡ false → is_folder (T path) ≡ true →
+      HoldsMore dirs T path)) ⊎ AreAllFolders T path folders
 
 -- and so for a step, which may write no file
 abbrev pub AreInWayOf : Dirs → Tree → (seen : Bool) → Option Path → List Path → Type 0
@@ -100,7 +105,8 @@ abbrev pub AllInWay : List Edit → Dirs → Tree → List (List Path) → List 
 AllInWay edits dirs T [] [] = Unit {0}
 AllInWay edits dirs T [] (e ∷ plan) = ⊥
 AllInWay edits dirs T (fs ∷ folders) [] = ⊥
-AllInWay edits dirs T (fs ∷ folders) (e ∷ plan) = AreInWayOf dirs T (is_seen edits e.1) (written_at (bare e.0)) fs × AllInWay edits dirs T folders plan
+AllInWay edits dirs T (fs ∷ folders) (e ∷ plan) = AreInWayOf dirs T (is_seen edits e.1)
+    (written_at (bare e.0)) fs × AllInWay edits dirs T folders plan
 
 -- folders that are removed before a step, about which they are
 abbrev pub removals : About → List Path → List Entry
@@ -122,7 +128,8 @@ folder_lists ways = map (λ (way : InWay). paths_of way.folders.items) ways
 
 -- the steps of a commit, each behind the removals of the folders that are in its way
 abbrev pub commit_entries : Dirs → List Edit → Option Path → Rewrite → List InWay → List Entry
-commit_entries dirs edits packed rewrite ways = cleared (folder_lists ways) (planned_entries dirs edits packed rewrite)
+commit_entries dirs edits packed rewrite ways =
+    cleared (folder_lists ways) (planned_entries dirs edits packed rewrite)
 
 -- the log that is removed, and the loose file
 abbrev pub removed_log : LogEffect → List Path
@@ -152,7 +159,8 @@ first_component (c ∷ rest) = if c == 47 then 0 else suc (first_component rest)
 abbrev pub kept_below : (root : ℕ) → (path : Path) → (rest : List ℕ) → ℕ
 kept_below root path rest =
     if starts_with nat_eq rest (codes "/logs/") then root + 5
-    else if starts_with nat_eq rest (codes "/refs/") then root + (6 + first_component (drop 6 rest)) else length path
+    else if starts_with nat_eq rest (codes "/refs/") then root + (6 + first_component (drop 6 rest))
+    else length path
 
 abbrev pub kept_of : Dirs → Path → ℕ
 kept_of dirs path = kept_below (root_in dirs path) path (drop (root_in dirs path) path)
@@ -160,19 +168,23 @@ kept_of dirs path = kept_below (root_in dirs path) path (drop (root_in dirs path
 -- It is a folder above one of these paths, below the one that stays.
 abbrev pub IsAbove : Dirs → (paths : List Path) → Path → Type 0
 IsAbove dirs [] q = ⊥
-IsAbove dirs (path ∷ paths) q = ((rest : List ℕ) × (path ≡ q ++ 47 ∷ rest) × (kept_of dirs path < length q)) ⊎ IsAbove dirs paths q
+IsAbove dirs (path ∷ paths) q = ((rest : List ℕ) × (path ≡ q ++ 47 ∷ rest)
+    × (kept_of dirs path < length q)) ⊎ IsAbove dirs paths q
 
 -- Nothing has changed but that folders above these paths are gone, and none of the folders of the store.
 abbrev pub FoldersGo : Dirs → (paths : List Path) → (before T : Tree) → Type 0
 FoldersGo dirs paths before T =
-    (q : Path) → (T q ≡ before q) ⊎ ((before q ≡ Some Folder) × (T q ≡ None) × IsAbove dirs paths q × (IsIn q (roots_of dirs) → ⊥))
+    (q : Path) → (T q ≡ before q) ⊎ ((before q ≡ Some Folder) × (T q ≡ None) × IsAbove dirs paths q
+    × (IsIn q (roots_of dirs) → ⊥))
 
 -- All that was done is that such folders were removed: a disk that was as the one at the beginning, but for own locks, stays so.
 abbrev pub OnlyFolders : Dirs → (old new : Meaning) → Type 0
 OnlyFolders dirs old new =
-    (locked staying : List Path) (first : Disk) → ((q : Path) → IsIn q staying → IsIn q (roots_of dirs)) →
+    (locked staying : List Path) (first : Disk) →
+    ((q : Path) → IsIn q staying → IsIn q (roots_of dirs)) →
     IsAsBefore locked staying first (disk_of old) → Passes old new (IsAsBefore locked staying first)
 
 -- Each loss of power on the disk E leaves the files that one on the disk D leaves.
 abbrev pub LosesNoMore : (D E : Disk) → Type 0
-LosesNoMore D E = (T : Tree) → Lost E T → (U : Tree) × Lost D U × ((q : Path) → view_of T q ≡ view_of U q)
+LosesNoMore D E = (T : Tree) → Lost E T → (U : Tree)
+    × Lost D U × ((q : Path) → view_of T q ≡ view_of U q)

@@ -13,11 +13,14 @@ use Rattle.gix_ref_commit.specs.LogEffects.{with_lines}
 
 -- In T every reference reads as before or as edited, and every file is as before or as the commit makes it, but for the locks of a
 -- transaction that began with the tree `before`.
-abbrev pub IsOldOrNew : Store → List RefEdit → (lines : List (Option (List ℕ))) → (before T : Tree) → Type 0
-IsOldOrNew s edits lines before T = IsOldOrNewTree s DeletionsOnly (own_places s before edits) (with_lines edits lines) before T
+abbrev pub IsOldOrNew : Store → List RefEdit → (lines : List (Option (List ℕ))) →
+    (before T : Tree) → Type 0
+IsOldOrNew s edits lines before T = IsOldOrNewTree s DeletionsOnly (own_places s before edits)
+    (with_lines edits lines) before T
 
 -- From the tree `before` the locks were taken, the edits are committed in T, but for these locks that stay.
-abbrev pub AreCommitted : Store → List RefEdit → (lines : List (Option (List ℕ))) → (before : Tree) (left : List Path) → Tree → Type 0
+abbrev pub AreCommitted : Store → List RefEdit → (lines : List (Option (List ℕ))) →
+    (before : Tree) (left : List Path) → Tree → Type 0
 AreCommitted s edits lines before left T =
     (staying : List Path) → ((q : Path) → is_in left q ≡ true → IsOwnLock staying q) →
     IsCommitted s DeletionsOnly staying (with_lines edits lines) (view_of before) (view_of T)

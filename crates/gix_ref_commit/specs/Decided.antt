@@ -35,32 +35,45 @@ abbrev pub IsPackedLockEmpty : Option Path → Tree → Type 0
 IsPackedLockEmpty packed T = AreEmpty T (map lock_of (packed_places packed))
 
 -- What becomes of `packed-refs` by these edits, where its lock is held at this place.
-pub record DecidesPacked (honest : Type 0) (settings : Settings) (packed : Option Path) (edits : List Edit) (old new : Meaning) (rewrite : Rewrite) : Type 0 where
+pub record DecidesPacked (honest : Type 0) (settings : Settings) (packed : Option Path)
+    (edits : List Edit) (old new : Meaning) (rewrite : Rewrite) : Type 0 where
   -- a well-formed one becomes that without the records of deleted references, where no two edits have one place
   pub repacked :
-      honest → AreEdits (setting_of settings) (planned (updates edits)) → (rs : List Record) → ArePackedRecords settings.kind (packed_refs_in settings old) rs →
-      ids_in edits ≡ ids_among (setting_of settings) rs (updates edits) → packed ≢ None → IsRepack (setting_of settings) settings.kind rs (planned (updates edits)) rewrite
+      honest → AreEdits (setting_of settings) (planned (updates edits)) → (rs : List Record) →
+      ArePackedRecords settings.kind (packed_refs_in settings old) rs →
+      ids_in edits ≡ ids_among (setting_of settings) rs (updates edits) → packed ≢ None →
+      IsRepack (setting_of settings) settings.kind rs (planned (updates edits)) rewrite
   -- of any, each line is a record where an edit removes a record
-  pub whole : honest → packed ≢ None → list_any removes_record edits ≡ true → IsReadFile settings.kind (old.tree (setting_of settings).packed_path)
+  pub whole : honest → packed ≢ None → list_any removes_record edits ≡ true →
+      IsReadFile settings.kind (old.tree (setting_of settings).packed_path)
   -- a new text is in its lock, and no other file has changed
-  pub filled : honest → IsPackedLockEmpty packed old.tree → IsFilled packed rewrite old.tree new.tree
+  pub filled : honest → IsPackedLockEmpty packed old.tree →
+      IsFilled packed rewrite old.tree new.tree
   -- each lock whose text was synced has a synced one still, that of `packed-refs` too
-  pub wholes : honest → IsPackedLockEmpty packed old.tree → (locks : List Path) → AreWholeLocks (disk_of old) locks → AreWholeLocks (disk_of new) locks
+  pub wholes : honest → IsPackedLockEmpty packed old.tree → (locks : List Path) →
+      AreWholeLocks (disk_of old) locks → AreWholeLocks (disk_of new) locks
 
 -- Why it could not be decided, where the count of faults was `before` and is `now`.
-pub record LeavesUndecided (honest : Type 0) (settings : Settings) (edits : List Edit) (old : Meaning) (before now : ℕ) (error : Error) : Type 0 where
+pub record LeavesUndecided (honest : Type 0) (settings : Settings) (edits : List Edit)
+    (old : Meaning) (before now : ℕ) (error : Error) : Type 0 where
   -- of a well-formed one only a fault of files, or want of memory, where no two edits have one place
-  pub sound : honest → AreEdits (setting_of settings) (planned (updates edits)) → (rs : List Record) → ArePackedRecords settings.kind (packed_refs_in settings old) rs → IsRepackFault error
+  pub sound : honest → AreEdits (setting_of settings) (planned (updates edits)) →
+      (rs : List Record) → ArePackedRecords settings.kind (packed_refs_in settings old) rs →
+      IsRepackFault error
   -- of any, a line that is reported is no record
-  pub refused : honest → IsRefusedRewrite settings.kind (old.tree (setting_of settings).packed_path) error
+  pub refused : honest → IsRefusedRewrite settings.kind
+      (old.tree (setting_of settings).packed_path) error
   -- a fault of files was counted
   pub counted : IsCountedRefusal before now error
 
 -- Nothing is written but the lock of `packed-refs`, where that was empty.
-pub record OnlyFillsPacked {F : Type 0} (honest : Type 0) (means : F → Meaning) (faults : F → ℕ) (packed : Option Path) (old new : F) : Type 0 where
+pub record OnlyFillsPacked {F : Type 0} (honest : Type 0) (means : F → Meaning) (faults : F → ℕ)
+    (packed : Option Path) (old new : F) : Type 0 where
   -- every stop leaves the tree as it was, but for some text in that lock
-  pub leaves : honest → IsPackedLockEmpty packed (means old).tree → Leaves (means old) (means new) (FillsPacked packed (means old).tree)
+  pub leaves : honest → IsPackedLockEmpty packed (means old).tree →
+      Leaves (means old) (means new) (FillsPacked packed (means old).tree)
   -- every disk that is found is as it was, but for that lock
-  pub passes : honest → IsPackedLockEmpty packed (means old).tree → OnlyLocks (map lock_of (packed_places packed)) (means old) (means new)
+  pub passes : honest → IsPackedLockEmpty packed (means old).tree →
+      OnlyLocks (map lock_of (packed_places packed)) (means old) (means new)
   -- no fault is forgotten
   pub no_fewer : faults old ≤ faults new

@@ -47,7 +47,8 @@ syncs_at dirs path = climb path (root_in dirs path)
 
 -- the folders that lead to a log, which are made before a line is added to it
 abbrev pub folders_for : ℕ → LogEffect → List Entry
-folders_for at (logs.Append log line) = (With (MakeFolders (folder_of log.items)) [], about.Folders at) ∷ []
+folders_for at (logs.Append log line) =
+    (With (MakeFolders (folder_of log.items)) [], about.Folders at) ∷ []
 folders_for at logs.Keep = []
 folders_for at (logs.Remove log) = []
 
@@ -57,7 +58,11 @@ folders_entry at e = if is_file_seen e.log_seen then [] else folders_for at e.lo
 
 -- the line of a log
 abbrev pub line_for : Dirs → ℕ → LogEffect → List Entry
-line_for dirs at (logs.Append log line) = (With (Line log.items line.items) (OfFile log.items ∷ syncs_at dirs log.items), about.Line at) ∷ []
+line_for dirs at (logs.Append log line) = (
+  With (Line log.items line.items)
+      (OfFile log.items ∷ syncs_at dirs log.items),
+  about.Line at,
+) ∷ []
 line_for dirs at logs.Keep = []
 line_for dirs at (logs.Remove log) = []
 
@@ -66,7 +71,8 @@ line_entry dirs at e = line_for dirs at e.log
 
 -- the rename of the lock of a place
 abbrev pub rename_for : Dirs → ℕ → Path → Effect → List Entry
-rename_for dirs at place effects.Write = (With (Rename (lock_of place) place) (syncs_at dirs place), about.Rename at) ∷ []
+rename_for dirs at place effects.Write =
+    (With (Rename (lock_of place) place) (syncs_at dirs place), about.Rename at) ∷ []
 rename_for dirs at place effects.Remove = []
 rename_for dirs at place effects.Keep = []
 
@@ -75,7 +81,8 @@ rename_entry dirs at e = rename_for dirs at e.lock e.effect
 
 -- the removal of a log
 abbrev pub log_removal_for : Dirs → ℕ → LogEffect → List Entry
-log_removal_for dirs at (logs.Remove log) = (With (RemoveFile log.items) (syncs_at dirs log.items), about.LogRemoval at) ∷ []
+log_removal_for dirs at (logs.Remove log) =
+    (With (RemoveFile log.items) (syncs_at dirs log.items), about.LogRemoval at) ∷ []
 log_removal_for dirs at logs.Keep = []
 log_removal_for dirs at (logs.Append log line) = []
 
@@ -84,7 +91,8 @@ log_removal_entry dirs at e = log_removal_for dirs at e.log
 
 -- the removal of the loose file at a place
 abbrev pub removal_for : Dirs → ℕ → Path → Effect → List Entry
-removal_for dirs at place effects.Remove = (With (RemoveFile place) (syncs_at dirs place), about.Removal at) ∷ []
+removal_for dirs at place effects.Remove =
+    (With (RemoveFile place) (syncs_at dirs place), about.Removal at) ∷ []
 removal_for dirs at place effects.Write = []
 removal_for dirs at place effects.Keep = []
 
@@ -95,7 +103,8 @@ removal_entry dirs at e = removal_for dirs at e.lock e.effect
 abbrev pub packed_entry : Dirs → Path → Rewrite → List Entry
 packed_entry dirs path Unchanged = []
 packed_entry dirs path Removed = (With (RemoveFile path) (syncs_at dirs path), about.Packed) ∷ []
-packed_entry dirs path (Text text) = (With (Rename (lock_of path) path) (syncs_at dirs path), about.Packed) ∷ []
+packed_entry dirs path (Text text) =
+    (With (Rename (lock_of path) path) (syncs_at dirs path), about.Packed) ∷ []
 
 -- where its lock is held
 abbrev pub packed_entries : Dirs → Option Path → Rewrite → List Entry
@@ -114,7 +123,8 @@ update_entries dirs at e = folders_entry at e ++ (line_entry dirs at e ++ rename
 -- all of them, in their order
 abbrev pub planned_entries : Dirs → List Edit → Option Path → Rewrite → List Entry
 planned_entries dirs edits packed rewrite =
-    each (update_entries dirs) 0 edits ++ (each (log_removal_entry dirs) 0 edits ++ (packed_entries dirs packed rewrite ++ each (removal_entry dirs) 0 edits))
+    each (update_entries dirs) 0 edits ++ (each (log_removal_entry dirs) 0 edits
+    ++ (packed_entries dirs packed rewrite ++ each (removal_entry dirs) 0 edits))
 
 -- the steps of entries, with their syncs
 abbrev pub steps_in : List Entry → List Synced

@@ -39,17 +39,21 @@ AllOfEdits n (Step about cause) = IsOfEdit n about
 
 -- the error of a line that is not added to this log: a call of files failed where its folders were made, or where it was added
 abbrev pub SaysLogFault : About → (log : Path) → FileError → LogError → Type 0
-SaysLogFault (Folders at) log fault (CreateLeadingDirectories (Some source) folder) = (source ≡ fault) × (folder.items ≡ folder_of log)
+SaysLogFault (Folders at) log fault (CreateLeadingDirectories (Some source) folder) =
+    (source ≡ fault) × (folder.items ≡ folder_of log)
 SaysLogFault (Line at) log fault (Append source path) = (source ≡ fault) × (path.items ≡ log)
 SaysLogFault about log fault error = ⊥
 
 -- the error of a step at which a call of files failed with this fault
 abbrev pub SaysFault : List RefEdit → (log : Path) → About → FileError → Error → Type 0
 SaysFault edits log about fault (CreateOrUpdateRefLog error) = SaysLogFault about log fault error
-SaysFault edits log (Rename at) fault (LockCommit source name) = (source ≡ fault) × IsNameAt edits at name
-SaysFault edits log (LogRemoval at) fault (DeleteReflog name source) = (source ≡ fault) × IsNameAt edits at name
+SaysFault edits log (Rename at) fault (LockCommit source name) = (source ≡ fault)
+    × IsNameAt edits at name
+SaysFault edits log (LogRemoval at) fault (DeleteReflog name source) = (source ≡ fault)
+    × IsNameAt edits at name
 SaysFault edits log Packed fault (PackedTransactionCommit error) = error ≡ repack.Io fault
-SaysFault edits log (Removal at) fault (DeleteReference name source) = (source ≡ fault) × IsNameAt edits at name
+SaysFault edits log (Removal at) fault (DeleteReference name source) = (source ≡ fault)
+    × IsNameAt edits at name
 SaysFault edits log about fault error = ⊥
 
 -- the path that is reported where a step found something in its way
@@ -70,16 +74,20 @@ SaysFile log error = ⊥
 abbrev pub SaysInWay : (place log packed : Path) → About → Error → Type 0
 SaysInWay place log packed (Folders at) (CreateOrUpdateRefLog error) = SaysFile log error
 SaysInWay place log packed (Folders at) error = ⊥
-SaysInWay place log packed about (FolderInPlace path) = path.items ≡ path_reported place log packed about
+SaysInWay place log packed about (FolderInPlace path) = path.items
+    ≡ path_reported place log packed about
 SaysInWay place log packed about error = ⊥
 
 -- the error of a commit whose plan was not run to its end
 abbrev pub SaysWhy : List RefEdit → (place log packed : Path) → Unfinished → Error → Type 0
 SaysWhy edits place log packed no_memory Memory = Unit {0}
 SaysWhy edits place log packed no_memory error = ⊥
-SaysWhy edits place log packed (Step about (File fault)) error = SaysFault edits log about fault error
-SaysWhy edits place log packed (Step about (Sync fault)) error = SaysFault edits log about fault error
-SaysWhy edits place log packed (Step about Unexpected) error = SaysInWay place log packed about error
+SaysWhy edits place log packed (Step about (File fault)) error =
+    SaysFault edits log about fault error
+SaysWhy edits place log packed (Step about (Sync fault)) error =
+    SaysFault edits log about fault error
+SaysWhy edits place log packed (Step about Unexpected) error =
+    SaysInWay place log packed about error
 SaysWhy edits place log packed (Step about Asked) error = SaysInWay place log packed about error
 
 -- the error of a commit that could not decide its log lines
@@ -108,8 +116,10 @@ AllWrite edits (Step about cause) = IsWriteOf edits about
 
 -- The error of a write, in whose way a folder could not be listed.
 abbrev pub SaysUnlisted : List Edit → About → FileError → Error → Type 0
-SaysUnlisted edits (Line at) fault (CreateOrUpdateRefLog (Append source path)) = (source ≡ fault) × (path.items ≡ path_in (log_at edits at))
-SaysUnlisted edits (Rename at) fault (LockCommit source name) = (source ≡ fault) × IsNameAt (updates edits) at name
+SaysUnlisted edits (Line at) fault (CreateOrUpdateRefLog (Append source path)) = (source ≡ fault)
+    × (path.items ≡ path_in (log_at edits at))
+SaysUnlisted edits (Rename at) fault (LockCommit source name) = (source ≡ fault)
+    × IsNameAt (updates edits) at name
 SaysUnlisted edits Packed fault (PackedTransactionCommit error) = error ≡ repack.Io fault
 SaysUnlisted edits about fault error = ⊥
 
@@ -128,7 +138,10 @@ IsFileFault before now fault = HasRisen before now × (fault ≢ no_want)
 abbrev pub IsOfListing : List Edit → (before now : ℕ) → Error → Type 0
 IsOfListing edits before now Memory = Unit {0}
 IsOfListing edits before now (CreateOrUpdateRefLog (Append source path)) =
-    IsFileFault before now source × ((at : ℕ) × (at < length edits) × (line_in (log_at edits at) ≢ None) × (path.items ≡ path_in (log_at edits at)))
-IsOfListing edits before now (LockCommit source name) = IsFileFault before now source × ((at : ℕ) × (at < length edits) × IsNameAt (updates edits) at name)
-IsOfListing edits before now (PackedTransactionCommit (repack.Io source)) = IsFileFault before now source
+    IsFileFault before now source × ((at : ℕ) × (at < length edits)
+    × (line_in (log_at edits at) ≢ None) × (path.items ≡ path_in (log_at edits at)))
+IsOfListing edits before now (LockCommit source name) = IsFileFault before now source
+    × ((at : ℕ) × (at < length edits) × IsNameAt (updates edits) at name)
+IsOfListing edits before now (PackedTransactionCommit (repack.Io source)) =
+    IsFileFault before now source
 IsOfListing edits before now other = ⊥

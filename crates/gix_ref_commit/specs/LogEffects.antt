@@ -24,7 +24,8 @@ abbrev pub AreLogsOf : Store → List RefEdit → List Edit → Type 0
 AreLogsOf s [] [] = Unit {0}
 AreLogsOf s [] (p ∷ ran) = ⊥
 AreLogsOf s (e ∷ edits) [] = ⊥
-AreLogsOf s (e ∷ edits) (p ∷ ran) = IsLogOf (s.log (name_of e)) (change_of e.change) p.log × AreLogsOf s edits ran
+AreLogsOf s (e ∷ edits) (p ∷ ran) = IsLogOf (s.log (name_of e)) (change_of e.change) p.log
+    × AreLogsOf s edits ran
 
 -- the line that a log gains
 abbrev pub line_in : LogEffect → Option (List ℕ)

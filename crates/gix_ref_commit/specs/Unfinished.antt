@@ -15,12 +15,14 @@ use Rattle.gix_ref_commit.specs.declared.run.Unfinished.{Unfinished}
 use Rattle.gix_ref_commit.specs.declared.run.Unfinished.TheVariants.{Memory, Step}
 
 -- A run of these entries ended at one of them: those before it are done, and it ended the run for this cause, which left the tree T.
-pub record EndsAtStep (honest : Type 0) (entries : List Entry) (start T : Tree) (about : About) (cause : Cause) : Type 0 where
+pub record EndsAtStep (honest : Type 0) (entries : List Entry) (start T : Tree) (about : About)
+    (cause : Cause) : Type 0 where
   pub before : List Entry
   pub step : Synced
   pub rest : List Entry
   pub cut : entries ≡ before ++ (step, about) ∷ rest
-  pub ended : honest → (mid : Tree) × IsAfter (bare_steps before) start mid × EndsBy (bare step) cause mid T
+  pub ended : honest → (mid : Tree) × IsAfter (bare_steps before) start mid
+      × EndsBy (bare step) cause mid T
 
 abbrev pub EndsIn : (honest : Type 0) → List Entry → (start T : Tree) → Unfinished → Type 0
 EndsIn honest entries start T Memory = Unit {0}
@@ -29,7 +31,8 @@ EndsIn honest entries start T (Step about cause) = EndsAtStep honest entries sta
 -- this is the step of the plan at which a run ended
 abbrev pub IsStepAt : List (Planned About) → Ended → Unfinished → Type 0
 IsStepAt plan ended Memory = ⊥
-IsStepAt plan ended (Step about cause) = ((d : Planned About) → (get_or plan ended.at d).about ≡ about) × (cause ≡ ended.cause)
+IsStepAt plan ended (Step about cause) =
+    ((d : Planned About) → (get_or plan ended.at d).about ≡ about) × (cause ≡ ended.cause)
 
 -- a fault of files came with a rise of their count, and is no want of memory
 abbrev pub IsRaisedBy : (before now : ℕ) → Cause → Type 0
@@ -53,14 +56,17 @@ module _ {F : Type 0} (honest : Type 0) (means : F → Meaning) (faults : F → 
   -- Nothing but these entries was run, in their order, and perhaps not all.
   pub record RunsOnly (entries : List Entry) (old new : F) : Type 0 where
     -- every stop leaves the tree after some of them, with perhaps a beginning of the next
-    pub leaves : honest → Leaves (means old) (means new) (IsLeftBy (bare_steps entries) (means old).tree)
+    pub leaves : honest → Leaves (means old) (means new)
+        (IsLeftBy (bare_steps entries) (means old).tree)
     -- every disk that is found is one after some of them with their syncs, with perhaps a beginning of the next
-    pub passes : honest → Passes (means old) (means new) (IsReachedBy (steps_in entries) (disk_of (means old)))
+    pub passes : honest → Passes (means old) (means new)
+        (IsReachedBy (steps_in entries) (disk_of (means old)))
     -- no fault is forgotten
     pub no_fewer : faults old ≤ faults new
 
   -- Where and why the run of these entries ended early.
-  pub record StopsEarly (entries : List Entry) (old new : F) (unfinished : Unfinished) : Type 0 where
+  pub record StopsEarly (entries : List Entry) (old new : F)
+      (unfinished : Unfinished) : Type 0 where
     -- for want of memory, and then nothing was done
     pub memory : unfinished ≡ Memory → new ≡ old
     -- or at a step, those before it being done

@@ -43,8 +43,7 @@ fn rewrite_packed<F: Files>(
         (F.means files.old) (F.means files.new)) }
     ensures undecided { IfErr result (LeavesUndecided F.honest settings.now edits.now
         (F.means files.old) (F.faults files.old) (F.faults files.new)) }
-    ensures fills { OnlyFillsPacked F.honest F.means F.faults (Some lock.now)
-        files.old files.new }
+    ensures fills { OnlyFillsPacked F.honest F.means F.faults (Some lock.now) files.old files.new }
 {
     let rewrite = repack(alloc, files, settings, edits)?;
     if let Rewrite::Text(text) = &rewrite {
@@ -95,11 +94,11 @@ pub fn decide_folders<F: Files>(
     packed: &Option<LockFile>,
     rewrite: &Rewrite,
 ) -> Result<Vec<InWay>, commit::Error>
-    ensures in_way { F.honest → IfOk result (λ ways. AllInWay edits.now dirs.now
-        (F.means files.old).tree (folder_lists ways.items)
-        (planned_entries dirs.now edits.now packed.now rewrite.now)) }
-    ensures failed { IfErr result (IsOfListing edits.now (F.faults files.old)
-        (F.faults files.new)) }
+    ensures in_way { F.honest →
+        IfOk result (λ ways. AllInWay edits.now dirs.now (F.means files.old).tree
+        (folder_lists ways.items) (planned_entries dirs.now edits.now packed.now rewrite.now)) }
+    ensures failed { IfErr result
+        (IsOfListing edits.now (F.faults files.old) (F.faults files.new)) }
     ensures reads { OnlyReads F.honest F.means F.faults files.old files.new }
 {
     let Ok(plan) = plan_commit(alloc, dirs, edits, packed, rewrite) else {

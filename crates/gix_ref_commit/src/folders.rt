@@ -73,8 +73,8 @@ fn add_entry(
         (paths_of found.new.items) }
     ensures stops { (T : Tree) → IsEntryOf T folder.now entry.now →
         IfOk result (StopsFor dirs.now T folder.now) }
-    ensures adds { IfOk result (λ all. all ≡ true → AddsFolder folder.now entry.now
-        (paths_of found.old.items) (paths_of found.new.items)) }
+    ensures adds { IfOk result (λ all. all ≡ true →
+        AddsFolder folder.now entry.now (paths_of found.old.items) (paths_of found.new.items)) }
 {
     if !entry.is_folder {
         return Ok(false);
@@ -99,8 +99,8 @@ fn add_entries(
         (paths_of found.new.items) }
     ensures stops { (T : Tree) → All (IsEntryOf T folder.now) entries.now →
         IfOk result (StopsFor dirs.now T folder.now) }
-    ensures adds { IfOk result (λ all. all ≡ true → AddsAll folder.now entries.now
-        (paths_of found.old.items) (paths_of found.new.items)) }
+    ensures adds { IfOk result (λ all. all ≡ true →
+        AddsAll folder.now entries.now (paths_of found.old.items) (paths_of found.new.items)) }
 {
     for entry in entries {
         if !add_entry(alloc, dirs, folder, entry, found)? {
@@ -122,8 +122,7 @@ fn add_folders<F: Files>(
         (paths_of found.new.items) }
     ensures stops { F.honest → IfOk result (StopsFor dirs.now (F.means files.old).tree folder.now) }
     ensures adds { F.honest → IfOk result (λ all. all ≡ true → AddsFolders
-        (F.means files.old).tree folder.now (paths_of found.old.items)
-        (paths_of found.new.items)) }
+        (F.means files.old).tree folder.now (paths_of found.old.items) (paths_of found.new.items)) }
     ensures reads { OnlyReads F.honest F.means F.faults files.old files.new }
     ensures counted { IfErr result (IsCountedFault (F.faults files.old) (F.faults files.new)) }
 {
@@ -289,11 +288,11 @@ fn way_before<F: Files>(
     edits: &[Edit],
     planned: &Planned<'_, About>,
 ) -> Result<InWay, Unfinished>
-    ensures in_way { F.honest → IfOk result (λ way. AreInWayOf dirs.now (F.means files.old).tree
-        (is_seen edits.now planned.now.about) (written_at (step_of planned.now.action))
-        (paths_of way.folders.items)) }
-    ensures failed { IfErr result (FailsBefore planned.now (F.faults files.old)
-        (F.faults files.new)) }
+    ensures in_way { F.honest → IfOk result
+        (λ way. AreInWayOf dirs.now (F.means files.old).tree (is_seen edits.now planned.now.about)
+        (written_at (step_of planned.now.action)) (paths_of way.folders.items)) }
+    ensures failed { IfErr result
+        (FailsBefore planned.now (F.faults files.old) (F.faults files.new)) }
     ensures reads { OnlyReads F.honest F.means F.faults files.old files.new }
 {
     if is_seen(edits, planned.about) {
@@ -318,8 +317,8 @@ pub fn all_in_way<F: Files>(
 ) -> Result<Vec<InWay>, Unfinished>
     ensures in_way { F.honest → IfOk result (λ ways. AllInWay edits.now dirs.now
         (F.means files.old).tree (folder_lists ways.items) (entries plan.now)) }
-    ensures failed { IfErr result (FailsToList (entries plan.now) (F.faults files.old)
-        (F.faults files.new)) }
+    ensures failed { IfErr result
+        (FailsToList (entries plan.now) (F.faults files.old) (F.faults files.new)) }
     ensures reads { OnlyReads F.honest F.means F.faults files.old files.new }
 {
     let Ok(mut ways) = Vec::with_capacity(alloc, plan.len()) else {

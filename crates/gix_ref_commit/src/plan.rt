@@ -145,8 +145,7 @@ fn add<'p>(
     plan: &mut Vec<Planned<'p, About>>,
     step: Option<Planned<'p, About>>,
 ) -> Result<(), AllocError>
-    ensures { OnOk result (entries plan.new.items
-        ≡ entries plan.old.items ++ entry_of step.entry) }
+    ensures { OnOk result (entries plan.new.items ≡ entries plan.old.items ++ entry_of step.entry) }
 {
     if let Some(step) = step {
         plan.push(step)?;

@@ -49,12 +49,10 @@ pub fn run_plan<F: Files>(
     rewrite: &Rewrite,
     ways: &[InWay],
 ) -> Result<(), Unfinished>
-    ensures finished { OnOk result (RunsAll F.honest
-        (commit_entries dirs.now edits.now packed.now rewrite.now ways.now)
-        (F.means files.old) (F.means files.new)) }
+    ensures finished { OnOk result (RunsAll F.honest (commit_entries dirs.now edits.now packed.now
+        rewrite.now ways.now) (F.means files.old) (F.means files.new)) }
     ensures stopped { IfErr result (StopsEarly F.honest F.means F.faults
-        (commit_entries dirs.now edits.now packed.now rewrite.now ways.now)
-        files.old files.new) }
+        (commit_entries dirs.now edits.now packed.now rewrite.now ways.now) files.old files.new) }
     ensures runs { RunsOnly F.honest F.means F.faults
         (commit_entries dirs.now edits.now packed.now rewrite.now ways.now) files.old files.new }
 {

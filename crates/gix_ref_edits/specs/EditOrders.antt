@@ -41,20 +41,24 @@ mode_cmp a b = nat_cmp (mode_rank a) (mode_rank b)
 abbrev pub log_cmp : LogChange → LogChange → Ordering
 log_cmp a b =
     ordering_then (mode_cmp a.mode b.mode) (
-    ordering_then (bool_cmp a.force_create_reflog b.force_create_reflog) (slice_cmp nat_cmp a.message.items b.message.items)
+    ordering_then (bool_cmp a.force_create_reflog b.force_create_reflog)
+    (slice_cmp nat_cmp a.message.items b.message.items)
     )
 
 -- by the variant, and then by the target
 abbrev pub expectation_cmp : PreviousValue → PreviousValue → Ordering
-expectation_cmp (MustExistAndMatch a) (MustExistAndMatch b) = target_cmp (target_value a) (target_value b)
-expectation_cmp (ExistingMustMatch a) (ExistingMustMatch b) = target_cmp (target_value a) (target_value b)
+expectation_cmp (MustExistAndMatch a) (MustExistAndMatch b) =
+    target_cmp (target_value a) (target_value b)
+expectation_cmp (ExistingMustMatch a) (ExistingMustMatch b) =
+    target_cmp (target_value a) (target_value b)
 expectation_cmp a b = nat_cmp (expectation_rank a) (expectation_rank b)
 
 -- updates come first: by the log, by what is expected, by the new target; then deletions, by what is expected, by the log
 abbrev pub change_cmp : Change → Change → Ordering
 change_cmp (Update log expected new) (Update log' expected' new') =
     ordering_then (log_cmp log log') (
-    ordering_then (expectation_cmp expected expected') (target_cmp (target_value new) (target_value new'))
+    ordering_then (expectation_cmp expected expected')
+    (target_cmp (target_value new) (target_value new'))
     )
 change_cmp (Update log expected new) (Delete expected' log') = Less
 change_cmp (Delete expected log) (Update log' expected' new') = Greater

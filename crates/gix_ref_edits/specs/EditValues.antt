@@ -20,7 +20,8 @@ pub data ExpectedValue : Type 0 where
 -- what an edit does: an update with the mode, the force flag and the message of its log, what it expects and the new
 -- target; a deletion with what it expects and the mode of its log
 pub data ChangeValue : Type 0 where
-  update : (mode : RefLog) (forced : Bool) (message : List ℕ) (expected : ExpectedValue) (new : TargetValue) → ChangeValue
+  update : (mode : RefLog) (forced : Bool) (message : List ℕ) (expected : ExpectedValue)
+      (new : TargetValue) → ChangeValue
   delete : (expected : ExpectedValue) (mode : RefLog) → ChangeValue
 
 pub record EditValue : Type 0 where
@@ -38,8 +39,10 @@ expected_value (ExistingMustMatch target) = may_match (target_value target)
 
 abbrev pub change_value : Change → ChangeValue
 change_value (Update log expected new) =
-    update log.mode log.force_create_reflog log.message.items (expected_value expected) (target_value new)
+    update log.mode log.force_create_reflog log.message.items (expected_value expected)
+    (target_value new)
 change_value (Delete expected log) = delete (expected_value expected) log
 
 abbrev pub edit_value : RefEdit → EditValue
-edit_value edit = record { name = name_of edit; change = change_value edit.change; deref = edit.deref }
+edit_value edit =
+    record { name = name_of edit; change = change_value edit.change; deref = edit.deref }

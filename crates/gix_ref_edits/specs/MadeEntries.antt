@@ -16,13 +16,15 @@ pub record MadeEntry (T : Type 0) : Type 0 where
   pub entry : T
 
 -- These calls of a maker of entries were made, in order.
-abbrev pub Makes : {M T : Type 0} → (M → ℕ → RefEdit → T → M → Type 0) → M → List (MadeEntry T) → M → Type 0
+abbrev pub Makes : {M T : Type 0} → (M → ℕ → RefEdit → T → M → Type 0) → M →
+    List (MadeEntry T) → M → Type 0
 Makes step = FoldsTo (λ before made after. step before made.place made.child made.entry after)
 
 -- whatever a maker is called with, the entry has the edit that it was given
 abbrev pub KeepsEdits : {M T : Type 0} → (T → RefEdit) → (M → ℕ → RefEdit → T → M → Type 0) → Type 0
 KeepsEdits {M} {T} edit_of step =
-    (before : M) (place : ℕ) (child : RefEdit) (entry : T) (after : M) → step before place child entry after
+    (before : M) (place : ℕ) (child : RefEdit) (entry : T) (after : M) →
+    step before place child entry after
     → edit_value (edit_of entry) ≡ edit_value child
 
 -- the same entry, with some edit
@@ -36,4 +38,5 @@ place_list at (Some name) = at ∷ []
 
 unfoldable pub parent_places : (List ℕ → Option (List ℕ)) → ℕ → List EditValue → List ℕ
 parent_places find at [] = []
-parent_places find at (edit ∷ edits) = place_list at (referent find edit.name edit.deref) ++ parent_places find (at + 1) edits
+parent_places find at (edit ∷ edits) = place_list at
+    (referent find edit.name edit.deref) ++ parent_places find (at + 1) edits

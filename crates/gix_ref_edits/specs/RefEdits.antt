@@ -76,13 +76,17 @@ abbrev pub SameExpectation : PreviousValue → PreviousValue → Type 0
 SameExpectation Any copy = copy ≡ Any
 SameExpectation MustExist copy = copy ≡ MustExist
 SameExpectation MustNotExist copy = copy ≡ MustNotExist
-SameExpectation (MustExistAndMatch target) (MustExistAndMatch copy) = target_value copy ≡ target_value target
-SameExpectation (ExistingMustMatch target) (ExistingMustMatch copy) = target_value copy ≡ target_value target
+SameExpectation (MustExistAndMatch target) (MustExistAndMatch copy) = target_value copy
+    ≡ target_value target
+SameExpectation (ExistingMustMatch target) (ExistingMustMatch copy) = target_value copy
+    ≡ target_value target
 SameExpectation value copy = ⊥
 
 abbrev pub SameChange : Change → Change → Type 0
-SameChange (Update log expected new) (Update log' expected' new') = SameLog log log' × SameExpectation expected expected' × (target_value new' ≡ target_value new)
-SameChange (Delete expected log) (Delete expected' log') = SameExpectation expected expected' × (log' ≡ log)
+SameChange (Update log expected new) (Update log' expected' new') = SameLog log log'
+    × SameExpectation expected expected' × (target_value new' ≡ target_value new)
+SameChange (Delete expected log) (Delete expected' log') = SameExpectation expected expected'
+    × (log' ≡ log)
 SameChange change copy = ⊥
 
 -- each edit is an update

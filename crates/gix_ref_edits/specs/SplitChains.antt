@@ -18,7 +18,8 @@ ChainOfFourSplits =
     (find : List ℕ → Option (List ℕ)) (change : ChangeValue) (a b c d e : List ℕ)
     → find a ≡ Some b → find b ≡ Some c → find c ≡ Some d → find d ≡ Some e → find e ≡ None
     → IsSplitList find (edit_at change a true ∷ [])
-    (parent_at change a ∷ parent_at change b ∷ parent_at change c ∷ parent_at change d ∷ edit_at change e false ∷ [])
+    (parent_at change a ∷ parent_at change b ∷ parent_at change c ∷ parent_at change d
+    ∷ edit_at change e false ∷ [])
 
 -- where e leads on too, to whatever name, there is no split list
 abbrev pub ChainOfFiveIsTooLong : Type 0

@@ -15,7 +15,8 @@ as_split_error doubled.Memory = Memory
 
 -- When each error of splits comes: the finder failed; a fifth round found children; a name is doubled. Want of memory may
 -- come anywhere, after some calls of the finder.
-abbrev pub IsSplitFault : {F E : Type 0} → (F → PartialNameRef → Result (Option Target) E → F → Type 0) → F → F → Type 0 → (List ℕ → Type 0) → SplitError E → Type 0
+abbrev pub IsSplitFault : {F E : Type 0} → (F → PartialNameRef → Result (Option Target) E → F →
+    Type 0) → F → F → Type 0 → (List ℕ → Type 0) → SplitError E → Type 0
 IsSplitFault step before later TooMany Doubled (Find error) = LookUpFailed step before later error
 IsSplitFault step before later TooMany Doubled (TooManySplits rounds) = (rounds ≡ 5) × TooMany
 IsSplitFault step before later TooMany Doubled (DoubledName name) = Doubled (full_bytes name)

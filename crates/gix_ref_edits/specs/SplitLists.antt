@@ -17,7 +17,8 @@ parent_change (delete expected mode) = delete expected Only
 -- an edit once its reference was looked up: it follows no more
 abbrev pub looked_up : EditValue → Option (List ℕ) → EditValue
 looked_up edit None = record edit { deref = false }
-looked_up edit (Some referent) = record { name = edit.name; change = parent_change edit.change; deref = false }
+looked_up edit (Some referent) =
+    record { name = edit.name; change = parent_change edit.change; deref = false }
 
 -- the same change of the reference that it leads to, which is followed in turn
 abbrev pub child_of : EditValue → List ℕ → EditValue

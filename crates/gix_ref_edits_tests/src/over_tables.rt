@@ -17,8 +17,8 @@ pub trait Table {
     ghost means: { Self → List ℕ → Option (List ℕ) };
 
     fn target(&mut self, alloc: Global, name: PartialNameRef<'_>) -> Result<Option<Target>, Fault>
-        ensures answer { IfOk result
-            (λ target. referent_of target ≡ means self.old (partial_ref_bytes name.entry)) }
+        ensures answer { IfOk result (λ target. referent_of target
+            ≡ means self.old (partial_ref_bytes name.entry)) }
         ensures same { means self.new ≡ means self.old };
 }
 

@@ -50,12 +50,14 @@ is_in_the_way T p = is_file (T p) || is_blocked T p
 
 -- the results of `make_folders`
 abbrev pub MakesFolders : Tree → Path → Tree → Bool → Type 0
-MakesFolders before p T true = (is_in_the_way before p ≡ false) × (T ≡ with_folders before (folders_to p))
+MakesFolders before p T true = (is_in_the_way before p ≡ false)
+    × (T ≡ with_folders before (folders_to p))
 MakesFolders before p T false = (is_in_the_way before p ≡ true) × (T ≡ before)
 
 -- what a stop in `make_folders` could leave: a beginning of the folders, only where no file is in the way
 abbrev pub MakingFolders : Tree → Path → Tree → Type 0
-MakingFolders before p T = (T ≡ before) ⊎ ((is_in_the_way before p ≡ false) × ((n : ℕ) × (T ≡ with_folders before (take n (folders_to p)))))
+MakingFolders before p T = (T ≡ before) ⊎ ((is_in_the_way before p ≡ false)
+    × ((n : ℕ) × (T ≡ with_folders before (take n (folders_to p)))))
 
 -- the results of `append`
 abbrev pub Appends : Tree → Path → List ℕ → Tree → Bool → Type 0
@@ -68,12 +70,14 @@ Appending before p bytes T = (n : ℕ) × (T ≡ appended before p (take n bytes
 
 -- a file is at one path, and it can be moved to the other: no folder is there, and folders lead there
 abbrev pub IsMovable : Tree → Path → Path → Type 0
-IsMovable T from to = (is_file (T from) ≡ true) × (is_folder (T to) ≡ false) × (has_folders T to ≡ true)
+IsMovable T from to = (is_file (T from) ≡ true) × (is_folder (T to) ≡ false)
+    × (has_folders T to ≡ true)
 
 -- the results of `rename`
 abbrev pub Renames : Tree → Path → Path → Tree → Rename → Type 0
 Renames before from to T Moved = IsMovable before from to × (T ≡ moved before from to)
-Renames before from to T FolderStands = (is_file (before from) ≡ true) × (is_folder (before to) ≡ true) × (T ≡ before)
+Renames before from to T FolderStands = (is_file (before from) ≡ true)
+    × (is_folder (before to) ≡ true) × (T ≡ before)
 
 -- what a stop in `rename` could leave
 abbrev pub Renaming : Tree → Path → Path → Tree → Type 0
@@ -107,13 +111,15 @@ entry_name entry = entry.name.items
 
 -- an entry says what is at its name: a file or a folder
 abbrev pub IsEntryOf : Tree → Path → Entry → Type 0
-IsEntryOf T p entry = let content = T (p ++ 47 ∷ entry_name entry) in (IsSome content × (entry.is_folder ≡ is_folder content))
+IsEntryOf T p entry = let content =
+    T (p ++ 47 ∷ entry_name entry) in (IsSome content × (entry.is_folder ≡ is_folder content))
 
 -- The entries of the folder p: each name below it that exists, once, and no other.
 pub record ListsFolder (T : Tree) (p : Path) (entries : List Entry) : Type 0 where
   pub names : All (λ entry. IsEntryName (entry_name entry)) entries
   pub tells : All (IsEntryOf T p) entries
-  pub each : (name : List ℕ) → IsEntryName name → IsSome (T (p ++ 47 ∷ name)) → Any (λ entry. entry_name entry ≡ name) entries
+  pub each : (name : List ℕ) → IsEntryName name → IsSome (T (p ++ 47 ∷ name)) →
+      Any (λ entry. entry_name entry ≡ name) entries
   pub once : AllPairs (λ entry later. entry_name entry ≢ entry_name later) entries
 
 -- the results of `list`
@@ -123,9 +129,11 @@ Lists T p (Some entries) = (is_folder (T p) ≡ true) × ListsFolder T p entries
 
 -- the bytes from a place on, which all have to be there
 abbrev pub IsRead : List ℕ → ℕ → List ℕ → Type 0
-IsRead bytes place got = (place + length got ≤ length bytes) × (got ≡ take (length got) (drop place bytes))
+IsRead bytes place got = (place + length got ≤ length bytes)
+    × (got ≡ take (length got) (drop place bytes))
 
 -- the results of `open`, by what the readers that it gives mean
 abbrev pub Opens : {R : Type 0} → Type 0 → (R → List ℕ) → Tree → Path → Option R → Type 0
 Opens honest bytes T p None = is_file (T p) ≡ false
-Opens honest bytes T p (Some reader) = honest × (is_file (T p) ≡ true) × (bytes reader ≡ bytes_of (T p))
+Opens honest bytes T p (Some reader) = honest × (is_file (T p) ≡ true)
+    × (bytes reader ≡ bytes_of (T p))

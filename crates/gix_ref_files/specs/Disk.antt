@@ -58,7 +58,8 @@ reachable entries p = if has_folders entries p then entries p else None
 
 -- A loss of power may leave T: each entry, by itself, is one of those that it may be.
 abbrev pub Lost : Disk → Tree → Type 0
-Lost D T = (entries : Tree) × ((p : Path) → MayBe D p (entries p)) × ((p : Path) → T p ≡ reachable entries p)
+Lost D T = (entries : Tree) × ((p : Path) → MayBe D p (entries p))
+    × ((p : Path) → T p ≡ reachable entries p)
 
 -- What the calls make of a disk.
 
@@ -126,7 +127,8 @@ file_synced D p = record {
 -- the folder after the last slash so far, `folder`, where `seen` was passed and the rest is to come
 abbrev pub folder_after : (seen folder : Path) → List ℕ → Path
 folder_after seen folder [] = folder
-folder_after seen folder (c ∷ rest) = folder_after (seen ++ c ∷ []) (if c == 47 then seen else folder) rest
+folder_after seen folder (c ∷ rest) = folder_after (seen ++ c ∷ [])
+    (if c == 47 then seen else folder) rest
 
 -- the folder of a path: what is before its last slash, unless that is its first byte
 abbrev pub folder_of : Path → Path

@@ -32,7 +32,8 @@ after_folders before p made = if made then with_folders_on before (folders_to p)
 -- the disks that are found in `make_folders`: with a beginning of the folders
 abbrev pub MakingFoldersOn : Disk → Path → Disk → Type 0
 MakingFoldersOn before p D =
-    (D ≡ before) ⊎ ((is_in_the_way before.tree p ≡ false) × ((n : ℕ) × (D ≡ with_folders_on before (take n (folders_to p)))))
+    (D ≡ before) ⊎ ((is_in_the_way before.tree p ≡ false)
+    × ((n : ℕ) × (D ≡ with_folders_on before (take n (folders_to p)))))
 
 -- the disk after each result of `append`
 abbrev pub after_append : Disk → Path → List ℕ → Bool → Disk
@@ -41,7 +42,8 @@ after_append before p bytes there = if there then appended_on before p bytes els
 -- the disks that are found in `append`: with a beginning of the bytes
 abbrev pub AppendingOn : Disk → Path → List ℕ → Disk → Type 0
 AppendingOn before p bytes D =
-    (D ≡ before) ⊎ ((is_file (before.tree p) ≡ true) × ((n : ℕ) × (D ≡ appended_on before p (take n bytes))))
+    (D ≡ before)
+    ⊎ ((is_file (before.tree p) ≡ true) × ((n : ℕ) × (D ≡ appended_on before p (take n bytes))))
 
 -- the disk after each result of `rename`
 abbrev pub after_rename : Disk → Path → Path → Rename → Disk
@@ -50,7 +52,8 @@ after_rename before from to other = before
 
 -- the disks that are found in `rename`
 abbrev pub RenamingOn : Disk → Path → Path → Disk → Type 0
-RenamingOn before from to = BeforeOrAfterOn before (IsMovable before.tree from to) (moved_on before from to)
+RenamingOn before from to = BeforeOrAfterOn before (IsMovable before.tree from to)
+    (moved_on before from to)
 
 -- the disk after each result of `remove_file` and of `remove_folder`
 abbrev pub after_removal : Disk → Path → Bool → Disk
@@ -58,11 +61,13 @@ after_removal before p removed = if removed then removed_on before p else before
 
 -- the disks that are found in `remove_file`
 abbrev pub RemovingFileOn : Disk → Path → Disk → Type 0
-RemovingFileOn before p = BeforeOrAfterOn before (is_file (before.tree p) ≡ true) (removed_on before p)
+RemovingFileOn before p = BeforeOrAfterOn before (is_file (before.tree p) ≡ true)
+    (removed_on before p)
 
 -- the disks that are found in `remove_folder`
 abbrev pub RemovingFolderOn : Disk → Path → Disk → Type 0
-RemovingFolderOn before p = BeforeOrAfterOn before (IsEmptyFolder before.tree p) (removed_on before p)
+RemovingFolderOn before p = BeforeOrAfterOn before (IsEmptyFolder before.tree p)
+    (removed_on before p)
 
 -- A sync: true, and then all is synced that it names, or false where there is no such thing. A fault syncs nothing.
 abbrev pub Syncs : {E : Type 0} → Bool → Disk → Disk → Disk → Result Bool E → Type 0
@@ -76,8 +81,10 @@ SyncingOn there before after = BeforeOrAfterOn before (there ≡ true) after
 
 -- the disk after each result of a write of a lock: the text is there, and all of it is synced
 abbrev pub after_synced_append : Disk → Path → List ℕ → Bool → Disk
-after_synced_append before p bytes there = if there then file_synced (appended_on before p bytes) p else before
+after_synced_append before p bytes there = if there
+    then file_synced (appended_on before p bytes) p else before
 
 -- the disks that are found in a write of a lock
 abbrev pub WritingOn : Disk → Path → List ℕ → Disk → Type 0
-WritingOn before p bytes D = AppendingOn before p bytes D ⊎ (D ≡ file_synced (appended_on before p bytes) p)
+WritingOn before p bytes D =
+    AppendingOn before p bytes D ⊎ (D ≡ file_synced (appended_on before p bytes) p)

@@ -20,11 +20,15 @@ abbrev pub DoesOn : Step → Disk → Disk → Type 0
 DoesOn (Create p) D E = IsFree D.tree p × (E ≡ created_on D p)
 DoesOn (Append p bytes) D E = (is_file (D.tree p) ≡ true) × (E ≡ appended_on D p bytes)
 DoesOn (Line p bytes) D E =
-    ((is_file (D.tree p) ≡ true) × (E ≡ appended_on D p bytes)) ⊎ (IsFree D.tree p × (E ≡ appended_on (created_on D p) p bytes))
+    ((is_file (D.tree p) ≡ true) × (E ≡ appended_on D p bytes))
+    ⊎ (IsFree D.tree p × (E ≡ appended_on (created_on D p) p bytes))
 DoesOn (Rename from to) D E = IsMovable D.tree from to × (E ≡ moved_on D from to)
-DoesOn (RemoveFile p) D E = ((is_file (D.tree p) ≡ true) × (E ≡ removed_on D p)) ⊎ ((is_file (D.tree p) ≡ false) × (E ≡ D))
-DoesOn (MakeFolders p) D E = (is_in_the_way D.tree p ≡ false) × (E ≡ with_folders_on D (folders_to p))
-DoesOn (RemoveFolder p) D E = (IsEmptyFolder D.tree p × (E ≡ removed_on D p)) ⊎ ((IsEmptyFolder D.tree p → ⊥) × (E ≡ D))
+DoesOn (RemoveFile p) D E = ((is_file (D.tree p) ≡ true) × (E ≡ removed_on D p))
+    ⊎ ((is_file (D.tree p) ≡ false) × (E ≡ D))
+DoesOn (MakeFolders p) D E = (is_in_the_way D.tree p ≡ false)
+    × (E ≡ with_folders_on D (folders_to p))
+DoesOn (RemoveFolder p) D E = (IsEmptyFolder D.tree p × (E ≡ removed_on D p))
+    ⊎ ((IsEmptyFolder D.tree p → ⊥) × (E ≡ D))
 DoesOn End D E = ⊥
 
 -- The step is perhaps begun, and perhaps done: the disks that a stop, a fault or a loss of power in it finds.
@@ -34,7 +38,8 @@ BeginsOn (Append p bytes) D E = AppendingOn D p bytes E
 BeginsOn (Line p bytes) D E =
     (E ≡ D)
     ⊎ (((is_file (D.tree p) ≡ true) × ((n : ℕ) × (E ≡ appended_on D p (take n bytes))))
-    ⊎ (IsFree D.tree p × ((E ≡ created_on D p) ⊎ ((n : ℕ) × (E ≡ appended_on (created_on D p) p (take n bytes))))))
+    ⊎ (IsFree D.tree p
+    × ((E ≡ created_on D p) ⊎ ((n : ℕ) × (E ≡ appended_on (created_on D p) p (take n bytes))))))
 BeginsOn (Rename from to) D E = RenamingOn D from to E
 BeginsOn (RemoveFile p) D E = RemovingFileOn D p E
 BeginsOn (MakeFolders p) D E = MakingFoldersOn D p E
@@ -57,17 +62,21 @@ abbrev pub IsReachedBy : List Synced → Disk → Disk → Type 0
 IsReachedBy [] D E = E ≡ D
 IsReachedBy (With step syncs ∷ plan) D E =
     BeginsOn step D E
-    ⊎ ((mid : Disk) × DoesOn step D mid × (((n : ℕ) × (E ≡ synced_by (take n (needed step D syncs)) mid)) ⊎ IsReachedBy plan (synced_by (needed step D syncs) mid) E))
+    ⊎ ((mid : Disk) × DoesOn step D mid
+    × (((n : ℕ) × (E ≡ synced_by (take n (needed step D syncs)) mid))
+    ⊎ IsReachedBy plan (synced_by (needed step D syncs) mid) E))
 
 -- this is the disk after all of them
 abbrev pub IsSyncedAfter : List Synced → Disk → Disk → Type 0
 IsSyncedAfter [] D E = E ≡ D
-IsSyncedAfter (With step syncs ∷ plan) D E = (mid : Disk) × DoesOn step D mid × IsSyncedAfter plan (synced_by (needed step D syncs) mid) E
+IsSyncedAfter (With step syncs ∷ plan) D E = (mid : Disk) × DoesOn step D mid
+    × IsSyncedAfter plan (synced_by (needed step D syncs) mid) E
 
 -- The run ended at this place: the steps before it are done, each with its syncs; it is perhaps begun, or done with some of its
 -- syncs; and none after it is begun.
 abbrev pub IsEndedAt : List Synced → ℕ → Disk → Disk → Type 0
-IsEndedAt plan at D E = (mid : Disk) × IsSyncedAfter (take at plan) D mid × IsReachedBy (take 1 (drop at plan)) mid E
+IsEndedAt plan at D E = (mid : Disk) × IsSyncedAfter (take at plan) D mid
+    × IsReachedBy (take 1 (drop at plan)) mid E
 
 -- some of the syncs were done
 abbrev pub IsSomeSynced : List Sync → Disk → Disk → Type 0

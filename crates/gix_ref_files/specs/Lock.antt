@@ -29,12 +29,15 @@ Readies before path T false = (is_blocked before path ≡ true) × (T ≡ before
 
 -- what a stop could leave meanwhile: a beginning of these folders
 abbrev pub Readying : Tree → Path → Tree → Type 0
-Readying before path T = (T ≡ before) ⊎ ((is_blocked before path ≡ false) × ((n : ℕ) × (T ≡ with_folders before (take n (fronts path)))))
+Readying before path T = (T ≡ before) ⊎ ((is_blocked before path ≡ false)
+    × ((n : ℕ) × (T ≡ with_folders before (take n (fronts path)))))
 
 -- the folders that lead to a path are made, and then its lock, where there is nothing
 abbrev pub MakesLock : Tree → Path → Tree → Create → Type 0
-MakesLock before path T Made = (is_blocked before path ≡ false) × Creates (readied before path) (lock_of path) T Made
-MakesLock before path T FileStanding = (is_blocked before path ≡ false) × Creates (readied before path) (lock_of path) T FileStanding
+MakesLock before path T Made = (is_blocked before path ≡ false)
+    × Creates (readied before path) (lock_of path) T Made
+MakesLock before path T FileStanding = (is_blocked before path ≡ false)
+    × Creates (readied before path) (lock_of path) T FileStanding
 MakesLock before path T FileBlocked = (is_blocked before path ≡ true) × (T ≡ before)
 
 -- the disk with the folders that lead to a path
@@ -47,7 +50,8 @@ after_readying before path made = if made then readied_on before path else befor
 
 -- the disks that are found meanwhile: with a beginning of these folders
 abbrev pub ReadyingOn : Disk → Path → Disk → Type 0
-ReadyingOn before path D = (D ≡ before) ⊎ ((is_blocked before.tree path ≡ false) × ((n : ℕ) × (D ≡ with_folders_on before (take n (fronts path)))))
+ReadyingOn before path D = (D ≡ before) ⊎ ((is_blocked before.tree path ≡ false)
+    × ((n : ℕ) × (D ≡ with_folders_on before (take n (fronts path)))))
 
 -- the disk after each result of `make_lock`
 abbrev pub after_locking : Disk → Path → Create → Disk
@@ -57,7 +61,8 @@ after_locking before path FileBlocked = before
 
 -- the disks that are found in `make_lock`: in the making of the folders, and then in that of the lock
 abbrev pub LockingOn : Disk → Path → Disk → Type 0
-LockingOn before path D = ReadyingOn before path D ⊎ ((is_blocked before.tree path ≡ false) × CreatingOn (readied_on before path) (lock_of path) D)
+LockingOn before path D = ReadyingOn before path D
+    ⊎ ((is_blocked before.tree path ≡ false) × CreatingOn (readied_on before path) (lock_of path) D)
 
 -- The results of `acquire`: the folders that lead to the place are made, and then the lock, where there is nothing.
 abbrev pub Acquires : Tree → Path → Tree → Acquire → Type 0
@@ -73,12 +78,14 @@ after_acquire before path Blocked = after_locking before path FileBlocked
 
 -- what a stop in `acquire` could leave
 abbrev pub Acquiring : Tree → Path → Tree → Type 0
-Acquiring before path T = Readying before path T ⊎ ((is_blocked before path ≡ false) × Creating (readied before path) (lock_of path) T)
+Acquiring before path T = Readying before path T
+    ⊎ ((is_blocked before path ≡ false) × Creating (readied before path) (lock_of path) T)
 
 -- the results of `commit`: one rename to the place, or the lock given back
 abbrev pub Commits : Tree → Path → Tree → Commit → Type 0
 Commits before place T Moved = Renames before (lock_of place) place T FileMoved
-Commits before place T (FolderStands lock) = (lock ≡ place) × Renames before (lock_of place) place T FileFolderStands
+Commits before place T (FolderStands lock) = (lock ≡ place)
+    × Renames before (lock_of place) place T FileFolderStands
 
 -- the disk after each result of `commit`
 abbrev pub after_commit : Disk → Path → Commit → Disk

@@ -16,7 +16,8 @@ AllStay D (f ∷ fs) = StaysFolder D f × AllStay D fs
 
 -- After every loss of power the path holds a file, or none, of which P holds: its entry is one of these; and the folders on its
 -- way stay, where it held a file before.
-pub record MayHold (D : Disk) (before : Option (List ℕ)) (P : Option (List ℕ) → Type 0) (p : Path) : Type 0 where
+pub record MayHold (D : Disk) (before : Option (List ℕ)) (P : Option (List ℕ) → Type 0)
+    (p : Path) : Type 0 where
   pub entry : (left : Option Content) → MayBe D p left → P (file_of left)
   pub way : (bytes : List ℕ) → before ≡ Some bytes → AllStay D (fronts p)
 
@@ -78,7 +79,8 @@ SettlesFile staying p (OfFile f ∷ syncs) = (f ≡ p) × SettlesPath staying p 
 abbrev pub folders_up : Path → (root n : ℕ) → List Sync
 folders_up p root zero = []
 folders_up p root (suc n) =
-    if get_or p (root + n) 0 == 47 then OfFolder (take (root + n) p) ∷ folders_up p root n else folders_up p root n
+    if get_or p (root + n) 0 == 47 then OfFolder (take (root + n) p) ∷ folders_up p root n
+    else folders_up p root n
 
 -- a place from 1 on: no folder is before the first byte
 abbrev pub from_one : ℕ → ℕ

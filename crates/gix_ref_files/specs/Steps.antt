@@ -28,11 +28,13 @@ pub data Step : Type 0 where
 abbrev pub Does : Step → Tree → Tree → Type 0
 Does (Create path) before T = Creates before path T Made
 Does (Append path bytes) before T = Appends before path bytes T true
-Does (Line path bytes) before T = Appends before path bytes T true ⊎ (IsFree before path × (T ≡ appended (created before path) path bytes))
+Does (Line path bytes) before T = Appends before path bytes T true
+    ⊎ (IsFree before path × (T ≡ appended (created before path) path bytes))
 Does (Rename from to) before T = Renames before from to T Moved
 Does (RemoveFile path) before T = RemovesFile before path T true ⊎ RemovesFile before path T false
 Does (MakeFolders path) before T = MakesFolders before path T true
-Does (RemoveFolder path) before T = RemovesFolder before path T true ⊎ RemovesFolder before path T false
+Does (RemoveFolder path) before T = RemovesFolder before path T true
+    ⊎ RemovesFolder before path T false
 Does End before T = ⊥
 
 -- A stop inside the step could leave T: the tree before, the tree after, or a beginning of the bytes or folders.
@@ -40,7 +42,8 @@ abbrev pub Begins : Step → Tree → Tree → Type 0
 Begins (Create path) before T = Creating before path T
 Begins (Append path bytes) before T = Appending before path bytes T
 Begins (Line path bytes) before T =
-    Appending before path bytes T ⊎ (IsFree before path × ((T ≡ created before path) ⊎ Appending (created before path) path bytes T))
+    Appending before path bytes T ⊎ (IsFree before path
+    × ((T ≡ created before path) ⊎ Appending (created before path) path bytes T))
 Begins (Rename from to) before T = Renaming before from to T
 Begins (RemoveFile path) before T = RemovingFile before path T
 Begins (MakeFolders path) before T = MakingFolders before path T
@@ -55,7 +58,8 @@ IsAfter (step ∷ steps) before T = (mid : Tree) × Does step before mid × IsAf
 -- A stop among the steps could leave T: some of the steps are done, and the next one is perhaps begun.
 abbrev pub IsLeftBy : List Step → Tree → Tree → Type 0
 IsLeftBy [] before T = T ≡ before
-IsLeftBy (step ∷ steps) before T = Begins step before T ⊎ ((mid : Tree) × Does step before mid × IsLeftBy steps mid T)
+IsLeftBy (step ∷ steps) before T =
+    Begins step before T ⊎ ((mid : Tree) × Does step before mid × IsLeftBy steps mid T)
 
 -- An honest result that ends the run: something is there or a file is in the way where one was to be made, no file to
 -- append to, a folder or a file in the way where a line is to be added, a folder at the end of a rename, or a file in the
@@ -92,7 +96,8 @@ EndsBy step Asked before T = (step ≡ End) × (T ≡ before)
 abbrev pub EndsAt : List Step → ℕ → Cause → Tree → Tree → Type 0
 EndsAt [] at cause before T = ⊥
 EndsAt (step ∷ steps) zero cause before T = EndsBy step cause before T
-EndsAt (step ∷ steps) (suc at) cause before T = (mid : Tree) × Does step before mid × EndsAt steps at cause mid T
+EndsAt (step ∷ steps) (suc at) cause before T = (mid : Tree) × Does step before mid
+    × EndsAt steps at cause mid T
 
 -- the step of an action
 abbrev pub step_of : Action → Step

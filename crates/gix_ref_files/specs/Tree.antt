@@ -70,7 +70,8 @@ removed T p = put T p None
 -- the fronts that end at a slash of the second list, each with the first list before it
 abbrev pub fronts_after : Path → List ℕ → List Path
 fronts_after seen [] = []
-fronts_after seen (c ∷ rest) = if c == 47 then seen ∷ fronts_after (seen ++ c ∷ []) rest else fronts_after (seen ++ c ∷ []) rest
+fronts_after seen (c ∷ rest) = if c == 47 then seen ∷ fronts_after (seen ++ c ∷ []) rest
+    else fronts_after (seen ++ c ∷ []) rest
 
 -- The proper fronts of a path, the shortest first: what is before each slash. A slash at the very
 -- beginning has no front before it, so an absolute path needs no folder for its root.

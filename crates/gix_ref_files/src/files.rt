@@ -141,8 +141,8 @@ pub trait Files {
     /// files.kind(b".git/refs/heads")? // Node::Folder
     /// ```
     fn kind(&mut self, path: &[u8]) -> Result<Node, FileError>
-        ensures answer { honest →
-            IfOk result (λ node. node ≡ node_at (means self.old).tree path.now) }
+        ensures answer { honest → IfOk result
+            (λ node. node ≡ node_at (means self.old).tree path.now) }
         ensures leaves { honest → Leaves (means self.old) (means self.new)
             (Unchanged (means self.old).tree) }
         ensures passes { honest → Passes (means self.old) (means self.new)
@@ -153,8 +153,8 @@ pub trait Files {
     /// Returns what is at a path, and where it is a file replaces the content of the buffer with its bytes
     /// (`fs::read`). With every other result, and after an error, the buffer is empty.
     fn read(&mut self, alloc: Global, path: &[u8], buf: &mut Vec<u8>) -> Result<Node, FileError>
-        ensures answer { honest →
-            IfOk result (λ node. node ≡ node_at (means self.old).tree path.now) }
+        ensures answer { honest → IfOk result
+            (λ node. node ≡ node_at (means self.old).tree path.now) }
         ensures bytes { honest → IfOk result (λ node. node ≡ Node.File →
             buf.new.items ≡ bytes_of ((means self.old).tree path.now)) }
         ensures emptied { emptied result buf.new.items }
@@ -166,9 +166,8 @@ pub trait Files {
 
     /// Opens a file for reading (`File::open`); `None` where there is no file.
     fn open(&mut self, alloc: Global, path: &[u8]) -> Result<Option<Self::Reader>, FileError>
-        ensures answer { honest →
-            IfOk result (λ reader. Opens Self.Reader.honest Self.Reader.bytes (means self.old).tree
-            path.now reader) }
+        ensures answer { honest → IfOk result (λ reader. Opens Self.Reader.honest Self.Reader.bytes
+            (means self.old).tree path.now reader) }
         ensures leaves { honest → Leaves (means self.old) (means self.new)
             (Unchanged (means self.old).tree) }
         ensures passes { honest → Passes (means self.old) (means self.new)
@@ -188,8 +187,8 @@ pub trait Files {
     /// Makes an empty file where there is nothing and folders lead there (`File::create_new`). A fault leaves all as
     /// before.
     fn create_new(&mut self, path: &[u8]) -> Result<Create, FileError>
-        ensures answer { honest →
-            IfOk result (Creates (means self.old).tree path.now (means self.new).tree) }
+        ensures answer { honest → IfOk result
+            (Creates (means self.old).tree path.now (means self.new).tree) }
         ensures failed { honest → OnErr result ((means self.new).tree ≡ (means self.old).tree) }
         ensures leaves { honest → Leaves (means self.old) (means self.new)
             (Creating (means self.old).tree path.now) }
@@ -203,13 +202,12 @@ pub trait Files {
     /// Makes the folders that lead to a path, and one there, where they do not exist (`fs::create_dir_all`); false
     /// where a file is in the way. A fault leaves a beginning of them, the outermost first.
     fn make_folders(&mut self, path: &[u8]) -> Result<bool, FileError>
-        ensures answer { honest →
-            IfOk result (MakesFolders (means self.old).tree path.now (means self.new).tree) }
+        ensures answer { honest → IfOk result
+            (MakesFolders (means self.old).tree path.now (means self.new).tree) }
         ensures leaves { honest → Leaves (means self.old) (means self.new)
             (MakingFolders (means self.old).tree path.now) }
-        ensures adds { honest →
-            OnOk result (Adds (means self.old) (means self.new) (MakingFolders (means self.old).tree
-            path.now)) }
+        ensures adds { honest → OnOk result (Adds (means self.old) (means self.new)
+            (MakingFolders (means self.old).tree path.now)) }
         ensures disk { honest → IfOk result (λ made. disk_of (means self.new)
             ≡ after_folders (disk_of (means self.old)) path.now made) }
         ensures passes { honest → Passes (means self.old) (means self.new)
@@ -222,12 +220,11 @@ pub trait Files {
     /// Adds bytes to the end of a file; false where there is no file. A fault leaves any beginning of them there. As
     /// `Write::write_all` to a file that is open for appending.
     fn append(&mut self, path: &[u8], bytes: &[u8]) -> Result<bool, FileError>
-        ensures answer { honest →
-            IfOk result (Appends (means self.old).tree path.now bytes.now (means self.new).tree) }
+        ensures answer { honest → IfOk result
+            (Appends (means self.old).tree path.now bytes.now (means self.new).tree) }
         ensures leaves { honest → Leaves (means self.old) (means self.new)
             (Appending (means self.old).tree path.now bytes.now) }
-        ensures adds { honest →
-            OnOk result (Adds (means self.old) (means self.new)
+        ensures adds { honest → OnOk result (Adds (means self.old) (means self.new)
             (Appending (means self.old).tree path.now bytes.now)) }
         ensures disk { honest → IfOk result (λ there. disk_of (means self.new)
             ≡ after_append (disk_of (means self.old)) path.now bytes.now there) }
@@ -240,8 +237,8 @@ pub trait Files {
 
     /// Moves a file, also onto a file (`fs::rename`). A fault leaves the tree before or the tree after.
     fn rename(&mut self, from: &[u8], to: &[u8]) -> Result<Rename, FileError>
-        ensures answer { honest →
-            IfOk result (Renames (means self.old).tree from.now to.now (means self.new).tree) }
+        ensures answer { honest → IfOk result
+            (Renames (means self.old).tree from.now to.now (means self.new).tree) }
         ensures leaves { honest → Leaves (means self.old) (means self.new)
             (Renaming (means self.old).tree from.now to.now) }
         ensures disk { honest → IfOk result (λ rename. disk_of (means self.new)
@@ -254,8 +251,8 @@ pub trait Files {
     /// Removes a file (`fs::remove_file`); false where there is no file. A fault leaves the tree before or the tree
     /// after.
     fn remove_file(&mut self, path: &[u8]) -> Result<bool, FileError>
-        ensures answer { honest →
-            IfOk result (RemovesFile (means self.old).tree path.now (means self.new).tree) }
+        ensures answer { honest → IfOk result
+            (RemovesFile (means self.old).tree path.now (means self.new).tree) }
         ensures leaves { honest → Leaves (means self.old) (means self.new)
             (RemovingFile (means self.old).tree path.now) }
         ensures disk { honest → IfOk result (λ removed. disk_of (means self.new)
@@ -268,8 +265,8 @@ pub trait Files {
     /// Removes an empty folder (`fs::remove_dir`); false where there is no empty folder. A fault leaves the tree before
     /// or the tree after.
     fn remove_folder(&mut self, path: &[u8]) -> Result<bool, FileError>
-        ensures answer { honest →
-            IfOk result (RemovesFolder (means self.old).tree path.now (means self.new).tree) }
+        ensures answer { honest → IfOk result
+            (RemovesFolder (means self.old).tree path.now (means self.new).tree) }
         ensures leaves { honest → Leaves (means self.old) (means self.new)
             (RemovingFolder (means self.old).tree path.now) }
         ensures disk { honest → IfOk result (λ removed. disk_of (means self.new)
@@ -288,8 +285,8 @@ pub trait Files {
         ensures leaves { honest → Leaves (means self.old) (means self.new)
             (Unchanged (means self.old).tree) }
         ensures passes { honest → Passes (means self.old) (means self.new)
-            (SyncingOn (is_file ((means self.old).tree path.now))
-            (disk_of (means self.old)) (file_synced (disk_of (means self.old)) path.now)) }
+            (SyncingOn (is_file ((means self.old).tree path.now)) (disk_of (means self.old))
+            (file_synced (disk_of (means self.old)) path.now)) }
         ensures count { faults self.new ≡ count_after result (faults self.old) }
         ensures memory { IsErrOf result FileError.Memory → ⊥ };
 
@@ -302,8 +299,8 @@ pub trait Files {
         ensures leaves { honest → Leaves (means self.old) (means self.new)
             (Unchanged (means self.old).tree) }
         ensures passes { honest → Passes (means self.old) (means self.new)
-            (SyncingOn (is_folder ((means self.old).tree path.now))
-            (disk_of (means self.old)) (folder_synced (disk_of (means self.old)) path.now)) }
+            (SyncingOn (is_folder ((means self.old).tree path.now)) (disk_of (means self.old))
+            (folder_synced (disk_of (means self.old)) path.now)) }
         ensures count { faults self.new ≡ count_after result (faults self.old) }
         ensures memory { IsErrOf result FileError.Memory → ⊥ };
 

@@ -130,10 +130,10 @@ impl LockFile {
     /// Takes the lock: makes the folders that lead to the place, and then the file. An error leaves no lock; folders may have
     /// been made. The caller sees to the removal of the lock.
     pub fn take<F: Files>(&self, files: &mut F) -> Result<Create, FileError>
-        ensures answer { F.honest →
-            IfOk result (MakesLock (F.means files.old).tree self.now (F.means files.new).tree) }
-        ensures failed { F.honest →
-            OnErr result (Readying (F.means files.old).tree self.now (F.means files.new).tree) }
+        ensures answer { F.honest → IfOk result
+            (MakesLock (F.means files.old).tree self.now (F.means files.new).tree) }
+        ensures failed { F.honest → OnErr result
+            (Readying (F.means files.old).tree self.now (F.means files.new).tree) }
         ensures leaves { F.honest → Leaves (F.means files.old) (F.means files.new)
             (Acquiring (F.means files.old).tree self.now) }
         ensures disk { F.honest → IfOk result (λ create. disk_of (F.means files.new)
@@ -148,10 +148,10 @@ impl LockFile {
 
     /// Makes the file alone, for a caller who knows that folders lead to the place (`File::create_new`).
     pub fn create<F: Files>(&self, files: &mut F) -> Result<Create, FileError>
-        ensures answer { F.honest → IfOk result (Creates (F.means files.old).tree
-            (lock_of self.now) (F.means files.new).tree) }
-        ensures failed { F.honest → OnErr result ((F.means files.new).tree
-            ≡ (F.means files.old).tree) }
+        ensures answer { F.honest → IfOk result
+            (Creates (F.means files.old).tree (lock_of self.now) (F.means files.new).tree) }
+        ensures failed { F.honest → OnErr result
+            ((F.means files.new).tree ≡ (F.means files.old).tree) }
         ensures leaves { F.honest → Leaves (F.means files.old) (F.means files.new)
             (Creating (F.means files.old).tree (lock_of self.now)) }
         ensures disk { F.honest → IfOk result (λ create. disk_of (F.means files.new)
@@ -167,17 +167,15 @@ impl LockFile {
     /// Adds bytes to the file of the lock and syncs it, so that a loss of power leaves them all once the lock is renamed;
     /// false where it does not exist. A fault leaves any beginning of them there.
     pub fn write<F: Files>(&self, files: &mut F, bytes: &[u8]) -> Result<bool, FileError>
-        ensures answer { F.honest →
-            IfOk result (Appends (F.means files.old).tree (lock_of self.now) bytes.now
-            (F.means files.new).tree) }
+        ensures answer { F.honest → IfOk result (Appends (F.means files.old).tree
+            (lock_of self.now) bytes.now (F.means files.new).tree) }
         ensures leaves { F.honest → Leaves (F.means files.old) (F.means files.new)
             (Appending (F.means files.old).tree (lock_of self.now) bytes.now) }
-        ensures adds { F.honest →
-            OnOk result (Adds (F.means files.old) (F.means files.new)
+        ensures adds { F.honest → OnOk result (Adds (F.means files.old) (F.means files.new)
             (Appending (F.means files.old).tree (lock_of self.now) bytes.now)) }
         ensures disk { F.honest → IfOk result (λ there. disk_of (F.means files.new)
-            ≡ after_synced_append (disk_of (F.means files.old)) (lock_of self.now) bytes.now
-            there) }
+            ≡ after_synced_append (disk_of (F.means files.old))
+            (lock_of self.now) bytes.now there) }
         ensures passes { F.honest → Passes (F.means files.old) (F.means files.new)
             (WritingOn (disk_of (F.means files.old)) (lock_of self.now) bytes.now) }
         ensures count { F.faults files.new ≡ count_after result (F.faults files.old) }
@@ -239,12 +237,12 @@ impl Lock {
         files: &mut F,
         path: &[u8],
     ) -> Result<Acquire, FileError>
-        ensures answer { F.honest →
-            IfOk result (Acquires (F.means files.old).tree path.now (F.means files.new).tree) }
+        ensures answer { F.honest → IfOk result
+            (Acquires (F.means files.old).tree path.now (F.means files.new).tree) }
 
         // An error leaves no lock, and no more than a beginning of the folders that lead to it.
-        ensures failed { F.honest →
-            OnErr result (Readying (F.means files.old).tree path.now (F.means files.new).tree) }
+        ensures failed { F.honest → OnErr result
+            (Readying (F.means files.old).tree path.now (F.means files.new).tree) }
 
         ensures leaves { F.honest → Leaves (F.means files.old) (F.means files.new)
             (Acquiring (F.means files.old).tree path.now) }
@@ -268,17 +266,15 @@ impl Lock {
     /// Adds bytes to the file of the lock and syncs it, so that a loss of power leaves them all once the lock is renamed;
     /// false where it does not exist. A fault leaves any beginning of them there, and the lock held. As `File::write` of gix-lock.
     pub fn write<F: Files>(&self, files: &mut F, bytes: &[u8]) -> Result<bool, FileError>
-        ensures answer { F.honest →
-            IfOk result (Appends (F.means files.old).tree (lock_of self.now) bytes.now
-            (F.means files.new).tree) }
+        ensures answer { F.honest → IfOk result (Appends (F.means files.old).tree
+            (lock_of self.now) bytes.now (F.means files.new).tree) }
         ensures leaves { F.honest → Leaves (F.means files.old) (F.means files.new)
             (Appending (F.means files.old).tree (lock_of self.now) bytes.now) }
-        ensures adds { F.honest →
-            OnOk result (Adds (F.means files.old) (F.means files.new)
+        ensures adds { F.honest → OnOk result (Adds (F.means files.old) (F.means files.new)
             (Appending (F.means files.old).tree (lock_of self.now) bytes.now)) }
         ensures disk { F.honest → IfOk result (λ there. disk_of (F.means files.new)
-            ≡ after_synced_append (disk_of (F.means files.old)) (lock_of self.now) bytes.now
-            there) }
+            ≡ after_synced_append (disk_of (F.means files.old))
+            (lock_of self.now) bytes.now there) }
         ensures passes { F.honest → Passes (F.means files.old) (F.means files.new)
             (WritingOn (disk_of (F.means files.old)) (lock_of self.now) bytes.now) }
         ensures count { F.faults files.new ≡ count_after result (F.faults files.old) }
@@ -290,8 +286,8 @@ impl Lock {
     /// Renames the file of the lock to the place. A fault gives the lock back; its file is where it was, or at
     /// the place. As `File::commit` of gix-lock.
     pub fn commit<F: Files>(self, files: &mut F) -> Result<Commit, Unspent>
-        ensures answer { F.honest →
-            IfOk result (Commits (F.means files.old).tree self (F.means files.new).tree) }
+        ensures answer { F.honest → IfOk result
+            (Commits (F.means files.old).tree self (F.means files.new).tree) }
         ensures leaves { F.honest → Leaves (F.means files.old) (F.means files.new)
             (Renaming (F.means files.old).tree (lock_of self) self) }
         ensures disk { F.honest → IfOk result (λ commit. disk_of (F.means files.new)
@@ -315,9 +311,8 @@ impl Lock {
     /// Removes the file of the lock; false where it does not exist. A fault gives the lock back; its file exists, or
     /// it is gone. As the drop of a `File` of gix-lock.
     pub fn remove<F: Files>(self, files: &mut F) -> Result<bool, Unspent>
-        ensures answer { F.honest →
-            IfOk result (RemovesFile (F.means files.old).tree (lock_of self)
-            (F.means files.new).tree) }
+        ensures answer { F.honest → IfOk result
+            (RemovesFile (F.means files.old).tree (lock_of self) (F.means files.new).tree) }
         ensures leaves { F.honest → Leaves (F.means files.old) (F.means files.new)
             (RemovingFile (F.means files.old).tree (lock_of self)) }
         ensures disk { F.honest → IfOk result (λ removed. disk_of (F.means files.new)

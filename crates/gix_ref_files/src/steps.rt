@@ -111,12 +111,10 @@ impl From<FileError> for Cause {
 fn append_line<F: Files>(files: &mut F, path: &[u8], bytes: &[u8]) -> Result<bool, FileError>
     ensures done { F.honest → IfOk result (λ done. IsTrue done →
         Does (Line path.now bytes.now) (F.means files.old).tree (F.means files.new).tree) }
-    ensures done_on { F.honest → IfOk result (λ done. IsTrue done →
-        DoesOn (Line path.now bytes.now) (disk_of (F.means files.old))
-        (disk_of (F.means files.new))) }
-    ensures refused { F.honest → IfOk result (λ done. done ≡ false →
-        EndsBy (Line path.now bytes.now) Cause.Unexpected (F.means files.old).tree
-        (F.means files.new).tree) }
+    ensures done_on { F.honest → IfOk result (λ done. IsTrue done → DoesOn (Line path.now bytes.now)
+        (disk_of (F.means files.old)) (disk_of (F.means files.new))) }
+    ensures refused { F.honest → IfOk result (λ done. done ≡ false → EndsBy (Line path.now
+        bytes.now) Cause.Unexpected (F.means files.old).tree (F.means files.new).tree) }
     ensures leaves { F.honest → Leaves (F.means files.old) (F.means files.new)
         (Begins (Line path.now bytes.now) (F.means files.old).tree) }
     ensures passes { F.honest → Passes (F.means files.old) (F.means files.new)
@@ -137,12 +135,10 @@ fn append_line<F: Files>(files: &mut F, path: &[u8], bytes: &[u8]) -> Result<boo
 fn make_line<F: Files>(files: &mut F, path: &[u8], bytes: &[u8]) -> Result<bool, FileError>
     ensures done { F.honest → IfOk result (λ done. IsTrue done →
         Does (Line path.now bytes.now) (F.means files.old).tree (F.means files.new).tree) }
-    ensures done_on { F.honest → IfOk result (λ done. IsTrue done →
-        DoesOn (Line path.now bytes.now) (disk_of (F.means files.old))
-        (disk_of (F.means files.new))) }
-    ensures refused { F.honest → IfOk result (λ done. done ≡ false →
-        EndsBy (Line path.now bytes.now) Cause.Unexpected (F.means files.old).tree
-        (F.means files.new).tree) }
+    ensures done_on { F.honest → IfOk result (λ done. IsTrue done → DoesOn (Line path.now bytes.now)
+        (disk_of (F.means files.old)) (disk_of (F.means files.new))) }
+    ensures refused { F.honest → IfOk result (λ done. done ≡ false → EndsBy (Line path.now
+        bytes.now) Cause.Unexpected (F.means files.old).tree (F.means files.new).tree) }
     ensures leaves { F.honest → Leaves (F.means files.old) (F.means files.new)
         (Begins (Line path.now bytes.now) (F.means files.old).tree) }
     ensures passes { F.honest → Passes (F.means files.old) (F.means files.new)
@@ -165,12 +161,10 @@ fn add_line<F: Files>(
 ) -> Result<bool, FileError>
     ensures done { F.honest → IfOk result (λ done. IsTrue done →
         Does (Line path.now bytes.now) (F.means files.old).tree (F.means files.new).tree) }
-    ensures done_on { F.honest → IfOk result (λ done. IsTrue done →
-        DoesOn (Line path.now bytes.now) (disk_of (F.means files.old))
-        (disk_of (F.means files.new))) }
-    ensures refused { F.honest → IfOk result (λ done. done ≡ false →
-        EndsBy (Line path.now bytes.now) Cause.Unexpected (F.means files.old).tree
-        (F.means files.new).tree) }
+    ensures done_on { F.honest → IfOk result (λ done. IsTrue done → DoesOn (Line path.now bytes.now)
+        (disk_of (F.means files.old)) (disk_of (F.means files.new))) }
+    ensures refused { F.honest → IfOk result (λ done. done ≡ false → EndsBy (Line path.now
+        bytes.now) Cause.Unexpected (F.means files.old).tree (F.means files.new).tree) }
     ensures leaves { F.honest → Leaves (F.means files.old) (F.means files.new)
         (Begins (Line path.now bytes.now) (F.means files.old).tree) }
     ensures passes { F.honest → Passes (F.means files.old) (F.means files.new)
@@ -203,15 +197,14 @@ fn as_done(done: bool) -> Result<bool, Cause>
 fn change<F: Files>(files: &mut F, action: &Action<'_>) -> Result<bool, Cause>
     ensures done { F.honest →
         OnOk result (Does (step_of action.now) (F.means files.old).tree (F.means files.new).tree) }
-    ensures done_on { F.honest → OnOk result (DoesOn (step_of action.now)
-        (disk_of (F.means files.old)) (disk_of (F.means files.new))) }
-    ensures needed { F.honest → IfOk result (λ more.
-        needs (step_of action.now) (F.means files.old).tree ≡ more) }
-    ensures ready { F.honest → IfOk result (λ more. IsTrue more →
-        CanSettle action.now (F.means files.new).tree) }
-    ensures ended { F.honest →
-        IfErr result (λ cause. EndsBy (step_of action.now) cause (F.means files.old).tree
-        (F.means files.new).tree) }
+    ensures done_on { F.honest → OnOk result
+        (DoesOn (step_of action.now) (disk_of (F.means files.old)) (disk_of (F.means files.new))) }
+    ensures needed { F.honest →
+        IfOk result (λ more. needs (step_of action.now) (F.means files.old).tree ≡ more) }
+    ensures ready { F.honest →
+        IfOk result (λ more. IsTrue more → CanSettle action.now (F.means files.new).tree) }
+    ensures ended { F.honest → IfErr result (λ cause. EndsBy (step_of action.now) cause
+        (F.means files.old).tree (F.means files.new).tree) }
     ensures leaves { F.honest → Leaves (F.means files.old) (F.means files.new)
         (Begins (step_of action.now) (F.means files.old).tree) }
     ensures passes { F.honest → Passes (F.means files.old) (F.means files.new)
@@ -291,16 +284,14 @@ fn root_of(root: usize) -> usize
 /// Syncs the folders of a path, from its own up to the front of this length, which has a byte.
 fn sync_up<F: Files>(files: &mut F, path: &[u8], top: usize) -> Result<(), Cause>
     requires { 1 ≤ top }
-    ensures done { F.honest → OnOk result (disk_of (F.means files.new)
-        ≡ synced_by (folders_up path.now top (length path.now - top))
-        (disk_of (F.means files.old))) }
+    ensures done { F.honest → OnOk result (disk_of (F.means files.new) ≡ synced_by
+        (folders_up path.now top (length path.now - top)) (disk_of (F.means files.old))) }
     ensures missing { F.honest → IsErrOf result Cause.Unexpected →
         has_folders (F.means files.old).tree path.now ≡ false }
     ensures leaves { F.honest → Leaves (F.means files.old) (F.means files.new)
         (Unchanged (F.means files.old).tree) }
-    ensures passes { F.honest → Passes (F.means files.old) (F.means files.new)
-        (IsSomeSynced (folders_up path.now top (length path.now - top))
-        (disk_of (F.means files.old))) }
+    ensures passes { F.honest → Passes (F.means files.old) (F.means files.new) (IsSomeSynced
+        (folders_up path.now top (length path.now - top)) (disk_of (F.means files.old))) }
     ensures count { MatchResult result (λ _. F.faults files.new ≡ F.faults files.old)
         (λ cause. F.faults files.new ≡ count_ended cause (F.faults files.old)) }
     ensures asked { IsErrOf result Cause.Asked → ⊥ }
@@ -430,17 +421,15 @@ fn once_done(cause: Cause) -> Cause
 fn run_step<F: Files>(files: &mut F, action: &Action<'_>, settle: Settle) -> Result<(), Cause>
     ensures done { F.honest →
         OnOk result (Does (step_of action.now) (F.means files.old).tree (F.means files.new).tree) }
-    ensures synced { F.honest → OnOk result
-        (IsSyncedAfter (With (step_of action.now) (syncs_of action.now settle) ∷ [])
+    ensures synced { F.honest →
+        OnOk result (IsSyncedAfter (With (step_of action.now) (syncs_of action.now settle) ∷ [])
         (disk_of (F.means files.old)) (disk_of (F.means files.new))) }
-    ensures ended { F.honest →
-        IfErr result (λ cause. EndsBy (step_of action.now) cause (F.means files.old).tree
-        (F.means files.new).tree) }
+    ensures ended { F.honest → IfErr result (λ cause. EndsBy (step_of action.now) cause
+        (F.means files.old).tree (F.means files.new).tree) }
     ensures leaves { F.honest → Leaves (F.means files.old) (F.means files.new)
         (Begins (step_of action.now) (F.means files.old).tree) }
-    ensures passes { F.honest → Passes (F.means files.old) (F.means files.new)
-        (IsReachedBy (With (step_of action.now) (syncs_of action.now settle) ∷ [])
-        (disk_of (F.means files.old))) }
+    ensures passes { F.honest → Passes (F.means files.old) (F.means files.new) (IsReachedBy (With
+        (step_of action.now) (syncs_of action.now settle) ∷ []) (disk_of (F.means files.old))) }
     ensures count { MatchResult result (λ _. F.faults files.new ≡ F.faults files.old)
         (λ cause. F.faults files.new ≡ count_ended cause (F.faults files.old)) }
     ensures asked { IsErrOf result Cause.Asked → action.now ≡ Action.End }
@@ -460,18 +449,14 @@ fn run_step<F: Files>(files: &mut F, action: &Action<'_>, settle: Settle) -> Res
 /// missing, and one for each sync; a removal that finds no file syncs nothing. A fault of a sync ends the run at its step, which is
 /// done then.
 pub fn run_steps<F: Files, E>(files: &mut F, plan: &[Planned<'_, E>]) -> Result<(), Ended>
-    ensures done { F.honest →
-        OnOk result (IsAfter (steps_of plan.now) (F.means files.old).tree
-        (F.means files.new).tree) }
-    ensures synced { F.honest →
-        OnOk result (IsSyncedAfter (synced_steps plan.now) (disk_of (F.means files.old))
-        (disk_of (F.means files.new))) }
-    ensures ended { F.honest →
-        IfErr result (λ end. EndsAt (steps_of plan.now) end.at end.cause (F.means files.old).tree
-        (F.means files.new).tree) }
-    ensures ended_on { F.honest →
-        IfErr result (λ end. IsEndedAt (synced_steps plan.now) end.at (disk_of (F.means files.old))
-        (disk_of (F.means files.new))) }
+    ensures done { F.honest → OnOk result
+        (IsAfter (steps_of plan.now) (F.means files.old).tree (F.means files.new).tree) }
+    ensures synced { F.honest → OnOk result (IsSyncedAfter (synced_steps plan.now)
+        (disk_of (F.means files.old)) (disk_of (F.means files.new))) }
+    ensures ended { F.honest → IfErr result (λ end. EndsAt (steps_of plan.now) end.at end.cause
+        (F.means files.old).tree (F.means files.new).tree) }
+    ensures ended_on { F.honest → IfErr result (λ end. IsEndedAt (synced_steps plan.now) end.at
+        (disk_of (F.means files.old)) (disk_of (F.means files.new))) }
 
     // A stop at any moment leaves the tree after some of the steps, with perhaps a beginning of the next.
     ensures leaves { F.honest → Leaves (F.means files.old) (F.means files.new)

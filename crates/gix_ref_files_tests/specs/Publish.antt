@@ -11,7 +11,8 @@ abbrev pub IsNew : Path → Path → Tree → Tree → Type 0
 IsNew lock place before T = T place ≡ before lock
 
 -- Each place is old or new, and the second is new only where the first is.
-pub record ArePublishedInOrder (first_lock first second_lock second : Path) (before T : Tree) : Type 0 where
+pub record ArePublishedInOrder (first_lock first second_lock second : Path)
+    (before T : Tree) : Type 0 where
   pub first_place : IsOldPlace first before T ⊎ IsNew first_lock first before T
   pub second_place : IsOldPlace second before T ⊎ IsNew second_lock second before T
   pub order : IsOldPlace second before T ⊎ IsNew first_lock first before T

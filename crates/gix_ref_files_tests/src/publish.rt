@@ -18,12 +18,10 @@ pub struct Place {
 pub fn publish_both<F: Files>(files: &mut F, first: Place, second: Place) -> Result<(), Ended>
     requires { ArePathsApart first.lock.items first.path.items second.lock.items second.path.items }
     ensures stops { F.honest → StopsLeave (F.means files.old) (F.means files.new)
-        (ArePublishedInOrder
-        first.lock.items first.path.items second.lock.items second.path.items (F.means
-        files.old).tree) }
+        (ArePublishedInOrder first.lock.items first.path.items second.lock.items second.path.items
+        (F.means files.old).tree) }
     ensures at_end { F.honest → ArePublishedInOrder first.lock.items first.path.items
-        second.lock.items
-        second.path.items (F.means files.old).tree (F.means files.new).tree }
+        second.lock.items second.path.items (F.means files.old).tree (F.means files.new).tree }
 {
     let once = Action::Rename {
         from: &first.lock,

@@ -27,7 +27,8 @@ bytes_of_names [] = []
 bytes_of_names (name ∷ names) = full_bytes name ∷ bytes_of_names names
 
 -- a step from a target: an object has none, and the lookup of a symbolic one has a result
-abbrev pub OfStep : TargetValue → (List ℕ → Result Reference Missing → Type 0) → Option (Result Reference Missing) → Type 0
+abbrev pub OfStep : TargetValue → (List ℕ → Result Reference Missing → Type 0) →
+    Option (Result Reference Missing) → Type 0
 OfStep (object_id id) P None = Unit {0}
 OfStep (object_id id) P (Some result) = ⊥
 OfStep (symbolic_name name) P None = ⊥
@@ -53,9 +54,11 @@ IsReturn name reached place other = ⊥
 
 -- the step is refused: nothing has the name of the target, the lookup fails, or it leads to a reference of one of these names
 abbrev pub RefusesStep : HitsByName → (reached : List (List ℕ)) → At → Error → Type 0
-RefusesStep find reached at (Follow (NotFound name)) = (at.target ≡ symbolic_name (partial_bytes name)) × (find (partial_bytes name) ≡ None)
+RefusesStep find reached at (Follow (NotFound name)) =
+    (at.target ≡ symbolic_name (partial_bytes name)) × (find (partial_bytes name) ≡ None)
 RefusesStep find reached at (Follow (Find error)) = IsSound error
-RefusesStep find reached at (Cycle path) = (next : At) × IsStep find at next × (is_one_of next.name reached ≡ true)
+RefusesStep find reached at (Cycle path) = (next : At) × IsStep find at next
+    × (is_one_of next.name reached ≡ true)
 RefusesStep find reached at (DepthLimitExceeded steps) = ⊥
 RefusesStep find reached at Memory = Unit {0}
 
@@ -63,8 +66,10 @@ RefusesStep find reached at Memory = Unit {0}
 -- fault or want of memory, a reference on its way.
 abbrev pub Follows : HitsByName → (start now : At) → Result ObjectId Error → Type 0
 Follows find start now (Ok id) = following find start ≡ Reached now id
-Follows find start now (Err (Follow (NotFound name))) = following find start ≡ Dangling now (partial_bytes name)
-Follows find start now (Err (Follow (Find error))) = IsSound error × LeadsWithinLimit (IsStep find) start now
+Follows find start now (Err (Follow (NotFound name))) = following find start
+    ≡ Dangling now (partial_bytes name)
+Follows find start now (Err (Follow (Find error))) = IsSound error
+    × LeadsWithinLimit (IsStep find) start now
 Follows find start now (Err (Cycle path)) = following find start ≡ Circular now
 Follows find start now (Err (DepthLimitExceeded steps)) = following find start ≡ TooDeep now
 Follows find start now (Err Memory) = LeadsWithinLimit (IsStep find) start now
@@ -75,29 +80,42 @@ module _ {F : Type 0} (means : F → Meaning) where
   finds_in asks_records store records = hit_in means asks_records store records
 
   -- the lookup of a target in it finds this, among these records
-  abbrev pub StepFinds : (asks_records : Bool) → Store F → List Record → TargetValue → Option (Result Reference Missing) → Type 0
+  abbrev pub StepFinds : (asks_records : Bool) → Store F → List Record → TargetValue →
+      Option (Result Reference Missing) → Type 0
   StepFinds asks_records store records target result =
-      OfStep target (λ name r. MatchResult r (λ next. FindsBy means asks_records store records name (Some next)) (MissesBy means asks_records store records name)) result
+      OfStep target (λ name r. MatchResult r (λ next. FindsBy means asks_records store records name
+      (Some next)) (MissesBy means asks_records store records name)) result
 
 module _ {F R : Type 0} {G : Ghosts R} (means : F → Meaning) where
   -- on any text of `packed-refs`: what the lookup of a target finds is one that the target is short for
-  abbrev pub StepHits : (asks_records : Bool) → Store F → Records R G → TargetValue → Option (Result Reference Missing) → Type 0
-  StepHits asks_records store asked target result = OfStep target (λ name r. IfOk r (λ next. HitsIn means asks_records store asked name (Some next))) result
+  abbrev pub StepHits : (asks_records : Bool) → Store F → Records R G → TargetValue →
+      Option (Result Reference Missing) → Type 0
+  StepHits asks_records store asked target result = OfStep target
+      (λ name r. IfOk r (λ next. HitsIn means asks_records store asked name (Some next))) result
 
   -- on any text of `packed-refs`: the next reference is one that the target is short for
-  abbrev pub HitsNext : (asks_records : Bool) → Store F → Records R G → (at next : Reference) → Type 0
-  HitsNext asks_records store asked at next = (name : List ℕ) × (target_value at.target ≡ symbolic_name name) × HitsIn means asks_records store asked name (Some next)
+  abbrev pub HitsNext : (asks_records : Bool) → Store F → Records R G →
+      (at next : Reference) → Type 0
+  HitsNext asks_records store asked at next = (name : List ℕ)
+      × (target_value at.target ≡ symbolic_name name)
+      × HitsIn means asks_records store asked name (Some next)
 
-module _ {F R : Type 0} {G : Ghosts R} (honest : Type 0) (means : F → Meaning) (faults : F → ℕ) where
+module _ {F R : Type 0} {G : Ghosts R} (honest : Type 0) (means : F → Meaning)
+    (faults : F → ℕ) where
   -- why the lookup of a target fails
-  abbrev pub StepFails : (asks_records : Bool) → (old new : Store F) → Records R G → TargetValue → Option (Result Reference Missing) → Type 0
-  StepFails asks_records old new asked target result = OfStep target (λ name r. IfErr r (MissesIn honest means faults asks_records old new asked name)) result
+  abbrev pub StepFails : (asks_records : Bool) → (old new : Store F) → Records R G → TargetValue →
+      Option (Result Reference Missing) → Type 0
+  StepFails asks_records old new asked target result = OfStep target
+      (λ name r. IfErr r (MissesIn honest means faults asks_records old new asked name)) result
 
   -- why a reference is not followed further: the lookup of its target fails or finds nothing; that leads back, and this is the
   -- place of the reference; five steps were taken; no memory
-  abbrev pub IsNotFollowed : (asks_records : Bool) → (old new : Store F) → Records R G → Reference → Error → Type 0
+  abbrev pub IsNotFollowed : (asks_records : Bool) → (old new : Store F) → Records R G → Reference →
+      Error → Type 0
   IsNotFollowed asks_records old new asked at (Follow error) =
-      (name : List ℕ) × (target_value at.target ≡ symbolic_name name) × MissesIn honest means faults asks_records old new asked name error
-  IsNotFollowed asks_records old new asked at (Cycle path) = path.items ≡ (stores.meaning_of old).place (full_bytes at.name)
+      (name : List ℕ) × (target_value at.target ≡ symbolic_name name)
+      × MissesIn honest means faults asks_records old new asked name error
+  IsNotFollowed asks_records old new asked at (Cycle path) = path.items
+      ≡ (stores.meaning_of old).place (full_bytes at.name)
   IsNotFollowed asks_records old new asked at (DepthLimitExceeded steps) = steps ≡ 5
   IsNotFollowed asks_records old new asked at Memory = Unit {0}

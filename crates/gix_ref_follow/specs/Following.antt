@@ -40,19 +40,23 @@ abbrev pub is_one_of : List ℕ → List (List ℕ) → Bool
 is_one_of name names = list_any (bytes_eq name) names
 
 -- at the reference that a lookup found, with this reading; `more` goes on from it
-abbrev pub arrive : (reached : List (List ℕ)) → (more : At → EndOfChain) → At → Hit → Reading → EndOfChain
+abbrev pub arrive : (reached : List (List ℕ)) → (more : At → EndOfChain) → At → Hit →
+    Reading → EndOfChain
 arrive reached more at hit (Is target) =
-    if is_one_of hit.name reached then Circular at else more (record { name = hit.name; target = target; peeled = hit.peeled })
+    if is_one_of hit.name reached then Circular at
+    else more (record { name = hit.name; target = target; peeled = hit.peeled })
 arrive reached more at hit Fault = Unreadable at
 arrive reached more at hit Absent = Unreadable at
 
 -- one step, by what the lookup of the symbolic target finds
-abbrev pub step_by : (reached : List (List ℕ)) → (more : At → EndOfChain) → At → List ℕ → Option Hit → EndOfChain
+abbrev pub step_by : (reached : List (List ℕ)) → (more : At → EndOfChain) → At → List ℕ →
+    Option Hit → EndOfChain
 step_by reached more at name None = Dangling at name
 step_by reached more at name (Some hit) = arrive reached more at hit hit.reading
 
 -- at an object, or one step on
-abbrev pub step_from : HitsByName → (reached : List (List ℕ)) → (more : At → EndOfChain) → At → TargetValue → EndOfChain
+abbrev pub step_from : HitsByName → (reached : List (List ℕ)) → (more : At → EndOfChain) → At →
+    TargetValue → EndOfChain
 step_from find reached more at (object_id id) = Reached at id
 step_from find reached more at (symbolic_name name) = step_by reached more at name (find name)
 
@@ -60,7 +64,8 @@ step_from find reached more at (symbolic_name name) = step_by reached more at na
 -- refused, whatever it reached.
 unfoldable pub follow : HitsByName → (steps : ℕ) → (reached : List (List ℕ)) → At → EndOfChain
 follow find zero reached at = TooDeep at
-follow find (suc steps) reached at = step_from find reached (λ next. follow find steps (reached ++ next.name ∷ []) next) at at.target
+follow find (suc steps) reached at = step_from find reached
+    (λ next. follow find steps (reached ++ next.name ∷ []) next) at at.target
 
 -- From a reference: up to four steps lead to an object, and a fifth is refused. The name of the start may come again.
 abbrev pub following : HitsByName → At → EndOfChain
@@ -79,15 +84,18 @@ pub record IsStep (find : HitsByName) (at next : At) : Type 0 where
 -- so many steps of a kind lead from one to the other
 abbrev pub Leads : {A : Type 0} → (A → A → Type 0) → (steps : ℕ) → A → A → Type 0
 Leads Step zero start end = start ≡ end
-Leads {A} Step (suc steps) start end = (before : A) × Leads Step steps start before × Step before end
+Leads {A} Step (suc steps) start end = (before : A) × Leads Step steps start before
+    × Step before end
 
 -- a reference that a following passes, the start included
 abbrev pub LeadsWithinLimit : {A : Type 0} → (A → A → Type 0) → A → A → Type 0
 LeadsWithinLimit Step start end = (steps : ℕ) × (steps ≤ 5) × Leads Step steps start end
 
 -- So many steps lead from one reference to another, to references of these names, none of which an earlier step reached.
-abbrev pub ChainOfSteps : HitsByName → (steps : ℕ) → (start : At) → (reached : List (List ℕ)) → (end : At) → Type 0
+abbrev pub ChainOfSteps : HitsByName → (steps : ℕ) → (start : At) → (reached : List (List ℕ)) →
+    (end : At) → Type 0
 ChainOfSteps find zero start reached end = (start ≡ end) × (reached ≡ [])
 ChainOfSteps find (suc steps) start reached end =
-    (before : At) × (earlier : List (List ℕ)) × ChainOfSteps find steps start earlier before × IsStep find before end
+    (before : At) × (earlier : List (List ℕ)) × ChainOfSteps find steps start earlier before
+    × IsStep find before end
     × (is_one_of end.name earlier ≡ false) × (reached ≡ earlier ++ end.name ∷ [])

@@ -23,4 +23,5 @@ pub record SameLoose (a b : Reference) : Type 0 where
 
 -- by the bytes of the name, and then by the target
 abbrev pub loose_cmp : Reference → Reference → Ordering
-loose_cmp a b = ordering_then (slice_cmp nat_cmp (full_bytes a.name) (full_bytes b.name)) (target_cmp (target_value a.target) (target_value b.target))
+loose_cmp a b = ordering_then (slice_cmp nat_cmp (full_bytes a.name) (full_bytes b.name))
+    (target_cmp (target_value a.target) (target_value b.target))

@@ -50,14 +50,19 @@ abbrev pub peeling : HitsByName → (ObjectId → Stored) → At → Peeling
 peeling find meaning start = by_known find meaning start start.peeled
 
 -- The result of a peeling that began at the one reference and is now at the other.
-abbrev pub Peels : HitsByName → (ObjectId → Stored) → (start now : At) → Result ObjectId Error → Type 0
+abbrev pub Peels : HitsByName → (ObjectId → Stored) → (start now : At) →
+    Result ObjectId Error → Type 0
 Peels find meaning start now (Ok id) = peeling find meaning start ≡ Done now id
-Peels find meaning start now (Err (FollowToObject error)) = (start.peeled ≡ None) × Follows find start now (Err error)
+Peels find meaning start now (Err (FollowToObject error)) = (start.peeled ≡ None)
+    × Follows find start now (Err error)
 Peels find meaning start now (Err (NotFound id name)) =
-    (full_bytes name ≡ now.name) × ((peeling find meaning start ≡ NotPeeled now (Missing id)) ⊎ (peeling find meaning start ≡ NotPeeled now (BadTag id)))
-Peels find meaning start now (Err TagChainTooLong) = peeling find meaning start ≡ NotPeeled now TooLong
+    (full_bytes name ≡ now.name) × ((peeling find meaning start ≡ NotPeeled now (Missing id))
+    ⊎ (peeling find meaning start ≡ NotPeeled now (BadTag id)))
+Peels find meaning start now (Err TagChainTooLong) = peeling find meaning start
+    ≡ NotPeeled now TooLong
 Peels find meaning start now (Err Find) = peeling find meaning start ≡ NotPeeled now Failed
-Peels find meaning start now (Err Memory) = (start.peeled ≡ None) × (id : ObjectId) × (following find start ≡ Reached now id)
+Peels find meaning start now (Err Memory) = (start.peeled ≡ None) × (id : ObjectId)
+    × (following find start ≡ Reached now id)
 
 -- the error of a reference of this name for one of peeling the tags of its object
 abbrev pub IsTagError : List ℕ → PeelError → Error → Type 0
@@ -84,16 +89,23 @@ IsOfTags name (FollowToObject error) = ⊥
 IsOfTags name (NotFound id of) = full_bytes of ≡ name
 IsOfTags name other = Unit {0}
 
-module _ {F R : Type 0} {G : Ghosts R} (honest : Type 0) (means : F → Meaning) (faults : F → ℕ) where
+module _ {F R : Type 0} {G : Ghosts R} (honest : Type 0) (means : F → Meaning)
+    (faults : F → ℕ) where
   -- why a reference is not peeled: it is not followed; or it was, and the tags of its object are not peeled
-  abbrev pub IsNotPeeled : (asks_records : Bool) → (old new : Store F) → Records R G → Reference → Error → Type 0
-  IsNotPeeled asks_records old new asked at (FollowToObject error) = IsNotFollowed honest means faults asks_records old new asked at error
-  IsNotPeeled asks_records old new asked at (NotFound id name) = (full_bytes name ≡ full_bytes at.name) × (first : ObjectId) × (target_value at.target ≡ object_id first)
-  IsNotPeeled asks_records old new asked at other = (first : ObjectId) × (target_value at.target ≡ object_id first)
+  abbrev pub IsNotPeeled : (asks_records : Bool) → (old new : Store F) → Records R G → Reference →
+      Error → Type 0
+  IsNotPeeled asks_records old new asked at (FollowToObject error) =
+      IsNotFollowed honest means faults asks_records old new asked at error
+  IsNotPeeled asks_records old new asked at (NotFound id name) =
+      (full_bytes name ≡ full_bytes at.name) × (first : ObjectId)
+      × (target_value at.target ≡ object_id first)
+  IsNotPeeled asks_records old new asked at other = (first : ObjectId)
+      × (target_value at.target ≡ object_id first)
 
 module _ {F R : Type 0} {G : Ghosts R} (means : F → Meaning) where
   -- on any text of `packed-refs`: the name is that of a reference to which hits lead
-  pub record HasPassed (asks_records : Bool) (store : Store F) (asked : Records R G) (start now : Reference) : Type 0 where
+  pub record HasPassed (asks_records : Bool) (store : Store F) (asked : Records R G)
+      (start now : Reference) : Type 0 where
     pub reached : Reference
     pub passes : LeadsWithinLimit (HitsNext means asks_records store asked) start reached
     pub name : full_bytes now.name ≡ full_bytes reached.name

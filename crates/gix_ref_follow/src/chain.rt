@@ -53,17 +53,17 @@ pub(crate) fn find_next<F: Files>(
     asks_records: bool,
     asked: &mut Records<'_, F::Reader>,
 ) -> Option<Result<Reference, existing::Error>>
-    ensures found { F.honest → (records : List Record) → AreAskedIn F.means store.old asked.old
-        records → StepFinds F.means asks_records store.old records (target_value
-        reference.now.target) result }
+    ensures found { F.honest → (records : List Record) →
+        AreAskedIn F.means store.old asked.old records → StepFinds F.means asks_records store.old
+        records (target_value reference.now.target) result }
     ensures hit { F.honest → AreHonest asked.old → StepHits F.means asks_records store.old asked.old
         (target_value reference.now.target) result }
     ensures failed { StepFails F.honest F.means F.faults asks_records store.old store.new asked.old
         (target_value reference.now.target) result }
-    ensures asked { F.honest → OnStep result
-        (AreStillAskedIn F.means store.old asked.old asked.new) }
-    ensures no_fault { OnStep result (F.faults (files_of store.new) ≡ F.faults
-        (files_of store.old)) }
+    ensures asked { F.honest →
+        OnStep result (AreStillAskedIn F.means store.old asked.old asked.new) }
+    ensures no_fault { OnStep result (F.faults (files_of store.new)
+        ≡ F.faults (files_of store.old)) }
     ensures unchanged { LooksUp F.honest F.means store.old store.new }
 {
     match &reference.target {
@@ -82,8 +82,8 @@ pub(crate) fn find_next<F: Files>(
 /// Adds a copy of a name.
 #[tactic(auto, using(crate::proofs::Steps::names_append))]
 fn remember(reached: &mut Vec<FullName>, name: &FullName) -> Result<(), AllocError>
-    ensures { OnOk result (bytes_of_names reached.new.items ≡ bytes_of_names reached.old.items
-        ++ full_bytes name.now ∷ []) }
+    ensures { OnOk result (bytes_of_names reached.new.items
+        ≡ bytes_of_names reached.old.items ++ full_bytes name.now ∷ []) }
 {
     reached.push(name.clone()?)?;
     Ok(())
@@ -98,14 +98,13 @@ fn arrive<F>(
     reached: &mut Vec<FullName>,
 ) -> Result<(), Error>
     ensures moved { OnOk result (reference.new ≡ next) }
-    ensures first { OnOk result (is_one_of (full_bytes next.name) (bytes_of_names reached.old.items)
-        ≡ false) }
+    ensures first { OnOk result
+        (is_one_of (full_bytes next.name) (bytes_of_names reached.old.items) ≡ false) }
     ensures reached { OnOk result (bytes_of_names reached.new.items
         ≡ bytes_of_names reached.old.items ++ full_bytes next.name ∷ []) }
     ensures kept { OnErr result (reference.new ≡ reference.old) }
-    ensures refused { IfErr result (IsReturn (full_bytes next.name)
-        (bytes_of_names reached.old.items)
-        ((meaning_of store.now).place (full_bytes reference.old.name))) }
+    ensures refused { IfErr result (IsReturn (full_bytes next.name) (bytes_of_names
+        reached.old.items) ((meaning_of store.now).place (full_bytes reference.old.name))) }
 {
     if is_reached(reached, &next.name) {
         return Err(cycle(alloc, store, reference.name.as_ref()));
@@ -126,29 +125,22 @@ fn take_step<F: Files>(
 ) -> Result<(), Error>
     requires { target_kind (target_value reference.old.target) ≡ Symbolic }
     ensures moved { F.honest → (records : List Record) → AreAskedIn F.means store.old asked.old
-        records →
-        OnOk result (IsStep (finds_in F.means asks_records store.old records) (at_of reference.old)
-        (at_of
-        reference.new)) }
-    ensures first { OnOk result (is_one_of (full_bytes reference.new.name)
-        (bytes_of_names reached.old.items) ≡ false) }
+        records → OnOk result (IsStep (finds_in F.means asks_records store.old records)
+        (at_of reference.old) (at_of reference.new)) }
+    ensures first { OnOk result
+        (is_one_of (full_bytes reference.new.name) (bytes_of_names reached.old.items) ≡ false) }
     ensures refused { F.honest → (records : List Record) → AreAskedIn F.means store.old asked.old
-        records →
-        IfErr result (RefusesStep (finds_in F.means asks_records store.old records)
+        records → IfErr result (RefusesStep (finds_in F.means asks_records store.old records)
         (bytes_of_names reached.old.items) (at_of reference.old)) }
-    ensures hit { F.honest → AreHonest asked.old →
-        OnOk result (HitsNext F.means asks_records store.old asked.old reference.old
-        reference.new) }
+    ensures hit { F.honest → AreHonest asked.old → OnOk result
+        (HitsNext F.means asks_records store.old asked.old reference.old reference.new) }
     ensures failed { IfErr result (IsNotFollowed F.honest F.means F.faults asks_records store.old
-        store.new
-        asked.old reference.old) }
+        store.new asked.old reference.old) }
     ensures reached { OnOk result (bytes_of_names reached.new.items
         ≡ bytes_of_names reached.old.items ++ full_bytes reference.new.name ∷ []) }
     ensures kept { OnErr result (reference.new ≡ reference.old) }
-    ensures asked { F.honest → OnOk result
-        (AreStillAskedIn F.means store.old asked.old asked.new) }
-    ensures no_fault { OnOk result (F.faults (files_of store.new) ≡ F.faults
-        (files_of store.old)) }
+    ensures asked { F.honest → OnOk result (AreStillAskedIn F.means store.old asked.old asked.new) }
+    ensures no_fault { OnOk result (F.faults (files_of store.new) ≡ F.faults (files_of store.old)) }
     ensures unchanged { LooksUp F.honest F.means store.old store.new }
 {
     match find_next(reference, alloc, store, asks_records, asked) {
@@ -167,19 +159,14 @@ pub(crate) fn follow_among<F: Files>(
     asked: &mut Records<'_, F::Reader>,
 ) -> Result<ObjectId, Error>
     ensures followed { F.honest → (records : List Record) → AreAskedIn F.means store.old asked.old
-        records →
-        Follows (finds_in F.means asks_records store.old records) (at_of reference.old) (at_of
-        reference.new)
-        result }
-    ensures hits { F.honest → AreHonest asked.old →
-        LeadsWithinLimit (HitsNext F.means asks_records store.old asked.old) reference.old
-        reference.new }
+        records → Follows (finds_in F.means asks_records store.old records) (at_of reference.old)
+        (at_of reference.new) result }
+    ensures hits { F.honest → AreHonest asked.old → LeadsWithinLimit
+        (HitsNext F.means asks_records store.old asked.old) reference.old reference.new }
     ensures object { IfOk result (λ id. target_value reference.new.target ≡ object_id id) }
     ensures failed { IfErr result (IsNotFollowed F.honest F.means F.faults asks_records store.old
-        store.new
-        asked.old reference.new) }
-    ensures no_fault { OnOk result (F.faults (files_of store.new) ≡ F.faults
-        (files_of store.old)) }
+        store.new asked.old reference.new) }
+    ensures no_fault { OnOk result (F.faults (files_of store.new) ≡ F.faults (files_of store.old)) }
     ensures unchanged { LooksUp F.honest F.means store.old store.new }
 {
     let mut reached = Vec::new(alloc);

@@ -12,12 +12,10 @@ pub fn ends_of_followings()
         (id : ObjectId) → steps ≤ 4 → ChainOfSteps find steps start reached end →
         end.target ≡ object_id id → following find start ≡ Reached end id }
     ensures dangling { (find : HitsByName) (steps : ℕ) (start end : At) (reached : List (List ℕ))
-        (name : List ℕ) → steps ≤ 4 → ChainOfSteps find steps start reached end →
-        end.target ≡ symbolic_name name → find name ≡ None →
-        following find start ≡ Dangling end name }
-    ensures circular { (find : HitsByName) (steps : ℕ) (start end next : At)
-        (reached : List (List ℕ)) → steps ≤ 4 →
-        ChainOfSteps find steps start reached end → IsStep find end next →
+        (name : List ℕ) → steps ≤ 4 → ChainOfSteps find steps start reached end → end.target
+        ≡ symbolic_name name → find name ≡ None → following find start ≡ Dangling end name }
+    ensures circular { (find : HitsByName) (steps : ℕ) (start end next : At) (reached : List
+        (List ℕ)) → steps ≤ 4 → ChainOfSteps find steps start reached end → IsStep find end next →
         is_one_of next.name reached ≡ true → following find start ≡ Circular end }
     ensures too_deep { (find : HitsByName) (start end : At) (reached : List (List ℕ)) →
         ChainOfSteps find 5 start reached end → following find start ≡ TooDeep end }

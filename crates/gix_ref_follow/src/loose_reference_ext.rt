@@ -44,13 +44,13 @@ impl LooseReferenceExt for Reference {
     ghost use Rattle.gix_ref_store.specs.Store.{files_of};
 
     fn log_exists<F: Files>(&self, alloc: Global, store: &mut Store<F>) -> Result<bool, log::Error>
-        ensures exists { F.honest → IfOk result (λ exists.
-            exists ≡ is_file (reflog_at F.means store.old (full_bytes self.now.name))) }
-        ensures allowed { OnOk result (is_log_prohibited store.old (full_bytes self.now.name) ≡
-            false) }
+        ensures exists { F.honest → IfOk result
+            (λ exists. exists ≡ is_file (reflog_at F.means store.old (full_bytes self.now.name))) }
+        ensures allowed { OnOk result
+            (is_log_prohibited store.old (full_bytes self.now.name) ≡ false) }
         ensures failed { IfErr result (IsNoReflog store.old (full_bytes self.now.name)) }
-        ensures count { F.faults (files_of store.new) ≡ count_log result (F.faults
-            (files_of store.old)) }
+        ensures count { F.faults (files_of store.new)
+            ≡ count_log result (F.faults (files_of store.old)) }
         ensures unchanged { LooksUp F.honest F.means store.old store.new }
     {
         store.reflog_exists(alloc, self.name.as_ref())
@@ -64,11 +64,11 @@ impl LooseReferenceExt for Reference {
     ) -> Result<Option<Forward<'b>>, log::Error>
         ensures lines { F.honest → IfOk result
             (ReadsForward (reflog_at F.means store.old (full_bytes self.now.name))) }
-        ensures allowed { OnOk result (is_log_prohibited store.old (full_bytes self.now.name) ≡
-            false) }
+        ensures allowed { OnOk result
+            (is_log_prohibited store.old (full_bytes self.now.name) ≡ false) }
         ensures failed { IfErr result (IsNoReflog store.old (full_bytes self.now.name)) }
-        ensures count { F.faults (files_of store.new) ≡ count_log result (F.faults
-            (files_of store.old)) }
+        ensures count { F.faults (files_of store.new)
+            ≡ count_log result (F.faults (files_of store.old)) }
         ensures unchanged { LooksUp F.honest F.means store.old store.new }
     {
         store.reflog_iter(alloc, self.name.as_ref(), buf)
@@ -80,18 +80,17 @@ impl LooseReferenceExt for Reference {
         store: &mut Store<F>,
         buf: &'b mut [u8],
     ) -> Result<Option<Reverse<'b, F::Reader>>, log::Error>
-        ensures lines { F.honest → IfOk result
-            (ReadsBackward F.Reader.ReadAt (reflog_at F.means store.old (full_bytes
-            self.now.name)) (length buf.old)) }
+        ensures lines { F.honest → IfOk result (ReadsBackward F.Reader.ReadAt
+            (reflog_at F.means store.old (full_bytes self.now.name)) (length buf.old)) }
         ensures ends { IfOk result (EndsAtErrors F.Reader.ReadAt) }
-        ensures same_reference { IfOk result (λ r. IfSome r (λ lines. lines.buf.ghost_name ≡
-            buf.entry.ghost_name)) }
-        ensures allowed { OnOk result (is_log_prohibited store.old (full_bytes self.now.name) ≡
-            false) }
+        ensures same_reference { IfOk result
+            (λ r. IfSome r (λ lines. lines.buf.ghost_name ≡ buf.entry.ghost_name)) }
+        ensures allowed { OnOk result
+            (is_log_prohibited store.old (full_bytes self.now.name) ≡ false) }
         ensures failed { IfErr result (IsNoReverse F.honest (reflog_at F.means store.old
             (full_bytes self.now.name)) (length buf.old) store.old (full_bytes self.now.name)) }
-        ensures count { F.faults (files_of store.new) ≡ count_log result (F.faults
-            (files_of store.old)) }
+        ensures count { F.faults (files_of store.new)
+            ≡ count_log result (F.faults (files_of store.old)) }
         ensures unchanged { LooksUp F.honest F.means store.old store.new }
     {
         store.reflog_iter_rev(alloc, self.name.as_ref(), buf)

@@ -175,13 +175,13 @@ impl ReferenceExt for Reference {
     }
 
     fn log_exists<F: Files>(&self, alloc: Global, store: &mut Store<F>) -> Result<bool, log::Error>
-        ensures exists { F.honest → IfOk result (λ exists.
-            exists ≡ is_file (reflog_at F.means store.old (full_bytes self.now.name))) }
-        ensures allowed { OnOk result (is_log_prohibited store.old (full_bytes self.now.name) ≡
-            false) }
+        ensures exists { F.honest → IfOk result
+            (λ exists. exists ≡ is_file (reflog_at F.means store.old (full_bytes self.now.name))) }
+        ensures allowed { OnOk result
+            (is_log_prohibited store.old (full_bytes self.now.name) ≡ false) }
         ensures failed { IfErr result (IsNoReflog store.old (full_bytes self.now.name)) }
-        ensures count { F.faults (files_of store.new) ≡ count_log result (F.faults
-            (files_of store.old)) }
+        ensures count { F.faults (files_of store.new)
+            ≡ count_log result (F.faults (files_of store.old)) }
         ensures unchanged { LooksUp F.honest F.means store.old store.new }
     {
         store.reflog_exists(alloc, self.name.as_ref())
@@ -194,20 +194,18 @@ impl ReferenceExt for Reference {
         objects: &T,
     ) -> Result<ObjectId, to_id::Error>
         ensures peeled { F.honest → T.claims objects.now → (records : List Record) →
-            AreRecordsIn F.means store.old records →
-            Peels (finds_in F.means true store.old records) (T.meaning objects.now) (at_of self.old)
-            (at_of self.new) result }
-        ensures at_once { IfSome self.old.peeled (λ id. (result ≡ Ok id)
-            × (at_of self.new ≡ peeled_to (at_of self.old) id)) }
+            AreRecordsIn F.means store.old records → Peels (finds_in F.means true store.old records)
+            (T.meaning objects.now) (at_of self.old) (at_of self.new) result }
+        ensures at_once { IfSome self.old.peeled
+            (λ id. (result ≡ Ok id) × (at_of self.new ≡ peeled_to (at_of self.old) id)) }
         ensures done { IfOk result (λ id. (target_value self.new.target ≡ object_id id)
             × (self.new.peeled ≡ Some id)) }
-        ensures hits { F.honest → HasPassed {G = F.Reader.ReadAt} F.means true store.old Unopened
-            self.old self.new }
+        ensures hits { F.honest →
+            HasPassed {G = F.Reader.ReadAt} F.means true store.old Unopened self.old self.new }
         ensures failed { IfErr result (IsNotPeeled {G = F.Reader.ReadAt} F.honest F.means F.faults
-            true
-            store.old store.new Unopened self.new) }
-        ensures no_fault { OnOk result (F.faults (files_of store.new) ≡ F.faults
-            (files_of store.old)) }
+            true store.old store.new Unopened self.new) }
+        ensures no_fault { OnOk result (F.faults (files_of store.new)
+            ≡ F.faults (files_of store.old)) }
         ensures unchanged { LooksUp F.honest F.means store.old store.new }
     {
         peel_among(self, alloc, store, objects, true, &mut Records::Unopened)
@@ -220,20 +218,18 @@ impl ReferenceExt for Reference {
         objects: &T,
     ) -> Result<ObjectId, to_id::Error>
         ensures peeled { F.honest → T.claims objects.now → (records : List Record) →
-            AreRecordsIn F.means store.old records →
-            Peels (finds_in F.means true store.old records) (T.meaning objects.now) (at_of self.old)
-            (at_of self.new) result }
-        ensures at_once { IfSome self.old.peeled (λ id. (result ≡ Ok id)
-            × (at_of self.new ≡ peeled_to (at_of self.old) id)) }
+            AreRecordsIn F.means store.old records → Peels (finds_in F.means true store.old records)
+            (T.meaning objects.now) (at_of self.old) (at_of self.new) result }
+        ensures at_once { IfSome self.old.peeled
+            (λ id. (result ≡ Ok id) × (at_of self.new ≡ peeled_to (at_of self.old) id)) }
         ensures done { IfOk result (λ id. (target_value self.new.target ≡ object_id id)
             × (self.new.peeled ≡ Some id)) }
-        ensures hits { F.honest → HasPassed {G = F.Reader.ReadAt} F.means true store.old Unopened
-            self.old self.new }
+        ensures hits { F.honest →
+            HasPassed {G = F.Reader.ReadAt} F.means true store.old Unopened self.old self.new }
         ensures failed { IfErr result (IsNotPeeled {G = F.Reader.ReadAt} F.honest F.means F.faults
-            true
-            store.old store.new Unopened self.new) }
-        ensures no_fault { OnOk result (F.faults (files_of store.new) ≡ F.faults
-            (files_of store.old)) }
+            true store.old store.new Unopened self.new) }
+        ensures no_fault { OnOk result (F.faults (files_of store.new)
+            ≡ F.faults (files_of store.old)) }
         ensures unchanged { LooksUp F.honest F.means store.old store.new }
     {
         self.peel_to_id(alloc, store, objects)
@@ -246,23 +242,20 @@ impl ReferenceExt for Reference {
         objects: &T,
         packed: Option<&Buffer>,
     ) -> Result<ObjectId, to_id::Error>
-        ensures peeled { F.honest → T.claims objects.now → (records : List Record) →
-            AreHeld packed.entry records →
-            Peels (finds_in F.means (is_some packed.entry) store.old records) (T.meaning
-            objects.now) (at_of self.old)
-            (at_of self.new) result }
-        ensures at_once { IfSome self.old.peeled (λ id. (result ≡ Ok id)
-            × (at_of self.new ≡ peeled_to (at_of self.old) id)) }
+        ensures peeled { F.honest → T.claims objects.now →
+            (records : List Record) → AreHeld packed.entry records →
+            Peels (finds_in F.means (is_some packed.entry) store.old records)
+            (T.meaning objects.now) (at_of self.old) (at_of self.new) result }
+        ensures at_once { IfSome self.old.peeled
+            (λ id. (result ≡ Ok id) × (at_of self.new ≡ peeled_to (at_of self.old) id)) }
         ensures done { IfOk result (λ id. (target_value self.new.target ≡ object_id id)
             × (self.new.peeled ≡ Some id)) }
-        ensures hits { F.honest → HasPassed {G = F.Reader.ReadAt} F.means (is_some packed.entry)
-            store.old
-            (held packed.entry) self.old self.new }
+        ensures hits { F.honest → HasPassed {G = F.Reader.ReadAt} F.means
+            (is_some packed.entry) store.old (held packed.entry) self.old self.new }
         ensures failed { IfErr result (IsNotPeeled {G = F.Reader.ReadAt} F.honest F.means F.faults
-            (is_some packed.entry)
-            store.old store.new (held packed.entry) self.new) }
-        ensures no_fault { OnOk result (F.faults (files_of store.new) ≡ F.faults
-            (files_of store.old)) }
+            (is_some packed.entry) store.old store.new (held packed.entry) self.new) }
+        ensures no_fault { OnOk result (F.faults (files_of store.new)
+            ≡ F.faults (files_of store.old)) }
         ensures unchanged { LooksUp F.honest F.means store.old store.new }
     {
         match packed {
@@ -285,23 +278,20 @@ impl ReferenceExt for Reference {
         objects: &T,
         packed: Option<&Buffer>,
     ) -> Result<ObjectId, to_id::Error>
-        ensures peeled { F.honest → T.claims objects.now → (records : List Record) →
-            AreHeld packed.entry records →
-            Peels (finds_in F.means (is_some packed.entry) store.old records) (T.meaning
-            objects.now) (at_of self.old)
-            (at_of self.new) result }
-        ensures at_once { IfSome self.old.peeled (λ id. (result ≡ Ok id)
-            × (at_of self.new ≡ peeled_to (at_of self.old) id)) }
+        ensures peeled { F.honest → T.claims objects.now →
+            (records : List Record) → AreHeld packed.entry records →
+            Peels (finds_in F.means (is_some packed.entry) store.old records)
+            (T.meaning objects.now) (at_of self.old) (at_of self.new) result }
+        ensures at_once { IfSome self.old.peeled
+            (λ id. (result ≡ Ok id) × (at_of self.new ≡ peeled_to (at_of self.old) id)) }
         ensures done { IfOk result (λ id. (target_value self.new.target ≡ object_id id)
             × (self.new.peeled ≡ Some id)) }
-        ensures hits { F.honest → HasPassed {G = F.Reader.ReadAt} F.means (is_some packed.entry)
-            store.old
-            (held packed.entry) self.old self.new }
+        ensures hits { F.honest → HasPassed {G = F.Reader.ReadAt} F.means
+            (is_some packed.entry) store.old (held packed.entry) self.old self.new }
         ensures failed { IfErr result (IsNotPeeled {G = F.Reader.ReadAt} F.honest F.means F.faults
-            (is_some packed.entry)
-            store.old store.new (held packed.entry) self.new) }
-        ensures no_fault { OnOk result (F.faults (files_of store.new) ≡ F.faults
-            (files_of store.old)) }
+            (is_some packed.entry) store.old store.new (held packed.entry) self.new) }
+        ensures no_fault { OnOk result (F.faults (files_of store.new)
+            ≡ F.faults (files_of store.old)) }
         ensures unchanged { LooksUp F.honest F.means store.old store.new }
     {
         self.peel_to_id_packed(alloc, store, objects, packed)
@@ -316,15 +306,13 @@ impl ReferenceExt for Reference {
         ensures followed { F.honest → (records : List Record) → AreHeld packed.entry records →
             Follows (finds_in F.means (is_some packed.entry) store.old records) (at_of self.old)
             (at_of self.new) result }
-        ensures hits { F.honest → LeadsWithinLimit (HitsNext {G = F.Reader.ReadAt} F.means (is_some
-            packed.entry) store.old
-            (held packed.entry)) self.old self.new }
+        ensures hits { F.honest → LeadsWithinLimit (HitsNext {G = F.Reader.ReadAt} F.means
+            (is_some packed.entry) store.old (held packed.entry)) self.old self.new }
         ensures object { IfOk result (λ id. target_value self.new.target ≡ object_id id) }
-        ensures failed { IfErr result (IsNotFollowed {G = F.Reader.ReadAt} F.honest F.means
-            F.faults (is_some packed.entry)
-            store.old store.new (held packed.entry) self.new) }
-        ensures no_fault { OnOk result (F.faults (files_of store.new) ≡ F.faults
-            (files_of store.old)) }
+        ensures failed { IfErr result (IsNotFollowed {G = F.Reader.ReadAt} F.honest F.means F.faults
+            (is_some packed.entry) store.old store.new (held packed.entry) self.new) }
+        ensures no_fault { OnOk result (F.faults (files_of store.new)
+            ≡ F.faults (files_of store.old)) }
         ensures unchanged { LooksUp F.honest F.means store.old store.new }
     {
         match packed {
@@ -342,15 +330,13 @@ impl ReferenceExt for Reference {
         ensures followed { F.honest → (records : List Record) → AreHeld packed.entry records →
             Follows (finds_in F.means (is_some packed.entry) store.old records) (at_of self.old)
             (at_of self.new) result }
-        ensures hits { F.honest → LeadsWithinLimit (HitsNext {G = F.Reader.ReadAt} F.means (is_some
-            packed.entry) store.old
-            (held packed.entry)) self.old self.new }
+        ensures hits { F.honest → LeadsWithinLimit (HitsNext {G = F.Reader.ReadAt} F.means
+            (is_some packed.entry) store.old (held packed.entry)) self.old self.new }
         ensures object { IfOk result (λ id. target_value self.new.target ≡ object_id id) }
-        ensures failed { IfErr result (IsNotFollowed {G = F.Reader.ReadAt} F.honest F.means
-            F.faults (is_some packed.entry)
-            store.old store.new (held packed.entry) self.new) }
-        ensures no_fault { OnOk result (F.faults (files_of store.new) ≡ F.faults
-            (files_of store.old)) }
+        ensures failed { IfErr result (IsNotFollowed {G = F.Reader.ReadAt} F.honest F.means F.faults
+            (is_some packed.entry) store.old store.new (held packed.entry) self.new) }
+        ensures no_fault { OnOk result (F.faults (files_of store.new)
+            ≡ F.faults (files_of store.old)) }
         ensures unchanged { LooksUp F.honest F.means store.old store.new }
     {
         self.follow_to_object_packed(alloc, store, packed)
@@ -361,14 +347,15 @@ impl ReferenceExt for Reference {
         alloc: Global,
         store: &mut Store<F>,
     ) -> Option<Result<Reference, existing::Error>>
-        ensures found { F.honest → (records : List Record) → AreRecordsIn F.means store.old records
-            → StepFinds F.means true store.old records (target_value self.now.target) result }
+        ensures found { F.honest → (records : List Record) →
+            AreRecordsIn F.means store.old records →
+            StepFinds F.means true store.old records (target_value self.now.target) result }
         ensures hit { F.honest → StepHits {G = F.Reader.ReadAt} F.means true store.old Unopened
             (target_value self.now.target) result }
         ensures failed { StepFails {G = F.Reader.ReadAt} F.honest F.means F.faults true store.old
             store.new Unopened (target_value self.now.target) result }
-        ensures no_fault { OnStep result (F.faults (files_of store.new) ≡ F.faults
-            (files_of store.old)) }
+        ensures no_fault { OnStep result (F.faults (files_of store.new)
+            ≡ F.faults (files_of store.old)) }
         ensures unchanged { LooksUp F.honest F.means store.old store.new }
     {
         find_next(self, alloc, store, true, &mut Records::Unopened)
@@ -380,17 +367,16 @@ impl ReferenceExt for Reference {
         store: &mut Store<F>,
         packed: Option<&Buffer>,
     ) -> Option<Result<Reference, existing::Error>>
-        ensures found { F.honest → (records : List Record) → AreHeld packed.entry records
-            → StepFinds F.means (is_some packed.entry) store.old records (target_value
-            self.now.target) result }
+        ensures found { F.honest → (records : List Record) → AreHeld packed.entry records →
+            StepFinds F.means (is_some packed.entry) store.old records
+            (target_value self.now.target) result }
         ensures hit { F.honest → StepHits {G = F.Reader.ReadAt} F.means (is_some packed.entry)
-            store.old
-            (held packed.entry) (target_value self.now.target) result }
-        ensures failed { StepFails {G = F.Reader.ReadAt} F.honest F.means F.faults (is_some
-            packed.entry) store.old
-            store.new (held packed.entry) (target_value self.now.target) result }
-        ensures no_fault { OnStep result (F.faults (files_of store.new) ≡ F.faults
-            (files_of store.old)) }
+            store.old (held packed.entry) (target_value self.now.target) result }
+        ensures failed { StepFails {G = F.Reader.ReadAt} F.honest F.means F.faults
+            (is_some packed.entry) store.old store.new (held packed.entry)
+            (target_value self.now.target) result }
+        ensures no_fault { OnStep result (F.faults (files_of store.new)
+            ≡ F.faults (files_of store.old)) }
         ensures unchanged { LooksUp F.honest F.means store.old store.new }
     {
         match packed {

@@ -73,22 +73,18 @@ pub(crate) fn peel_among<F: Files, T: Find>(
     asks_records: bool,
     asked: &mut Records<'_, F::Reader>,
 ) -> Result<ObjectId, Error>
-    ensures peeled { F.honest → T.claims objects.now → (records : List Record) →
-        AreAskedIn F.means store.old asked.old records →
-        Peels (finds_in F.means asks_records store.old records) (T.meaning objects.now) (at_of
-        reference.old)
-        (at_of reference.new) result }
-    ensures at_once { IfSome reference.old.peeled (λ id. (result ≡ Ok id)
-        × (at_of reference.new ≡ peeled_to (at_of reference.old) id)) }
+    ensures peeled { F.honest → T.claims objects.now → (records : List Record) → AreAskedIn F.means
+        store.old asked.old records → Peels (finds_in F.means asks_records store.old records)
+        (T.meaning objects.now) (at_of reference.old) (at_of reference.new) result }
+    ensures at_once { IfSome reference.old.peeled
+        (λ id. (result ≡ Ok id) × (at_of reference.new ≡ peeled_to (at_of reference.old) id)) }
     ensures done { IfOk result (λ id. (target_value reference.new.target ≡ object_id id)
         × (reference.new.peeled ≡ Some id)) }
     ensures hits { F.honest → AreHonest asked.old →
         HasPassed F.means asks_records store.old asked.old reference.old reference.new }
     ensures failed { IfErr result (IsNotPeeled F.honest F.means F.faults asks_records store.old
-        store.new
-        asked.old reference.new) }
-    ensures no_fault { OnOk result (F.faults (files_of store.new) ≡ F.faults
-        (files_of store.old)) }
+        store.new asked.old reference.new) }
+    ensures no_fault { OnOk result (F.faults (files_of store.new) ≡ F.faults (files_of store.old)) }
     ensures unchanged { LooksUp F.honest F.means store.old store.new }
 {
     if let Some(id) = reference.peeled {

@@ -11,7 +11,8 @@ use Rattle.gix_ref_grammar.specs.declared.name.error.Error.TheVariants.{Empty, I
 -- the bytes that no name has: below 0x20, the space, DEL, and `*`, `:`, `?`, `[`, `\`, `^`, `~`
 abbrev pub is_invalid : ℕ → Bool
 is_invalid b =
-    nat_le b 32 || (b == 42) || (b == 58) || (b == 63) || (b == 91) || (b == 92) || (b == 94) || (b == 126) || (b == 127)
+    nat_le b 32 || (b == 42) || (b == 58) || (b == 63) || (b == 91) || (b == 92) || (b == 94)
+    || (b == 126) || (b == 127)
 
 -- the error for such a byte
 abbrev pub byte_error : ℕ → Error
@@ -60,7 +61,8 @@ is_pseudo_byte b = (nat_le 65 b && nat_le b 90) || (b == 95)
 
 -- the one rule more for full names: without a slash only bytes of a pseudo name
 abbrev pub full_rule : List ℕ → Option Error
-full_rule n = reported_if (not (list_any is_slash n) && not (list_all is_pseudo_byte n)) SomeLowercase
+full_rule n =
+    reported_if (not (list_any is_slash n) && not (list_all is_pseudo_byte n)) SomeLowercase
 
 -- the first rule that a full name breaks
 unfoldable pub full_error : List ℕ → Option Error

@@ -11,4 +11,5 @@ pub record IsNumber (text : List ℕ) (n : ℕ) : Type 0 where
 
 -- where both are hex digits, they are those of the byte
 abbrev pub IsPair : ℕ → ℕ → ℕ → Type 0
-IsPair high low byte = is_hex_digit high ≡ true → is_hex_digit low ≡ true → (i : ℕ) → pair_value high low i ≡ Ok byte
+IsPair high low byte = is_hex_digit high ≡ true → is_hex_digit low ≡ true → (i : ℕ) →
+    pair_value high low i ≡ Ok byte

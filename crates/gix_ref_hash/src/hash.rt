@@ -141,8 +141,8 @@ impl ObjectId {
     /// Adds the 40 or 64 hex digits of the id to the text, in lower case. The error reports that the text could not grow, and
     /// leaves it as it was. As `write!` of the id into a text.
     pub fn push_hex(&self, text: &mut Vec<u8>) -> Result<(), AllocError>
-        ensures added { OnOk result (text.new.items ≡ text.old.items ++ encode_lower
-            (id_bytes self.now)) }
+        ensures added { OnOk result (text.new.items
+            ≡ text.old.items ++ encode_lower (id_bytes self.now)) }
         ensures left { OnErr result (text.new.items ≡ text.old.items) }
     {
         match self {
@@ -224,9 +224,8 @@ pub fn are_hex(text: &[u8]) -> bool
 
 /// The hex digits of an id of the kind at the front of the text, and what follows them.
 fn id_of_kind(text: &[u8], kind: Kind) -> Option<(&[u8], &[u8])>
-    ensures { MatchOption result ((digits rest : List ℕ) → IsHexOf kind digits
-        → text.now ≡ digits ++ rest → ⊥)
-        (λ p. IsHexOf kind p.0.now × (text.now ≡ p.0.now ++ p.1.now)) }
+    ensures { MatchOption result ((digits rest : List ℕ) → IsHexOf kind digits → text.now
+        ≡ digits ++ rest → ⊥) (λ p. IsHexOf kind p.0.now × (text.now ≡ p.0.now ++ p.1.now)) }
 {
     let len = kind.len_in_hex();
     if text.len() < len {
@@ -249,8 +248,8 @@ fn id_of_kind(text: &[u8], kind: Kind) -> Option<(&[u8], &[u8])>
 pub fn hex_hash<'a>(input: &mut &'a [u8], kind: Kind) -> Option<&'a [u8]>
     ensures taken { IfSome result (λ digits. IsHexOf kind digits.now
         × (input.old.now ≡ digits.now ++ input.new.now)) }
-    ensures refused { IfNone result ((digits rest : List ℕ) → IsHexOf kind digits
-        → input.old.now ≡ digits ++ rest → ⊥) }
+    ensures refused { IfNone result ((digits rest : List ℕ) → IsHexOf kind digits →
+        input.old.now ≡ digits ++ rest → ⊥) }
     ensures left { IfNone result (input.new ≡ input.old) }
 {
     let (digits, rest) = id_of_kind(input, kind)?;
@@ -270,9 +269,8 @@ fn hex_run(text: &[u8]) -> usize
 
 /// The run of hex digits at the front of the text, where it is 40 or 64 digits long, and what follows it.
 fn any_id(text: &[u8]) -> Option<(&[u8], &[u8])>
-    ensures { MatchOption result ((digits rest : List ℕ) → HexRun text.now digits rest
-        → IsHex digits → ⊥)
-        (λ p. HexRun text.now p.0.now p.1.now × IsHex p.0.now) }
+    ensures { MatchOption result ((digits rest : List ℕ) → HexRun text.now digits rest →
+        IsHex digits → ⊥) (λ p. HexRun text.now p.0.now p.1.now × IsHex p.0.now) }
 {
     let len = hex_run(text);
     match len {
@@ -291,8 +289,8 @@ fn any_id(text: &[u8]) -> Option<(&[u8], &[u8])>
 pub fn hex_hash_any<'a>(input: &mut &'a [u8]) -> Option<&'a [u8]>
     ensures taken { IfSome result (λ digits. HexRun input.old.now digits.now input.new.now
         × IsHex digits.now) }
-    ensures refused { IfNone result ((digits rest : List ℕ) → HexRun input.old.now digits rest
-        → IsHex digits → ⊥) }
+    ensures refused { IfNone result ((digits rest : List ℕ) → HexRun input.old.now digits rest →
+        IsHex digits → ⊥) }
     ensures left { IfNone result (input.new ≡ input.old) }
 {
     let (digits, rest) = any_id(input)?;
@@ -310,8 +308,8 @@ pub fn hex_hash_any<'a>(input: &mut &'a [u8]) -> Option<&'a [u8]>
 pub fn newline<'a>(input: &mut &'a [u8]) -> Option<&'a [u8]>
     ensures taken { IfSome result (λ end. IsNewline end.now
         × (input.old.now ≡ end.now ++ input.new.now)) }
-    ensures refused { IfNone result ((end rest : List ℕ) → IsNewline end
-        → input.old.now ≡ end ++ rest → ⊥) }
+    ensures refused { IfNone result ((end rest : List ℕ) → IsNewline end →
+        input.old.now ≡ end ++ rest → ⊥) }
     ensures left { IfNone result (input.new ≡ input.old) }
 {
     let len = match *input {

@@ -42,6 +42,6 @@ pub fn same_ids(a: &ObjectId, b: &ObjectId) -> bool
 pub fn digits_of_ids()
     ensures one_id { (text : List ℕ) (a b : ObjectId) → ReadsId text a → ReadsId text b → a ≡ b }
     ensures written { (id : ObjectId) → IsWhole id → ReadsId (encode_lower (id_bytes id)) id }
-    ensures read { (text : List ℕ) (id : ObjectId) → ReadsId text id
-        → IsHexOf (id_kind id) text × IsWhole id }
+    ensures read { (text : List ℕ) (id : ObjectId) → ReadsId text id → IsHexOf (id_kind id) text
+        × IsWhole id }
 {}

@@ -28,12 +28,14 @@ leaf_after place next leaf (e ∷ rest) =
 
 -- a prepared edit with what its line depends on: it expects what was found for it
 abbrev pub asked_edit : Edit → (leaf : Option ObjectId) → AskedEdit
-asked_edit e leaf = record { update = e.update; found = matched (expected_of e.update.change); leaf = leaf }
+asked_edit e leaf =
+    record { update = e.update; found = matched (expected_of e.update.change); leaf = leaf }
 
 -- the edits from this place on; an edit that was not split is its own leaf, and expects nothing of another
 abbrev pub asked_from : ℕ → List Edit → List AskedEdit
 asked_from place [] = []
-asked_from place (e ∷ rest) = asked_edit e (leaf_after place (place + 1) None rest) ∷ asked_from (place + 1) rest
+asked_from place (e ∷ rest) = asked_edit e (leaf_after place (place + 1) None rest)
+    ∷ asked_from (place + 1) rest
 
 abbrev pub asked : List Edit → List AskedEdit
 asked edits = asked_from 0 edits
@@ -48,8 +50,10 @@ abbrev pub outcomes_of : List Edit → List LogOutcome
 outcomes_of edits = map (λ (e : Edit). outcome_of e.log) edits
 
 -- an edit but for what becomes of its log
-abbrev pub but_log : Edit → RefEdit × Option ℕ × Path × Option ObjectId × Option Target × Effect × Bool
+abbrev pub but_log : Edit → RefEdit × Option ℕ
+    × Path × Option ObjectId × Option Target × Effect × Bool
 but_log e = (e.update, e.parent, e.lock, e.packed, e.found, e.effect, e.has_file)
 
-abbrev pub all_but_logs : List Edit → List (RefEdit × Option ℕ × Path × Option ObjectId × Option Target × Effect × Bool)
+abbrev pub all_but_logs : List Edit →
+    List (RefEdit × Option ℕ × Path × Option ObjectId × Option Target × Effect × Bool)
 all_but_logs edits = map but_log edits

@@ -67,7 +67,8 @@ previous_id (Some (symbolic_name name)) leaf = leaf
 
 -- the ids of a line from one object to another; none where the two are the same
 abbrev pub between : (previous new : ObjectId) → Option LineIds
-between previous new = if is_same_id previous new then None else Some (record { previous = previous; new = new })
+between previous new = if is_same_id previous new
+    then None else Some (record { previous = previous; new = new })
 
 -- the ids of a line to an object; without a previous id from the null id of its kind
 abbrev pub ids_from : (previous : Option ObjectId) (new : ObjectId) → Option LineIds
@@ -84,7 +85,8 @@ abbrev pub ids_of_symbolic : PreviousValue → (found : Option TargetValue) → 
 ids_of_symbolic (ExistingMustMatch target) None = ids_to (target_value target)
 ids_of_symbolic expected found = None
 
-abbrev pub ids_of_update : PreviousValue → (new : TargetValue) (found : Option TargetValue) (leaf : Option ObjectId) → Option LineIds
+abbrev pub ids_of_update : PreviousValue → (new : TargetValue) (found : Option TargetValue)
+    (leaf : Option ObjectId) → Option LineIds
 ids_of_update expected (object_id new) found leaf = ids_from (previous_id found leaf) new
 ids_of_update expected (symbolic_name name) found leaf = ids_of_symbolic expected found
 
@@ -108,7 +110,8 @@ written_ids r a = if is_off r.mode then None else ids_of a.update.change a.found
 
 -- the log of an edit is there, or it is made
 abbrev pub has_log : LogRules → View → AskedEdit → Bool
-has_log r files a = is_some (files (asked_log r a)) || makes_log r.mode (is_forced a.update.change) (below_logs r.namespace (name_of a.update))
+has_log r files a = is_some (files (asked_log r a))
+    || makes_log r.mode (is_forced a.update.change) (below_logs r.namespace (name_of a.update))
 
 -- A LINE IS DUE for an update with ids for one, and with a log
 abbrev pub due_ids : LogRules → View → AskedEdit → Option LineIds
@@ -116,7 +119,8 @@ due_ids r files a = if has_log r files a then written_ids r a else None
 
 -- the files as later edits find them: the log of a due line is there
 abbrev pub with_log : LogRules → View → AskedEdit → View
-with_log r files a = if is_some (due_ids r files a) then after_write (Append (asked_log r a) []) files else files
+with_log r files a = if is_some (due_ids r files a)
+    then after_write (Append (asked_log r a) []) files else files
 
 -- the bytes of a line
 abbrev pub due_line_text : Option Who → Option LineIds → (message : List ℕ) → Option (List ℕ)

@@ -31,7 +31,8 @@ CanMake (Some who) message = CanWriteLine (trimmed_who who) message
 abbrev pub CannotMake : Option Who → (message : List ℕ) → Error → Type 0
 CannotMake None message MissingCommitter = Unit {0}
 CannotMake (Some who) message MessageWithNewlines = NoByte 10 message → ⊥
-CannotMake (Some who) message SignatureUnwritable = NoByte 10 message × (CanWrite (trimmed_who who) → ⊥)
+CannotMake (Some who) message SignatureUnwritable = NoByte 10 message
+    × (CanWrite (trimmed_who who) → ⊥)
 CannotMake committer message error = ⊥
 
 -- why a due line has no log: last of all, a file in the path of the log, whose folder is reported
@@ -43,23 +44,28 @@ CannotAdd committer message path blocked error = CannotMake committer message er
 
 -- A due line of an edit fails. So does the search for a log that a line may be added to, by a fault of files.
 abbrev pub Fails : LogRules → View → AskedEdit → Error → Type 0
-Fails r files a (CreateLeadingDirectories (Some fault) folder) = IsSome (written_ids r a) × (folder.items ≡ folder_of (asked_log r a))
-Fails r files a error = IsSomeAnd (due_ids r files a) (λ ids. CannotAdd r.committer (message_of a.update.change) (asked_log r a) (has_file_in_path files (asked_log r a)) error)
+Fails r files a (CreateLeadingDirectories (Some fault) folder) = IsSome (written_ids r a)
+    × (folder.items ≡ folder_of (asked_log r a))
+Fails r files a error = IsSomeAnd (due_ids r files a) (λ ids. CannotAdd r.committer
+    (message_of a.update.change) (asked_log r a) (has_file_in_path files (asked_log r a)) error)
 
 -- an edit without a due line passes, and so does one whose line can be made and has no file in its path
 abbrev pub HasNoCause : LogRules → View → AskedEdit → Type 0
 HasNoCause r files a =
-    IfSome (due_ids r files a) (λ ids. CanMake r.committer (message_of a.update.change) × (has_file_in_path files (asked_log r a) ≡ false))
+    IfSome (due_ids r files a) (λ ids. CanMake r.committer (message_of a.update.change)
+    × (has_file_in_path files (asked_log r a) ≡ false))
 
 -- all of these pass, each among the files as the lines before it leave them
 abbrev pub AllHaveNoCause : LogRules → View → List AskedEdit → Type 0
 AllHaveNoCause r files [] = Unit {0}
-AllHaveNoCause r files (a ∷ rest) = HasNoCause r files a × AllHaveNoCause r (with_log r files a) rest
+AllHaveNoCause r files (a ∷ rest) = HasNoCause r files a
+    × AllHaveNoCause r (with_log r files a) rest
 
 -- the first that fails does so for this cause
 abbrev pub FirstFails : LogRules → View → List AskedEdit → Error → Type 0
 FirstFails r files [] error = ⊥
-FirstFails r files (a ∷ rest) error = Fails r files a error ⊎ (HasNoCause r files a × FirstFails r (with_log r files a) rest error)
+FirstFails r files (a ∷ rest) error = Fails r files a error
+    ⊎ (HasNoCause r files a × FirstFails r (with_log r files a) rest error)
 
 -- a refusal at an edit, and of a list of edits: it reports the first cause, or that there was no memory
 abbrev pub IsRefusalAt : LogRules → View → AskedEdit → Refusal → Type 0
@@ -72,7 +78,8 @@ IsRefusal r files edits Memory = Unit {0}
 
 -- a fault of files is reported only where the count of faults rose, and never for want of memory; no append is reported
 abbrev pub IsCountedError : (before now : ℕ) → Error → Type 0
-IsCountedError before now (CreateLeadingDirectories (Some fault) folder) = HasRisen before now × (fault ≡ no_memory → ⊥)
+IsCountedError before now (CreateLeadingDirectories (Some fault) folder) = HasRisen before now
+    × (fault ≡ no_memory → ⊥)
 IsCountedError before now (Append source path) = ⊥
 IsCountedError before now error = Unit {0}
 

@@ -20,7 +20,8 @@ below_logs namespace name = namespace ++ location_name (unwrap_or (location name
 
 -- a path begins with these components
 abbrev pub begins_with : (path components : List ℕ) → Bool
-begins_with path components = bytes_eq path components || starts_with nat_eq path (components ++ 47 ∷ [])
+begins_with path components = bytes_eq path components
+    || starts_with nat_eq path (components ++ 47 ∷ [])
 
 -- the log of `HEAD`, a branch, a remote branch, a note, or a reference of a worktree
 abbrev pub is_usual : (below : List ℕ) → Bool

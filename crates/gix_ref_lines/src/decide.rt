@@ -64,9 +64,8 @@ fn due_line<F: Files>(
     requires path { path.now ≡ asked_log (log_rules rules) (asked_edit edit.now leaf) }
     requires bounded { IsBounded due.old }
     ensures bounded { OnOk result (IsBounded due.new) }
-    ensures line { F.honest → (view : View) →
-        Sees view (F.means files.old).tree (due_paths due.old) →
-        IfOk result (λ due. option_map vec_items due.line
+    ensures line { F.honest → (view : View) → Sees view (F.means files.old).tree
+        (due_paths due.old) → IfOk result (λ due. option_map vec_items due.line
         ≡ due_line (log_rules rules.entry) view (asked_edit edit.now leaf)) }
     ensures there { F.honest → IfOk result (λ due. (node : Node) → due.log_seen ≡ Some node →
         IsSome due.line × (node ≡ node_at (F.means files.old).tree path.now)) }
@@ -101,8 +100,8 @@ fn due_line<F: Files>(
 
 /// What becomes of the log at this path by a change for which this line is due.
 fn outcome(change: &Change, log: Vec<u8>, line: Option<Vec<u8>>) -> LogEffect
-    ensures outcome { outcome_of result ≡ outcome_by change.now log.items (option_map vec_items
-        line) }
+    ensures outcome { outcome_of result ≡ outcome_by change.now log.items
+        (option_map vec_items line) }
     ensures path { IsSome line → path_in result ≡ log.items }
 {
     match (change, line) {
@@ -124,9 +123,8 @@ fn decide_log<F: Files>(
     requires { IsBounded due.old }
     ensures bounded { OnOk result (IsBounded due.new) }
     ensures but_log { but_log edit.new ≡ but_log edit.old }
-    ensures log { F.honest → (view : View) →
-        Sees view (F.means files.old).tree (due_paths due.old) →
-        OnOk result (outcome_of edit.new.log
+    ensures log { F.honest → (view : View) → Sees view (F.means files.old).tree
+        (due_paths due.old) → OnOk result (outcome_of edit.new.log
         ≡ log_outcome (log_rules rules.entry) view (asked_edit edit.old leaf)) }
     ensures there { F.honest → OnOk result (SeesItsLog (F.means files.old).tree edit.new) }
     ensures passed { F.honest → (view : View) →
@@ -170,16 +168,14 @@ pub fn decide_logs<F: Files>(
     edits: &mut [Edit],
 ) -> Result<(), Error>
     ensures but_logs { all_but_logs edits.new ≡ all_but_logs edits.old }
-    ensures logs { F.honest → OnOk result (outcomes_of edits.new ≡ log_outcomes
-        (rules_of settings.now write_reflog committer.entry)
+    ensures logs { F.honest → OnOk result (outcomes_of edits.new
+        ≡ log_outcomes (rules_of settings.now write_reflog committer.entry)
         (view_of (F.means files.old).tree) (asked edits.old)) }
     ensures there { F.honest → OnOk result (SeeLogs (F.means files.old).tree edits.new) }
-    ensures passed { F.honest → OnOk result (AllHaveNoCause
-        (rules_of settings.now write_reflog committer.entry)
-        (view_of (F.means files.old).tree) (asked edits.old)) }
-    ensures refused { F.honest → IfErr result (IsRefusal
-        (rules_of settings.now write_reflog committer.entry)
-        (view_of (F.means files.old).tree) (asked edits.old)) }
+    ensures passed { F.honest → OnOk result (AllHaveNoCause (rules_of settings.now write_reflog
+        committer.entry) (view_of (F.means files.old).tree) (asked edits.old)) }
+    ensures refused { F.honest → IfErr result (IsRefusal (rules_of settings.now write_reflog
+        committer.entry) (view_of (F.means files.old).tree) (asked edits.old)) }
     ensures reads { OnlyReads F.honest F.means F.faults files.old files.new }
     ensures counted { IfErr result (IsCountedCause (F.faults files.old) (F.faults files.new)) }
 {

@@ -41,8 +41,8 @@ fn make_line(
     ensures made { IfOk result (λ line. Some line.items
         ≡ due_line_text (option_map signature_ref_who committer.entry) (Some ids.now) message.now) }
     ensures can { OnOk result (CanMake (option_map signature_ref_who committer.entry) message.now) }
-    ensures refused { IfErr result (IsUnmade (option_map signature_ref_who committer.entry)
-        message.now) }
+    ensures refused { IfErr result
+        (IsUnmade (option_map signature_ref_who committer.entry) message.now) }
 {
     let Some(committer) = committer else {
         return Err(Error::CreateOrUpdateRefLog(create_or_update::Error::MissingCommitter));

@@ -54,14 +54,12 @@ pub fn place_at<F: Files>(
     path: &[u8],
 ) -> Result<Place, Error>
     requires { IsBounded due.now }
-    ensures node { F.honest → IfOk result (λ place. place.node
-        ≡ node_at (F.means files.old).tree path.now) }
-    ensures log { F.honest → IfOk result (λ place. place.is_log
-        ≡ (is_some (view_of (F.means files.old).tree path.now)
-        || is_in (due_paths due.now) path.now)) }
-    ensures blocked { F.honest → IfOk result (λ place. place.is_blocked
-        ≡ (is_blocked (F.means files.old).tree path.now
-        || list_any (is_in (due_paths due.now)) (fronts path.now))) }
+    ensures node { F.honest →
+        IfOk result (λ place. place.node ≡ node_at (F.means files.old).tree path.now) }
+    ensures log { F.honest → IfOk result (λ place. place.is_log ≡ (is_some
+        (view_of (F.means files.old).tree path.now) || is_in (due_paths due.now) path.now)) }
+    ensures blocked { F.honest → IfOk result (λ place. place.is_blocked ≡ (is_blocked (F.means
+        files.old).tree path.now || list_any (is_in (due_paths due.now)) (fronts path.now))) }
     ensures failed { IfErr result (IsFaultAt path.now) }
     ensures reads { OnlyReads F.honest F.means F.faults files.old files.new }
     ensures counted { IfErr result (IsCountedCause (F.faults files.old) (F.faults files.new)) }

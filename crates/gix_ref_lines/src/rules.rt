@@ -75,8 +75,8 @@ impl Rules<'_> {
 
     /// Whether a log that is missing is made.
     fn makes_log(self, alloc: Global, edit: &Edit) -> Result<bool, AllocError>
-        ensures { IfOk result (λ makes. makes ≡ makes_log self.entry.write_reflog
-            (is_forced edit.now.update.change)
+        ensures { IfOk result (λ makes. makes
+            ≡ makes_log self.entry.write_reflog (is_forced edit.now.update.change)
             (below_logs (log_rules self.entry).namespace (name_of edit.now.update))) }
     {
         match self.write_reflog {
@@ -95,8 +95,8 @@ impl Rules<'_> {
 
     /// Whether there is a log for the line of an edit, or one is made.
     pub fn has_log(self, alloc: Global, is_log: bool, edit: &Edit) -> Result<bool, AllocError>
-        ensures { IfOk result (λ has. has ≡ (is_log || makes_log self.entry.write_reflog
-            (is_forced edit.now.update.change)
+        ensures { IfOk result (λ has. has
+            ≡ (is_log || makes_log self.entry.write_reflog (is_forced edit.now.update.change)
             (below_logs (log_rules self.entry).namespace (name_of edit.now.update)))) }
     {
         if is_log {

@@ -47,47 +47,63 @@ IsOfLine line other = ⊥
 
 -- the fault of a file at this place that was removed since it was found
 abbrev pub IsGone : List ℕ → Error → Type 0
-IsGone place (ReadFileContents source path) = (source ≡ file_error (Device NotFound)) × (path.items ≡ place)
+IsGone place (ReadFileContents source path) = (source ≡ file_error (Device NotFound))
+    × (path.items ≡ place)
 IsGone place Memory = Unit {0}
 IsGone place other = ⊥
 
 -- Why the file of a name gives no target: it could not be read, only where the count of faults rose, or it is gone, which it
 -- is not in files that keep their meaning; its path has the name of a device, and the store prohibits these; it holds none, with the
 -- reason; no memory.
-abbrev pub IsUnread : (honest : Type 0) → Kind → Store → View → (before now : ℕ) → (name path : List ℕ) → Error → Type 0
+abbrev pub IsUnread : (honest : Type 0) → Kind → Store → View → (before now : ℕ) →
+    (name path : List ℕ) → Error → Type 0
 IsUnread honest kind s view before now name at (ReadFileContents (file_error source) path) =
     (HasRisen before now × (source ≢ no_memory) × (path.items ≡ at))
     ⊎ ((honest → view at ≡ None) × (source ≡ Device NotFound) × (path.items ≡ s.place name))
-IsUnread honest kind s view before now name at (ReadFileContents DeviceName path) = (s.is_prohibited at ≡ true) × (path.items ≡ at)
-IsUnread honest kind s view before now name at (ReferenceCreation source path) = (path.items ≡ name) × (honest → IsUndecodable kind (view at) source)
+IsUnread honest kind s view before now name at (ReadFileContents DeviceName path) =
+    (s.is_prohibited at ≡ true) × (path.items ≡ at)
+IsUnread honest kind s view before now name at (ReferenceCreation source path) = (path.items ≡ name)
+    × (honest → IsUndecodable kind (view at) source)
 IsUnread honest kind s view before now name at Memory = Unit {0}
 IsUnread honest kind s view before now name at other = ⊥
 
 -- What was found as an item: a file of a name as its target, or why it has none; a folder that could not be listed as that
 -- fault.
-abbrev pub IsFoundItem : (honest : Type 0) → Settings → View → (before now : ℕ) → Found → Result Reference Error → Type 0
+abbrev pub IsFoundItem : (honest : Type 0) → Settings → View → (before now : ℕ) → Found →
+    Result Reference Error → Type 0
 IsFoundItem honest settings view before now (File name path) (Ok r) =
-    (r.name ≡ name) × (honest → IsLooseTarget (meaning_in settings) (view path.items) (Some r.target)) × (r.peeled ≡ None)
+    (r.name ≡ name)
+    × (honest → IsLooseTarget (meaning_in settings) (view path.items) (Some r.target))
+    × (r.peeled ≡ None)
     × ((meaning_in settings).is_prohibited path.items ≡ false)
 IsFoundItem honest settings view before now (File name path) (Err error) =
-    IsUnread honest settings.kind (meaning_in settings) view before now (full_bytes name) path.items error
+    IsUnread honest settings.kind (meaning_in settings) view before now
+    (full_bytes name) path.items error
 IsFoundItem honest settings view before now (Unlisted path source) (Ok r) = ⊥
-IsFoundItem honest settings view before now (Unlisted path source) (Err error) = error ≡ Traversal source path
+IsFoundItem honest settings view before now (Unlisted path source) (Err error) = error
+    ≡ Traversal source path
 
 -- a record as an item: its name, its id, and the id at which its tag ends
 abbrev pub IsRecordItem : Own → Result Reference Error → Type 0
 IsRecordItem own (Ok r) =
-    (full_bytes r.name ≡ own.name) × (reading_of_record (Some own.of) ≡ Is (target_value r.target)) × (r.peeled ≡ peeled_of (Some own.of))
+    (full_bytes r.name ≡ own.name) × (reading_of_record (Some own.of) ≡ Is (target_value r.target))
+    × (r.peeled ≡ peeled_of (Some own.of))
 IsRecordItem own (Err error) = error ≡ Memory
 
 -- one of a listing as an item
-abbrev pub IsItem : (honest : Type 0) → Settings → View → (before now : ℕ) → Listed → Result Reference Error → Type 0
-IsItem honest settings view before now (Walked e) item = IsFoundItem honest settings view before now e.1 item
+abbrev pub IsItem : (honest : Type 0) → Settings → View → (before now : ℕ) → Listed →
+    Result Reference Error → Type 0
+IsItem honest settings view before now (Walked e) item =
+    IsFoundItem honest settings view before now e.1 item
 IsItem honest settings view before now (InPacked own) item = IsRecordItem own item
 
 -- what was taken as an item
-abbrev pub IsTakenItem : (honest : Type 0) → Settings → View → (before now : ℕ) → Taken → Result Reference Error → Type 0
-IsTakenItem honest settings view before now (taking.Walked found) item = IsFoundItem honest settings view before now found item
-IsTakenItem honest settings view before now (taking.Packed (Ok own)) item = IsRecordItem (own_of own) item
+abbrev pub IsTakenItem : (honest : Type 0) → Settings → View → (before now : ℕ) → Taken →
+    Result Reference Error → Type 0
+IsTakenItem honest settings view before now (taking.Walked found) item =
+    IsFoundItem honest settings view before now found item
+IsTakenItem honest settings view before now (taking.Packed (Ok own)) item =
+    IsRecordItem (own_of own) item
 IsTakenItem honest settings view before now (taking.Packed (Err error)) (Ok r) = ⊥
-IsTakenItem honest settings view before now (taking.Packed (Err line)) (Err error) = IsOfLine line error
+IsTakenItem honest settings view before now (taking.Packed (Err line)) (Err error) =
+    IsOfLine line error

@@ -24,7 +24,8 @@ pub data Listed : Type 0 where
 abbrev pub merged_entry : FoundEntry → (more : List Own → List Listed) → List Own → List Listed
 merged_entry e more [] = Walked e ∷ more []
 merged_entry e more (own ∷ owns) =
-    match_ordering (slice_cmp nat_cmp e.0.items own.name) (Walked e ∷ more (own ∷ owns)) (Walked e ∷ more owns) (InPacked own ∷ merged_entry e more owns)
+    match_ordering (slice_cmp nat_cmp e.0.items own.name) (Walked e ∷ more (own ∷ owns))
+    (Walked e ∷ more owns) (InPacked own ∷ merged_entry e more owns)
 
 -- what was found and the records, by ascending names
 abbrev pub merged_listing : List FoundEntry → List Own → List Listed
@@ -41,22 +42,27 @@ order_of (e ∷ found) (Some (Err error)) = Greater
 -- the first that was found, and what is left of it
 abbrev pub TakesFirst : List FoundEntry → Option Taken → List FoundEntry → Type 0
 TakesFirst found None left = (found ≡ []) × (left ≡ [])
-TakesFirst found (Some (taking.Walked one)) left = (e : FoundEntry) × (e.1 ≡ one) × (found ≡ e ∷ left)
+TakesFirst found (Some (taking.Walked one)) left = (e : FoundEntry) × (e.1 ≡ one)
+    × (found ≡ e ∷ left)
 TakesFirst found (Some (taking.Packed item)) left = ⊥
 
 -- the first of a listing, and what is left then
 abbrev pub TakesListed : Settings → List Listed → Option Taken → Merge → Type 0
-TakesListed settings listed None t = (listed ≡ []) × (t.found.entries ≡ []) × AreAhead settings t.packed []
+TakesListed settings listed None t = (listed ≡ []) × (t.found.entries ≡ [])
+    × AreAhead settings t.packed []
 TakesListed settings listed (Some (taking.Walked found)) t =
-    (e : FoundEntry) × (e.1 ≡ found) × (owns : List Own) × AreAhead settings t.packed owns × (listed ≡ Walked e ∷ merged_listing t.found.entries owns)
+    (e : FoundEntry) × (e.1 ≡ found) × (owns : List Own) × AreAhead settings t.packed owns
+    × (listed ≡ Walked e ∷ merged_listing t.found.entries owns)
 TakesListed settings listed (Some (taking.Packed (Ok own))) t =
-    (owns : List Own) × AreAhead settings t.packed owns × (listed ≡ InPacked (own_of own) ∷ merged_listing t.found.entries owns)
+    (owns : List Own) × AreAhead settings t.packed owns
+    × (listed ≡ InPacked (own_of own) ∷ merged_listing t.found.entries owns)
 TakesListed settings listed (Some (taking.Packed (Err error))) t = ⊥
 
 -- the first of a listing is this record, and what is left then
 abbrev pub TakesRecord : Settings → List Listed → OwnRecord → Merge → Type 0
 TakesRecord settings listed own t =
-    (owns : List Own) × AreAhead settings t.packed owns × (listed ≡ InPacked (own_of own) ∷ merged_listing t.found.entries owns)
+    (owns : List Own) × AreAhead settings t.packed owns
+    × (listed ≡ InPacked (own_of own) ∷ merged_listing t.found.entries owns)
 
 -- what comes next is no record
 abbrev pub IsNoRecord : List Listed → Type 0

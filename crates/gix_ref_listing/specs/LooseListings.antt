@@ -36,10 +36,12 @@ pub record LooseIn (settings : Settings) (view : View) (prefix front name : List
 
 -- a name that a listing gives for its loose file
 abbrev pub IsLooseListed : Settings → View → (prefix name : List ℕ) → Type 0
-IsLooseListed settings view prefix name = (front : List ℕ) × IsFront settings front × LooseIn settings view prefix front name
+IsLooseListed settings view prefix name = (front : List ℕ) × IsFront settings front
+    × LooseIn settings view prefix front name
 
 -- A file is there, at this path. The name is the one that it has on disk, composed where names are composed.
-pub record IsFileListed (settings : Settings) (view : View) (prefix name path : List ℕ) : Type 0 where
+pub record IsFileListed (settings : Settings) (view : View)
+    (prefix name path : List ℕ) : Type 0 where
   pub front : List ℕ
   pub of : IsFront settings front
   pub placed : IsPlaced settings prefix front name
@@ -50,6 +52,8 @@ pub record IsFileListed (settings : Settings) (view : View) (prefix name path : 
 
 -- what was found is a file of a name; or a folder that could not be listed, for a reason that is not want of memory
 abbrev pub IsFoundIn : Settings → View → (prefix : List ℕ) → FoundEntry → Type 0
-IsFoundIn settings view prefix (key, File name path) = (full_bytes name ≡ key.items) × IsFileListed settings view prefix key.items path.items
+IsFoundIn settings view prefix (key, File name path) = (full_bytes name ≡ key.items)
+    × IsFileListed settings view prefix key.items path.items
 IsFoundIn settings view prefix (key, Unlisted path error) =
-    (error ≢ faulty.Memory) × ((front : List ℕ) × IsFront settings front × (path.items ++ 47 ∷ [] ≡ front ++ key.items))
+    (error ≢ faulty.Memory)
+    × ((front : List ℕ) × IsFront settings front × (path.items ++ 47 ∷ [] ≡ front ++ key.items))

@@ -22,7 +22,8 @@ unfoldable pub own_name : Settings → (key : List ℕ) → Option (List ℕ)
 own_name settings key =
     let namespace = namespace_text settings.namespace.now in
     let name = drop (length namespace) key in
-    if starts_with nat_eq key namespace && (is_none (partial_error name) && is_key ((meaning_in settings).key name) key) then Some name else None
+    if starts_with nat_eq key namespace && (is_none (partial_error name)
+    && is_key ((meaning_in settings).key name) key) then Some name else None
 
 -- A record that a listing gives, and its name.
 pub record Own : Type 0 where
@@ -48,7 +49,8 @@ records_left it = length (unread it).text
 -- the first record of these that a listing gives, and the records that the iterator is yet to give then
 abbrev pub GivesOwn : Settings → List Record → Option (Result OwnRecord Error) → Iter → Type 0
 GivesOwn settings rs None t = (own_records settings rs ≡ []) × IsYet t []
-GivesOwn settings rs (Some (Ok own)) t = (more : List Record) × (own_records settings rs ≡ own_of own ∷ own_records settings more) × IsYet t more
+GivesOwn settings rs (Some (Ok own)) t = (more : List Record)
+    × (own_records settings rs ≡ own_of own ∷ own_records settings more) × IsYet t more
 GivesOwn settings rs (Some (Err e)) t = ⊥
 
 abbrev pub YetOf : Option Iter → List Record → Type 0
@@ -57,7 +59,8 @@ YetOf (Some it) rs = IsYet it rs
 
 abbrev pub AheadOf : Settings → Option (Result OwnRecord Error) → Option Iter → List Own → Type 0
 AheadOf settings None records owns = owns ≡ []
-AheadOf settings (Some (Ok own)) records owns = (rs : List Record) × YetOf records rs × (owns ≡ own_of own ∷ own_records settings rs)
+AheadOf settings (Some (Ok own)) records owns = (rs : List Record) × YetOf records rs
+    × (owns ≡ own_of own ∷ own_records settings rs)
 AheadOf settings (Some (Err e)) records owns = ⊥
 
 -- these are yet to come, without a fault
@@ -67,7 +70,8 @@ AreAhead settings o owns = AheadOf settings o.first o.records owns
 -- the first of these, and those that are yet to come then
 abbrev pub TakesOwn : Settings → List Own → Option (Result OwnRecord Error) → OwnRecords → Type 0
 TakesOwn settings owns None t = (owns ≡ []) × AreAhead settings t []
-TakesOwn settings owns (Some (Ok own)) t = (more : List Own) × (owns ≡ own_of own ∷ more) × AreAhead settings t more
+TakesOwn settings owns (Some (Ok own)) t = (more : List Own) × (owns ≡ own_of own ∷ more)
+    × AreAhead settings t more
 TakesOwn settings owns (Some (Err e)) t = ⊥
 
 abbrev pub records_left_of : Option Iter → ℕ

@@ -15,11 +15,13 @@ use Rattle.gix_ref_listing.specs.WholeListings.{HoldsFor}
 -- the buffer holds the records with this prefix of these; or there is no `packed-refs`, and none are
 abbrev pub IsHeldFor : (prefix : List ℕ) → Option Buffer → List Record → Type 0
 IsHeldFor prefix None records = records ≡ []
-IsHeldFor prefix (Some buffer) records = HoldsFor (buffer_kind buffer) prefix records (buffer_text buffer)
+IsHeldFor prefix (Some buffer) records = HoldsFor (buffer_kind buffer) prefix records
+    (buffer_text buffer)
 
 -- a buffer that holds all records holds those of each prefix
 abbrev pub WholeBuffersHold : Type 0
-WholeBuffersHold = (kind : Kind) (records : List Record) (text prefix : List ℕ) → HoldsRecords kind records text → HoldsFor kind prefix records text
+WholeBuffersHold = (kind : Kind) (records : List Record) (text prefix : List ℕ) →
+    HoldsRecords kind records text → HoldsFor kind prefix records text
 
 -- the error of opening where a reading has this one; a file that changes while it is read is a fault of the device
 abbrev pub of_part : ReadError → Error

@@ -17,10 +17,12 @@ use Rattle.gix_ref_listing.specs.declared.pristine.Reading.TheVariants as said
 
 -- The file at a path is read as this target: it holds it, less the namespace, and has not the name of a device where these are
 -- prohibited.
-pub record ReadsAt (settings : Settings) (view : View) (path : List ℕ) (target : TargetValue) : Type 0 where
+pub record ReadsAt (settings : Settings) (view : View) (path : List ℕ)
+    (target : TargetValue) : Type 0 where
   pub bytes : List ℕ
   pub there : view path ≡ Some bytes
-  pub holds : reading_of_loose (meaning_in settings) ((meaning_in settings).target_of bytes) ≡ Is target
+  pub holds : reading_of_loose (meaning_in settings)
+      ((meaning_in settings).target_of bytes) ≡ Is target
   pub allowed : (meaning_in settings).is_prohibited path ≡ false
 
 -- no target is read at a path
@@ -33,7 +35,8 @@ head_path settings = (meaning_in settings).place (codes "HEAD")
 
 -- `HEAD` is read as another target than this name
 abbrev pub HasOtherHead : Settings → View → (name : List ℕ) → Type 0
-HasOtherHead settings view name = (target : TargetValue) × ReadsAt settings view (head_path settings) target × (target ≢ symbolic_name name)
+HasOtherHead settings view name = (target : TargetValue)
+    × ReadsAt settings view (head_path settings) target × (target ≢ symbolic_name name)
 
 -- a loose reference with the prefix whose file can be read
 pub record HasLoose (settings : Settings) (view : View) (prefix : List ℕ) : Type 0 where
@@ -46,7 +49,8 @@ pub record HasLoose (settings : Settings) (view : View) (prefix : List ℕ) : Ty
 -- no such one: each name that a listing of the prefix gives has a file that cannot be read
 abbrev pub HasNoLoose : Settings → View → (prefix : List ℕ) → Type 0
 HasNoLoose settings view prefix =
-    (name : List ℕ) → IsLooseListed settings view prefix name → (path : List ℕ) × IsFileListed settings view prefix name path × ReadsNone settings view path
+    (name : List ℕ) → IsLooseListed settings view prefix name → (path : List ℕ)
+    × IsFileListed settings view prefix name path × ReadsNone settings view path
 
 -- the file `packed-refs` exists
 abbrev pub has_packed_refs : Settings → Tree → Bool
@@ -54,19 +58,23 @@ has_packed_refs settings T = is_file (T (meaning_in settings).packed_path)
 
 -- there is a `packed-refs`, or a loose reference with the prefix that can be read
 abbrev pub HasReferences : Settings → Tree → (prefix : List ℕ) → Type 0
-HasReferences settings T prefix = (has_packed_refs settings T ≡ true) ⊎ HasLoose settings (view_of T) prefix
+HasReferences settings T prefix = (has_packed_refs settings T ≡ true)
+    ⊎ HasLoose settings (view_of T) prefix
 
 -- there is neither
 abbrev pub HasNoReferences : Settings → Tree → (prefix : List ℕ) → Type 0
-HasNoReferences settings T prefix = (has_packed_refs settings T ≡ false) × HasNoLoose settings (view_of T) prefix
+HasNoReferences settings T prefix = (has_packed_refs settings T ≡ false)
+    × HasNoLoose settings (view_of T) prefix
 
 -- A store as `git init` makes it: `HEAD` is symbolic to this name, and there are no references.
 abbrev pub IsPristine : Settings → Tree → (prefix name : List ℕ) → Type 0
-IsPristine settings T prefix name = ReadsAt settings (view_of T) (head_path settings) (symbolic_name name) × HasNoReferences settings T prefix
+IsPristine settings T prefix name = ReadsAt settings (view_of T) (head_path settings)
+    (symbolic_name name) × HasNoReferences settings T prefix
 
 -- one that is not: `HEAD` is something else, or there are references
 abbrev pub IsInUse : Settings → Tree → (prefix name : List ℕ) → Type 0
-IsInUse settings T prefix name = HasOtherHead settings (view_of T) name ⊎ HasReferences settings T prefix
+IsInUse settings T prefix name = HasOtherHead settings (view_of T) name
+    ⊎ HasReferences settings T prefix
 
 -- what is said by `Some(true)`, by `Some(false)` and by `None`
 abbrev pub Says : (holds fails unknown : Type 0) → Option Bool → Type 0
@@ -82,7 +90,8 @@ IsReading settings view path said.Fault = Unit {0}
 
 -- what was found is a file that can be read
 abbrev pub IsReadableFile : Settings → View → Found → Type 0
-IsReadableFile settings view (File name path) = (target : TargetValue) × ReadsAt settings view path.items target
+IsReadableFile settings view (File name path) = (target : TargetValue)
+    × ReadsAt settings view path.items target
 IsReadableFile settings view (Unlisted path error) = ⊥
 
 -- or one that cannot

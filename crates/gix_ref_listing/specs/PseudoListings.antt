@@ -33,7 +33,8 @@ git_front settings = front_in settings (folders_of settings.dirs.now settings.na
 
 -- such a name whose own place is directly in that folder, and a file is there
 abbrev pub IsPseudoListed : Settings → View → (name : List ℕ) → Type 0
-IsPseudoListed settings view name = (is_head_file name ≡ true) × LooseIn settings view [] (git_front settings) name
+IsPseudoListed settings view name = (is_head_file name ≡ true)
+    × LooseIn settings view [] (git_front settings) name
 
 -- the file at this path is the one of such a name
 pub record IsPseudoFile (settings : Settings) (view : View) (name path : List ℕ) : Type 0 where
@@ -43,8 +44,10 @@ pub record IsPseudoFile (settings : Settings) (view : View) (name path : List �
 
 -- what was found is such a file; or a folder that could not be listed, for a reason that is not want of memory
 abbrev pub IsPseudoFound : Settings → View → FoundEntry → Type 0
-IsPseudoFound settings view (key, File name path) = (full_bytes name ≡ key.items) × IsPseudoFile settings view key.items path.items
-IsPseudoFound settings view (key, Unlisted path error) = (error ≢ faulty.Memory) × (path.items ++ 47 ∷ [] ≡ git_front settings ++ key.items)
+IsPseudoFound settings view (key, File name path) = (full_bytes name ≡ key.items)
+    × IsPseudoFile settings view key.items path.items
+IsPseudoFound settings view (key, Unlisted path error) = (error ≢ faulty.Memory)
+    × (path.items ++ 47 ∷ [] ≡ git_front settings ++ key.items)
 
 -- and no record is among them
 abbrev pub IsPseudoItem : Settings → View → Listed → Type 0
@@ -59,7 +62,8 @@ pub record IsPseudoListing (settings : Settings) (view : View) (listed : List Li
   pub only : AllByRecursion (IsPseudoItem settings view) listed
 
 -- What is yet to come is that listing. A folder is in it only where the count of faults rose.
-pub record ListsPseudo (settings : Settings) (view : View) (before now : ℕ) (m : Merge) : Type 0 where
+pub record ListsPseudo (settings : Settings) (view : View) (before now : ℕ)
+    (m : Merge) : Type 0 where
   pub listed : List Listed
   pub is : IsPseudoListing settings view listed
   pub names : AllByRecursion IsNameItem listed ⊎ HasRisen before now

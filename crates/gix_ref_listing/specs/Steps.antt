@@ -19,16 +19,19 @@ IsDrained m = (m.found.entries ≡ []) × (m.packed.first ≡ None)
 
 -- these are yet to come, without a line that is no record
 abbrev pub AreYet : Settings → Merge → List Listed → Type 0
-AreYet settings m listed = (owns : List Own) × AreAhead settings m.packed owns × (listed ≡ merged_listing m.found.entries owns)
+AreYet settings m listed = (owns : List Own) × AreAhead settings m.packed owns
+    × (listed ≡ merged_listing m.found.entries owns)
 
 -- What lending a record does: it is the first of those that are yet to come, of which there are some.
 pub record GivesRecord (settings : Settings) (s t : Merge) (own : OwnRecord) : Type 0 where
-  pub gives : (listed : List Listed) → AreYet settings s listed → (more : List Listed) × (listed ≡ InPacked (own_of own) ∷ more) × AreYet settings t more
+  pub gives : (listed : List Listed) → AreYet settings s listed → (more : List Listed)
+      × (listed ≡ InPacked (own_of own) ∷ more) × AreYet settings t more
   pub goes_on : IsDrained s → ⊥
 
 module _ {F : Type 0} (honest : Type 0) (means : F → Meaning) (faults : F → ℕ) where
   -- the item is the first of these, and the rest is yet to come; or none is left
-  abbrev pub GivesItem : Settings → (before now : F) → List Listed → Option (Result Reference Error) → Merge → Type 0
+  abbrev pub GivesItem : Settings → (before now : F) → List Listed →
+      Option (Result Reference Error) → Merge → Type 0
   GivesItem settings before now listed None t = (listed ≡ []) × AreYet settings t []
   GivesItem settings before now listed (Some item) t =
       (one : Listed) × (more : List Listed) × (listed ≡ one ∷ more) × AreYet settings t more
@@ -36,8 +39,10 @@ module _ {F : Type 0} (honest : Type 0) (means : F → Meaning) (faults : F → 
 
   -- What giving an item does: it is the first of those that are yet to come; no file changes; and what has ended stays ended,
   -- whatever the texts are.
-  pub record GivesNext (settings : Settings) (before now : F) (s : Merge) (r : Option (Result Reference Error)) (t : Merge) : Type 0 where
-    pub gives : (listed : List Listed) → AreYet settings s listed → GivesItem settings before now listed r t
+  pub record GivesNext (settings : Settings) (before now : F) (s : Merge)
+      (r : Option (Result Reference Error)) (t : Merge) : Type 0 where
+    pub gives : (listed : List Listed) → AreYet settings s listed →
+        GivesItem settings before now listed r t
     pub rises : faults before ≤ faults now
     pub leaves : honest → Leaves (means before) (means now) (Unchanged (means before).tree)
     pub ends : r ≡ None → IsDrained t

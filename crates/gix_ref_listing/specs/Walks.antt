@@ -24,7 +24,8 @@ pub record IsOwnName (root : Root) (name : List ℕ) : Type 0 where
 
 -- and which is composed, where names are composed
 abbrev pub IsListedName : Root → List ℕ → Type 0
-IsListedName root name = IsOwnName root name × (name_asked root.settings.precompose_unicode name ≡ name)
+IsListedName root name = IsOwnName root name
+    × (name_asked root.settings.precompose_unicode name ≡ name)
 
 -- and a file is there
 abbrev pub IsLooseName : Root → View → List ℕ → Type 0
@@ -49,8 +50,10 @@ Holds name (key, Unlisted path error) = BeginsWith name key.items
 
 -- what was found is there; want of memory is no reason for a folder
 abbrev pub IsThere : Root → View → FoundEntry → Type 0
-IsThere root view (key, File name path) = (full_bytes name ≡ key.items) × IsFileOfName root view key.items path.items
-IsThere root view (key, Unlisted path error) = (error ≢ faulty.Memory) × (path.items ++ 47 ∷ [] ≡ root.path.now ++ key.items)
+IsThere root view (key, File name path) = (full_bytes name ≡ key.items)
+    × IsFileOfName root view key.items path.items
+IsThere root view (key, Unlisted path error) = (error ≢ faulty.Memory)
+    × (path.items ++ 47 ∷ [] ≡ root.path.now ++ key.items)
 
 -- it is one of these, or it is there
 abbrev pub IsThereOr : List FoundEntry → Root → View → FoundEntry → Type 0
@@ -63,7 +66,8 @@ IsFile (key, Unlisted path error) = ⊥
 
 -- an entry of a folder is there, if it is a file
 abbrev pub IsFileOf : Root → View → (folder : List ℕ) → ListedEntry → Type 0
-IsFileOf root view folder entry = entry.is_folder ≡ false → IsSome (view (root.path.now ++ (folder ++ entry.name.items)))
+IsFileOf root view folder entry = entry.is_folder ≡ false →
+    IsSome (view (root.path.now ++ (folder ++ entry.name.items)))
 
 -- each name that was found stays found
 abbrev pub StaysFound : (old new : List FoundEntry) → Type 0
@@ -83,12 +87,17 @@ IsBelow folders name = Among (λ folder. BeginsWith name folder.items) folders
 
 -- An entry of a folder was looked at: a file is found, where it is the file of a name; and a folder is to be walked, where names
 -- may be in it.
-pub record IsTaken (root : Root) (folder : List ℕ) (found : List FoundEntry) (next : List (Vec ℕ Global)) (entry : ListedEntry) : Type 0 where
-  pub file : entry.is_folder ≡ false → IsListedName root (folder ++ entry.name.items) → Among (Holds (folder ++ entry.name.items)) found
-  pub leads : entry.is_folder ≡ true → NoByte 47 entry.name.items → IsFolderPath folder → (name : List ℕ) → IsListedName root name →
+pub record IsTaken (root : Root) (folder : List ℕ) (found : List FoundEntry)
+    (next : List (Vec ℕ Global)) (entry : ListedEntry) : Type 0 where
+  pub file : entry.is_folder ≡ false → IsListedName root (folder ++ entry.name.items) →
+      Among (Holds (folder ++ entry.name.items)) found
+  pub leads : entry.is_folder ≡ true → NoByte 47 entry.name.items → IsFolderPath folder →
+      (name : List ℕ) → IsListedName root name →
       BeginsWith name (folder ++ (entry.name.items ++ codes "/")) → IsBelow next name
 
 -- Of the names that are to be listed and have this, each is found, is in a folder that could not be listed, or is below one
 -- that is to be walked.
-abbrev pub Reaches : Root → View → (List ℕ → Type 0) → List FoundEntry → List (Vec ℕ Global) → Type 0
-Reaches root view Has found next = (name : List ℕ) → IsLooseName root view name → Has name → Among (Holds name) found ⊎ IsBelow next name
+abbrev pub Reaches : Root → View → (List ℕ → Type 0) → List FoundEntry →
+    List (Vec ℕ Global) → Type 0
+Reaches root view Has found next = (name : List ℕ) → IsLooseName root view name → Has name →
+    Among (Holds name) found ⊎ IsBelow next name

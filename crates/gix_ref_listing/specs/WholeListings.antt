@@ -29,7 +29,8 @@ abbrev pub key_in : Settings → (name : List ℕ) → List ℕ
 key_in settings name = namespace_text settings.namespace.now ++ name
 
 -- A valid name with the prefix whose own key has a record.
-pub record IsPackedListed (settings : Settings) (records : List Record) (prefix name : List ℕ) : Type 0 where
+pub record IsPackedListed (settings : Settings) (records : List Record)
+    (prefix name : List ℕ) : Type 0 where
   pub valid : IsPartialName name
   pub begins : BeginsWith name prefix
   pub own : (meaning_in settings).key name ≡ Some (key_in settings name)
@@ -59,19 +60,24 @@ IsOf name (InPacked own) = own.name ≡ name
 abbrev pub IsInStore : Settings → View → List Record → (prefix : List ℕ) → Listed → Type 0
 IsInStore settings view records prefix (Walked e) = IsFoundIn settings view prefix e
 IsInStore settings view records prefix (InPacked own) =
-    IsPackedListed settings records prefix own.name × (record_named (key_in settings own.name) records ≡ Some own.of)
+    IsPackedListed settings records prefix own.name
+    × (record_named (key_in settings own.name) records ≡ Some own.of)
 
 -- A listing of a store with this view of files and these records: ascending, so each name once; each loose reference, unless a
 -- folder above it could not be listed, and as a loose one; each packed reference; and nothing else.
-pub record IsListing (settings : Settings) (view : View) (records : List Record) (prefix : List ℕ) (listed : List Listed) : Type 0 where
+pub record IsListing (settings : Settings) (view : View) (records : List Record) (prefix : List ℕ)
+    (listed : List Listed) : Type 0 where
   pub ascending : Rises listed
-  pub loose : (name : List ℕ) → IsLooseListed settings view prefix name → Among (IsLooseOf name) listed
-  pub packed : (name : List ℕ) → IsPackedListed settings records prefix name → Among (IsOf name) listed
+  pub loose : (name : List ℕ) → IsLooseListed settings view prefix name →
+      Among (IsLooseOf name) listed
+  pub packed : (name : List ℕ) → IsPackedListed settings records prefix name →
+      Among (IsOf name) listed
   pub only : AllByRecursion (IsInStore settings view records prefix) listed
 
 -- A text whose records with this prefix are those of these records: of the whole text, or of a part of it that was read for the
 -- prefix.
-pub record HoldsFor (kind : Kind) (prefix : List ℕ) (records : List Record) (text : List ℕ) : Type 0 where
+pub record HoldsFor (kind : Kind) (prefix : List ℕ) (records : List Record)
+    (text : List ℕ) : Type 0 where
   pub held : List Record
   pub ascending : Ascending held
   pub named : (name : List ℕ) → record_named name held ≡ record_named name records
@@ -83,7 +89,8 @@ pub record HoldsFor (kind : Kind) (prefix : List ℕ) (records : List Record) (t
 -- so the buffer, if one is given
 abbrev pub AreHeldOf : (prefix : List ℕ) → Option (Bor Buffer) → List Record → Type 0
 AreHeldOf prefix None records = records ≡ []
-AreHeldOf prefix (Some buffer) records = HoldsFor (buffer_kind buffer.now) prefix records (buffer_text buffer.now)
+AreHeldOf prefix (Some buffer) records = HoldsFor (buffer_kind buffer.now) prefix records
+    (buffer_text buffer.now)
 
 -- the iterator is yet to give the records with this prefix of ascending records, each found by its name as among these
 pub record IsAskedOf (prefix : List ℕ) (records : List Record) (it : Option Iter) : Type 0 where
@@ -98,7 +105,8 @@ IsNameItem (Walked e) = IsFile e
 IsNameItem (InPacked own) = Unit {0}
 
 -- What is yet to come is the listing. A folder is in it only where the count of faults rose.
-pub record ListsAll (settings : Settings) (view : View) (records : List Record) (prefix : List ℕ) (before now : ℕ) (m : Merge) : Type 0 where
+pub record ListsAll (settings : Settings) (view : View) (records : List Record) (prefix : List ℕ)
+    (before now : ℕ) (m : Merge) : Type 0 where
   pub listed : List Listed
   pub is : IsListing settings view records prefix listed
   pub names : AllByRecursion IsNameItem listed ⊎ HasRisen before now

@@ -99,8 +99,8 @@ fn take_item<F: Files>(
     settings: Settings<'_>,
     merge: &mut Merge<'_>,
 ) -> Option<Result<Reference, Error>>
-    ensures next { GivesNext F.honest F.means F.faults settings.entry files.old files.new
-        merge.old result merge.new }
+    ensures next { GivesNext F.honest F.means F.faults settings.entry files.old files.new merge.old
+        result merge.new }
     ensures left { option_len result + merge_left merge.new ≤ merge_left merge.old }
 {
     match merge.take(settings) {
@@ -116,8 +116,8 @@ pub fn next_item<F: Files>(
     settings: Settings<'_>,
     merge: &mut Merge<'_>,
 ) -> Option<Result<Reference, Error>>
-    ensures next { GivesNext F.honest F.means F.faults (plain settings.entry) files.old files.new
-        merge.old result merge.new }
+    ensures next { GivesNext F.honest F.means F.faults
+        (plain settings.entry) files.old files.new merge.old result merge.new }
     ensures left { option_len result + merge_left merge.new ≤ merge_left merge.old }
 {
     take_item(alloc, files, settings, merge)

@@ -26,8 +26,8 @@ fn records_of<'p>(
     prefix: &[u8],
     packed: Option<&'p Buffer>,
 ) -> Result<Option<Iter<'p>>, AllocError>
-    ensures { (records : List Record) →
-        AreHeldOf (namespace_text namespace.now ++ prefix.now) packed.entry records →
+    ensures { (records : List Record) → AreHeldOf
+        (namespace_text namespace.now ++ prefix.now) packed.entry records →
         IfOk result (IsAskedOf (namespace_text namespace.now ++ prefix.now) records) }
 {
     match packed {
@@ -50,9 +50,9 @@ pub fn list<'p, F: Files>(
     packed: Option<&'p Buffer>,
 ) -> Result<Merge<'p>, Error>
     ensures lists { F.honest → (records : List Record) →
-        AreHeldOf (key_in settings.entry prefix.now) packed.entry records →
-        IfOk result (ListsAll (plain settings.entry) (view_of (F.means files.old).tree) records
-        prefix.now (F.faults files.old) (F.faults files.new)) }
+        AreHeldOf (key_in settings.entry prefix.now) packed.entry records → IfOk result
+        (ListsAll (plain settings.entry) (view_of (F.means files.old).tree) records prefix.now
+        (F.faults files.old) (F.faults files.new)) }
     ensures looks { OnlyLooks F.honest F.means F.faults files.old files.new }
     ensures memory { IfErr result (λ error. error ≡ Memory) }
 {

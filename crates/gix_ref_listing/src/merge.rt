@@ -58,8 +58,8 @@ impl<'p> Merge<'p> {
     /// The next of the listing.
     pub fn take(&mut self, settings: Settings<'_>) -> Option<Taken<'p>>
         ensures takes { (owns : List Own) → AreAhead settings.entry self.old.packed owns →
-            TakesListed settings.entry (merged_listing self.old.found.entries owns) result
-            self.new }
+            TakesListed settings.entry
+            (merged_listing self.old.found.entries owns) result self.new }
         ensures left { option_len result + merge_left self.new ≤ merge_left self.old }
         ensures ends { IfNone result (IsDrained self.new) }
         ensures stays_ended { IsDrained self.old → result ≡ None }
@@ -83,9 +83,8 @@ impl<'p> Merge<'p> {
         ensures takes { IfSome result (λ own. (owns : List Own) →
             AreAhead settings.entry self.old.packed owns →
             TakesRecord settings.entry (merged_listing self.old.found.entries owns) own self.new) }
-        ensures none { IfNone result ((owns : List Own) →
-            AreAhead settings.entry self.old.packed owns →
-            IsNoRecord (merged_listing self.old.found.entries owns)) }
+        ensures none { IfNone result ((owns : List Own) → AreAhead settings.entry self.old.packed
+            owns → IsNoRecord (merged_listing self.old.found.entries owns)) }
         ensures goes_on { IfSome result (λ _. IsDrained self.old → ⊥) }
         ensures stays { IfNone result (self.new ≡ self.old) }
         ensures left { option_len result + merge_left self.new ≤ merge_left self.old }

@@ -29,9 +29,8 @@ pub struct OwnRecord<'p> {
 
 /// What follows the namespace, if there is one, in a key.
 fn behind_namespace<'a>(namespace: &Option<Namespace>, key: &'a [u8]) -> Option<&'a [u8]>
-    ensures { MatchOption result
-        ((rest : List ℕ) → key.now ≡ namespace_text namespace.now ++ rest → ⊥)
-        (λ rest. key.now ≡ namespace_text namespace.now ++ rest.now) }
+    ensures { MatchOption result ((rest : List ℕ) → key.now ≡ namespace_text namespace.now ++ rest →
+        ⊥) (λ rest. key.now ≡ namespace_text namespace.now ++ rest.now) }
 {
     match namespace {
         Some(namespace) => strip_front(key, namespace.to_path()),
@@ -58,8 +57,7 @@ fn inside_namespace<'a>(
     namespace: &Option<Namespace>,
     key: FullNameRef<'a>,
 ) -> Option<FullNameRef<'a>>
-    ensures { MatchOption result
-        ((rest : List ℕ) → IsPartialName rest →
+    ensures { MatchOption result ((rest : List ℕ) → IsPartialName rest →
         full_ref_bytes key.entry ≡ namespace_text namespace.now ++ rest → ⊥)
         (λ name. full_ref_bytes key.entry ≡ namespace_text namespace.now ++ full_ref_bytes name) }
 {
@@ -162,12 +160,11 @@ impl<'p> OwnRecords<'p> {
     /// The next one, where it is a record. `None` where it is a line that is no record, which then stays the next, and at the
     /// end.
     pub fn take_record(&mut self, settings: Settings<'_>) -> Option<OwnRecord<'p>>
-        ensures takes { IfSome result (λ own. (owns : List Own) →
-            AreAhead settings.entry self.old owns →
-            TakesOwn settings.entry owns (Some (Ok own)) self.new) }
+        ensures takes { IfSome result (λ own. (owns : List Own) → AreAhead settings.entry self.old
+            owns → TakesOwn settings.entry owns (Some (Ok own)) self.new) }
         ensures was { IfSome result (λ own. self.old.first ≡ Some (Ok own)) }
-        ensures none { IfNone result ((owns : List Own) → AreAhead settings.entry self.old owns →
-            owns ≡ []) }
+        ensures none { IfNone result ((owns : List Own) →
+            AreAhead settings.entry self.old owns → owns ≡ []) }
         ensures stays { IfNone result (self.new ≡ self.old) }
         ensures left { option_len result + ahead_left self.new ≤ ahead_left self.old }
     {

@@ -60,17 +60,16 @@ pub fn open_prefixed<F: Files>(
     settings: Settings<'_>,
     prefix: &[u8],
 ) -> Result<Option<Buffer>, Error>
-    ensures holds { F.honest → (records : List Record) →
-        ArePackedRecords settings.entry.kind (packed_refs_in settings.entry (F.means files.old))
-        records →
+    ensures holds { F.honest → (records : List Record) → ArePackedRecords settings.entry.kind
+        (packed_refs_in settings.entry (F.means files.old)) records →
         IfOk result (λ found. IsHeldFor (key_in settings.entry prefix.now) found records) }
     ensures there { F.honest → IfOk result (λ found. is_some found
         ≡ is_file ((F.means files.old).tree (meaning_in settings.entry).packed_path)) }
     ensures refused { F.honest → IfErr result (IsRefusedFile settings.entry.kind
         ((F.means files.old).tree (meaning_in settings.entry).packed_path)) }
     ensures no_fault { OnOk result (F.faults files.new ≡ F.faults files.old) }
-    ensures failed { F.honest → IfErr result
-        (CountsRefusal F.Reader.faults (F.faults files.old) (F.faults files.new)) }
+    ensures failed { F.honest →
+        IfErr result (CountsRefusal F.Reader.faults (F.faults files.old) (F.faults files.new)) }
     ensures leaves { F.honest → Leaves (F.means files.old) (F.means files.new)
         (Unchanged (F.means files.old).tree) }
 {

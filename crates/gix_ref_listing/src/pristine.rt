@@ -79,11 +79,10 @@ fn head_points_to<F: Files>(
     settings: Settings<'_>,
     name: FullNameRef<'_>,
 ) -> Result<Option<bool>, AllocError>
-    ensures says { IfOk result (Says
-        (F.honest → ReadsAt (plain settings.entry) (view_of (F.means files.old).tree)
-        (head_path (plain settings.entry)) (symbolic_name (full_ref_bytes name.entry)))
-        (F.honest → HasOtherHead (plain settings.entry) (view_of (F.means files.old).tree)
-        (full_ref_bytes name.entry))
+    ensures says { IfOk result (Says (F.honest → ReadsAt (plain settings.entry)
+        (view_of (F.means files.old).tree) (head_path (plain settings.entry))
+        (symbolic_name (full_ref_bytes name.entry))) (F.honest → HasOtherHead (plain settings.entry)
+        (view_of (F.means files.old).tree) (full_ref_bytes name.entry))
         ((F.honest → ReadsNone (plain settings.entry) (view_of (F.means files.old).tree)
         (head_path (plain settings.entry))) ⊎ HasRisen (F.faults files.old) (F.faults files.new))) }
     ensures looks { OnlyLooks F.honest F.means F.faults files.old files.new }
@@ -105,10 +104,9 @@ fn has_packed_refs<F: Files>(
     files: &mut F,
     settings: Settings<'_>,
 ) -> Result<Option<bool>, AllocError>
-    ensures says { IfOk result (Says
-        (F.honest → has_packed_refs (plain settings.entry) (F.means files.old).tree ≡ true)
-        (F.honest → has_packed_refs (plain settings.entry) (F.means files.old).tree ≡ false)
-        (HasRisen (F.faults files.old) (F.faults files.new))) }
+    ensures says { IfOk result (Says (F.honest → has_packed_refs (plain settings.entry)
+        (F.means files.old).tree ≡ true) (F.honest → has_packed_refs (plain settings.entry)
+        (F.means files.old).tree ≡ false) (HasRisen (F.faults files.old) (F.faults files.new))) }
     ensures looks { OnlyLooks F.honest F.means F.faults files.old files.new }
 {
     let path = settings.packed_refs_path(alloc)?;
@@ -127,12 +125,10 @@ fn is_readable<F: Files>(
     found: Found,
     other: bool,
 ) -> Result<Option<bool>, AllocError>
-    ensures says { IfOk result (Says
-        ((other ≡ true) ⊎ (F.honest → IsReadableFile (plain settings.entry)
-        (view_of (F.means files.old).tree) found))
-        ((other ≡ false) × (F.honest → IsUnreadableFile (plain settings.entry)
-        (view_of (F.means files.old).tree) found))
-        (IsFoundFile found → HasRisen (F.faults files.old) (F.faults files.new))) }
+    ensures says { IfOk result (Says ((other ≡ true) ⊎ (F.honest → IsReadableFile
+        (plain settings.entry) (view_of (F.means files.old).tree) found)) ((other ≡ false)
+        × (F.honest → IsUnreadableFile (plain settings.entry) (view_of (F.means files.old).tree)
+        found)) (IsFoundFile found → HasRisen (F.faults files.old) (F.faults files.new))) }
     ensures looks { OnlyLooks F.honest F.means F.faults files.old files.new }
 {
     match found {
@@ -156,8 +152,7 @@ fn any_readable<F: Files>(
     settings: Settings<'_>,
     mut found: FoundByKey,
 ) -> Result<Option<bool>, AllocError>
-    ensures says { IfOk result (Says
-        (F.honest → Among (λ e. IsReadableFile (plain settings.entry)
+    ensures says { IfOk result (Says (F.honest → Among (λ e. IsReadableFile (plain settings.entry)
         (view_of (F.means files.old).tree) e.1) found.entries)
         (F.honest → All (λ e. IsUnreadableFile (plain settings.entry)
         (view_of (F.means files.old).tree) e.1) found.entries)
@@ -181,8 +176,8 @@ fn has_loose<F: Files>(
     settings: Settings<'_>,
     prefix: &[u8],
 ) -> Result<Option<bool>, AllocError>
-    ensures says { IfOk result (Says
-        (F.honest → HasLoose (plain settings.entry) (view_of (F.means files.old).tree) prefix.now)
+    ensures says { IfOk result (Says (F.honest →
+        HasLoose (plain settings.entry) (view_of (F.means files.old).tree) prefix.now)
         (F.honest → HasNoLoose (plain settings.entry) (view_of (F.means files.old).tree) prefix.now)
         (HasRisen (F.faults files.old) (F.faults files.new))) }
     ensures looks { OnlyLooks F.honest F.means F.faults files.old files.new }
@@ -200,10 +195,9 @@ fn has_references<F: Files>(
     settings: Settings<'_>,
     prefix: &[u8],
 ) -> Result<Option<bool>, AllocError>
-    ensures says { IfOk result (Says
-        (F.honest → HasReferences (plain settings.entry) (F.means files.old).tree prefix.now)
-        (F.honest → HasNoReferences (plain settings.entry) (F.means files.old).tree prefix.now)
-        (HasRisen (F.faults files.old) (F.faults files.new))) }
+    ensures says { IfOk result (Says (F.honest → HasReferences (plain settings.entry)
+        (F.means files.old).tree prefix.now) (F.honest → HasNoReferences (plain settings.entry)
+        (F.means files.old).tree prefix.now) (HasRisen (F.faults files.old) (F.faults files.new))) }
     ensures looks { OnlyLooks F.honest F.means F.faults files.old files.new }
 {
     match has_packed_refs(alloc, files, settings)? {
@@ -222,11 +216,9 @@ pub fn is_pristine<F: Files>(
     prefix: &[u8],
     name: FullNameRef<'_>,
 ) -> Result<Option<bool>, AllocError>
-    ensures says { IfOk result (Says
-        (F.honest → IsPristine (plain settings.entry) (F.means files.old).tree prefix.now
-        (full_ref_bytes name.entry))
-        (F.honest → IsInUse (plain settings.entry) (F.means files.old).tree prefix.now
-        (full_ref_bytes name.entry))
+    ensures says { IfOk result (Says (F.honest → IsPristine (plain settings.entry)
+        (F.means files.old).tree prefix.now (full_ref_bytes name.entry)) (F.honest → IsInUse
+        (plain settings.entry) (F.means files.old).tree prefix.now (full_ref_bytes name.entry))
         ((F.honest → ReadsNone (plain settings.entry) (view_of (F.means files.old).tree)
         (head_path (plain settings.entry))) ⊎ HasRisen (F.faults files.old) (F.faults files.new))) }
     ensures looks { OnlyLooks F.honest F.means F.faults files.old files.new }

@@ -54,13 +54,12 @@ fn walk_pseudo<F: Files>(
     files: &mut F,
     settings: Settings<'_>,
 ) -> Result<FoundByKey, FileError>
-    ensures finds { F.honest → IfOk result (λ found. (name : List ℕ) →
-        IsPseudoListed settings.entry (view_of (F.means files.old).tree) name →
-        Among (Holds name) found.entries) }
+    ensures finds { F.honest → IfOk result (λ found. (name : List ℕ) → IsPseudoListed settings.entry
+        (view_of (F.means files.old).tree) name → Among (Holds name) found.entries) }
     ensures files { IfOk result (λ found. All IsFile found.entries
         ⊎ HasRisen (F.faults files.old) (F.faults files.new)) }
-    ensures there { F.honest → IfOk result (λ found.
-        All (IsPseudoFound settings.entry (view_of (F.means files.old).tree)) found.entries) }
+    ensures there { F.honest → IfOk result (λ found. All
+        (IsPseudoFound settings.entry (view_of (F.means files.old).tree)) found.entries) }
     ensures looks { OnlyLooks F.honest F.means F.faults files.old files.new }
     ensures memory { IfErr result (λ error. error ≡ no_memory) }
 {

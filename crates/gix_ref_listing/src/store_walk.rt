@@ -37,8 +37,8 @@ pub(crate) fn front_of(
     namespace: &Option<Namespace>,
 ) -> Result<Vec<u8>, AllocError>
     requires { folder.now ≢ [] }
-    ensures front { IfOk result (λ front.
-        front.items ≡ below folder.now (namespace_text namespace.now)) }
+    ensures front { IfOk result (λ front. front.items
+        ≡ below folder.now (namespace_text namespace.now)) }
     ensures root { IfOk result (λ front. IsRootPath front.items) }
 {
     let namespace = text_of(namespace);
@@ -67,11 +67,9 @@ fn walk_in<F: Files>(
         Among (Holds name) found.new.entries) }
     ensures files { OnOk result (All IsFile found.old.entries → All IsFile found.new.entries
         ⊎ HasRisen (F.faults files.old) (F.faults files.new)) }
-    ensures there { F.honest → OnOk result (
-        All (IsFoundIn settings.entry (view_of (F.means files.old).tree) prefix.now)
-        found.old.entries →
-        All (IsFoundIn settings.entry (view_of (F.means files.old).tree) prefix.now)
-        found.new.entries) }
+    ensures there { F.honest → OnOk result (All (IsFoundIn settings.entry (view_of
+        (F.means files.old).tree) prefix.now) found.old.entries → All (IsFoundIn settings.entry
+        (view_of (F.means files.old).tree) prefix.now) found.new.entries) }
     ensures looks { OnlyLooks F.honest F.means F.faults files.old files.new }
     ensures memory { IfErr result (λ error. error ≡ Memory) }
 {
@@ -96,14 +94,12 @@ pub fn walk_store<F: Files>(
     settings: Settings<'_>,
     prefix: &[u8],
 ) -> Result<FoundByKey, FileError>
-    ensures finds { F.honest → IfOk result (λ found. (name : List ℕ) →
-        IsLooseListed settings.entry (view_of (F.means files.old).tree) prefix.now name →
-        Among (Holds name) found.entries) }
+    ensures finds { F.honest → IfOk result (λ found. (name : List ℕ) → IsLooseListed settings.entry
+        (view_of (F.means files.old).tree) prefix.now name → Among (Holds name) found.entries) }
     ensures files { IfOk result (λ found. All IsFile found.entries
         ⊎ HasRisen (F.faults files.old) (F.faults files.new)) }
-    ensures there { F.honest → IfOk result (λ found.
-        All (IsFoundIn settings.entry (view_of (F.means files.old).tree) prefix.now)
-        found.entries) }
+    ensures there { F.honest → IfOk result (λ found. All
+        (IsFoundIn settings.entry (view_of (F.means files.old).tree) prefix.now) found.entries) }
     ensures looks { OnlyLooks F.honest F.means F.faults files.old files.new }
     ensures memory { IfErr result (λ error. error ≡ Memory) }
 {

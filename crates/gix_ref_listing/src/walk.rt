@@ -136,9 +136,8 @@ fn keep_unlisted(
     ensures holds { OnOk result ((name : List ℕ) → BeginsWith name folder.now →
         Among (Holds name) found.new.entries) }
     ensures there { (others : List FoundEntry) (root : Root) (view : View) →
-        All (IsThereOr others root view) found.old.entries →
-        error ≢ Memory → path.items ++ 47 ∷ [] ≡ root.path.now ++ folder.now →
-        All (IsThereOr others root view) found.new.entries }
+        All (IsThereOr others root view) found.old.entries → error ≢ Memory → path.items ++ 47 ∷ []
+        ≡ root.path.now ++ folder.now → All (IsThereOr others root view) found.new.entries }
 {
     let source = error;
     found.insert(folder.to_vec(alloc)?, Found::Unlisted { path, source })?;
@@ -148,8 +147,8 @@ fn keep_unlisted(
 impl Root<'_> {
     /// Whether a name is to be listed where a file is there: it has the prefix, and its own place is in this folder.
     fn is_own(self, alloc: Global, name: FullNameRef<'_>) -> Result<bool, AllocError>
-        ensures { IfOk result (λ own.
-            IsTrue own ↔ IsOwnName self.entry (full_ref_bytes name.entry)) }
+        ensures { IfOk result (λ own. IsTrue own
+            ↔ IsOwnName self.entry (full_ref_bytes name.entry)) }
     {
         if !begins_with(name.to_path(), self.prefix) {
             return Ok(false);
@@ -206,10 +205,9 @@ impl Root<'_> {
     ) -> Result<(), AllocError>
         ensures stays { (name : List ℕ) → IsBelow next.old.items name →
             IsBelow next.new.items name }
-        ensures leads { OnOk result (NoByte 47 component.now → IsFolderPath folder.now → (name :
-            List ℕ) → IsListedName self.entry name →
-            BeginsWith name (folder.now ++ (component.now ++ codes "/")) →
-            IsBelow next.new.items name) }
+        ensures leads { OnOk result (NoByte 47 component.now → IsFolderPath folder.now →
+            (name : List ℕ) → IsListedName self.entry name → BeginsWith name
+            (folder.now ++ (component.now ++ codes "/")) → IsBelow next.new.items name) }
         ensures paths { All (λ f. IsInnerPath f.items) next.old.items →
             All (λ f. IsInnerPath f.items) next.new.items }
     {
@@ -236,15 +234,14 @@ impl Root<'_> {
         ensures stays { StaysFound found.old.entries found.new.entries }
         ensures stays_below { (name : List ℕ) → IsBelow next.old.items name →
             IsBelow next.new.items name }
-        ensures taken { OnOk result (IsTaken self.entry folder.now found.new.entries next.new.items
-            entry.now) }
+        ensures taken { OnOk result
+            (IsTaken self.entry folder.now found.new.entries next.new.items entry.now) }
         ensures paths { All (λ f. IsInnerPath f.items) next.old.items →
             All (λ f. IsInnerPath f.items) next.new.items }
         ensures files { All IsFile found.old.entries → All IsFile found.new.entries }
         ensures there { (others : List FoundEntry) (view : View) →
-            All (IsThereOr others self.entry view) found.old.entries →
-            IsFileOf self.entry view folder.now entry.now →
-            All (IsThereOr others self.entry view) found.new.entries }
+            All (IsThereOr others self.entry view) found.old.entries → IsFileOf self.entry view
+            folder.now entry.now → All (IsThereOr others self.entry view) found.new.entries }
     {
         if entry.is_folder {
             return self.take_folder(alloc, folder, &entry.name, next);
@@ -265,15 +262,14 @@ impl Root<'_> {
         ensures stays { OnOk result (StaysFound found.old.entries found.new.entries) }
         ensures stays_below { OnOk result ((name : List ℕ) → IsBelow next.old.items name →
             IsBelow next.new.items name) }
-        ensures taken { OnOk result (All (IsTaken self.entry folder.now found.new.entries
-            next.new.items) entries.now) }
+        ensures taken { OnOk result
+            (All (IsTaken self.entry folder.now found.new.entries next.new.items) entries.now) }
         ensures paths { OnOk result (All (λ f. IsInnerPath f.items) next.old.items →
             All (λ f. IsInnerPath f.items) next.new.items) }
         ensures files { OnOk result (All IsFile found.old.entries → All IsFile found.new.entries) }
         ensures there { OnOk result ((others : List FoundEntry) (view : View) →
-            All (IsThereOr others self.entry view) found.old.entries →
-            All (IsFileOf self.entry view folder.now) entries.now →
-            All (IsThereOr others self.entry view) found.new.entries) }
+            All (IsThereOr others self.entry view) found.old.entries → All (IsFileOf self.entry view
+            folder.now) entries.now → All (IsThereOr others self.entry view) found.new.entries) }
     {
         for entry in entries {
             self.take_entry(alloc, folder, entry, found, next)?;
@@ -295,19 +291,17 @@ impl Root<'_> {
         ensures stays { OnOk result (StaysFound found.old.entries found.new.entries) }
         ensures stays_below { OnOk result ((name : List ℕ) → IsBelow next.old.items name →
             IsBelow next.new.items name) }
-        ensures reaches { F.honest → IfOk result (λ _. IsFolderPath folder.now → Reaches self.entry
-            (view_of (F.means files.old).tree)
+        ensures reaches { F.honest → IfOk result
+            (λ _. IsFolderPath folder.now → Reaches self.entry (view_of (F.means files.old).tree)
             (λ name. BeginsWith name folder.now) found.new.entries next.new.items) }
         ensures paths { OnOk result (All (λ f. IsInnerPath f.items) next.old.items →
             All (λ f. IsInnerPath f.items) next.new.items) }
         ensures files { OnOk result (All IsFile found.old.entries → All IsFile found.new.entries
             ⊎ HasRisen (F.faults files.old) (F.faults files.new)) }
-        ensures there { F.honest → IfOk result (λ _. IsFolderPath folder.now →
-            (others : List FoundEntry) →
-            All (IsThereOr others self.entry (view_of (F.means files.old).tree))
-            found.old.entries →
-            All (IsThereOr others self.entry (view_of (F.means files.old).tree))
-            found.new.entries) }
+        ensures there { F.honest → IfOk result
+            (λ _. IsFolderPath folder.now → (others : List FoundEntry) → All
+            (IsThereOr others self.entry (view_of (F.means files.old).tree)) found.old.entries → All
+            (IsThereOr others self.entry (view_of (F.means files.old).tree)) found.new.entries) }
         ensures looks { OnlyLooks F.honest F.means F.faults files.old files.new }
         ensures memory { IfErr result (λ error. error ≡ Memory) }
     {
@@ -344,11 +338,9 @@ impl Root<'_> {
         ensures paths { IfOk result (λ next. All (λ f. IsInnerPath f.items) next.items) }
         ensures files { OnOk result (All IsFile found.old.entries → All IsFile found.new.entries
             ⊎ HasRisen (F.faults files.old) (F.faults files.new)) }
-        ensures there { F.honest → OnOk result ((others : List FoundEntry) →
-            All (IsThereOr others self.entry (view_of (F.means files.old).tree))
-            found.old.entries →
-            All (IsThereOr others self.entry (view_of (F.means files.old).tree))
-            found.new.entries) }
+        ensures there { F.honest → OnOk result ((others : List FoundEntry) → All
+            (IsThereOr others self.entry (view_of (F.means files.old).tree)) found.old.entries → All
+            (IsThereOr others self.entry (view_of (F.means files.old).tree)) found.new.entries) }
         ensures looks { OnlyLooks F.honest F.means F.faults files.old files.new }
         ensures memory { IfErr result (λ error. error ≡ Memory) }
     {
@@ -374,11 +366,9 @@ impl Root<'_> {
             (view_of (F.means files.old).tree) name → Among (Holds name) found.new.entries) }
         ensures files { OnOk result (All IsFile found.old.entries → All IsFile found.new.entries
             ⊎ HasRisen (F.faults files.old) (F.faults files.new)) }
-        ensures there { F.honest → OnOk result ((others : List FoundEntry) →
-            All (IsThereOr others self.entry (view_of (F.means files.old).tree))
-            found.old.entries →
-            All (IsThereOr others self.entry (view_of (F.means files.old).tree))
-            found.new.entries) }
+        ensures there { F.honest → OnOk result ((others : List FoundEntry) → All
+            (IsThereOr others self.entry (view_of (F.means files.old).tree)) found.old.entries → All
+            (IsThereOr others self.entry (view_of (F.means files.old).tree)) found.new.entries) }
         ensures looks { OnlyLooks F.honest F.means F.faults files.old files.new }
         ensures memory { IfErr result (λ error. error ≡ Memory) }
     {

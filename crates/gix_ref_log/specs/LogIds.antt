@@ -9,4 +9,5 @@ IdFront text id rest = IsIdText id × (text ≡ id ++ 32 ∷ rest)
 -- where the space behind the id has to be: at 40 where one is there, else at 64
 abbrev pub IsIdPlace : List ℕ → ℕ → Type 0
 IsIdPlace text place =
-    ((place ≡ 40) × (40 < length text) × (slice_index text 40 ≡ 32)) ⊎ ((place ≡ 64) × (40 < length text → slice_index text 40 ≢ 32))
+    ((place ≡ 40) × (40 < length text) × (slice_index text 40 ≡ 32))
+    ⊎ ((place ≡ 64) × (40 < length text → slice_index text 40 ≢ 32))

@@ -19,7 +19,8 @@ IsAnswer n text (Err e) = (e.line ≡ FromStart n) × NoLine text
 -- a run forward: a result for each line, in order, numbered from n. `Ended` holds where the run went on to the end
 abbrev pub IsForwardRun : Type 0 → ℕ → List (List ℕ) → List (Result LineRef decode.Error) → Type 0
 IsForwardRun Ended n lines [] = Ended → lines ≡ []
-IsForwardRun Ended n lines (r ∷ rs) = (text : List ℕ) × (rest : List (List ℕ)) × (lines ≡ text ∷ rest) × IsAnswer n text r × IsForwardRun Ended (n + 1) rest rs
+IsForwardRun Ended n lines (r ∷ rs) = (text : List ℕ) × (rest : List (List ℕ))
+    × (lines ≡ text ∷ rest) × IsAnswer n text r × IsForwardRun Ended (n + 1) rest rs
 
 -- an item backward: the text of a line with its number from the end, or a line that does not fit
 pub data Item : Type 0 where
@@ -28,14 +29,17 @@ pub data Item : Type 0 where
 
 -- how many bytes a line has, its CR counted and its LF not
 abbrev pub len_without_feed : List ℕ → ℕ
-len_without_feed p = if nat_lt 0 (length p) && slice_index p (length p - 1) == 10 then length p - 1 else length p
+len_without_feed p = if nat_lt 0 (length p) && slice_index p (length p - 1) == 10 then length p - 1
+    else length p
 
 -- of lines with their LF, newest first: a buffer of `room` bytes holds a line and the LF before it, and the first line
 -- of the file alone; after the first line that does not fit there is nothing
 abbrev pub backward : ℕ → ℕ → List (List ℕ) → List Item
 backward room n [] = []
-backward room n (p ∷ []) = if nat_le (len_without_feed p) room then Text n (without_terminator p) ∷ [] else TooSmall ∷ []
-backward room n (p ∷ q ∷ ps) = if nat_le (len_without_feed p + 1) room then Text n (without_terminator p) ∷ backward room (n + 1) (q ∷ ps) else TooSmall ∷ []
+backward room n (p ∷ []) = if nat_le (len_without_feed p) room
+    then Text n (without_terminator p) ∷ [] else TooSmall ∷ []
+backward room n (p ∷ q ∷ ps) = if nat_le (len_without_feed p + 1) room
+    then Text n (without_terminator p) ∷ backward room (n + 1) (q ∷ ps) else TooSmall ∷ []
 
 -- the items of a log, newest first, the next of which has the number n
 unfoldable pub items_from : ℕ → ℕ → List ℕ → List Item
@@ -44,10 +48,13 @@ items_from room n log = backward room n (reverse (lines_of log))
 -- one call of `next`, by the items that were to come before it and those to come after it
 abbrev pub GivesLine : List Item → Option (Result Line ReverseError) → List Item → Type 0
 GivesLine items None rest = (items ≡ []) × (rest ≡ [])
-GivesLine items (Some (Ok l)) rest = (n : ℕ) × (text : List ℕ) × (items ≡ Text n text ∷ rest) × IsReadAs text l
-GivesLine items (Some (Err (Decode e))) rest = (n : ℕ) × (text : List ℕ) × (items ≡ Text n text ∷ rest) × (e.line ≡ FromEnd n) × NoLine text
+GivesLine items (Some (Ok l)) rest = (n : ℕ) × (text : List ℕ) × (items ≡ Text n text ∷ rest)
+    × IsReadAs text l
+GivesLine items (Some (Err (Decode e))) rest = (n : ℕ) × (text : List ℕ)
+    × (items ≡ Text n text ∷ rest) × (e.line ≡ FromEnd n) × NoLine text
 GivesLine items (Some (Err BufferTooSmall)) rest = (items ≡ TooSmall ∷ []) × (rest ≡ [])
-GivesLine items (Some (Err Memory)) rest = (rest ≡ []) × ((n : ℕ) × (text : List ℕ) × (more : List Item) × (l : LogLine) × (items ≡ Text n text ∷ more) × IsLine text l)
+GivesLine items (Some (Err Memory)) rest = (rest ≡ []) × ((n : ℕ) × (text : List ℕ)
+    × (more : List Item) × (l : LogLine) × (items ≡ Text n text ∷ more) × IsLine text l)
 GivesLine items (Some (Err (Io e))) rest = (items ≢ []) × (rest ≡ [])
 
 -- what is made of a line's text
@@ -62,10 +69,13 @@ LineGives n text (Err (Io e)) = ⊥
 -- and one `Io`, or one `Memory` in the place of a good line, and the end. `Ended` holds where the run went on to the end
 abbrev pub IsRun : Type 0 → List Item → List (Result Line ReverseError) → Type 0
 IsRun Ended items [] = Ended → items ≡ []
-IsRun Ended items (Ok l ∷ rs) = (n : ℕ) × (text : List ℕ) × (rest : List Item) × (items ≡ Text n text ∷ rest) × IsReadAs text l × IsRun Ended rest rs
-IsRun Ended items (Err (Decode e) ∷ rs) = (n : ℕ) × (text : List ℕ) × (rest : List Item) × (items ≡ Text n text ∷ rest) × (e.line ≡ FromEnd n) × NoLine text × IsRun Ended rest rs
+IsRun Ended items (Ok l ∷ rs) = (n : ℕ) × (text : List ℕ) × (rest : List Item)
+    × (items ≡ Text n text ∷ rest) × IsReadAs text l × IsRun Ended rest rs
+IsRun Ended items (Err (Decode e) ∷ rs) = (n : ℕ) × (text : List ℕ) × (rest : List Item)
+    × (items ≡ Text n text ∷ rest) × (e.line ≡ FromEnd n) × NoLine text × IsRun Ended rest rs
 IsRun Ended items (Err BufferTooSmall ∷ rs) = (items ≡ TooSmall ∷ []) × (rs ≡ [])
-IsRun Ended items (Err Memory ∷ rs) = ((n : ℕ) × (text : List ℕ) × (more : List Item) × (l : LogLine) × (items ≡ Text n text ∷ more) × IsLine text l) × (rs ≡ [])
+IsRun Ended items (Err Memory ∷ rs) = ((n : ℕ) × (text : List ℕ) × (more : List Item)
+    × (l : LogLine) × (items ≡ Text n text ∷ more) × IsLine text l) × (rs ≡ [])
 IsRun Ended items (Err (Io e) ∷ rs) = (items ≢ []) × (rs ≡ [])
 
 -- after any error but a decode fault there is nothing; `Io` is never `Memory`, which a reader does not return

@@ -20,7 +20,8 @@ pub record LogLine : Type 0 where
 
 -- cut at the first such byte, or all of a text that has none
 abbrev pub CutsOrAll : ℕ → List ℕ → List ℕ → List ℕ → Type 0
-CutsOrAll b text before after = Cuts b text before after ⊎ (NoByte b text × (before ≡ text) × (after ≡ []))
+CutsOrAll b text before after = Cuts b text before after
+    ⊎ (NoByte b text × (before ≡ text) × (after ≡ []))
 
 -- The text of a line: an id, a space, an id, a space; then, up to LF or the end, a signature, and behind the first tab
 -- the message.
@@ -44,7 +45,12 @@ abbrev pub IsFirstLine : List ℕ → List ℕ → Type 0
 IsFirstLine text line = (rest : List ℕ) × CutsOrAll 10 text line rest
 
 abbrev pub line_ref_parts : LineRef → LogLine
-line_ref_parts l = record { previous = l.previous_oid.now; new = l.new_oid.now; who = signature_ref_who l.signature; message = l.message.now }
+line_ref_parts l = record {
+  previous = l.previous_oid.now;
+  new = l.new_oid.now;
+  who = signature_ref_who l.signature;
+  message = l.message.now;
+}
 
 -- an owned line is the same line, its ids read
 pub record IsOwned (l : LogLine) (line : Line) : Type 0 where
@@ -59,11 +65,13 @@ IsReadAs text line = (l : LogLine) × IsLine text l × IsOwned l line
 
 -- the ids in lower case, each with a space behind it, and the signature
 abbrev pub head_text : ObjectId → ObjectId → Who → List ℕ
-head_text previous new who = encode_lower (id_bytes previous) ++ 32 ∷ (encode_lower (id_bytes new) ++ 32 ∷ signature_text who)
+head_text previous new who = encode_lower (id_bytes previous) ++ 32
+    ∷ (encode_lower (id_bytes new) ++ 32 ∷ signature_text who)
 
 -- how a line is written: also before an empty message there is a tab
 abbrev pub line_text : Line → List ℕ
-line_text l = head_text l.previous_oid l.new_oid (signature_who l.signature) ++ 9 ∷ (l.message.items ++ 10 ∷ [])
+line_text l = head_text l.previous_oid l.new_oid
+    (signature_who l.signature) ++ 9 ∷ (l.message.items ++ 10 ∷ [])
 
 -- a tab and the message, or nothing where it is empty
 abbrev pub message_part : List ℕ → List ℕ
@@ -72,11 +80,17 @@ message_part (b ∷ message) = 9 ∷ b ∷ message
 
 -- how a transaction writes a line: the signature trimmed, and no tab before an empty message
 abbrev pub appended_text : ObjectId → ObjectId → Who → List ℕ → List ℕ
-appended_text previous new who message = head_text previous new (trimmed_who who) ++ (message_part message ++ 10 ∷ [])
+appended_text previous new who message = head_text previous new
+    (trimmed_who who) ++ (message_part message ++ 10 ∷ [])
 
 -- the parts of a line as it is written
 abbrev pub written_parts : ObjectId → ObjectId → Who → List ℕ → LogLine
-written_parts previous new who message = record { previous = encode_lower (id_bytes previous); new = encode_lower (id_bytes new); who = who; message = message }
+written_parts previous new who message = record {
+  previous = encode_lower (id_bytes previous);
+  new = encode_lower (id_bytes new);
+  who = who;
+  message = message;
+}
 
 -- a line that can be written
 pub record CanWriteLine (who : Who) (message : List ℕ) : Type 0 where

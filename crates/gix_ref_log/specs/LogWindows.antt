@@ -19,8 +19,10 @@ pub record IsLogWindow (log buf : List ℕ) (pos end : ℕ) : Type 0 where
 
 -- the window ends at the log's end, or before a line feed there
 abbrev pub BeginsAtEnd : List ℕ → List ℕ → ℕ → ℕ → Bool → Type 0
-BeginsAtEnd log buf pos end true = IsLogWindow log buf pos end × (pos + end + 1 ≡ length log) × (take (pos + end) log ++ 10 ∷ [] ≡ log)
-BeginsAtEnd log buf pos end false = IsLogWindow log buf pos end × (pos + end ≡ length log) × (0 < end) × (slice_index log (length log - 1) ≢ 10)
+BeginsAtEnd log buf pos end true = IsLogWindow log buf pos end × (pos + end + 1 ≡ length log)
+    × (take (pos + end) log ++ 10 ∷ [] ≡ log)
+BeginsAtEnd log buf pos end false = IsLogWindow log buf pos end × (pos + end ≡ length log)
+    × (0 < end) × (slice_index log (length log - 1) ≢ 10)
 
 -- at each stage, how the place in the file and the buffer belong to the log
 abbrev pub Tied : Stage → List ℕ → List ℕ → ℕ → ℕ → ℕ → Type 0
@@ -37,7 +39,8 @@ to_come Done room log pos end n = []
 -- what is left of a log ends at e, before a line feed or at the end of the log, and the next line has the number n
 abbrev pub EndsWindow : Bool → List ℕ → ℕ → ℕ → Type 0
 EndsWindow true log e n = n + e ≤ length log
-EndsWindow false log e n = (n ≡ 1) × (0 < e) × (e ≡ length log) × (slice_index log (length log - 1) ≢ 10)
+EndsWindow false log e n = (n ≡ 1) × (0 < e) × (e ≡ length log)
+    × (slice_index log (length log - 1) ≢ 10)
 
 -- at most how many items are left
 abbrev pub most_at : Stage → ℕ → ℕ → ℕ
@@ -51,16 +54,19 @@ module _ {F : Type 0} where
 
 module _ {F : Type 0} (bytes : F → List ℕ) where
   abbrev pub IsTied : Reverse F → Type 0
-  IsTied s = (length (bytes s.reader) < 2 ^ 64) × Tied s.stage (bytes s.reader) s.buf.now s.pos s.end s.number
+  IsTied s = (length (bytes s.reader) < 2 ^ 64)
+      × Tied s.stage (bytes s.reader) s.buf.now s.pos s.end s.number
 
   abbrev pub items_left : Reverse F → List Item
   items_left s = to_come s.stage (length s.buf.now) (bytes s.reader) s.pos s.end s.number
 
   abbrev pub IsOpen : Bool → Reverse F → Type 0
-  IsOpen ends s = (length (bytes s.reader) < 2 ^ 64) × IsLogWindow (bytes s.reader) s.buf.now s.pos s.end × EndsWindow ends (bytes s.reader) (s.pos + s.end) s.number
+  IsOpen ends s = (length (bytes s.reader) < 2 ^ 64) × IsLogWindow (bytes s.reader) s.buf.now s.pos
+      s.end × EndsWindow ends (bytes s.reader) (s.pos + s.end) s.number
 
   abbrev pub open_items : Bool → Reverse F → List Item
-  open_items ends s = items_from (length s.buf.now) s.number (take (s.pos + s.end) (bytes s.reader) ++ tail_of ends)
+  open_items ends s = items_from (length s.buf.now) s.number
+      (take (s.pos + s.end) (bytes s.reader) ++ tail_of ends)
 
   -- the same file through the same buffer
   pub record SameFileAndBuffer (s t : Reverse F) : Type 0 where
@@ -76,17 +82,20 @@ module _ {F : Type 0} (bytes : F → List ℕ) where
 
   -- a window on the log stays one
   abbrev pub KeepsWindow : Reverse F → Reverse F → Type 0
-  KeepsWindow s t = IsLogWindow (bytes s.reader) s.buf.now s.pos s.end → IsLogWindow (bytes s.reader) t.buf.now t.pos t.end
+  KeepsWindow s t = IsLogWindow (bytes s.reader) s.buf.now s.pos s.end →
+      IsLogWindow (bytes s.reader) t.buf.now t.pos t.end
 
 module _ {F : Type 0} (faults : F → ℕ) where
   -- the reader counts a fault that comes; it is never `Memory`
-  pub record CountsReaderFault {T : Type 0} (r : Result T FileError) (s t : Reverse F) : Type 0 where
+  pub record CountsReaderFault {T : Type 0} (r : Result T FileError)
+      (s t : Reverse F) : Type 0 where
     pub count : faults t.reader ≡ count_after r (faults s.reader)
     pub memory : IsErrOf r faulty.Memory → ⊥
 
 module _ {F : Type 0} (honest : Type 0) (bytes : F → List ℕ) (faults : F → ℕ) where
   -- what one call of `next` does
-  pub record NextStep (s : Reverse F) (r : Option (Result Line ReverseError)) (t : Reverse F) : Type 0 where
+  pub record NextStep (s : Reverse F) (r : Option (Result Line ReverseError))
+      (t : Reverse F) : Type 0 where
     pub same_reference : t.buf.ghost_name ≡ s.buf.ghost_name
     pub same_bytes : bytes t.reader ≡ bytes s.reader
     -- for any reader: `Io` is a fault that the reader counted, and what is done stays done
@@ -94,4 +103,5 @@ module _ {F : Type 0} (honest : Type 0) (bytes : F → List ℕ) (faults : F →
     pub done : IsDoneAfter r t.stage
     pub stays_done : s.stage ≡ Done → (r ≡ None) × (t.stage ≡ Done)
     -- for one that reads its bytes: the next item
-    pub gives : honest → IsTied bytes s → GivesLine (items_left bytes s) r (items_left bytes t) × IsTied bytes t
+    pub gives : honest → IsTied bytes s → GivesLine (items_left bytes s) r (items_left bytes t)
+        × IsTied bytes t

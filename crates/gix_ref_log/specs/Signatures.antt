@@ -17,14 +17,25 @@ pub record Who : Type 0 where
   pub offset : ℤ
 
 abbrev pub signature_who : Signature → Who
-signature_who s = record { name = s.name.items; email = s.email.items; seconds = s.time.seconds; offset = s.time.offset }
+signature_who s = record {
+  name = s.name.items;
+  email = s.email.items;
+  seconds = s.time.seconds;
+  offset = s.time.offset;
+}
 
 abbrev pub signature_ref_who : SignatureRef → Who
-signature_ref_who s = record { name = s.name.now; email = s.email.now; seconds = s.time.seconds; offset = s.time.offset }
+signature_ref_who s = record {
+  name = s.name.now;
+  email = s.email.now;
+  seconds = s.time.seconds;
+  offset = s.time.offset;
+}
 
 -- an optional `-`, then decimal digits, of a number of 64 bits
 abbrev pub IsSeconds : List ℕ → ℤ → Type 0
-IsSeconds text n = (slice_index text 0 ≢ 43) × (IsNumeral 10 (without_leading_sign text) × FitsSigned w64 (signed_digits_value 10 text)) × (n ≡ signed_digits_value 10 text)
+IsSeconds text n = (slice_index text 0 ≢ 43) × (IsNumeral 10 (without_leading_sign text)
+    × FitsSigned w64 (signed_digits_value 10 text)) × (n ≡ signed_digits_value 10 text)
 
 abbrev pub IsDigit : ℕ → Type 0
 IsDigit b = IsInRange 48 57 b
@@ -35,7 +46,8 @@ zone_seconds a b c d = (10 * (a - 48) + (b - 48)) * 3600 + (10 * (c - 48) + (d -
 
 -- a sign and four digits
 abbrev pub IsZone : List ℕ → ℤ → Type 0
-IsZone (sign ∷ a ∷ b ∷ c ∷ d ∷ []) n = ((sign ≡ 43) ⊎ (sign ≡ 45)) × IsDigit a × IsDigit b × IsDigit c × IsDigit d
+IsZone (sign ∷ a ∷ b ∷ c ∷ d ∷ []) n = ((sign ≡ 43) ⊎ (sign ≡ 45)) × IsDigit a × IsDigit b
+    × IsDigit c × IsDigit d
     × (n ≡ (if sign == 45 then neg_ℤ (pos (zone_seconds a b c d)) else pos (zone_seconds a b c d)))
 IsZone [] n = ⊥
 IsZone (sign ∷ []) n = ⊥
@@ -46,7 +58,8 @@ IsZone (sign ∷ a ∷ b ∷ c ∷ d ∷ e ∷ rest) n = ⊥
 
 -- less one space at the end
 abbrev pub without_space : List ℕ → List ℕ
-without_space n = if nat_lt 0 (length n) && slice_index n (length n - 1) == 32 then take (length n - 1) n else n
+without_space n = if nat_lt 0 (length n) && slice_index n (length n - 1) == 32
+    then take (length n - 1) n else n
 
 -- The text of a signature: the name is all before the first `<`, less one space at its end; the email lies between
 -- that and the last `>`; then a space, the seconds, a space and the zone, and nothing more.
@@ -102,7 +115,8 @@ offset_text (negsuc n) = 45 ∷ clock_text ((n + 1) / 60)
 
 -- how a signature is written: `name <email> seconds +hhmm`
 abbrev pub signature_text : Who → List ℕ
-signature_text who = who.name ++ 32 ∷ 60 ∷ (who.email ++ 62 ∷ 32 ∷ (signed_decimal who.seconds ++ 32 ∷ offset_text who.offset))
+signature_text who = who.name ++ 32 ∷ 60
+    ∷ (who.email ++ 62 ∷ 32 ∷ (signed_decimal who.seconds ++ 32 ∷ offset_text who.offset))
 
 -- without space, tab, LF, FF and CR at the front
 abbrev pub without_first_blanks : List ℕ → List ℕ
@@ -118,4 +132,9 @@ trimmed text = without_last_blanks (without_first_blanks text)
 
 -- name and email without blanks at their ends
 abbrev pub trimmed_who : Who → Who
-trimmed_who who = record { name = trimmed who.name; email = trimmed who.email; seconds = who.seconds; offset = who.offset }
+trimmed_who who = record {
+  name = trimmed who.name;
+  email = trimmed who.email;
+  seconds = who.seconds;
+  offset = who.offset;
+}

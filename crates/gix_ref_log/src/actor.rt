@@ -263,9 +263,8 @@ impl<'a> SignatureRef<'a> {
 
     /// The text of the offset, where the signature can be written.
     fn writable_zone(self) -> Option<[u8; 5]>
-        ensures { MatchOption result (CanWrite (signature_ref_who self.entry) → ⊥)
-            (λ zone. CanWrite (signature_ref_who self.entry)
-            × (zone ≡ offset_text self.entry.time.offset)) }
+        ensures { MatchOption result (CanWrite (signature_ref_who self.entry) → ⊥) (λ zone. CanWrite
+            (signature_ref_who self.entry) × (zone ≡ offset_text self.entry.time.offset)) }
     {
         if !is_plain(self.name) || !is_plain(self.email) {
             return None;
@@ -295,9 +294,8 @@ impl<'a> SignatureRef<'a> {
     /// committer.write_to(&mut out)?; // A U Thor <a@example.com> 1234567890 +0800
     /// ```
     pub fn write_to<W: io::Write>(self, out: &mut W) -> Result<(), WriteError>
-        ensures written { OnOk result (CanWrite (signature_ref_who self.entry)
-            × Appends (W.contents out.old) (W.contents out.new)
-            (signature_text (signature_ref_who self.entry))) }
+        ensures written { OnOk result (CanWrite (signature_ref_who self.entry) × Appends (W.contents
+            out.old) (W.contents out.new) (signature_text (signature_ref_who self.entry))) }
         ensures refused { IsErrOf result WriteError.SignatureUnwritable
             ↔ (CanWrite (signature_ref_who self.entry) → ⊥) }
         ensures untouched { IsErrOf result WriteError.SignatureUnwritable → out.new ≡ out.old }

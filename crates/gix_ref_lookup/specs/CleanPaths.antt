@@ -9,11 +9,13 @@ use Rattle.gix_ref_base.specs.Locations.{rest_after}
 
 -- a component of a clean path is not empty, and neither `.` nor `..`
 abbrev pub is_clean_component : List ℕ → Bool
-is_clean_component c = not (is_empty c) && not (bytes_eq c (codes ".")) && not (bytes_eq c (codes ".."))
+is_clean_component c = not (is_empty c) && not (bytes_eq c (codes "."))
+    && not (bytes_eq c (codes ".."))
 
 -- A clean path: no NUL, and clean components behind one leading slash. So it is not empty, and has no slash at its end.
 abbrev pub is_clean : Path → Bool
-is_clean path = list_all (λ b. not (b == 0)) path && list_all is_clean_component (components (without_front (codes "/") path))
+is_clean path = list_all (λ b. not (b == 0)) path
+    && list_all is_clean_component (components (without_front (codes "/") path))
 
 -- the common folder: the one that was given, else the git folder
 abbrev pub common_of : Vec ℕ Global → Option (Vec ℕ Global) → Path

@@ -48,7 +48,8 @@ use Rattle.gix_ref_lookup.specs.declared.find.error.Error.TheVariants.{ReadFileC
 
 -- where a store with these settings keeps names, and what it reads
 abbrev pub meaning_in : Settings → Store
-meaning_in s = store_of (folders_of s.dirs.now s.namespace.now) (git_options s.kind s.prohibit_windows_device_names)
+meaning_in s = store_of (folders_of s.dirs.now s.namespace.now)
+    (git_options s.kind s.prohibit_windows_device_names)
 
 -- the bytes of `packed-refs`, if there is such a file
 abbrev pub packed_refs_in : Settings → Meaning → Option (List ℕ)
@@ -57,15 +58,19 @@ packed_refs_in s files = view_of files.tree (meaning_in s).packed_path
 -- these are the records of `packed-refs`, which is well formed; where there is no such file, there are none
 abbrev pub ArePackedRecords : Kind → Option (List ℕ) → List Record → Type 0
 ArePackedRecords kind None records = records ≡ []
-ArePackedRecords kind (Some text) records = (header : Option Header) × IsWellFormed kind text header records
+ArePackedRecords kind (Some text) records = (header : Option Header)
+    × IsWellFormed kind text header records
 
 -- the records that a lookup asks are these, where `packed-refs` is this file
-abbrev pub AreAsked : {R : Type 0} {G : Ghosts R} → Kind → Option (List ℕ) → Records R G → List Record → Type 0
+abbrev pub AreAsked : {R : Type 0} {G : Ghosts R} → Kind → Option (List ℕ) → Records R G →
+    List Record → Type 0
 AreAsked kind file sources.None records = records ≡ []
-AreAsked kind file (sources.Held buffer) records = HoldsRecords (buffer_kind buffer.now) records (buffer_text buffer.now)
+AreAsked kind file (sources.Held buffer) records =
+    HoldsRecords (buffer_kind buffer.now) records (buffer_text buffer.now)
 AreAsked kind file sources.Unopened records = ArePackedRecords kind file records
 AreAsked {R} {G} kind file (sources.Open packed) records =
-    G.honest × (packed_file_kind packed ≡ kind) × HoldsRecords kind records (packed_file_text packed)
+    G.honest × (packed_file_kind packed ≡ kind)
+    × HoldsRecords kind records (packed_file_text packed)
 
 -- `packed-refs` is open, if it is asked
 abbrev pub IsReady : {R : Type 0} {G : Ghosts R} → Records R G → Type 0
@@ -74,14 +79,18 @@ IsReady other = Unit {0}
 
 -- the text of records that is kept of this file, and the kind of its ids
 abbrev pub IsOpenedText : Kind → Option (List ℕ) → Kind → List ℕ → Type 0
-IsOpenedText kind file of_kind text = (of_kind ≡ kind) × (bytes : List ℕ) × (line : ℕ) × (file ≡ Some bytes) × OpensTo kind bytes text line
+IsOpenedText kind file of_kind text = (of_kind ≡ kind) × (bytes : List ℕ) × (line : ℕ)
+    × (file ≡ Some bytes) × OpensTo kind bytes text line
 
 -- the text that is searched for a record, and the kind of its ids
-abbrev pub IsSearched : {R : Type 0} {G : Ghosts R} → Kind → Option (List ℕ) → Records R G → Kind → List ℕ → Type 0
+abbrev pub IsSearched : {R : Type 0} {G : Ghosts R} → Kind → Option (List ℕ) → Records R G → Kind →
+    List ℕ → Type 0
 IsSearched kind file sources.None of_kind text = ⊥
-IsSearched kind file (sources.Held buffer) of_kind text = (of_kind ≡ buffer_kind buffer.now) × (text ≡ buffer_text buffer.now)
+IsSearched kind file (sources.Held buffer) of_kind text = (of_kind ≡ buffer_kind buffer.now)
+    × (text ≡ buffer_text buffer.now)
 IsSearched kind file sources.Unopened of_kind text = IsOpenedText kind file of_kind text
-IsSearched kind file (sources.Open packed) of_kind text = (of_kind ≡ packed_file_kind packed) × (text ≡ packed_file_text packed)
+IsSearched kind file (sources.Open packed) of_kind text = (of_kind ≡ packed_file_kind packed)
+    × (text ≡ packed_file_text packed)
 
 -- an open `packed-refs` is read by an honest reader
 abbrev pub AreHonest : {R : Type 0} {G : Ghosts R} → Records R G → Type 0
@@ -89,13 +98,17 @@ AreHonest {R} {G} (sources.Open packed) = G.honest
 AreHonest other = Unit {0}
 
 -- What a lookup leaves of the records that it asked: the same ones, in the same text, read by an honest reader if they were before.
-pub record AreStillAsked {R : Type 0} {G : Ghosts R} (kind : Kind) (file : Option (List ℕ)) (old new : Records R G) : Type 0 where
-  pub asked : (records : List Record) → AreAsked kind file old records → AreAsked kind file new records
+pub record AreStillAsked {R : Type 0} {G : Ghosts R} (kind : Kind) (file : Option (List ℕ))
+    (old new : Records R G) : Type 0 where
+  pub asked : (records : List Record) → AreAsked kind file old records →
+      AreAsked kind file new records
   pub readers : AreHonest old → AreHonest new
-  pub searched : (of_kind : Kind) (text : List ℕ) → IsSearched kind file new of_kind text → IsSearched kind file old of_kind text
+  pub searched : (of_kind : Kind) (text : List ℕ) → IsSearched kind file new of_kind text →
+      IsSearched kind file old of_kind text
 
 -- some text that is searched has this
-pub record OfSearched {R : Type 0} {G : Ghosts R} (kind : Kind) (file : Option (List ℕ)) (records : Records R G) (P : Kind → List ℕ → Type 0) : Type 0 where
+pub record OfSearched {R : Type 0} {G : Ghosts R} (kind : Kind) (file : Option (List ℕ))
+    (records : Records R G) (P : Kind → List ℕ → Type 0) : Type 0 where
   pub of_kind : Kind
   pub text : List ℕ
   pub searched : IsSearched kind file records of_kind text
@@ -127,9 +140,12 @@ IsFaultOrMemory Memory = Unit {0}
 IsFaultOrMemory other = ⊥
 
 -- Why no record is found: a fault, only where one came; a text that is refused; a text that cannot be read; no memory.
-abbrev pub IsNotPacked : (honest fault unreadable : Type 0) → (refused : OpenError → Type 0) → Error → Type 0
-IsNotPacked honest fault unreadable refused (PackedOpen (Io error)) = honest → (error ≢ no_memory) × fault
-IsNotPacked honest fault unreadable refused (PackedOpen HeaderParsing) = honest → refused HeaderParsing
+abbrev pub IsNotPacked : (honest fault unreadable : Type 0) → (refused : OpenError → Type 0) →
+    Error → Type 0
+IsNotPacked honest fault unreadable refused (PackedOpen (Io error)) = honest →
+    (error ≢ no_memory) × fault
+IsNotPacked honest fault unreadable refused (PackedOpen HeaderParsing) = honest →
+    refused HeaderParsing
 IsNotPacked honest fault unreadable refused (PackedOpen (Iter line)) = honest → refused (Iter line)
 IsNotPacked honest fault unreadable refused (PackedRef Parse) = honest → unreadable
 IsNotPacked honest fault unreadable refused Memory = Unit {0}
@@ -138,11 +154,13 @@ IsNotPacked honest fault unreadable refused other = ⊥
 -- the target of the file at a place, less the namespace, if there is such a file
 abbrev pub IsLooseTarget : Store → Option (List ℕ) → Option Target → Type 0
 IsLooseTarget s file None = file ≡ None
-IsLooseTarget s file (Some target) = (bytes : List ℕ) × (file ≡ Some bytes) × (reading_of_loose s (s.target_of bytes) ≡ Is (target_value target))
+IsLooseTarget s file (Some target) = (bytes : List ℕ) × (file ≡ Some bytes)
+    × (reading_of_loose s (s.target_of bytes) ≡ Is (target_value target))
 
 -- Why the file at a path gives no target for a name: it could not be read, only where the count of faults rose; the path has
 -- the name of a device, and the store prohibits these; the file holds none, with the reason; no memory.
-abbrev pub IsNotReadAt : (honest : Type 0) → Kind → Store → View → (before now : ℕ) → (name path : List ℕ) → Error → Type 0
+abbrev pub IsNotReadAt : (honest : Type 0) → Kind → Store → View → (before now : ℕ) →
+    (name path : List ℕ) → Error → Type 0
 IsNotReadAt honest kind s view before now name at (ReadFileContents (File source) path) =
     HasRisen before now × (source ≢ no_memory) × (path.items ≡ at)
 IsNotReadAt honest kind s view before now name at (ReadFileContents DeviceName path) =
@@ -153,8 +171,10 @@ IsNotReadAt honest kind s view before now name at Memory = Unit {0}
 IsNotReadAt honest kind s view before now name at other = ⊥
 
 -- why the loose file of a candidate gives none
-abbrev pub IsNotRead : (honest : Type 0) → Kind → Store → View → (before now : ℕ) → List ℕ → Error → Type 0
-IsNotRead honest kind s view before now name error = IsNotReadAt honest kind s view before now name (s.place name) error
+abbrev pub IsNotRead : (honest : Type 0) → Kind → Store → View → (before now : ℕ) → List ℕ →
+    Error → Type 0
+IsNotRead honest kind s view before now name error =
+    IsNotReadAt honest kind s view before now name (s.place name) error
 
 -- the reference of a key among these records as a result, in this namespace
 abbrev pub IsOfKey : (namespace : List ℕ) → List Record → (key : List ℕ) → Option Reference → Type 0
@@ -172,7 +192,8 @@ pub record IsRecordIn (kind : Kind) (text key : List ℕ) (r : Reference) : Type
   pub peeled : r.peeled ≡ found.object
 
 -- and it has the name less the namespace
-pub record IsHitOfKey {R : Type 0} {G : Ghosts R} (kind : Kind) (file : Option (List ℕ)) (records : Records R G) (namespace key : List ℕ) (r : Reference) : Type 0 where
+pub record IsHitOfKey {R : Type 0} {G : Ghosts R} (kind : Kind) (file : Option (List ℕ))
+    (records : Records R G) (namespace key : List ℕ) (r : Reference) : Type 0 where
   pub name : full_bytes r.name ≡ stripped namespace key
   pub searched : OfSearched kind file records (λ k text. IsRecordIn k text key r)
 
@@ -207,26 +228,32 @@ IsCandidate s view records name (Some r) =
 -- what a lookup finds, as a result
 abbrev pub ReturnsHit : Option Hit → Option Reference → Type 0
 ReturnsHit None None = Unit {0}
-ReturnsHit (Some hit) (Some r) = (full_bytes r.name ≡ hit.name) × (hit.reading ≡ Is (target_value r.target)) × (r.peeled ≡ hit.peeled)
+ReturnsHit (Some hit) (Some r) = (full_bytes r.name ≡ hit.name)
+    × (hit.reading ≡ Is (target_value r.target)) × (r.peeled ≡ hit.peeled)
 ReturnsHit found answer = ⊥
 
 -- on any text of `packed-refs`: a candidate has a loose file with this target; or it has none, and a record of its key
 -- that begins a line
-abbrev pub IsHit : {R : Type 0} {G : Ghosts R} → Settings → View → Records R G → List ℕ → Reference → Type 0
+abbrev pub IsHit : {R : Type 0} {G : Ghosts R} → Settings → View → Records R G → List ℕ →
+    Reference → Type 0
 IsHit settings view records name r =
     let s = meaning_in settings in
-    ((full_bytes r.name ≡ name) × IsLooseTarget s (view (s.place name)) (Some r.target) × (r.peeled ≡ None))
+    ((full_bytes r.name ≡ name) × IsLooseTarget s (view (s.place name)) (Some r.target)
+    × (r.peeled ≡ None))
     ⊎ ((view (s.place name) ≡ None)
-    × OfKey s name (λ key. IsHitOfKey settings.kind (view s.packed_path) records (namespace_text settings.namespace.now) key r))
+    × OfKey s name (λ key. IsHitOfKey settings.kind (view s.packed_path) records
+    (namespace_text settings.namespace.now) key r))
 
 -- Why a candidate fails: its loose file gives no target; or it has none, and no record is found for a reason.
-abbrev pub CandidateFails : {R : Type 0} {G : Ghosts R} → (honest : Type 0) → Settings → Tree → Records R G → (before now : ℕ) → List ℕ → Error → Type 0
+abbrev pub CandidateFails : {R : Type 0} {G : Ghosts R} → (honest : Type 0) → Settings → Tree →
+    Records R G → (before now : ℕ) → List ℕ → Error → Type 0
 CandidateFails {R} {G} honest settings T records before now name error =
     let s = meaning_in settings in
     IsNotRead honest settings.kind s (view_of T) before now name error
     ⊎ ((honest → view_of T (s.place name) ≡ None)
     × IsNotPacked (honest × AreHonest records) (HasRisen before now ⊎ HasReadFault G.faults)
-    (OfKey s name (λ key. OfSearched settings.kind (view_of T s.packed_path) records (λ k text. CannotRead k text key)))
+    (OfKey s name (λ key. OfSearched settings.kind (view_of T s.packed_path) records
+    (λ k text. CannotRead k text key)))
     (IsRefusedFile settings.kind (T s.packed_path)) error)
 
 -- what is said where the records are well formed: no text is refused, and none is found unreadable
@@ -248,15 +275,19 @@ Among P [] = ⊥
 Among P (x ∷ xs) = P x ⊎ Among P xs
 
 -- a candidate that a lookup passes reads nothing, where the records are well formed
-abbrev pub IsPassed : {R : Type 0} {G : Ghosts R} → (honest : Type 0) → Settings → Tree → Records R G → List ℕ → Type 0
+abbrev pub IsPassed : {R : Type 0} {G : Ghosts R} → (honest : Type 0) → Settings → Tree →
+    Records R G → List ℕ → Type 0
 IsPassed honest settings T asked name =
     let s = meaning_in settings in
-    honest → (records : List Record) → AreAsked settings.kind (view_of T s.packed_path) asked records → reading_among s (view_of T) records name ≡ Absent
+    honest → (records : List Record) → AreAsked settings.kind
+    (view_of T s.packed_path) asked records → reading_among s (view_of T) records name ≡ Absent
 
 -- a lookup fails at the first candidate that fails
-abbrev pub FailsAmong : {R : Type 0} {G : Ghosts R} → (honest : Type 0) → Settings → Tree → Records R G → (before now : ℕ) → List (List ℕ) → Error → Type 0
+abbrev pub FailsAmong : {R : Type 0} {G : Ghosts R} → (honest : Type 0) → Settings → Tree →
+    Records R G → (before now : ℕ) → List (List ℕ) → Error → Type 0
 FailsAmong honest settings T asked before now names error =
-    FailsAt (IsPassed honest settings T asked) (λ name. CandidateFails honest settings T asked before now name error) names
+    FailsAt (IsPassed honest settings T asked)
+    (λ name. CandidateFails honest settings T asked before now name error) names
 
 -- the names that a lookup of a partial name asks for: its candidates, and the head of a remote
 abbrev pub asked_names : List ℕ → List (List ℕ)
@@ -296,7 +327,9 @@ IsGivenOf (Err error) given = given ≡ Err error
 
 -- on any text of `packed-refs`: what is given was found, under the name that was asked, as a loose file or as a record that
 -- begins a line
-abbrev pub IsHitOf : {R : Type 0} {G : Ghosts R} → (composes : Bool) → Settings → View → Records R G → List ℕ → Reference → Type 0
+abbrev pub IsHitOf : {R : Type 0} {G : Ghosts R} → (composes : Bool) → Settings → View →
+    Records R G → List ℕ → Reference → Type 0
 IsHitOf composes settings view records p given =
     let asked = name_asked composes p in
-    (found : Reference) × Among (λ n. IsHit settings view records n found) (asked_names asked) × IsNamed (name_given asked p) found given
+    (found : Reference) × Among (λ n. IsHit settings view records n found) (asked_names asked)
+    × IsNamed (name_given asked p) found given

@@ -10,10 +10,12 @@ use Rattle.gix_ref_lookup.specs.declared.loose.error.Error.TheVariants.{Memory a
 
 -- the bytes of a file hold no target, for this reason
 abbrev pub IsUndecodable : Kind → Option (List ℕ) → Undecoded → Type 0
-IsUndecodable kind file error = (bytes : List ℕ) × (file ≡ Some bytes) × CannotDecode kind bytes error × (error ≡ NoMemory → ⊥)
+IsUndecodable kind file error = (bytes : List ℕ) × (file ≡ Some bytes)
+    × CannotDecode kind bytes error × (error ≡ NoMemory → ⊥)
 
 -- what the loose file at a place is decoded to
 abbrev pub IsDecoded : Kind → Option (List ℕ) → Loose → Type 0
 IsDecoded kind file Absent = file ≡ None
-IsDecoded kind file (Holds target) = (bytes : List ℕ) × (file ≡ Some bytes) × HoldsTarget kind bytes (target_value target)
+IsDecoded kind file (Holds target) = (bytes : List ℕ) × (file ≡ Some bytes)
+    × HoldsTarget kind bytes (target_value target)
 IsDecoded kind file (Undecodable error) = IsUndecodable kind file error

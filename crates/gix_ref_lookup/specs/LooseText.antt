@@ -39,8 +39,10 @@ HoldsTarget kind text (symbolic_name name) = HoldsPath text name × IsFullName n
 
 -- when each error comes
 abbrev pub CannotDecode : Kind → List ℕ → Error → Type 0
-CannotDecode kind text (Parse content) = (content.items ≡ text) × ((path : List ℕ) → HoldsPath text path → ⊥) × ((id : ObjectId) → HoldsId kind text id → ⊥)
-CannotDecode kind text (RefnameValidation source path) = HoldsPath text path.items × (full_error path.items ≡ Some source)
+CannotDecode kind text (Parse content) = (content.items ≡ text)
+    × ((path : List ℕ) → HoldsPath text path → ⊥) × ((id : ObjectId) → HoldsId kind text id → ⊥)
+CannotDecode kind text (RefnameValidation source path) = HoldsPath text path.items
+    × (full_error path.items ≡ Some source)
 CannotDecode kind text Memory = Unit {0}
 
 -- a target that a store of this kind can write and read again: an id of the kind, or a full name
@@ -77,7 +79,8 @@ object_of kind (Err error) = None
 -- the target that begins with `digits`, where there are enough of them and no further one follows
 abbrev pub object_in : Kind → (digits rest : List ℕ) → Option TargetValue
 object_in kind digits rest =
-    if nat_eq (length digits) (2 * kind_len kind) && stops rest then object_of kind (decode_of digits) else None
+    if nat_eq (length digits) (2 * kind_len kind) && stops rest
+    then object_of kind (decode_of digits) else None
 
 -- a path that is a full name
 abbrev pub symbolic_in : List ℕ → Option TargetValue
@@ -86,5 +89,6 @@ symbolic_in path = if is_none (full_error path) then Some (symbolic_name path) e
 -- the target of a text, if it holds one
 unfoldable pub target_in : Kind → List ℕ → Option TargetValue
 target_in kind text =
-    if starts_with nat_eq text (codes "ref: ") then symbolic_in (front_while in_line (behind is_space (drop 5 text)))
+    if starts_with nat_eq text (codes "ref: ")
+    then symbolic_in (front_while in_line (behind is_space (drop 5 text)))
     else object_in kind (take (2 * kind_len kind) text) (drop (2 * kind_len kind) text)

@@ -46,8 +46,8 @@ impl Reference {
         object_hash: Kind,
     ) -> Result<Reference, Error>
         ensures name { IfOk result (λ reference. reference.name ≡ name) }
-        ensures held { IfOk result (λ reference. HoldsTarget object_hash contents.now
-            (target_value reference.target)) }
+        ensures held { IfOk result
+            (λ reference. HoldsTarget object_hash contents.now (target_value reference.target)) }
         ensures refused { IfErr result (CannotDecode object_hash contents.now) }
     {
         let target = decode(alloc, contents, object_hash)?;
@@ -130,9 +130,8 @@ fn symbolic_path(text: &[u8]) -> Option<&[u8]>
 
 /// The digits of an id at the front of the text, and what follows them.
 fn digits_of(text: &[u8], kind: Kind) -> Option<(&[u8], &[u8])>
-    ensures { MatchOption result ((digits rest : List ℕ) → IsHexOf kind digits
-        → text.now ≡ digits ++ rest → ⊥)
-        (λ p. IsHexOf kind p.0.now × (text.now ≡ p.0.now ++ p.1.now)) }
+    ensures { MatchOption result ((digits rest : List ℕ) → IsHexOf kind digits → text.now
+        ≡ digits ++ rest → ⊥) (λ p. IsHexOf kind p.0.now × (text.now ≡ p.0.now ++ p.1.now)) }
 {
     let mut rest = text;
     match hex_hash(&mut rest, kind) {

@@ -47,16 +47,16 @@ impl Settings<'_> {
 
     /// The path of the loose file of a name. The error reports that there was no memory for it.
     pub fn place(self, alloc: Global, name: FullNameRef<'_>) -> Result<Vec<u8>, AllocError>
-        ensures { IfOk result (λ place.
-            place.items ≡ (meaning_in self.entry).place (full_ref_bytes name.entry)) }
+        ensures { IfOk result (λ place. place.items
+            ≡ (meaning_in self.entry).place (full_ref_bytes name.entry)) }
     {
         layout_in(self.dirs, self.namespace).loose(alloc, name)
     }
 
     /// The path of the log of a name. The error reports that there was no memory for it.
     pub fn log(self, alloc: Global, name: FullNameRef<'_>) -> Result<Vec<u8>, AllocError>
-        ensures { IfOk result (λ path.
-            path.items ≡ (meaning_in self.entry).log (full_ref_bytes name.entry)) }
+        ensures { IfOk result (λ path. path.items
+            ≡ (meaning_in self.entry).log (full_ref_bytes name.entry)) }
     {
         layout_in(self.dirs, self.namespace).log(alloc, name)
     }
@@ -68,16 +68,16 @@ impl Settings<'_> {
         alloc: Global,
         name: FullNameRef<'_>,
     ) -> Result<Option<Vec<u8>>, AllocError>
-        ensures { IfOk result (λ key.
-            option_map vec_items key ≡ (meaning_in self.entry).key (full_ref_bytes name.entry)) }
+        ensures { IfOk result (λ key. option_map vec_items key
+            ≡ (meaning_in self.entry).key (full_ref_bytes name.entry)) }
     {
         layout_in(self.dirs, self.namespace).packed_key(alloc, name)
     }
 
     /// Whether `packed-refs` is asked for a name as it is. Where this is false, the record may still have the same name.
     pub fn is_own_key(self, name: FullNameRef<'_>) -> bool
-        ensures { OnTrue result ((meaning_in self.entry).key (full_ref_bytes name.entry) ≡ Some
-            (full_ref_bytes name.entry)) }
+        ensures { OnTrue result ((meaning_in self.entry).key (full_ref_bytes name.entry)
+            ≡ Some (full_ref_bytes name.entry)) }
     {
         layout_in(self.dirs, self.namespace).is_own_key(name)
     }
@@ -90,9 +90,8 @@ impl Settings<'_> {
         name: FullNameRef<'_>,
     ) -> Result<Option<FullName>, AllocError>
         ensures { IfOk result (λ found. MatchOption found
-            (HasNoKey (meaning_in self.entry) (full_ref_bytes name.entry))
-            (λ key. (meaning_in self.entry).key (full_ref_bytes name.entry) ≡ Some
-            (full_bytes key))) }
+            (HasNoKey (meaning_in self.entry) (full_ref_bytes name.entry)) (λ key.
+            (meaning_in self.entry).key (full_ref_bytes name.entry) ≡ Some (full_bytes key))) }
     {
         let Some(key) = self.packed_key(alloc, name)? else {
             return Ok(None);
@@ -105,8 +104,8 @@ impl Settings<'_> {
 
     /// What lies below the common folder in a path, or else below the git folder, or else the path.
     fn below_folders(self, path: &[u8]) -> &[u8]
-        ensures { result.now ≡ below_folders (folders_of self.entry.dirs.now
-            self.entry.namespace.now) path.now }
+        ensures { result.now
+            ≡ below_folders (folders_of self.entry.dirs.now self.entry.namespace.now) path.now }
     {
         match rest_below(path, self.dirs.common()) {
             Some(rest) => rest,

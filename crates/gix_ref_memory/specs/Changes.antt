@@ -40,9 +40,12 @@ place_of (SyncFolder path) = path.items
 
 -- what is at q after a change, if this was there before
 abbrev pub stands_after : Change → Path → Option Content → Option Content
-stands_after (Put path stored synced) q content = if bytes_eq path.items q then content_of stored else content
-stands_after (Append path whole had) q content = if bytes_eq path.items q then Some (File whole.items) else content
-stands_after (Move from to bytes synced) q content = if bytes_eq to.items q then Some (File bytes.items) else if bytes_eq from.items q then None else content
+stands_after (Put path stored synced) q content = if bytes_eq path.items q then content_of stored
+    else content
+stands_after (Append path whole had) q content = if bytes_eq path.items q
+    then Some (File whole.items) else content
+stands_after (Move from to bytes synced) q content = if bytes_eq to.items q
+    then Some (File bytes.items) else if bytes_eq from.items q then None else content
 stands_after (SyncFile path) q content = content
 stands_after (SyncFolder path) q content = content
 
@@ -66,7 +69,11 @@ tree_after changes = after_changes changes.items no_tree
 
 -- the item of what a change puts at a path
 abbrev pub put_item : Option Stored → Bool → DiskItem
-put_item stored synced = record { content = content_of stored; synced = if synced then length (bytes_of (content_of stored)) else 0 }
+put_item stored synced = record {
+  content = content_of stored;
+  synced = if synced
+      then length (bytes_of (content_of stored)) else 0;
+}
 
 -- the entry at p becomes this, and counts as synced or not
 abbrev pub with_item_as : Bool → Disk → Path → DiskItem → Disk
@@ -74,7 +81,8 @@ with_item_as synced D p item = record {
   tree = put D.tree p item.content;
   unsynced = record {
     synced = λ q. if bytes_eq p q then item.synced else D.unsynced.synced q;
-    past = λ q. if bytes_eq p q then (if synced then [] else item_at D p ∷ D.unsynced.past p) else D.unsynced.past q;
+    past = λ q. if bytes_eq p q then (if synced then [] else item_at D p ∷ D.unsynced.past p)
+        else D.unsynced.past q;
   };
 }
 
@@ -82,7 +90,8 @@ with_item_as synced D p item = record {
 abbrev pub changed_on : Change → Disk → Disk
 changed_on (Put path stored synced) D = with_item_as synced D path.items (put_item stored synced)
 changed_on (Append path whole had) D = with_tree D (put D.tree path.items (Some (File whole.items)))
-changed_on (Move from to bytes synced) D = with_item (with_item D from.items nothing) to.items (record { content = Some (File bytes.items); synced = synced })
+changed_on (Move from to bytes synced) D = with_item (with_item D from.items nothing) to.items
+    (record { content = Some (File bytes.items); synced = synced })
 changed_on (SyncFile path) D = file_synced D path.items
 changed_on (SyncFolder path) D = folder_synced D path.items
 
@@ -94,7 +103,8 @@ replayed (change ∷ changes) D = replayed changes (changed_on change D)
 -- what a stop or a loss of power in a change finds, before it is whole
 abbrev pub Begun : Change → Disk → Disk → Type 0
 Begun (Put path stored synced) D E = E ≡ D
-Begun (Append path whole had) D E = (E ≡ D) ⊎ ((n : ℕ) × (E ≡ with_tree D (put D.tree path.items (Some (File (take (had + n) whole.items))))))
+Begun (Append path whole had) D E = (E ≡ D) ⊎ ((n : ℕ)
+    × (E ≡ with_tree D (put D.tree path.items (Some (File (take (had + n) whole.items))))))
 Begun (Move from to bytes synced) D E = E ≡ D
 Begun (SyncFile path) D E = E ≡ D
 Begun (SyncFolder path) D E = E ≡ D
@@ -119,20 +129,24 @@ abbrev pub disk_after : Vec Change Global → Disk
 disk_after changes = disk_of (meaning_after changes.items)
 
 -- the disk after all changes is found at each moment
-pub now_is_found : (changes : List Change) (t : ℕ) (D : Disk) → Found changes t D (replayed changes D)
+pub now_is_found : (changes : List Change) (t : ℕ) (D : Disk) →
+    Found changes t D (replayed changes D)
 now_is_found [] t D = refl
 now_is_found (change ∷ changes) zero D = inr (now_is_found changes zero (changed_on change D))
 now_is_found (change ∷ changes) (suc t) D = now_is_found changes t (changed_on change D)
 
 -- since the last moment there is no other
-pub only_now : (changes : List Change) (D E : Disk) → Found changes (length changes) D E → E ≡ replayed changes D
+pub only_now : (changes : List Change) (D E : Disk) → Found changes (length changes) D E →
+    E ≡ replayed changes D
 only_now [] D E now = now
 only_now (change ∷ changes) D E now = only_now changes (changed_on change D) E now
 
 -- the tree of such a disk is that of the changes
-pub replayed_tree : (changes : List Change) (D : Disk) → (replayed changes D).tree ≡ after_changes changes D.tree
+pub replayed_tree : (changes : List Change) (D : Disk) →
+    (replayed changes D).tree ≡ after_changes changes D.tree
 replayed_tree [] D = refl
-replayed_tree (change ∷ changes) D = replayed_tree changes (changed_on change D) ∙ ap (after_changes changes) (one change)
+replayed_tree (change ∷ changes) D = replayed_tree changes (changed_on change D) ∙ ap
+    (after_changes changes) (one change)
   where
     one : (change : Change) → (changed_on change D).tree ≡ changed change D.tree
     one (Put path stored synced) = refl
@@ -155,7 +169,8 @@ with_folders_as synced D (p ∷ ps) = with_folders_as synced (with_folder_as syn
 
 -- a beginning of these folders is made
 abbrev pub MakingFrontsOn : Bool → Disk → List Path → Disk → Type 0
-MakingFrontsOn synced before folders D = (n : ℕ) × (D ≡ with_folders_as synced before (take n folders))
+MakingFrontsOn synced before folders D = (n : ℕ)
+    × (D ≡ with_folders_as synced before (take n folders))
 
 -- some of these changes puts something at q
 abbrev pub IsChangedPath : List Change → Path → Type 0
@@ -164,20 +179,26 @@ IsChangedPath (change ∷ changes) q = (place_of change ≡ q) ⊎ IsChangedPath
 
 -- the results of `put`, and the tree T that each leaves
 abbrev pub Puts : Tree → Path → List ℕ → Tree → Bool → Type 0
-Puts before p bytes T true = (is_folder (before p) ≡ false) × (is_blocked before p ≡ false) × (T ≡ put (with_folders before (fronts p)) p (Some (File bytes)))
+Puts before p bytes T true = (is_folder (before p) ≡ false) × (is_blocked before p ≡ false)
+    × (T ≡ put (with_folders before (fronts p)) p (Some (File bytes)))
 Puts before p bytes T false = ((is_folder (before p) || is_blocked before p) ≡ true) × (T ≡ before)
 
 -- the disk after a file was put, with folders that lead to it: all of it counts as synced
 abbrev pub placed_on : Disk → Path → List ℕ → Disk
-placed_on D p bytes = with_item_as true (with_folders_as true D (fronts p)) p (record { content = Some (File bytes); synced = length bytes })
+placed_on D p bytes = with_item_as true (with_folders_as true D (fronts p)) p
+    (record { content = Some (File bytes); synced = length bytes })
 
 -- the item at a path after a change
 abbrev pub item_after : Change → Path → DiskItem → DiskItem
-item_after (Put path stored synced) q item = if bytes_eq path.items q then put_item stored synced else item
-item_after (Append path whole had) q item = if bytes_eq path.items q then record { content = Some (File whole.items); synced = item.synced } else item
+item_after (Put path stored synced) q item = if bytes_eq path.items q
+    then put_item stored synced else item
+item_after (Append path whole had) q item = if bytes_eq path.items q
+    then record { content = Some (File whole.items); synced = item.synced } else item
 item_after (Move from to bytes synced) q item =
-    if bytes_eq to.items q then record { content = Some (File bytes.items); synced = synced } else if bytes_eq from.items q then nothing else item
-item_after (SyncFile path) q item = if bytes_eq path.items q then record { content = item.content; synced = length (bytes_of item.content) } else item
+    if bytes_eq to.items q then record { content = Some (File bytes.items); synced = synced }
+    else if bytes_eq from.items q then nothing else item
+item_after (SyncFile path) q item = if bytes_eq path.items q
+    then record { content = item.content; synced = length (bytes_of item.content) } else item
 item_after (SyncFolder path) q item = item
 
 -- the same of several changes

@@ -43,4 +43,5 @@ Counts old new = (calls_of new ≡ one_more (calls_of old)) × (plan_of new ≡ 
 
 -- all but the plan stays
 abbrev pub KeepsFiles : Memory → Memory → Type 0
-KeepsFiles old new = (past_of new ≡ past_of old) × (calls_of new ≡ calls_of old) × (faults_of new ≡ faults_of old)
+KeepsFiles old new = (past_of new ≡ past_of old) × (calls_of new ≡ calls_of old)
+    × (faults_of new ≡ faults_of old)

@@ -14,7 +14,8 @@ use Rattle.gix_ref_memory.specs.declared.memory.turns.Turn.TheVariants.{Go, Fail
 abbrev pub turn_of : Plan → ℕ → Turn
 turn_of Runs call = Go
 turn_of (FailsAt at) call = if call == at then Fail else Go
-turn_of (StopsAt at parts) call = if nat_lt call at then Go else if call == at then Stop parts else Fail
+turn_of (StopsAt at parts) call = if nat_lt call at then Go else if call == at
+    then Stop parts else Fail
 
 -- Why a call fails that is not to fail.
 
@@ -41,14 +42,17 @@ CannotCreate T p error = CannotGrow error ⊎ ((error ≡ Device NotFound) × Ha
 
 -- or the file cannot be moved
 abbrev pub CannotRename : Tree → Path → Path → FileError → Type 0
-CannotRename T from to error = CannotGrow error ⊎ ((error ≡ Device NotFound) × (IsMovable T from to → ⊥))
+CannotRename T from to error = CannotGrow error
+    ⊎ ((error ≡ Device NotFound) × (IsMovable T from to → ⊥))
 
 -- A call keeps to its turn. On a turn to go it fails only for the reasons `goes`. A planned fault is one of the kind `Other`.
 -- A call that is to stop does its parts first and fails with that; it may fail for the reasons `stops` before that.
-abbrev pub KeepsTurn : {T : Type 0} → (goes stops : FileError → Type 0) → Turn → Result T FileError → Tree → Tree → (ℕ → Tree → Type 0) → Type 0
+abbrev pub KeepsTurn : {T : Type 0} → (goes stops : FileError → Type 0) → Turn →
+    Result T FileError → Tree → Tree → (ℕ → Tree → Type 0) → Type 0
 KeepsTurn goes stops Go result before now parts = IfErr result goes
 KeepsTurn goes stops Fail result before now parts = (result ≡ Err (Device Other)) × (now ≡ before)
-KeepsTurn goes stops (Stop n) result before now parts = IsErrAnd result (λ error. ((error ≡ Device Other) × parts n now) ⊎ stops error)
+KeepsTurn goes stops (Stop n) result before now parts =
+    IsErrAnd result (λ error. ((error ≡ Device Other) × parts n now) ⊎ stops error)
 
 -- the change is made where it can be
 abbrev pub IsDone : Tree → Type 0 → Tree → Tree → Type 0

@@ -87,11 +87,10 @@ impl Memory {
     /// files.put(b"/r/HEAD", b"ref: refs/heads/main\n")?; // makes the folder `/r` too
     /// ```
     pub fn put(&mut self, path: &[u8], bytes: &[u8]) -> Result<bool, FileError>
-        ensures answer { IfOk result (Puts (tree_in self.old) path.now bytes.now
-            (tree_in self.new)) }
-        ensures disk { IfOk result (λ put. disk_of (meaning self.new) ≡ (if put then
-            placed_on (disk_of (meaning self.old)) path.now bytes.now
-            else disk_of (meaning self.old))) }
+        ensures answer { IfOk result
+            (Puts (tree_in self.old) path.now bytes.now (tree_in self.new)) }
+        ensures disk { IfOk result (λ put. disk_of (meaning self.new) ≡ (if put then placed_on
+            (disk_of (meaning self.old)) path.now bytes.now else disk_of (meaning self.old))) }
         ensures memory { OnErr result (result ≡ Err FileError.Memory) }
         ensures failed { OnErr result (past_of self.new ≡ past_of self.old) }
         ensures calls { calls_of self.new ≡ calls_of self.old }
@@ -168,10 +167,9 @@ impl Memory {
     /// ```
     pub fn lose_power(&mut self, pick: u64) -> Result<(), FileError>
         ensures lost { OnOk result (Lost (disk_of (meaning self.old)) (tree_in self.new)) }
-        ensures none { pick ≡ 0 → OnOk result (tree_in self.new
-            ≡ lost_by (λ p. false) (λ p. false) (disk_of (meaning self.old))) }
-        ensures settled { OnOk result
-            (disk_of (meaning self.new) ≡ all_synced (tree_in self.new)) }
+        ensures none { pick ≡ 0 → OnOk result
+            (tree_in self.new ≡ lost_by (λ p. false) (λ p. false) (disk_of (meaning self.old))) }
+        ensures settled { OnOk result (disk_of (meaning self.new) ≡ all_synced (tree_in self.new)) }
         ensures plan { OnOk result (plan_of self.new ≡ Runs) }
         ensures memory { OnErr result (result ≡ Err FileError.Memory) }
         ensures failed { OnErr result (past_of self.new ≡ past_of self.old) }
@@ -285,8 +283,8 @@ impl Files for Memory {
     }
 
     fn open(&mut self, alloc: Global, path: &[u8]) -> Result<Option<MemoryReader>, FileError>
-        ensures answer { IfOk result (λ reader. Opens (Unit {0}) reader_bytes (tree_in self.old)
-            path.now reader) }
+        ensures answer { IfOk result
+            (λ reader. Opens (Unit {0}) reader_bytes (tree_in self.old) path.now reader) }
         ensures leaves { Leaves (meaning self.old) (meaning self.new)
             (Unchanged (tree_in self.old)) }
         ensures passes { Passes (meaning self.old) (meaning self.new)
@@ -402,8 +400,8 @@ impl Files for Memory {
     }
 
     fn append(&mut self, path: &[u8], bytes: &[u8]) -> Result<bool, FileError>
-        ensures answer { IfOk result (Appends (tree_in self.old) path.now bytes.now
-            (tree_in self.new)) }
+        ensures answer { IfOk result
+            (Appends (tree_in self.old) path.now bytes.now (tree_in self.new)) }
         ensures leaves { Leaves (meaning self.old) (meaning self.new)
             (Appending (tree_in self.old) path.now bytes.now) }
         ensures adds { OnOk result (Adds (meaning self.old) (meaning self.new)
@@ -417,8 +415,8 @@ impl Files for Memory {
         ensures count { faults_of self.new ≡ count_after result (faults_of self.old) }
         ensures memory { IsErrOf result FileError.Memory → ⊥ }
         ensures turn { KeepsTurn CannotGrow CannotGrow (next_turn self.old) result
-            (tree_in self.old) (tree_in self.new) (λ n T. T ≡ appended (tree_in self.old) path.now
-            (take n bytes.now)) }
+            (tree_in self.old) (tree_in self.new)
+            (λ n T. T ≡ appended (tree_in self.old) path.now (take n bytes.now)) }
         ensures counts { Counts self.old self.new }
     {
         match self.turns.next() {
@@ -435,8 +433,8 @@ impl Files for Memory {
     }
 
     fn rename(&mut self, from: &[u8], to: &[u8]) -> Result<Rename, FileError>
-        ensures answer { IfOk result (Renames (tree_in self.old) from.now to.now
-            (tree_in self.new)) }
+        ensures answer { IfOk result
+            (Renames (tree_in self.old) from.now to.now (tree_in self.new)) }
         ensures leaves { Leaves (meaning self.old) (meaning self.new)
             (Renaming (tree_in self.old) from.now to.now) }
         ensures disk { IfOk result (λ rename. disk_of (meaning self.new)
@@ -476,9 +474,8 @@ impl Files for Memory {
         ensures count { faults_of self.new ≡ count_after result (faults_of self.old) }
         ensures memory { IsErrOf result FileError.Memory → ⊥ }
         ensures turn { KeepsTurn CannotGrow CannotGrow (next_turn self.old) result
-            (tree_in self.old) (tree_in self.new)
-            (InOneStep (tree_in self.old) (is_file (tree_in self.old path.now) ≡ true)
-            (removed (tree_in self.old) path.now)) }
+            (tree_in self.old) (tree_in self.new) (InOneStep (tree_in self.old)
+            (is_file (tree_in self.old path.now) ≡ true) (removed (tree_in self.old) path.now)) }
         ensures counts { Counts self.old self.new }
     {
         match self.turns.next() {
@@ -495,8 +492,8 @@ impl Files for Memory {
     }
 
     fn remove_folder(&mut self, path: &[u8]) -> Result<bool, FileError>
-        ensures answer { IfOk result (RemovesFolder (tree_in self.old) path.now
-            (tree_in self.new)) }
+        ensures answer { IfOk result
+            (RemovesFolder (tree_in self.old) path.now (tree_in self.new)) }
         ensures leaves { Leaves (meaning self.old) (meaning self.new)
             (RemovingFolder (tree_in self.old) path.now) }
         ensures disk { IfOk result (λ removed. disk_of (meaning self.new)
@@ -506,9 +503,8 @@ impl Files for Memory {
         ensures count { faults_of self.new ≡ count_after result (faults_of self.old) }
         ensures memory { IsErrOf result FileError.Memory → ⊥ }
         ensures turn { KeepsTurn CannotGrow CannotGrow (next_turn self.old) result
-            (tree_in self.old) (tree_in self.new)
-            (InOneStep (tree_in self.old) (IsEmptyFolder (tree_in self.old) path.now)
-            (removed (tree_in self.old) path.now)) }
+            (tree_in self.old) (tree_in self.new) (InOneStep (tree_in self.old)
+            (IsEmptyFolder (tree_in self.old) path.now) (removed (tree_in self.old) path.now)) }
         ensures counts { Counts self.old self.new }
     {
         match self.turns.next() {

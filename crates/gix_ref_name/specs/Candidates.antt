@@ -7,7 +7,8 @@ use Rattle.gix_ref_grammar.specs.NameGrammar.{is_pseudo_byte}
 -- begins with `refs/`, `main-worktree/` or `worktrees/`
 abbrev pub is_rooted : List ℕ → Bool
 is_rooted p =
-    starts_with nat_eq p (codes "refs/") || starts_with nat_eq p (codes "main-worktree/") || starts_with nat_eq p (codes "worktrees/")
+    starts_with nat_eq p (codes "refs/") || starts_with nat_eq p (codes "main-worktree/")
+    || starts_with nat_eq p (codes "worktrees/")
 
 -- has only bytes of a pseudo name
 abbrev pub is_pseudo : List ℕ → Bool
@@ -16,7 +17,8 @@ is_pseudo p = list_all is_pseudo_byte p
 -- what is put in front of a partial name, in turn
 abbrev pub fronts_of : List ℕ → List (List ℕ)
 fronts_of p =
-    if is_pseudo p then [] ∷ codes "refs/" ∷ codes "refs/tags/" ∷ codes "refs/heads/" ∷ codes "refs/remotes/" ∷ []
+    if is_pseudo p then [] ∷ codes "refs/" ∷ codes "refs/tags/" ∷ codes "refs/heads/"
+    ∷ codes "refs/remotes/" ∷ []
     else if is_rooted p then [] ∷ codes "tags/" ∷ codes "heads/" ∷ codes "remotes/" ∷ []
     else codes "refs/" ∷ codes "refs/tags/" ∷ codes "refs/heads/" ∷ codes "refs/remotes/" ∷ []
 

@@ -22,8 +22,10 @@ HasCategory n Rewritten s = (n ≡ codes "refs/" ++ s) × BeginsWith s (codes "r
 HasCategory n PseudoRef s = (n ≡ s) × IsPseudoName s
 HasCategory n MainRef s = (n ≡ codes "main-worktree/" ++ s) × BeginsWith s (codes "refs/")
 HasCategory n MainPseudoRef s = (n ≡ codes "main-worktree/" ++ s) × IsPseudoName s
-HasCategory n (LinkedRef w) s = (n ≡ codes "worktrees/" ++ (w.now ++ 47 ∷ s)) × NoByte 47 w.now × BeginsWith s (codes "refs/")
-HasCategory n (LinkedPseudoRef w) s = (n ≡ codes "worktrees/" ++ (w.now ++ 47 ∷ s)) × NoByte 47 w.now × IsPseudoName s
+HasCategory n (LinkedRef w) s = (n ≡ codes "worktrees/" ++ (w.now ++ 47 ∷ s)) × NoByte 47 w.now
+    × BeginsWith s (codes "refs/")
+HasCategory n (LinkedPseudoRef w) s = (n ≡ codes "worktrees/" ++ (w.now ++ 47 ∷ s))
+    × NoByte 47 w.now × IsPseudoName s
 
 -- the name is in no row
 abbrev pub NoCategory : List ℕ → Type 0
@@ -90,7 +92,8 @@ text_of c s = with_front (front_of c) (without_front (word_of c) s)
 
 -- the short name, less the word that is dropped, begins itself with the text that goes in front
 abbrev pub begins_again : Category → List ℕ → Bool
-begins_again c s = not (is_empty (front_of c)) && starts_with nat_eq (without_front (word_of c) s) (front_of c)
+begins_again c s = not (is_empty (front_of c))
+    && starts_with nat_eq (without_front (word_of c) s) (front_of c)
 
 -- a category without the worktree that it names, as a number
 abbrev pub code_of : Category → ℕ

@@ -22,8 +22,10 @@ abbrev pub partial_bytes : PartialName → List ℕ
 partial_bytes n = n.bytes.items
 
 -- a text becomes a name with its bytes exactly where it breaks no rule; else the error is the first rule broken
-abbrev pub Converts : {N : Type 0} → (List ℕ → Option Error) → (N → List ℕ) → List ℕ → Result N Error → Type 0
-Converts rules bytes text r = MatchResult r (λ n. (bytes n ≡ text) × (rules text ≡ None)) (λ e. rules text ≡ Some e)
+abbrev pub Converts : {N : Type 0} → (List ℕ → Option Error) → (N → List ℕ) → List ℕ →
+    Result N Error → Type 0
+Converts rules bytes text r = MatchResult r (λ n. (bytes n ≡ text) × (rules text ≡ None))
+    (λ e. rules text ≡ Some e)
 
 -- what is shown of bytes: themselves where they are UTF-8, else with U+FFFD for each piece that is not
 abbrev pub shown : List ℕ → List ℕ

@@ -100,10 +100,10 @@ impl<'a> FullNameRef<'a> {
     /// FullNameRef::try_from("refs/notes/x")?.shorten()    // `notes/x`
     /// ```
     pub fn shorten(self) -> &'a [u8]
-        ensures short { (c : _) (s : List ℕ) → HasCategory (full_ref_bytes self.entry) c s
-            → result.now ≡ s }
-        ensures none { NoCategory (full_ref_bytes self.entry)
-            → result.now ≡ full_ref_bytes self.entry }
+        ensures short { (c : _) (s : List ℕ) → HasCategory (full_ref_bytes self.entry) c s →
+            result.now ≡ s }
+        ensures none { NoCategory (full_ref_bytes self.entry) →
+            result.now ≡ full_ref_bytes self.entry }
     {
         match self.category_and_short_name() {
             Some((_, short)) => short,
@@ -115,8 +115,8 @@ impl<'a> FullNameRef<'a> {
     pub fn category(self) -> Option<Category<'a>>
         ensures found { IfSome result (λ c. (s : List ℕ)
             × HasCategory (full_ref_bytes self.entry) c s) }
-        ensures only { IfSome result (λ c. (d : _) (s : List ℕ)
-            → HasCategory (full_ref_bytes self.entry) d s → SameCategory c d) }
+        ensures only { IfSome result (λ c. (d : _) (s : List ℕ) →
+            HasCategory (full_ref_bytes self.entry) d s → SameCategory c d) }
         ensures none { IfNone result (NoCategory (full_ref_bytes self.entry)) }
     {
         match self.category_and_short_name() {
@@ -136,12 +136,12 @@ impl<'a> FullNameRef<'a> {
         ensures none { IfNone result (NoCategory (full_ref_bytes self.entry)) }
 
         // A name has one category and one short name.
-        ensures only { IfSome result (λ p. (c : _) (s : List ℕ)
-            → HasCategory (full_ref_bytes self.entry) c s → SameCategory p.0 c × (p.1.now ≡ s)) }
+        ensures only { IfSome result (λ p. (c : _) (s : List ℕ) →
+            HasCategory (full_ref_bytes self.entry) c s → SameCategory p.0 c × (p.1.now ≡ s)) }
 
         // `to_full_name` gives the name back, but where the short name begins itself with what goes in front of it.
-        ensures back { IfSome result (λ p. begins_again p.0 p.1.now ≡ false
-            → text_of p.0 p.1.now ≡ full_ref_bytes self.entry) }
+        ensures back { IfSome result (λ p. begins_again p.0 p.1.now ≡ false →
+            text_of p.0 p.1.now ≡ full_ref_bytes self.entry) }
     {
         category_of_bytes(self.bytes)
     }
@@ -176,9 +176,8 @@ impl<'a> FullNameRef<'a> {
     /// The name inside of the namespace: what follows that. `None` where the name does not begin with it, and where the
     /// rest is no valid partial name. Not in gix-ref; see its `Reference::name_without_namespace`.
     pub fn without_namespace(self, namespace: &Namespace) -> Option<FullNameRef<'a>>
-        ensures { MatchOption result
-            ((rest : List ℕ) → IsPartialName rest
-            → full_ref_bytes self.entry ≢ namespace_bytes namespace.now ++ rest)
+        ensures { MatchOption result ((rest : List ℕ) → IsPartialName rest →
+            full_ref_bytes self.entry ≢ namespace_bytes namespace.now ++ rest)
             (λ n. full_ref_bytes self.entry ≡ namespace_bytes namespace.now ++ full_ref_bytes n) }
     {
         let Some(rest) = strip_front(self.bytes, namespace.to_path()) else {
@@ -270,10 +269,9 @@ impl FullName {
         ensures err { OnErr result (full_bytes self.new ≡ full_bytes self.old) }
 
         // `strip_namespace` takes it off again.
-        ensures back { OnOk result (starts_with nat_eq (full_bytes self.old)
-            (namespace_bytes namespace.now) ≡ false
-            → stripped (namespace_bytes namespace.now) (full_bytes self.new)
-            ≡ full_bytes self.old) }
+        ensures back { OnOk result
+            (starts_with nat_eq (full_bytes self.old) (namespace_bytes namespace.now) ≡ false →
+            stripped (namespace_bytes namespace.now) (full_bytes self.new) ≡ full_bytes self.old) }
     {
         if self.bytes.starts_with(namespace.to_path()) {
             return Ok(());
@@ -305,8 +303,8 @@ impl FullName {
     /// The short name of the name's category, or the name itself where it has none: `main` of `refs/heads/main`. As
     /// gix-ref's `FullName::shorten`.
     pub fn shorten(&self) -> &[u8]
-        ensures short { (c : _) (s : List ℕ) → HasCategory (full_bytes self.now) c s
-            → result.now ≡ s }
+        ensures short { (c : _) (s : List ℕ) → HasCategory (full_bytes self.now) c s →
+            result.now ≡ s }
         ensures none { NoCategory (full_bytes self.now) → result.now ≡ full_bytes self.now }
     {
         self.as_ref().shorten()
@@ -315,8 +313,8 @@ impl FullName {
     /// The category of the name, or `None` where it has none. As gix-ref's `FullName::category`.
     pub fn category(&self) -> Option<Category<'_>>
         ensures found { IfSome result (λ c. (s : List ℕ) × HasCategory (full_bytes self.now) c s) }
-        ensures only { IfSome result (λ c. (d : _) (s : List ℕ)
-            → HasCategory (full_bytes self.now) d s → SameCategory c d) }
+        ensures only { IfSome result (λ c. (d : _) (s : List ℕ) →
+            HasCategory (full_bytes self.now) d s → SameCategory c d) }
         ensures none { IfNone result (NoCategory (full_bytes self.now)) }
     {
         self.as_ref().category()
@@ -327,10 +325,10 @@ impl FullName {
     pub fn category_and_short_name(&self) -> Option<(Category<'_>, &[u8])>
         ensures found { IfSome result (λ p. HasCategory (full_bytes self.now) p.0 p.1.now) }
         ensures none { IfNone result (NoCategory (full_bytes self.now)) }
-        ensures only { IfSome result (λ p. (c : _) (s : List ℕ)
-            → HasCategory (full_bytes self.now) c s → SameCategory p.0 c × (p.1.now ≡ s)) }
-        ensures back { IfSome result (λ p. begins_again p.0 p.1.now ≡ false
-            → text_of p.0 p.1.now ≡ full_bytes self.now) }
+        ensures only { IfSome result (λ p. (c : _) (s : List ℕ) →
+            HasCategory (full_bytes self.now) c s → SameCategory p.0 c × (p.1.now ≡ s)) }
+        ensures back { IfSome result (λ p. begins_again p.0 p.1.now ≡ false →
+            text_of p.0 p.1.now ≡ full_bytes self.now) }
     {
         self.as_ref().category_and_short_name()
     }
@@ -404,8 +402,8 @@ impl PartialName {
     /// let branch = remote.join(alloc, b"main")?; // origin/main
     /// ```
     pub fn join(self, alloc: Global, component: &[u8]) -> Result<PartialName, Error>
-        ensures { let joined = partial_bytes self ++ 47 ∷ component.now in
-            MatchResult result (λ n. (partial_bytes n ≡ joined) × (partial_error joined ≡ None))
+        ensures { let joined = partial_bytes self ++ 47 ∷ component.now in MatchResult result
+            (λ n. (partial_bytes n ≡ joined) × (partial_error joined ≡ None))
             (λ e. (e ≡ Memory) ⊎ (partial_error joined ≡ Some e)) }
     {
         let mut bytes = Vec::from_slice(alloc, self.bytes.as_slice())?;

@@ -22,14 +22,16 @@ id_decoded kind (Err error) = None
 
 -- the id of a kind with these hex digits
 abbrev pub id_of_hex : HashKind → List ℕ → Option ObjectId
-id_of_hex kind digits = if length digits == 2 * kind_len kind then id_decoded kind (decode_of digits) else None
+id_of_hex kind digits = if length digits == 2 * kind_len kind
+    then id_decoded kind (decode_of digits) else None
 
 -- the id of the kind in the front of a tag: `object `, the hex digits of the id, LF
 unfoldable pub tag_target : HashKind → List ℕ → Option ObjectId
 tag_target kind bytes =
     let rest = drop 7 bytes in
     let len = 2 * kind_len kind in
-    if starts_with nat_eq bytes (codes "object ") && starts_with nat_eq (drop len rest) (10 ∷ []) then id_of_hex kind (take len rest) else None
+    if starts_with nat_eq bytes (codes "object ") && starts_with nat_eq (drop len rest) (10 ∷ [])
+    then id_of_hex kind (take len rest) else None
 
 -- how a chain of tags ends: at an object that is no tag, at an id with no object, at a tag that names none, after too
 -- many tags, or at an object that cannot be read
@@ -72,19 +74,22 @@ PeelsTo Failed (Err peeling.Find) = Unit {0}
 PeelsTo peeled result = ⊥
 
 -- one object further: at the end, at the next id, or the error with which the chain ends
-abbrev pub Continues : ObjectId → (ObjectId → Peeled) → Peeled → Result (Option ObjectId) PeelError → Type 0
+abbrev pub Continues : ObjectId → (ObjectId → Peeled) → Peeled →
+    Result (Option ObjectId) PeelError → Type 0
 Continues id more peeled (Ok None) = peeled ≡ End id
 Continues id more peeled (Ok (Some next)) = peeled ≡ more next
 Continues id more peeled (Err error) = PeelsTo peeled (Err error)
 
 -- the object is a tag that names the target
 abbrev pub TagTo : (ObjectId → Stored) → ObjectId → ObjectId → Type 0
-TagTo meaning id target = (bytes : List ℕ) × (meaning id ≡ Object Tag bytes) × (tag_target (id_kind id) bytes ≡ Some target)
+TagTo meaning id target = (bytes : List ℕ) × (meaning id ≡ Object Tag bytes)
+    × (tag_target (id_kind id) bytes ≡ Some target)
 
 -- `tags` tags in a row lead from one id to another
 abbrev pub Chain : (ObjectId → Stored) → (tags : ℕ) → ObjectId → ObjectId → Type 0
 Chain meaning zero id end = id ≡ end
-Chain meaning (suc tags) id end = (next : ObjectId) × TagTo meaning id next × Chain meaning tags next end
+Chain meaning (suc tags) id end = (next : ObjectId) × TagTo meaning id next
+    × Chain meaning tags next end
 
 -- an object of another kind than a tag
 abbrev pub IsNoTag : Stored → Type 0

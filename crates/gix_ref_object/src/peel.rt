@@ -58,8 +58,8 @@ fn next_of<T: Find>(
     id: ObjectId,
     buf: &mut Vec<u8>,
 ) -> Result<Option<ObjectId>, PeelError>
-    ensures { T.claims finder.now → (more : ObjectId → Peeled)
-        → Continues id more (step id more (T.meaning finder.now id)) result }
+    ensures { T.claims finder.now → (more : ObjectId → Peeled) →
+        Continues id more (step id more (T.meaning finder.now id)) result }
 {
     let found = match finder.try_find(&id, buf) {
         Ok(Some(found)) => found,

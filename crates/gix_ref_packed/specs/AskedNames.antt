@@ -13,7 +13,8 @@ key_alone (Some key) = key ∷ []
 -- the name behind each of the four fronts
 abbrev pub four_names : List ℕ → List (List ℕ)
 four_names p =
-    (codes "refs/" ++ p) ∷ (codes "refs/tags/" ++ p) ∷ (codes "refs/heads/" ++ p) ∷ (codes "refs/remotes/" ++ p) ∷ []
+    (codes "refs/" ++ p) ∷ (codes "refs/tags/" ++ p) ∷ (codes "refs/heads/" ++ p)
+    ∷ (codes "refs/remotes/" ++ p) ∷ []
 
 -- the full names that a partial name asks for, in this order
 abbrev pub asked_keys : List ℕ → List (List ℕ)

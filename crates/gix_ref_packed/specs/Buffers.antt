@@ -73,5 +73,6 @@ pub record HoldsRecords (kind : Kind) (rs : List Record) (text : List ℕ) : Typ
 -- an opened buffer of a well-formed text holds its records
 abbrev pub OpenedHoldsRecords : Type 0
 OpenedHoldsRecords =
-    (kind : Kind) (text : List ℕ) (h : Option Header) (rs : List Record) (b : Buffer) → IsWellFormed kind text h rs → Opened kind text b →
+    (kind : Kind) (text : List ℕ) (h : Option Header) (rs : List Record) (b : Buffer) →
+    IsWellFormed kind text h rs → Opened kind text b →
     HoldsRecords kind rs (buffer_text b)

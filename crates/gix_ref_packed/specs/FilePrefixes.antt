@@ -19,7 +19,8 @@ abbrev pub HasNoNext : List ℕ → Type 0
 HasNoNext prefix = (prefix ≡ []) ⊎ ((front : List ℕ) × (prefix ≡ front ++ 255 ∷ []))
 
 -- a text is records whose names do not descend, and of the prefix they are the same as these
-pub record HoldsPrefixed (kind : Kind) (prefix : List ℕ) (rs : List Record) (part : List ℕ) : Type 0 where
+pub record HoldsPrefixed (kind : Kind) (prefix : List ℕ) (rs : List Record)
+    (part : List ℕ) : Type 0 where
   pub held : List Record
   pub records : Records kind part held
   pub rises : Rising held
@@ -30,7 +31,8 @@ pub record Encloses (kind : Kind) (text prefix : List ℕ) (start end : ℕ) : T
   pub begins : IsListStart text start
   pub ends : IsListStart text end
   pub ordered : start ≤ end
-  pub records : (rs : List Record) → Records kind text rs → Rising rs → HoldsPrefixed kind prefix rs (take (end - start) (drop start text))
+  pub records : (rs : List Record) → Records kind text rs → Rising rs →
+      HoldsPrefixed kind prefix rs (take (end - start) (drop start text))
 
 -- these are such lines
 pub record IsPrefixPart (kind : Kind) (text prefix part : List ℕ) : Type 0 where
@@ -42,10 +44,12 @@ pub record IsPrefixPart (kind : Kind) (text prefix part : List ℕ) : Type 0 whe
 -- a fault among the items has its number: the records begin with the first line, or there is no fault
 abbrev pub IsNumbered : Kind → List ℕ → ℕ → Buffer → Type 0
 IsNumbered kind text line b =
-    ((n : ℕ) × (buffer_text b ≡ take n text) × (buffer_line b ≡ line)) ⊎ ((held : List Record) × Records kind (buffer_text b) held)
+    ((n : ℕ) × (buffer_text b ≡ take n text) × (buffer_line b ≡ line))
+    ⊎ ((held : List Record) × Records kind (buffer_text b) held)
 
 -- The buffer has all records of the prefix, for `iter_prefixed` of that prefix; lines are numbered as in the file.
-pub record HoldsPrefix (kind : Kind) (text : List ℕ) (line : ℕ) (prefix : List ℕ) (b : Buffer) : Type 0 where
+pub record HoldsPrefix (kind : Kind) (text : List ℕ) (line : ℕ) (prefix : List ℕ)
+    (b : Buffer) : Type 0 where
   pub kind_is : buffer_kind b ≡ kind
   pub part : IsPrefixPart kind text prefix (buffer_text b)
   pub numbered : IsNumbered kind text line b
@@ -53,7 +57,8 @@ pub record HoldsPrefix (kind : Kind) (text : List ℕ) (line : ℕ) (prefix : Li
 -- such a buffer holds the records of the prefix
 abbrev pub PrefixedBuffersHold : Type 0
 PrefixedBuffersHold =
-    (kind : Kind) (text : List ℕ) (line : ℕ) (prefix : List ℕ) (b : Buffer) (rs : List Record) → HoldsPrefix kind text line prefix b → Records kind text rs → Rising rs
+    (kind : Kind) (text : List ℕ) (line : ℕ) (prefix : List ℕ) (b : Buffer) (rs : List Record) →
+    HoldsPrefix kind text line prefix b → Records kind text rs → Rising rs
     → HoldsPrefixed (buffer_kind b) prefix rs (buffer_text b)
 
 -- why a file cannot be read: `Io` where a read of it failed

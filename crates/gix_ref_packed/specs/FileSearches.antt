@@ -35,7 +35,8 @@ IsFaultOr unreadable (Read error) = Unit {0}
 IsFaultOr unreadable Parse = unreadable
 
 -- What a search for one full name in a file returns.
-pub record FindsInFile (kind : Kind) (text name : List ℕ) (result : Result (Option Found) FindError) : Type 0 where
+pub record FindsInFile (kind : Kind) (text name : List ℕ)
+    (result : Result (Option Found) FindError) : Type 0 where
   -- on any text a hit is a record of that name at the start of a line
   pub hit : IfOk result (λ found. IfSome found (HitsRecord kind text name))
   -- a text of malformed lines alone is never taken for one without the name
@@ -43,10 +44,12 @@ pub record FindsInFile (kind : Kind) (text name : List ℕ) (result : Result (Op
   -- why it fails on any text
   pub refused : IfErr result (FailsInFile kind text name)
   -- among ascending records it is the record of the name, or `None` where no record has it
-  pub records : (rs : List Record) → Records kind text rs → Ascending rs → MatchResult result (AreFound (record_named name rs)) IsReadFault
+  pub records : (rs : List Record) → Records kind text rs → Ascending rs →
+      MatchResult result (AreFound (record_named name rs)) IsReadFault
   -- so it is where ids and names are not checked, but for a record of the name that cannot be read
   pub forms : (rs : List Record) → Forms kind text rs → Ascending rs →
-      MatchResult result (AreFound (record_named name rs)) (IsFaultOr (IsUnreadable kind (record_named name rs)))
+      MatchResult result (AreFound (record_named name rs))
+      (IsFaultOr (IsUnreadable kind (record_named name rs)))
 
 -- the count of a reader's faults after the source could not be looked at: one more where the file could not be read
 abbrev pub count_read : ReadError → ℕ → ℕ

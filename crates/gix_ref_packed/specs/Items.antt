@@ -26,7 +26,8 @@ line_without_cr line = if ends_with nat_eq line (13 ∷ []) then take (length li
 -- the first line without its LF or CRLF
 abbrev pub FirstLine : List ℕ → List ℕ → Type 0
 FirstLine text line =
-    ((before : List ℕ) × (after : List ℕ) × Cuts 10 text before after × (line ≡ line_without_cr before)) ⊎ (NoByte 10 text × (line ≡ text))
+    ((before : List ℕ) × (after : List ℕ) × Cuts 10 text before after
+    × (line ≡ line_without_cr before)) ⊎ (NoByte 10 text × (line ≡ text))
 
 -- where only some names are asked for, the name begins with that prefix
 abbrev pub has_prefix : Option (List ℕ) → List ℕ → Bool
@@ -42,7 +43,8 @@ pub record Unread : Type 0 where
 
 -- nothing is left, or a record of another name is there
 abbrev pub HasNoMore : Unread → Type 0
-HasNoMore s = (s.text ≡ []) ⊎ ((r : Record) × (rest : List ℕ) × Takes s.kind s.text r rest × (has_prefix s.prefix r.name ≡ false))
+HasNoMore s = (s.text ≡ []) ⊎ ((r : Record) × (rest : List ℕ) × Takes s.kind s.text r rest
+    × (has_prefix s.prefix r.name ≡ false))
 
 -- of the same kind, for the same names
 abbrev pub IsAlike : Unread → Unread → Type 0
@@ -52,9 +54,11 @@ IsAlike s t = (t.kind ≡ s.kind) × (t.prefix ≡ s.prefix)
 abbrev pub GivesPackedItem : Unread → Option (Result Reference Error) → Unread → Type 0
 GivesPackedItem s None t = HasNoMore s × (t.text ≡ [])
 GivesPackedItem s (Some (Ok r)) t =
-    Takes s.kind s.text (record_of r) t.text × (has_prefix s.prefix (record_of r).name ≡ true) × (t.number ≡ s.number + lines_of (record_of r)) × IsAlike s t
+    Takes s.kind s.text (record_of r) t.text × (has_prefix s.prefix (record_of r).name ≡ true)
+    × (t.number ≡ s.number + lines_of (record_of r)) × IsAlike s t
 GivesPackedItem s (Some (Err (bad_line line number))) t =
-    (s.text ≢ []) × NoRecord s.kind s.text × CutsAtFeed s.text line.now t.text × (number ≡ s.number) × (t.number ≡ s.number + 1) × IsAlike s t
+    (s.text ≢ []) × NoRecord s.kind s.text × CutsAtFeed s.text line.now t.text × (number ≡ s.number)
+    × (t.number ≡ s.number + 1) × IsAlike s t
 GivesPackedItem s (Some (Err (bad_header line))) t = ⊥
 
 -- the items of a run; `Ended` holds where it went on to the end
@@ -65,7 +69,8 @@ AreItems Ended s (x ∷ items) = (t : Unread) × GivesPackedItem s (Some x) t ×
 -- the items of a run are these records, without a fault
 abbrev pub AreRecords : Type 0 → List Record → List (Result Reference Error) → Type 0
 AreRecords Ended rs [] = Ended → rs ≡ []
-AreRecords Ended rs (Ok r ∷ items) = (more : List Record) × (rs ≡ record_of r ∷ more) × AreRecords Ended more items
+AreRecords Ended rs (Ok r ∷ items) = (more : List Record) × (rs ≡ record_of r ∷ more)
+    × AreRecords Ended more items
 AreRecords Ended rs (Err e ∷ items) = ⊥
 
 -- how many lines end in a text
@@ -73,7 +78,12 @@ abbrev pub line_feeds : List ℕ → ℕ
 line_feeds = count_by (λ b. b == 10)
 
 abbrev pub unread : Iter → Unread
-unread it = record { kind = it.kind; prefix = option_map (λ p. p.items) it.prefix; number = it.line + line_feeds it.before.now; text = it.rest.now }
+unread it = record {
+  kind = it.kind;
+  prefix = option_map (λ p. p.items) it.prefix;
+  number = it.line + line_feeds it.before.now;
+  text = it.rest.now;
+}
 
 -- a text whose first line has this number, with records of any name
 abbrev pub unread_text : Kind → ℕ → List ℕ → Unread
@@ -86,7 +96,13 @@ unread_buffer b = unread_text (buffer_kind b) (buffer_line b) (buffer_text b)
 -- the records of a buffer from a place on, up to the first name without the prefix
 abbrev pub unread_from : Buffer → List ℕ → ℕ → Unread
 unread_from b prefix start =
-    record { kind = buffer_kind b; prefix = Some prefix; number = buffer_line b + line_feeds (take start (buffer_text b)); text = drop start (buffer_text b) }
+    record {
+      kind = buffer_kind b;
+      prefix = Some prefix;
+      number =
+          buffer_line b + line_feeds (take start (buffer_text b));
+      text = drop start (buffer_text b);
+    }
 
 -- one call of `next`
 abbrev pub ItemStep : Iter → Option (Result Reference Error) → Iter → Type 0

@@ -40,7 +40,8 @@ packed_file_faults {R} {G} (InFile source kind) = G.faults source.reader
 packed_file_faults (InMemory buffer) = 0
 
 -- the file with these bytes is open for searches: of all its records where the header says sorted, else of the sorted ones
-pub record OpenedFile {R : Type 0} {G : Ghosts R} (kind : Kind) (bytes : List ℕ) (p : PackedFile R G) : Type 0 where
+pub record OpenedFile {R : Type 0} {G : Ghosts R} (kind : Kind) (bytes : List ℕ)
+    (p : PackedFile R G) : Type 0 where
   pub kind_is : packed_file_kind p ≡ kind
   pub line : ℕ
   pub line_is : line ≡ packed_file_line p
@@ -49,7 +50,8 @@ pub record OpenedFile {R : Type 0} {G : Ghosts R} (kind : Kind) (bytes : List �
 -- where it is open on a well-formed text, it holds the records of that
 abbrev pub OpenedFileHoldsRecords : {R : Type 0} {G : Ghosts R} → PackedFile R G → Type 0
 OpenedFileHoldsRecords p =
-    (kind : Kind) (text : List ℕ) (h : Option Header) (rs : List Record) → IsWellFormed kind text h rs → OpenedFile kind text p →
+    (kind : Kind) (text : List ℕ) (h : Option Header) (rs : List Record) →
+    IsWellFormed kind text h rs → OpenedFile kind text p →
     HoldsRecords kind rs (packed_file_text p)
 
 -- a read of some reader failed: it counts one fault more
@@ -73,7 +75,8 @@ FailsFindByRead faults Parse = Unit {0}
 -- the count of the files' faults before and after a file was refused: one more, for `Io` alone, or a read of the opened file
 -- failed, and the files count none
 abbrev pub CountsRefusal : {R : Type 0} → (R → ℕ) → ℕ → ℕ → Error → Type 0
-CountsRefusal faults before now (Io error) = (now ≡ one_more before) ⊎ ((now ≡ before) × HasReadFault faults)
+CountsRefusal faults before now (Io error) = (now ≡ one_more before)
+    ⊎ ((now ≡ before) × HasReadFault faults)
 CountsRefusal faults before now HeaderParsing = now ≡ before
 CountsRefusal faults before now (Iter line) = now ≡ before
 CountsRefusal faults before now Memory = now ≡ before

@@ -49,7 +49,8 @@ is_hex_of kind text = (length text == 2 * kind_len kind) && list_all is_hex_digi
 -- the digits of a line, a space and a valid full name
 abbrev pub is_line_of : Kind → List ℕ → List ℕ → List ℕ → Bool
 is_line_of kind line digits name =
-    pointwise nat_eq line (digits ++ 32 ∷ name) && is_hex_of kind digits && is_none (full_error name)
+    pointwise nat_eq line (digits ++ 32 ∷ name) && is_hex_of kind digits
+    && is_none (full_error name)
 
 abbrev pub digits_in : Kind → List ℕ → List ℕ
 digits_in kind line = take (2 * kind_len kind) line
@@ -68,16 +69,20 @@ first_object [] = None
 first_object (line ∷ more) = behind_caret line
 
 -- a line with `^` adds no record, and no such line follows it; another is a record, with that object
-abbrev pub add_line : Kind → List ℕ → Option (List ℕ) → Option (List ℕ) → List Record → Option (List Record)
-add_line kind line object (Some digits) rs = if is_hex_of kind digits && is_none object then Some rs else None
+abbrev pub add_line : Kind → List ℕ → Option (List ℕ) → Option (List ℕ) → List Record →
+    Option (List Record)
+add_line kind line object (Some digits) rs = if is_hex_of kind digits && is_none object
+    then Some rs else None
 add_line kind line object None rs =
     if is_line_of kind line (digits_in kind line) (line_name kind line)
-    then Some (record { name = line_name kind line; target = digits_in kind line; object = object } ∷ rs)
+    then Some
+    (record { name = line_name kind line; target = digits_in kind line; object = object } ∷ rs)
     else None
 
 abbrev pub add_lines : Kind → List (List ℕ) → Option (List Record)
 add_lines kind [] = Some []
-add_lines kind (line ∷ more) = option_and_then (add_line kind line (first_object more) (behind_caret line)) (add_lines kind more)
+add_lines kind (line ∷ more) = option_and_then
+    (add_line kind line (first_object more) (behind_caret line)) (add_lines kind more)
 
 -- the records of the lines, the first of which is a record's
 abbrev pub line_records : Kind → List (List ℕ) → Option (List Record)
@@ -85,7 +90,8 @@ line_records kind lines = if is_none (first_object lines) then add_lines kind li
 
 -- the records of the text, or nothing where it is invalid
 abbrev pub read_records : Kind → List ℕ → Option (List Record)
-read_records kind text = option_and_then (line_records kind) (option_and_then behind_header (text_lines text))
+read_records kind text = option_and_then (line_records kind)
+    (option_and_then behind_header (text_lines text))
 
 -- the records of the text; an invalid text has none
 abbrev pub records_of_text : Kind → List ℕ → List Record
@@ -94,8 +100,10 @@ records_of_text kind text = unwrap_or (read_records kind text) []
 -- the records of a text are those that are computed
 abbrev pub RecordsAreComputed : Type 0
 RecordsAreComputed =
-    (kind : Kind) (text : List ℕ) (h : Option Header) (rs : List Record) → PackedText kind text h rs → records_of_text kind text ≡ rs
+    (kind : Kind) (text : List ℕ) (h : Option Header) (rs : List Record) →
+    PackedText kind text h rs → records_of_text kind text ≡ rs
 
 -- records are read of a text exactly where it is a header, or none, and these records
 abbrev pub TextsAreRead : Type 0
-TextsAreRead = (kind : Kind) (text : List ℕ) (rs : List Record) → (read_records kind text ≡ Some rs) ↔ ((h : Option Header) × PackedText kind text h rs)
+TextsAreRead = (kind : Kind) (text : List ℕ) (rs : List Record) →
+    (read_records kind text ≡ Some rs) ↔ ((h : Option Header) × PackedText kind text h rs)

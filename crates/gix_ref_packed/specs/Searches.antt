@@ -17,9 +17,11 @@ use Rattle.gix_ref_packed.specs.AskedNames.{asked_keys, first_named}
 use Rattle.gix_ref_name.specs.Candidates.{is_rooted}
 
 -- What a search for one full name returns.
-pub record Finds {E : Type 0} (kind : Kind) (text name : List ℕ) (result : Result (Option Reference) E) : Type 0 where
+pub record Finds {E : Type 0} (kind : Kind) (text name : List ℕ)
+    (result : Result (Option Reference) E) : Type 0 where
   -- on any text a hit is a record of that name at the start of a line
-  pub hit : IfOk result (λ found. IfSome found (λ r. (full_ref_bytes r.name ≡ name) × StandsIn kind text (record_of r)))
+  pub hit : IfOk result (λ found. IfSome found
+      (λ r. (full_ref_bytes r.name ≡ name) × StandsIn kind text (record_of r)))
   -- a text of malformed lines alone is never taken for one without the name
   pub none : IfOk result (λ found. IfNone found (IsNotMalformed kind text))
   -- on any text an error comes from a malformed line, or from a record of the name that cannot be read
@@ -29,7 +31,8 @@ pub record Finds {E : Type 0} (kind : Kind) (text name : List ℕ) (result : Res
       MatchResult result (λ found. option_map record_of found ≡ record_named name rs) (λ _. ⊥)
   -- so it is where ids and names are not checked, but for a record of the name that cannot be read
   pub forms : (rs : List Record) → Forms kind text rs → Ascending rs →
-      MatchResult result (λ found. option_map record_of found ≡ record_named name rs) (λ _. IsUnreadable kind (record_named name rs))
+      MatchResult result (λ found. option_map record_of found ≡ record_named name rs)
+      (λ _. IsUnreadable kind (record_named name rs))
 
 -- what it returns where the name is to be made, too
 abbrev pub FindsOne : Kind → List ℕ → List ℕ → Result (Option Reference) Error → Type 0
@@ -52,22 +55,26 @@ PartialFails kind text p (RefnameValidation error) = ⊥
 
 -- why it fails where each line has its form
 abbrev pub PartialUnreadable : Kind → List Record → List ℕ → Error → Type 0
-PartialUnreadable kind rs p Parse = (n : List ℕ) × Contains (asked_keys p) n × IsUnreadable kind (record_named n rs)
+PartialUnreadable kind rs p Parse = (n : List ℕ) × Contains (asked_keys p) n
+    × IsUnreadable kind (record_named n rs)
 PartialUnreadable kind rs p Memory = Unit {0}
 PartialUnreadable kind rs p (RefnameValidation error) = ⊥
 
 -- What a search for a partial name returns.
-pub record FindsPartial (kind : Kind) (text p : List ℕ) (result : Result (Option Reference) Error) : Type 0 where
+pub record FindsPartial (kind : Kind) (text p : List ℕ)
+    (result : Result (Option Reference) Error) : Type 0 where
   pub hit : IfOk result (λ found. IfSome found (λ r. HitsPartial kind text p (record_of r)))
   -- where a name is asked for, a text of malformed lines alone is never taken for one without it
   pub none : IfOk result (λ found. IfNone found (asked_keys p ≢ [] → IsNotMalformed kind text))
   pub refused : IfErr result (PartialFails kind text p)
   -- among ascending records it is the record of the first name that has one
   pub records : (rs : List Record) → Records kind text rs → Ascending rs →
-      MatchResult result (λ found. option_map record_of found ≡ first_named (asked_keys p) rs) (λ e. e ≡ Memory)
+      MatchResult result (λ found. option_map record_of found ≡ first_named (asked_keys p) rs)
+      (λ e. e ≡ Memory)
   -- so it is where ids and names are not checked
   pub forms : (rs : List Record) → Forms kind text rs → Ascending rs →
-      MatchResult result (λ found. option_map record_of found ≡ first_named (asked_keys p) rs) (PartialUnreadable kind rs p)
+      MatchResult result (λ found. option_map record_of found ≡ first_named (asked_keys p) rs)
+      (PartialUnreadable kind rs p)
 
 -- the result of `try_find` that a result of `find` says
 abbrev pub as_try_find : Result Reference ExistingError → Result (Option Reference) Error

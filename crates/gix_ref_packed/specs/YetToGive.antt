@@ -28,7 +28,8 @@ TakesOne rs (Some (Err e)) t = ⊥
 
 -- one call of `next` gives the first of the records that it is yet to give, without a fault, and `None` where there is none
 abbrev pub NextGivesTheFirst : Type 0
-NextGivesTheFirst = (s t : Iter) (item : Option (Result Reference Error)) (rs : List Record) → ItemStep s item t → IsYet s rs → TakesOne rs item t
+NextGivesTheFirst = (s t : Iter) (item : Option (Result Reference Error)) (rs : List Record) →
+    ItemStep s item t → IsYet s rs → TakesOne rs item t
 
 -- a line that is no record, and no header
 abbrev pub IsLineFault : Error → Type 0
@@ -41,4 +42,5 @@ FaultsAreLines = (s t : Iter) (e : Error) → ItemStep s (Some (Err e)) t → Is
 
 -- of any text: after its end an iterator gives nothing more
 abbrev pub EndedStaysEnded : Type 0
-EndedStaysEnded = (s t u : Iter) (item : Option (Result Reference Error)) → ItemStep s None t → ItemStep t item u → item ≡ None
+EndedStaysEnded = (s t u : Iter) (item : Option (Result Reference Error)) → ItemStep s None t →
+    ItemStep t item u → item ≡ None

@@ -28,11 +28,13 @@ pub record IsReadyOn (place : Path) (D : Disk) : Type 0 where
 
 -- the other files that were settled are as before
 abbrev pub OthersStay : (place : Path) → Disk → Tree → Type 0
-OthersStay place D T = (q : Path) → q ≢ place → q ≢ lock_of place → IsSettledAt D (file_of (D.tree q)) q → file_of (T q) ≡ file_of (D.tree q)
+OthersStay place D T = (q : Path) → q ≢ place → q ≢ lock_of place →
+    IsSettledAt D (file_of (D.tree q)) q → file_of (T q) ≡ file_of (D.tree q)
 
 -- they are settled still
 abbrev pub OthersSettled : (place : Path) → (D E : Disk) → Type 0
-OthersSettled place D E = (q : Path) → q ≢ place → q ≢ lock_of place → IsSettledAt D (file_of (D.tree q)) q → IsSettledAt E (file_of (D.tree q)) q
+OthersSettled place D E = (q : Path) → q ≢ place → q ≢ lock_of place →
+    IsSettledAt D (file_of (D.tree q)) q → IsSettledAt E (file_of (D.tree q)) q
 
 -- A loss of power in a commit, which begins with the disk D: `packed-refs` is as before or as the rewrite makes it, and the others are as
 -- before.
@@ -40,7 +42,8 @@ abbrev pub IsLostOf : Kind → Option Buffer → List (List ℕ) → (place : Pa
 IsLostOf kind records keys place D T =
     OthersStay place D T
     × ((file_of (T place) ≡ file_of (D.tree place))
-    ⊎ ((rewrite : Rewrite) × IsMadeOf kind records keys rewrite × BecomesFile rewrite (file_of (D.tree place)) (file_of (T place))))
+    ⊎ ((rewrite : Rewrite) × IsMadeOf kind records keys rewrite
+    × BecomesFile rewrite (file_of (D.tree place)) (file_of (T place))))
 
 -- A commit that succeeds settles `packed-refs`: each later loss of power leaves it as it is then, and the others too.
 abbrev pub SettlesPackedRefs : (place : Path) → (D E : Disk) → Type 0
@@ -48,4 +51,5 @@ SettlesPackedRefs place D E = OthersSettled place D E × IsSettledAt E (file_of 
 
 -- A loss of power in a rollback: each file that was settled is as before, but for the lock.
 abbrev pub OnlyLockIsLost : (place : Path) → Disk → Tree → Type 0
-OnlyLockIsLost place D T = (q : Path) → q ≢ lock_of place → IsSettledAt D (file_of (D.tree q)) q → file_of (T q) ≡ file_of (D.tree q)
+OnlyLockIsLost place D T = (q : Path) → q ≢ lock_of place → IsSettledAt D (file_of (D.tree q)) q →
+    file_of (T q) ≡ file_of (D.tree q)

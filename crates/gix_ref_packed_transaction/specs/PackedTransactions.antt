@@ -55,7 +55,8 @@ AreDistinct keys = IsStrictlySortedBy (slice_cmp nat_cmp) keys
 abbrev pub IsMadeOf : Kind → Option Buffer → List (List ℕ) → Rewrite → Type 0
 IsMadeOf kind None keys rewrite = rewrite ≡ Unchanged
 IsMadeOf kind (Some buffer) keys rewrite =
-    (rs : List Record) → HoldsRecords kind rs (buffer_text buffer) → AreDistinct keys → IsWithout kind keys rs rewrite
+    (rs : List Record) → HoldsRecords kind rs (buffer_text buffer) → AreDistinct keys →
+    IsWithout kind keys rs rewrite
 
 -- what the file is then
 abbrev pub HoldsRewrite : Rewrite → (before now : Option Content) → Type 0
@@ -73,7 +74,8 @@ OnlyLockChanges place before T = (q : Path) → q ≢ lock_of place → T q ≡ 
 
 -- nothing has changed but that the lock may be gone
 abbrev pub OnlyLockGoes : (place : Path) → (before T : Tree) → Type 0
-OnlyLockGoes place before T = OnlyLockChanges place before T × ((T (lock_of place) ≡ before (lock_of place)) ⊎ (T (lock_of place) ≡ None))
+OnlyLockGoes place before T = OnlyLockChanges place before T
+    × ((T (lock_of place) ≡ before (lock_of place)) ⊎ (T (lock_of place) ≡ None))
 
 -- the lock is there and empty, as it was taken
 abbrev pub IsLockEmpty : (place : Path) → Tree → Type 0
@@ -82,7 +84,8 @@ IsLockEmpty place T = T (lock_of place) ≡ Some (File [])
 -- `packed-refs` is as before, or what the rewrite makes of it
 abbrev pub IsOldOrRewritten : Rewrite → (place : Path) → (before T : Tree) → Type 0
 IsOldOrRewritten rewrite place before T =
-    OnlyAt place before T × ((T place ≡ before place) ⊎ HoldsRewrite rewrite (before place) (T place))
+    OnlyAt place before T × ((T place ≡ before place)
+    ⊎ HoldsRewrite rewrite (before place) (T place))
 
 -- A commit that succeeds: `packed-refs` is rewritten, its lock is gone, and nothing else has changed.
 pub record IsRewritten (rewrite : Rewrite) (place : Path) (before T : Tree) : Type 0 where
@@ -92,13 +95,15 @@ pub record IsRewritten (rewrite : Rewrite) (place : Path) (before T : Tree) : Ty
 
 module _ (kind : Kind) (records : Option Buffer) (keys : List (List ℕ)) (place : Path) where
   abbrev pub CommitsRewrite : (before T : Tree) → Type 0
-  CommitsRewrite before T = (rewrite : Rewrite) × IsMadeOf kind records keys rewrite × IsRewritten rewrite place before T
+  CommitsRewrite before T = (rewrite : Rewrite) × IsMadeOf kind records keys rewrite
+      × IsRewritten rewrite place before T
 
   -- a stop in it, or a failure, leaves `packed-refs` as before or as it is then, and nothing else has changed but its lock
   abbrev pub IsBeforeOrRewritten : (before T : Tree) → Type 0
   IsBeforeOrRewritten before T =
       OnlyAt place before T
-      × ((T place ≡ before place) ⊎ ((rewrite : Rewrite) × IsMadeOf kind records keys rewrite × HoldsRewrite rewrite (before place) (T place)))
+      × ((T place ≡ before place) ⊎ ((rewrite : Rewrite) × IsMadeOf kind records keys rewrite
+      × HoldsRewrite rewrite (before place) (T place)))
 
 -- each line of the records is one
 abbrev pub IsReadBuffer : Kind → Option Buffer → Type 0
@@ -108,7 +113,8 @@ IsReadBuffer kind (Some buffer) = IsReadText kind (buffer_text buffer)
 -- why the records cannot be rewritten: a line is no record, or there was no memory
 abbrev pub IsStuckBuffer : Kind → Option Buffer → Error → Type 0
 IsStuckBuffer kind None error = ⊥
-IsStuckBuffer kind (Some buffer) error = IsStuckIn kind (buffer_line buffer) (buffer_text buffer) error
+IsStuckBuffer kind (Some buffer) error = IsStuckIn kind (buffer_line buffer)
+    (buffer_text buffer) error
 
 -- the failure came before the first write: a line of the records is no record, or there was no memory
 abbrev pub IsUnbegun : Error → Type 0
@@ -119,8 +125,12 @@ IsUnbegun (Io error) = ⊥
 
 -- Why a commit failed: the rename failed, or a folder is at the place; another call of files failed; a line of the records is no record; or
 -- there was no memory.
-abbrev pub SaysWhyPacked : (honest : Type 0) → Kind → Option Buffer → (place : Path) → (before now : ℕ) → Tree → Error → Type 0
-SaysWhyPacked honest kind records place before now T (Commit error) = (HasRisen before now ⊎ (honest → is_folder (T place) ≡ true)) × (error ≢ no_memory)
-SaysWhyPacked honest kind records place before now T (Io error) = HasRisen before now × (error ≢ no_memory)
-SaysWhyPacked honest kind records place before now T (Iteration line) = IsStuckBuffer kind records (Iteration line)
+abbrev pub SaysWhyPacked : (honest : Type 0) → Kind → Option Buffer → (place : Path) →
+    (before now : ℕ) → Tree → Error → Type 0
+SaysWhyPacked honest kind records place before now T (Commit error) =
+    (HasRisen before now ⊎ (honest → is_folder (T place) ≡ true)) × (error ≢ no_memory)
+SaysWhyPacked honest kind records place before now T (Io error) = HasRisen before now
+    × (error ≢ no_memory)
+SaysWhyPacked honest kind records place before now T (Iteration line) =
+    IsStuckBuffer kind records (Iteration line)
 SaysWhyPacked honest kind records place before now T Memory = Unit {0}

@@ -39,10 +39,9 @@ fn remove<F: Files>(files: &mut F, lock: LockFile) -> Option<Vec<u8>>
         (OnlyLockGoes lock (F.means files.old).tree) }
     ensures passes { F.honest → Passes (F.means files.old) (F.means files.new)
         (RemovingFileOn (disk_of (F.means files.old)) (lock_of lock)) }
-    ensures named { MatchOption result
-        (F.honest → is_file ((F.means files.new).tree (lock_of lock)) ≡ false)
-        (λ path. (path.items ≡ lock_of lock)
-        × HasRisen (F.faults files.old) (F.faults files.new)) }
+    ensures named { MatchOption result (F.honest →
+        is_file ((F.means files.new).tree (lock_of lock)) ≡ false)
+        (λ path. (path.items ≡ lock_of lock) × HasRisen (F.faults files.old) (F.faults files.new)) }
     ensures no_fewer { F.faults files.old ≤ F.faults files.new }
 {
     match files.remove_file(lock.path()) {
@@ -60,8 +59,7 @@ fn release<F: Files>(files: &mut F, lock: LockFile, error: commit::Error) -> Fai
         (RemovingFileOn (disk_of (F.means files.old)) (lock_of lock)) }
     ensures named { MatchOption result.lock_left
         (F.honest → is_file ((F.means files.new).tree (lock_of lock)) ≡ false)
-        (λ path. (path.items ≡ lock_of lock)
-        × HasRisen (F.faults files.old) (F.faults files.new)) }
+        (λ path. (path.items ≡ lock_of lock) × HasRisen (F.faults files.old) (F.faults files.new)) }
     ensures no_fewer { F.faults files.old ≤ F.faults files.new }
 {
     Failed {
@@ -123,8 +121,8 @@ impl Transaction {
     /// earlier call are given up. `Memory` leaves all as it was. No two edits may have one name. As gix-ref's
     /// `packed::Transaction::prepare`.
     pub fn prepare(&mut self, alloc: Global, edits: &[RefEdit]) -> Result<(), prepare::Error>
-        ensures moved { OnOk result (IsPermutation (deleted_names edits.now)
-            (removed_keys self.new)) }
+        ensures moved { OnOk result
+            (IsPermutation (deleted_names edits.now) (removed_keys self.new)) }
         ensures sorted { OnOk result (IsSorted (slice_cmp nat_cmp) (removed_keys self.new)) }
         ensures records { records_of self.new ≡ records_of self.old }
         ensures place { transaction_place self.new ≡ transaction_place self.old }
@@ -146,35 +144,29 @@ impl Transaction {
     /// the lock is removed, unless it was renamed. As gix-ref's
     /// `packed::Transaction::commit`.
     pub fn commit<F: Files>(self, alloc: Global, files: &mut F) -> Result<(), Failed>
-        ensures committed { F.honest → IsLockEmpty (transaction_place self) (F.means
-            files.old).tree →
-            OnOk result (CommitsRewrite (transaction_kind self) (records_of self)
-            (removed_keys self) (transaction_place self) (F.means files.old).tree
-            (F.means files.new).tree) }
+        ensures committed { F.honest → IsLockEmpty (transaction_place self)
+            (F.means files.old).tree → OnOk result
+            (CommitsRewrite (transaction_kind self) (records_of self) (removed_keys self)
+            (transaction_place self) (F.means files.old).tree (F.means files.new).tree) }
         ensures read { OnOk result (IsReadBuffer (transaction_kind self) (records_of self)) }
         ensures leaves { F.honest → IsLockEmpty (transaction_place self) (F.means files.old).tree →
-            Leaves (F.means files.old) (F.means files.new) (IsBeforeOrRewritten
-            (transaction_kind self) (records_of self) (removed_keys self)
+            Leaves (F.means files.old) (F.means files.new)
+            (IsBeforeOrRewritten (transaction_kind self) (records_of self) (removed_keys self)
             (transaction_place self) (F.means files.old).tree) }
         ensures lost { F.honest → IsReadyOn (transaction_place self) (disk_of (F.means files.old)) →
-            Loses (F.means files.old) (F.means files.new) (IsLostOf (transaction_kind self)
-            (records_of self) (removed_keys self) (transaction_place self)
-            (disk_of (F.means files.old))) }
-        ensures settled { F.honest → IsReadyOn (transaction_place self) (disk_of (F.means
-            files.old)) →
-            OnOk result (SettlesPackedRefs (transaction_place self) (disk_of (F.means files.old))
-            (disk_of (F.means files.new))) }
+            Loses (F.means files.old) (F.means files.new)
+            (IsLostOf (transaction_kind self) (records_of self) (removed_keys self)
+            (transaction_place self) (disk_of (F.means files.old))) }
+        ensures settled { F.honest → IsReadyOn (transaction_place self)
+            (disk_of (F.means files.old)) → OnOk result (SettlesPackedRefs (transaction_place self)
+            (disk_of (F.means files.old)) (disk_of (F.means files.new))) }
         ensures why { IfErr result (λ f. SaysWhyPacked F.honest (transaction_kind self)
-            (records_of self)
-            (transaction_place self) (F.faults files.old) (F.faults files.new) (F.means
-            files.new).tree
-            f.error) }
-        ensures kept { F.honest → IfErr result (λ f. IsUnbegun f.error →
-            OnlyLockGoes (transaction_place self) (F.means files.old).tree (F.means
-            files.new).tree) }
-        ensures named { IfErr result (λ f. MatchOption f.lock_left
-            (F.honest → is_file ((F.means files.new).tree (lock_of (transaction_place self))) ≡
-            false)
+            (records_of self) (transaction_place self) (F.faults files.old) (F.faults files.new)
+            (F.means files.new).tree f.error) }
+        ensures kept { F.honest → IfErr result (λ f. IsUnbegun f.error → OnlyLockGoes
+            (transaction_place self) (F.means files.old).tree (F.means files.new).tree) }
+        ensures named { IfErr result (λ f. MatchOption f.lock_left (F.honest →
+            is_file ((F.means files.new).tree (lock_of (transaction_place self))) ≡ false)
             (λ path. (path.items ≡ lock_of (transaction_place self))
             × HasRisen (F.faults files.old) (F.faults files.new))) }
     {
@@ -207,9 +199,8 @@ impl Transaction {
             (OnlyLockGoes (transaction_place self) (F.means files.old).tree) }
         ensures lost { F.honest → Loses (F.means files.old) (F.means files.new)
             (OnlyLockIsLost (transaction_place self) (disk_of (F.means files.old))) }
-        ensures named { MatchOption result
-            (F.honest → is_file ((F.means files.new).tree (lock_of (transaction_place self))) ≡
-            false)
+        ensures named { MatchOption result (F.honest →
+            is_file ((F.means files.new).tree (lock_of (transaction_place self))) ≡ false)
             (λ path. (path.items ≡ lock_of (transaction_place self))
             × HasRisen (F.faults files.old) (F.faults files.new)) }
     {

@@ -34,7 +34,8 @@ abbrev pub list_text : List (Result Reference Error) → List ℕ
 list_text items = flat_map item_text items
 
 -- All that an iterator gives is printed, and gives the status.
-pub record PrintsAll {F : Type 0} (honest : Type 0) (means : F → Meaning) (faults : F → ℕ) (old new : LooseThenPacked F Remaining) (out now : Option (List ℕ)) (status : ℕ) : Type 0 where
+pub record PrintsAll {F : Type 0} (honest : Type 0) (means : F → Meaning) (faults : F → ℕ)
+    (old new : LooseThenPacked F Remaining) (out now : Option (List ℕ)) (status : ℕ) : Type 0 where
   pub items : List (Result Reference Error)
   pub last : LooseThenPacked F Remaining
   pub gives : Yields (NextItem honest means faults) old items last
@@ -54,7 +55,9 @@ next_text None = []
 next_text (Some item) = item_text item
 
 -- The next that an iterator gives is printed behind a text, and `fault` is whether it is a fault.
-pub record PrintsNext {F : Type 0} (honest : Type 0) (means : F → Meaning) (faults : F → ℕ) (old new : LooseThenPacked F Remaining) (out now : Option (List ℕ)) (text : List ℕ) (fault : Option Bool) : Type 0 where
+pub record PrintsNext {F : Type 0} (honest : Type 0) (means : F → Meaning) (faults : F → ℕ)
+    (old new : LooseThenPacked F Remaining) (out now : Option (List ℕ)) (text : List ℕ)
+    (fault : Option Bool) : Type 0 where
   pub item : Option (Result Reference Error)
   pub gives : NextItem honest means faults old item new
   pub fault_is : fault ≡ option_map is_err item

@@ -19,7 +19,8 @@ log_fault_word Memory = codes "Memory"
 -- a line: its ids and its message; or a fault
 abbrev pub log_item_text : Result Line ReverseError → List ℕ
 log_item_text (Ok l) =
-    encode_lower (id_bytes l.previous_oid) ++ (codes " " ++ (encode_lower (id_bytes l.new_oid) ++ (codes " " ++ (l.message.items ++ codes "\n"))))
+    encode_lower (id_bytes l.previous_oid) ++ (codes " "
+    ++ (encode_lower (id_bytes l.new_oid) ++ (codes " " ++ (l.message.items ++ codes "\n"))))
 log_item_text (Err e) = fault_line (log_fault_word e)
 
 abbrev pub log_text : List (Result Line ReverseError) → List ℕ

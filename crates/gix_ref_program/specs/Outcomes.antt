@@ -127,7 +127,8 @@ refusal_word refusals.Memory = codes "Memory"
 
 -- a line for each lock that could not be removed
 abbrev pub lock_lines : List (Vec ℕ Global) → List ℕ
-lock_lines locks = flat_map (λ (lock : Vec ℕ Global). codes "lock left: " ++ (lock.items ++ codes "\n")) locks
+lock_lines locks =
+    flat_map (λ (lock : Vec ℕ Global). codes "lock left: " ++ (lock.items ++ codes "\n")) locks
 
 -- the digits of an id, or `ref: ` and a name
 abbrev pub shown_target : TargetValue → List ℕ
@@ -136,13 +137,15 @@ shown_target (symbolic_name name) = codes "ref: " ++ name
 
 -- a target and a name
 abbrev pub reference_line : Reference → List ℕ
-reference_line reference = shown_target (target_value reference.target) ++ (codes " " ++ (full_bytes reference.name ++ codes "\n"))
+reference_line reference = shown_target (target_value reference.target)
+    ++ (codes " " ++ (full_bytes reference.name ++ codes "\n"))
 
 abbrev pub printed : Outcome → List ℕ
 printed outcomes.WrongWords = codes "wrong words\n"
 printed (outcomes.Updated locks) = lock_lines locks.items
 printed (outcomes.Shown reference) = reference_line reference
-printed (outcomes.Refused refusal locks) = codes "refused: " ++ (refusal_word refusal ++ (codes "\n" ++ lock_lines locks.items))
+printed (outcomes.Refused refusal locks) = codes "refused: "
+    ++ (refusal_word refusal ++ (codes "\n" ++ lock_lines locks.items))
 
 -- the status: 0 for what is done, 1 for a refusal, 2 for wrong words
 abbrev pub status_of : Outcome → ℕ

@@ -62,7 +62,8 @@ use Rattle.gix_ref_program.specs.declared.refusal.Refusal.TheVariants as refusal
 abbrev pub IsExpected : Kind → Option ObjectId → PreviousValue → Type 0
 IsExpected kind None expected = expected ≡ Any
 IsExpected kind (Some old) expected =
-    ((old ≡ null_id kind) × (expected ≡ MustNotExist)) ⊎ ((old ≡ null_id kind → ⊥) × (matched expected ≡ Some (object_id old)))
+    ((old ≡ null_id kind) × (expected ≡ MustNotExist))
+    ⊎ ((old ≡ null_id kind → ⊥) × (matched expected ≡ Some (object_id old)))
 
 -- the message of the log lines: the TEXT of `--message`, or none
 abbrev pub message_text : Option (List ℕ) → List ℕ
@@ -76,7 +77,8 @@ pub record IsLogChange (message : Option (List ℕ)) (log : LogChange) : Type 0 
   pub message_is : log.message.items ≡ message_text message
 
 -- the edit that gives a reference, or with `deref` the one that it leads to, this target
-pub record IsEditOf (name : List ℕ) (deref : Bool) (message : Option (List ℕ)) (target : TargetValue) (expected : PreviousValue) (edit : RefEdit) : Type 0 where
+pub record IsEditOf (name : List ℕ) (deref : Bool) (message : Option (List ℕ))
+    (target : TargetValue) (expected : PreviousValue) (edit : RefEdit) : Type 0 where
   pub full : full_error name ≡ None
   pub name_is : name_of edit ≡ name
   pub new : new_of edit.change ≡ Some target
@@ -87,13 +89,15 @@ pub record IsEditOf (name : List ℕ) (deref : Bool) (message : Option (List ℕ
   pub expects : expected_of edit.change ≡ expected
 
 -- and the one of an update with this OLD
-pub record IsUpdateOf (kind : Kind) (message : Option (List ℕ)) (deref : Bool) (name : List ℕ) (id : ObjectId) (old : Option ObjectId) (edit : RefEdit) : Type 0 where
+pub record IsUpdateOf (kind : Kind) (message : Option (List ℕ)) (deref : Bool) (name : List ℕ)
+    (id : ObjectId) (old : Option ObjectId) (edit : RefEdit) : Type 0 where
   pub expected : PreviousValue
   pub is_expected : IsExpected kind old expected
   pub is_edit : IsEditOf name deref message (object_id id) expected edit
 
 -- the edit that deletes a reference, or with `deref` the one that it leads to, with its log
-pub record IsDeletionEdit (name : List ℕ) (deref : Bool) (expected : PreviousValue) (edit : RefEdit) : Type 0 where
+pub record IsDeletionEdit (name : List ℕ) (deref : Bool) (expected : PreviousValue)
+    (edit : RefEdit) : Type 0 where
   pub full : full_error name ≡ None
   pub name_is : name_of edit ≡ name
   pub deletes : new_of edit.change ≡ None
@@ -102,22 +106,26 @@ pub record IsDeletionEdit (name : List ℕ) (deref : Bool) (expected : PreviousV
   pub expects : expected_of edit.change ≡ expected
 
 -- and the one of a deletion with this OLD
-pub record IsDeletionOf (kind : Kind) (deref : Bool) (name : List ℕ) (old : Option ObjectId) (edit : RefEdit) : Type 0 where
+pub record IsDeletionOf (kind : Kind) (deref : Bool) (name : List ℕ) (old : Option ObjectId)
+    (edit : RefEdit) : Type 0 where
   pub expected : PreviousValue
   pub is_expected : IsExpected kind old expected
   pub is_edit : IsDeletionEdit name deref expected edit
 
 -- the edit that a command asks for
 abbrev pub IsAskedFor : Kind → (message : Option (List ℕ)) → Asked → RefEdit → Type 0
-IsAskedFor kind message (Update deref name id old) edit = IsUpdateOf kind message deref name id old edit
-IsAskedFor kind message (Symbolic name target) edit = IsEditOf name false message (symbolic_name target) Any edit
+IsAskedFor kind message (Update deref name id old) edit =
+    IsUpdateOf kind message deref name id old edit
+IsAskedFor kind message (Symbolic name target) edit =
+    IsEditOf name false message (symbolic_name target) Any edit
 IsAskedFor kind message (Delete deref name old) edit = IsDeletionOf kind deref name old edit
 IsAskedFor kind message asked edit = ⊥
 
 -- the rule that its first wrong name breaks
 abbrev pub BreaksRule : Asked → NameError → Type 0
 BreaksRule (Update deref name id old) error = full_error name ≡ Some error
-BreaksRule (Symbolic name target) error = (full_error name ≡ Some error) ⊎ ((full_error name ≡ None) × (full_error target ≡ Some error))
+BreaksRule (Symbolic name target) error = (full_error name ≡ Some error)
+    ⊎ ((full_error name ≡ None) × (full_error target ≡ Some error))
 BreaksRule (Delete deref name old) error = full_error name ≡ Some error
 BreaksRule asked error = ⊥
 
@@ -166,10 +174,12 @@ IsShownWhole (Listed whole items) = whole ≡ true
 IsShownWhole (Logged whole items) = whole ≡ true
 
 -- What was done, and what is printed of it unless the writer fails: all of it, and its status.
-pub record Prints {E : Type 0} (Does : Ran → Type 0) (out now : Option (List ℕ)) (status : Result ℕ E) : Type 0 where
+pub record Prints {E : Type 0} (Does : Ran → Type 0) (out now : Option (List ℕ))
+    (status : Result ℕ E) : Type 0 where
   pub ran : Ran
   pub does : Does ran
-  pub prints : IfOk status (λ s. IsShownWhole ran × (s ≡ status_after ran) × Appends out now (ran_text ran))
+  pub prints : IfOk status
+      (λ s. IsShownWhole ran × (s ≡ status_after ran) × Appends out now (ran_text ran))
 
 -- why a word gives no full name
 abbrev pub IsNoName : List ℕ → Refusal → Type 0
@@ -191,7 +201,8 @@ IsBadFolder dir refusal = ⊥
 
 -- why a line is not begun: its folder; or its namespace, in a folder that is clean
 abbrev pub IsUnopened : LineAsked → Refusal → Type 0
-IsUnopened line refusal = IsBadFolder line.dir refusal ⊎ ((is_clean line.dir ≡ true) × NoNamespace line.namespace refusal)
+IsUnopened line refusal = IsBadFolder line.dir refusal
+    ⊎ ((is_clean line.dir ≡ true) × NoNamespace line.namespace refusal)
 
 module _ {F : Type 0} where
   -- names are used as they are written, and no component is prohibited
@@ -200,7 +211,8 @@ module _ {F : Type 0} where
     pub prohibits : store.prohibit_windows_device_names ≡ false
 
   -- a store in a folder, without a namespace, which writes log lines as this has it
-  pub record IsAt (files : F) (dir : List ℕ) (kind : Kind) (write_reflog : WriteReflog) (store : Store F) : Type 0 where
+  pub record IsAt (files : F) (dir : List ℕ) (kind : Kind) (write_reflog : WriteReflog)
+      (store : Store F) : Type 0 where
     pub files_are : files_of store ≡ files
     pub clean : is_clean dir ≡ true
     pub git : (folders store).git ≡ dir
@@ -227,59 +239,83 @@ module _ {F : Type 0} where
 
   -- A reflog is refused: it is not read, or its name breaks a rule.
   abbrev pub RefusesReflog : (old new : Store F) → (name : List ℕ) → Outcome → Type 0
-  RefusesReflog old new name (outcomes.Refused (refusals.Log error) locks) = IsNoReflog old name error × (locks.items ≡ [])
-  RefusesReflog old new name (outcomes.Refused (refusals.Name error) locks) = (full_error name ≡ Some error) × (new ≡ old) × (locks.items ≡ [])
+  RefusesReflog old new name (outcomes.Refused (refusals.Log error) locks) =
+      IsNoReflog old name error × (locks.items ≡ [])
+  RefusesReflog old new name (outcomes.Refused (refusals.Name error) locks) =
+      (full_error name ≡ Some error) × (new ≡ old) × (locks.items ≡ [])
   RefusesReflog old new name outcome = ⊥
 
   -- A reflog: it is refused; or its items are printed, newest first.
-  abbrev pub LogRan : (honest : Type 0) (means : F → Meaning) → (old new : Store F) → (name : List ℕ) → Ran → Type 0
+  abbrev pub LogRan : (honest : Type 0) (means : F → Meaning) → (old new : Store F) →
+      (name : List ℕ) → Ran → Type 0
   LogRan honest means old new name (Said outcome) = RefusesReflog old new name outcome
   LogRan honest means old new name (Listed whole items) = ⊥
   LogRan honest means old new name (Logged whole items) =
-      (full_error name ≡ None) × (honest → AreLogItems (reflog_at means old name) whole items) × EndsAtError items
+      (full_error name ≡ None) × (honest → AreLogItems (reflog_at means old name) whole items)
+      × EndsAtError items
 
   module _ (honest : Type 0) (means : F → Meaning) (faults : F → ℕ) where
     -- An edit: it is committed, but for locks that stay; or it was not made, and locks may stay; or there was no memory for it.
-    abbrev pub EditOutcome : (read : Type 0) → (old new : Store F) → Option SignatureRef → RefEdit → Outcome → Type 0
-    EditOutcome read old new committer edit (outcomes.Updated locks) = UpdateMade honest means faults old new committer (edit ∷ []) (paths_of locks.items)
+    abbrev pub EditOutcome : (read : Type 0) → (old new : Store F) → Option SignatureRef → RefEdit →
+        Outcome → Type 0
+    EditOutcome read old new committer edit (outcomes.Updated locks) =
+        UpdateMade honest means faults old new committer (edit ∷ []) (paths_of locks.items)
     EditOutcome read old new committer edit (outcomes.Refused (refusals.Update error) locks) =
-        IsUpdateError honest means faults read old new committer (edit ∷ []) error (paths_of locks.items)
-    EditOutcome read old new committer edit (outcomes.Refused refusals.Memory locks) = (new ≡ old) × (locks.items ≡ [])
+        IsUpdateError honest means faults read old new committer (edit ∷ []) error
+        (paths_of locks.items)
+    EditOutcome read old new committer edit (outcomes.Refused refusals.Memory locks) = (new ≡ old)
+        × (locks.items ≡ [])
     EditOutcome read old new committer edit outcome = ⊥
 
     -- An update of either kind, or a deletion: the outcome of its edit; or a name is no full name; or there was no memory.
-    abbrev pub UpdateOutcome : (read : Type 0) → (old new : Store F) → Option SignatureRef → Kind → (message : Option (List ℕ)) → Asked → Outcome → Type 0
-    UpdateOutcome read old new committer kind message asked (outcomes.Refused (refusals.Name error) locks) = BreaksRule asked error × (new ≡ old) × (locks.items ≡ [])
-    UpdateOutcome read old new committer kind message asked (outcomes.Refused refusals.Memory locks) = (new ≡ old) × (locks.items ≡ [])
-    UpdateOutcome read old new committer kind message asked outcome = (edit : RefEdit) × IsAskedFor kind message asked edit × EditOutcome read old new committer edit outcome
+    abbrev pub UpdateOutcome : (read : Type 0) → (old new : Store F) → Option SignatureRef → Kind →
+        (message : Option (List ℕ)) → Asked → Outcome → Type 0
+    UpdateOutcome read old new committer kind message asked
+        (outcomes.Refused (refusals.Name error) locks) = BreaksRule asked error × (new ≡ old)
+        × (locks.items ≡ [])
+    UpdateOutcome read old new committer kind message asked
+        (outcomes.Refused refusals.Memory locks) = (new ≡ old) × (locks.items ≡ [])
+    UpdateOutcome read old new committer kind message asked outcome = (edit : RefEdit)
+        × IsAskedFor kind message asked edit × EditOutcome read old new committer edit outcome
 
     -- and what is printed of it
-    abbrev pub UpdateRan : (read : Type 0) → (old new : Store F) → Option SignatureRef → Kind → (message : Option (List ℕ)) → Asked → Ran → Type 0
-    UpdateRan read old new committer kind message asked (Said outcome) = UpdateOutcome read old new committer kind message asked outcome
+    abbrev pub UpdateRan : (read : Type 0) → (old new : Store F) → Option SignatureRef → Kind →
+        (message : Option (List ℕ)) → Asked → Ran → Type 0
+    UpdateRan read old new committer kind message asked (Said outcome) =
+        UpdateOutcome read old new committer kind message asked outcome
     UpdateRan read old new committer kind message asked ran = ⊥
 
     -- a stop in it leaves this tree: as before, or what a stop in its edit leaves
-    abbrev pub IsUpdateStop : Store F → Option SignatureRef → Kind → (message : Option (List ℕ)) → Asked → Tree → Type 0
+    abbrev pub IsUpdateStop : Store F → Option SignatureRef → Kind → (message : Option (List ℕ)) →
+        Asked → Tree → Type 0
     IsUpdateStop old committer kind message asked T =
         (T ≡ tree_of means old)
-        ⊎ ((edit : RefEdit) × IsAskedFor kind message asked edit × IsStopOf honest means faults old committer (edit ∷ []) T)
+        ⊎ ((edit : RefEdit) × IsAskedFor kind message asked edit
+        × IsStopOf honest means faults old committer (edit ∷ []) T)
 
     -- A lookup: what it finds is shown; or there is nothing; or it fails; or its name breaks a rule.
-    abbrev pub ShowOutcome : {R : Type 0} (G : Ghosts R) → (old new : Store F) → (name : List ℕ) → Outcome → Type 0
+    abbrev pub ShowOutcome : {R : Type 0} (G : Ghosts R) → (old new : Store F) → (name : List ℕ) →
+        Outcome → Type 0
     ShowOutcome G old new name (outcomes.Shown reference) =
-        honest → HitsIn {G = G} means true old Unopened name (Some reference) × ((records : List Record) → AreRecordsIn means old records → FindsAmong means old records name (Some reference))
+        honest → HitsIn {G = G} means true old Unopened name (Some reference)
+        × ((records : List Record) → AreRecordsIn means old records →
+        FindsAmong means old records name (Some reference))
     ShowOutcome G old new name (outcomes.Refused refusals.NotFound locks) =
-        (honest → (records : List Record) → AreRecordsIn means old records → FindsAmong means old records name None) × (locks.items ≡ [])
+        (honest → (records : List Record) → AreRecordsIn means old records →
+        FindsAmong means old records name None) × (locks.items ≡ [])
     ShowOutcome G old new name (outcomes.Refused (refusals.Find error) locks) =
         FailsIn {G = G} honest means faults true old new Unopened name error
         × (honest → (records : List Record) → AreRecordsIn means old records → IsSound error)
         × (locks.items ≡ [])
-    ShowOutcome G old new name (outcomes.Refused (refusals.Name error) locks) = (partial_error name ≡ Some error) × (new ≡ old) × (locks.items ≡ [])
+    ShowOutcome G old new name (outcomes.Refused (refusals.Name error) locks) =
+        (partial_error name ≡ Some error) × (new ≡ old) × (locks.items ≡ [])
     ShowOutcome G old new name outcome = ⊥
 
     -- Items of the listing of a prefix, between two counts of faults: the first ones, all where `whole` says so. A folder that could
     -- not be listed is among them only where the count rose.
-    pub record AreListed (settings : Settings) (view : View) (before now : ℕ) (records : List Record) (prefix : List ℕ) (whole : Bool) (items : List (Result Reference ListError)) : Type 0 where
+    pub record AreListed (settings : Settings) (view : View) (before now : ℕ)
+        (records : List Record) (prefix : List ℕ) (whole : Bool)
+        (items : List (Result Reference ListError)) : Type 0 where
       pub listed : List ListedName
       pub is : IsListing settings view records prefix listed
       pub names : AllByRecursion IsNameItem listed ⊎ HasRisen before now
@@ -288,65 +324,90 @@ module _ {F : Type 0} where
       pub ends : whole ≡ true → rest ≡ []
 
     -- A listing among these records: the prefix has none, or no memory; or its items are printed, by ascending names.
-    abbrev pub ListRanAmong : (old new : Store F) → (prefix : List ℕ) → (Are : List Record → Type 0) → Ran → Type 0
+    abbrev pub ListRanAmong : (old new : Store F) → (prefix : List ℕ) →
+        (Are : List Record → Type 0) → Ran → Type 0
     ListRanAmong old new prefix Are (Said (outcomes.Refused (refusals.List error) locks)) =
         ((error ≡ no_list.Memory) ⊎ IsRefusedPrefix old.namespace prefix error) × (locks.items ≡ [])
     ListRanAmong old new prefix Are (Listed whole items) =
         IsAcceptedPrefix old.namespace prefix
-        × (honest → (records : List Record) → Are records → AreListed (settings_of old) (view_in means old) (faults (files_of old)) (faults (files_of new)) records prefix whole items)
+        × (honest → (records : List Record) → Are records →
+        AreListed (settings_of old) (view_in means old) (faults (files_of old))
+        (faults (files_of new)) records prefix whole items)
     ListRanAmong old new prefix Are ran = ⊥
 
     -- A listing: it is refused; or its items are printed.
-    abbrev pub ListRan : {R : Type 0} (G : Ghosts R) → (old new : Store F) → (prefix : List ℕ) → Ran → Type 0
-    ListRan G old new prefix (Said (outcomes.Refused (refusals.List error) locks)) = IsNoListing honest means faults G old new prefix error × (locks.items ≡ [])
+    abbrev pub ListRan : {R : Type 0} (G : Ghosts R) → (old new : Store F) → (prefix : List ℕ) →
+        Ran → Type 0
+    ListRan G old new prefix (Said (outcomes.Refused (refusals.List error) locks)) =
+        IsNoListing honest means faults G old new prefix error × (locks.items ≡ [])
     ListRan G old new prefix (Listed whole items) =
         IsAcceptedPrefix old.namespace prefix
-        × (honest → (records : List Record) → AreRecordsIn means old records → AreListed (settings_of old) (view_in means old) (faults (files_of old)) (faults (files_of new)) records prefix whole items)
+        × (honest → (records : List Record) → AreRecordsIn means old records →
+        AreListed (settings_of old) (view_in means old) (faults (files_of old))
+        (faults (files_of new)) records prefix whole items)
     ListRan G old new prefix ran = ⊥
 
-    abbrev pub CommandRan : {R : Type 0} (G : Ghosts R) → (old new : Store F) → Option SignatureRef → Kind → (message : Option (List ℕ)) → Asked → Ran → Type 0
-    CommandRan G old new committer kind message (Update deref name id before) ran = UpdateRan (HasReadFault G.faults) old new committer kind message (Update deref name id before) ran
-    CommandRan G old new committer kind message (Symbolic name target) ran = UpdateRan (HasReadFault G.faults) old new committer kind message (Symbolic name target) ran
-    CommandRan G old new committer kind message (Delete deref name before) ran = UpdateRan (HasReadFault G.faults) old new committer kind message (Delete deref name before) ran
-    CommandRan G old new committer kind message (Show name) (Said outcome) = ShowOutcome G old new name outcome
-    CommandRan G old new committer kind message (AskedListing prefix) ran = ListRan G old new (prefix_asked old prefix) ran
-    CommandRan G old new committer kind message (Log name) ran = LogRan honest means old new name ran
+    abbrev pub CommandRan : {R : Type 0} (G : Ghosts R) → (old new : Store F) →
+        Option SignatureRef → Kind → (message : Option (List ℕ)) → Asked → Ran → Type 0
+    CommandRan G old new committer kind message (Update deref name id before) ran = UpdateRan
+        (HasReadFault G.faults) old new committer kind message (Update deref name id before) ran
+    CommandRan G old new committer kind message (Symbolic name target) ran =
+        UpdateRan (HasReadFault G.faults) old new committer kind message (Symbolic name target) ran
+    CommandRan G old new committer kind message (Delete deref name before) ran = UpdateRan
+        (HasReadFault G.faults) old new committer kind message (Delete deref name before) ran
+    CommandRan G old new committer kind message (Show name) (Said outcome) =
+        ShowOutcome G old new name outcome
+    CommandRan G old new committer kind message (AskedListing prefix) ran =
+        ListRan G old new (prefix_asked old prefix) ran
+    CommandRan G old new committer kind message (Log name) ran =
+        LogRan honest means old new name ran
     CommandRan G old new committer kind message asked ran = ⊥
 
     -- a stop in a command leaves this tree: as before; or of an update what a stop in it leaves
-    abbrev pub IsStop : Store F → Option SignatureRef → Kind → (message : Option (List ℕ)) → Asked → Tree → Type 0
-    IsStop old committer kind message (Update deref name id before) T = IsUpdateStop old committer kind message (Update deref name id before) T
-    IsStop old committer kind message (Symbolic name target) T = IsUpdateStop old committer kind message (Symbolic name target) T
-    IsStop old committer kind message (Delete deref name before) T = IsUpdateStop old committer kind message (Delete deref name before) T
+    abbrev pub IsStop : Store F → Option SignatureRef → Kind → (message : Option (List ℕ)) → Asked →
+        Tree → Type 0
+    IsStop old committer kind message (Update deref name id before) T =
+        IsUpdateStop old committer kind message (Update deref name id before) T
+    IsStop old committer kind message (Symbolic name target) T =
+        IsUpdateStop old committer kind message (Symbolic name target) T
+    IsStop old committer kind message (Delete deref name before) T =
+        IsUpdateStop old committer kind message (Delete deref name before) T
     IsStop old committer kind message (Show name) T = T ≡ tree_of means old
     IsStop old committer kind message (AskedListing prefix) T = T ≡ tree_of means old
     IsStop old committer kind message (Log name) T = T ≡ tree_of means old
 
     -- a line that is not begun
     abbrev pub NotBegun : LineAsked → Ran → Type 0
-    NotBegun line (Said (outcomes.Refused refusal locks)) = IsUnopened line refusal × (locks.items ≡ [])
+    NotBegun line (Said (outcomes.Refused refusal locks)) = IsUnopened line refusal
+        × (locks.items ≡ [])
     NotBegun line ran = ⊥
 
     -- what becomes of a line: it is begun in its store, or it is not, and the files are as before
     abbrev pub LineRan : {R : Type 0} (G : Ghosts R) → (files after : F) → LineAsked → Ran → Type 0
     LineRan G files after line ran =
-        ((old : Store F) × (new : Store F) × (committer : Option SignatureRef) × IsCommitterOf line committer × IsOpened files line old × (files_of new ≡ after) × CommandRan G old new committer line.kind line.message line.asked ran)
+        ((old : Store F) × (new : Store F) × (committer : Option SignatureRef)
+        × IsCommitterOf line committer × IsOpened files line old × (files_of new ≡ after)
+        × CommandRan G old new committer line.kind line.message line.asked ran)
         ⊎ ((after ≡ files) × NotBegun line ran)
 
     -- a stop in a line leaves this tree: as before, or what a stop in its command leaves
     abbrev pub IsStopIn : F → LineAsked → Tree → Type 0
     IsStopIn files line T =
-        (T ≡ (means files).tree) ⊎ ((old : Store F) × (committer : Option SignatureRef) × IsCommitterOf line committer × IsOpened files line old × IsStop old committer line.kind line.message line.asked T)
+        (T ≡ (means files).tree)
+        ⊎ ((old : Store F) × (committer : Option SignatureRef) × IsCommitterOf line committer
+        × IsOpened files line old × IsStop old committer line.kind line.message line.asked T)
 
     -- A run of a line: what becomes of it is printed, and gives the status; and each stop leaves what a stop in the line leaves.
-    pub record RunsLine {R : Type 0} (G : Ghosts R) {E : Type 0} (files after : F) (words : List (List ℕ)) (out now : Option (List ℕ)) (status : Result ℕ E) : Type 0 where
+    pub record RunsLine {R : Type 0} (G : Ghosts R) {E : Type 0} (files after : F)
+        (words : List (List ℕ)) (out now : Option (List ℕ)) (status : Result ℕ E) : Type 0 where
       pub line : LineAsked
       pub is_line : AreWordsOf words line
       pub prints : Prints (LineRan G files after line) out now status
       pub leaves : honest → Leaves (means files) (means after) (IsStopIn files line)
 
 -- A run of words that are no line: nothing changes, and it says so.
-pub record RunsWrong {F E : Type 0} (files after : F) (words : List (List ℕ)) (out now : Option (List ℕ)) (status : Result ℕ E) : Type 0 where
+pub record RunsWrong {F E : Type 0} (files after : F) (words : List (List ℕ))
+    (out now : Option (List ℕ)) (status : Result ℕ E) : Type 0 where
   pub no_line : (line : LineAsked) → AreWordsOf words line → ⊥
   pub same : after ≡ files
   pub printed : IfOk status (λ s. (s ≡ 2) × Appends out now (codes "wrong words\n"))

@@ -52,40 +52,53 @@ module _ {F : Type 0} (honest : Type 0) (means : F → Meaning) (faults : F → 
   -- good, each reference reads as before or as edited.
   abbrev pub IsStopOf : Store F → Option SignatureRef → List RefEdit → Tree → Type 0
   IsStopOf old committer edits T =
-      ((tried : List RefEdit) × AreTried old edits tried × AddsLocks (locks_in means old tried) (locks_in means old tried) (tree_of means old) T)
+      ((tried : List RefEdit) × AreTried old edits tried
+      × AddsLocks (locks_in means old tried) (locks_in means old tried) (tree_of means old) T)
       ⊎ ((b : IsBegun old edits)
-      × (HasGoodRecords means old → IsOldOrNew (meaning_of old) b.prepared.split (lines_due means b.mid committer b.held) (tree_of means old) T))
+      × (HasGoodRecords means old → IsOldOrNew (meaning_of old) b.prepared.split
+      (lines_due means b.mid committer b.held) (tree_of means old) T))
 
   -- A loss of power in an update: before its commit each file that was settled is as before, but for the locks of the edits; in it each
   -- reference reads as before or as edited. The commit begins on a disk of which all is settled but locks.
   abbrev pub IsLossOf : Store F → Option SignatureRef → List RefEdit → Tree → Type 0
   IsLossOf old committer edits T =
-      ((tried : List RefEdit) × AreTried old edits tried × ((q : Path) → IsSpokenOf (places_in means old tried) (disk_in means old) q → view_of T q ≡ view_of (tree_of means old) q))
+      ((tried : List RefEdit) × AreTried old edits tried × ((q : Path) → IsSpokenOf (places_in means
+      old tried) (disk_in means old) q → view_of T q ≡ view_of (tree_of means old) q))
       ⊎ ((b : IsBegun old edits)
-      × ((D : Disk) × IsAllSettled D × IsLostWell (meaning_of old) DeletionsOnly (places_in means old b.prepared.split) (with_lines b.prepared.split (lines_due means b.mid committer b.held)) D (tree_of means old) T))
+      × ((D : Disk) × IsAllSettled D × IsLostWell (meaning_of old) DeletionsOnly
+      (places_in means old b.prepared.split) (with_lines b.prepared.split
+      (lines_due means b.mid committer b.held)) D (tree_of means old) T))
 
   -- An update that was made: its edits were prepared and committed. Of the transaction's locks only those stay that are named, and one is
   -- named only where a fault came.
-  pub record UpdateMade (old new : Store F) (committer : Option SignatureRef) (edits : List RefEdit) (left : List Path) : Type 0 where
+  pub record UpdateMade (old new : Store F) (committer : Option SignatureRef) (edits : List RefEdit)
+      (left : List Path) : Type 0 where
     pub begun : IsBegun old edits
-    pub commits : CommitsFrom honest means faults begun.mid new committer begun.packed begun.held left
+    pub commits : CommitsFrom honest means faults begun.mid new committer begun.packed
+        begun.held left
     -- no due line was passed over, and no folder is gone but those in the way of what was written, and those above what was deleted
     pub lines : LinesPass honest means begun.mid committer begun.held
     pub folders : KeepsFolders honest means faults begun.mid new committer begun.packed begun.held
-    pub stops : EveryStopFrom honest means faults begun.mid new committer begun.packed begun.held left
+    pub stops : EveryStopFrom honest means faults begun.mid new committer begun.packed
+        begun.held left
     pub named : HasRisenBy (length left) (faults (files_of old)) (faults (files_of new))
 
   -- An update whose commit failed for this error; the locks that stay are as above.
-  pub record UpdateFailed (old new : Store F) (committer : Option SignatureRef) (edits : List RefEdit) (error : commits.Error) (left : List Path) : Type 0 where
+  pub record UpdateFailed (old new : Store F) (committer : Option SignatureRef)
+      (edits : List RefEdit) (error : commits.Error) (left : List Path) : Type 0 where
     pub begun : IsBegun old edits
     pub fails : FailsFor honest means faults begun.mid new committer begun.packed begun.held error
     pub sound : NoBadLineFrom honest means faults begun.mid begun.packed begun.held error
     pub folders : KeepsFolders honest means faults begun.mid new committer begun.packed begun.held
-    pub stops : EveryStopFrom honest means faults begun.mid new committer begun.packed begun.held left
+    pub stops : EveryStopFrom honest means faults begun.mid new committer begun.packed
+        begun.held left
     pub named : HasRisenBy (length left) (faults (files_of old)) (faults (files_of new))
 
   -- Why an update was not made, and the locks that stay: it was refused by the first cause against it, and all is as before but for
   -- these locks; or its commit failed.
-  abbrev pub IsUpdateError : (read : Type 0) → (old new : Store F) → Option SignatureRef → List RefEdit → UpdateError → (left : List Path) → Type 0
-  IsUpdateError read old new committer edits (Prepare error) left = RefusesGiven honest read means faults old new edits error left
-  IsUpdateError read old new committer edits (Commit error) left = UpdateFailed old new committer edits error left
+  abbrev pub IsUpdateError : (read : Type 0) → (old new : Store F) → Option SignatureRef →
+      List RefEdit → UpdateError → (left : List Path) → Type 0
+  IsUpdateError read old new committer edits (Prepare error) left =
+      RefusesGiven honest read means faults old new edits error left
+  IsUpdateError read old new committer edits (Commit error) left =
+      UpdateFailed old new committer edits error left

@@ -45,7 +45,8 @@ IsOldWord words None = words ≡ []
 IsOldWord words (Some id) = (digits : List ℕ) × ReadsId digits id × (words ≡ digits ∷ [])
 
 -- `NAME ID [OLD]`, where NAME is not the option `--deref`
-pub record IsUpdate (words : List (List ℕ)) (name : List ℕ) (id : ObjectId) (old : Option ObjectId) : Type 0 where
+pub record IsUpdate (words : List (List ℕ)) (name : List ℕ) (id : ObjectId)
+    (old : Option ObjectId) : Type 0 where
   pub digits : List ℕ
   pub rest : List (List ℕ)
   pub no_option : name ≢ codes "--deref"
@@ -74,10 +75,12 @@ prefix_words (Some prefix) = prefix ∷ []
 -- `log NAME`
 abbrev pub IsCommand : List (List ℕ) → Asked → Type 0
 IsCommand words (Update deref name id old) =
-    (rest : List (List ℕ)) × (words ≡ codes "update" ∷ (deref_words deref ++ rest)) × IsUpdate rest name id old
+    (rest : List (List ℕ)) × (words ≡ codes "update" ∷ (deref_words deref ++ rest))
+    × IsUpdate rest name id old
 IsCommand words (Symbolic name target) = words ≡ codes "symbolic" ∷ (name ∷ (target ∷ []))
 IsCommand words (Delete deref name old) =
-    (rest : List (List ℕ)) × (words ≡ codes "delete" ∷ (deref_words deref ++ rest)) × IsDeletion rest name old
+    (rest : List (List ℕ)) × (words ≡ codes "delete" ∷ (deref_words deref ++ rest))
+    × IsDeletion rest name old
 IsCommand words (Show name) = words ≡ codes "show" ∷ (name ∷ [])
 IsCommand words (Listing prefix) = words ≡ codes "list" ∷ prefix_words prefix
 IsCommand words (Log name) = words ≡ codes "log" ∷ (name ∷ [])
@@ -93,7 +96,8 @@ option_words option None = []
 option_words option (Some value) = option ∷ (value ∷ [])
 
 -- this option comes first with this value, or it does not come first; and these words follow
-pub record IsOption (option : List ℕ) (words : List (List ℕ)) (value : Option (List ℕ)) (rest : List (List ℕ)) : Type 0 where
+pub record IsOption (option : List ℕ) (words : List (List ℕ)) (value : Option (List ℕ))
+    (rest : List (List ℕ)) : Type 0 where
   pub not_first : value ≡ None → first_is words option ≡ false
   pub words_are : words ≡ option_words option value ++ rest
 
@@ -109,8 +113,10 @@ pub record AreWordsOf (words : List (List ℕ)) (line : LineAsked) : Type 0 wher
   pub command : List (List ℕ)
   pub is_signed : IsSigned signature line.committer
   pub is_command : IsCommand command line.asked
-  pub words_are : words ≡ line.dir ∷ (kind_words line.kind ++ (option_words (codes "--namespace") line.namespace
-      ++ (option_words (codes "--as") signature ++ (option_words (codes "--message") line.message ++ command))))
+  pub words_are : words
+      ≡ line.dir ∷ (kind_words line.kind ++ (option_words (codes "--namespace") line.namespace
+      ++ (option_words (codes "--as") signature
+      ++ (option_words (codes "--message") line.message ++ command))))
 
 -- what the values of the code mean
 

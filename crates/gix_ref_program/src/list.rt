@@ -47,9 +47,8 @@ fn print_item<W: Write>(
     out: &mut W,
 ) -> io::Result<bool>
     ensures fault { IfOk result (λ fault. fault ≡ is_err item) }
-    ensures prints { OnOk result (Keeps
-        (append_known (W.contents out.old) (text.old.items ++ item_text item))
-        (append_known (W.contents out.new) text.new.items)) }
+    ensures prints { OnOk result (Keeps (append_known (W.contents out.old)
+        (text.old.items ++ item_text item)) (append_known (W.contents out.new) text.new.items)) }
 {
     let is_fault = item.is_err();
     push_item(text, &item)?;
@@ -80,8 +79,8 @@ fn print_next<F: Files, W: Write>(
     ensures rises { count_in F.honest F.means F.faults items.old
         ≤ count_in F.honest F.means F.faults items.new }
     ensures unchanged { LooksUp F.honest F.means (store_listed items.old) (store_listed items.new) }
-    ensures left { IfOk result (λ fault.
-        IfSome fault (λ _. items_ahead items.new < items_ahead items.old)) }
+    ensures left { IfOk result
+        (λ fault. IfSome fault (λ _. items_ahead items.new < items_ahead items.old)) }
 {
     if let Some(own) = items.next_record() {
         push_record(text, own)?;

@@ -56,8 +56,8 @@ pub fn print_items<R: ReadAt + Drop, W: Write>(
     lines: &mut Reverse<'_, R>,
     out: &mut W,
 ) -> io::Result<u8>
-    ensures { IfOk result (λ status. WholeRun (NextStep R.honest R.bytes R.faults) lines.old (λ run.
-        (status ≡ items_status run.items)
+    ensures { IfOk result (λ status. WholeRun (NextStep R.honest R.bytes R.faults) lines.old
+        (λ run. (status ≡ items_status run.items)
         × Appends (W.contents out.old) (W.contents out.new) (log_text run.items))) }
 {
     let mut text = Vec::new(alloc);

@@ -43,8 +43,8 @@ fn push_locks(text: &mut Vec<u8>, locks: &[Vec<u8>]) -> Result<(), AllocError>
 
 /// Adds a target: the digits of its id, or `ref: ` and its name.
 fn push_target(text: &mut Vec<u8>, target: &Target) -> Result<(), AllocError>
-    ensures { OnOk result (text.new.items ≡ text.old.items ++ shown_target
-        (target_value target.now)) }
+    ensures { OnOk result
+        (text.new.items ≡ text.old.items ++ shown_target (target_value target.now)) }
 {
     match target {
         Target::Object(id) => id.push_hex(text)?,
@@ -104,8 +104,8 @@ fn status(outcome: &Outcome) -> u8
 /// for the text.
 pub fn print<W: Write>(alloc: Global, outcome: Outcome, out: &mut W) -> io::Result<u8>
     ensures status { IfOk result (λ s. s ≡ status_of outcome) }
-    ensures printed { OnOk result (Appends (W.contents out.old) (W.contents out.new)
-        (printed outcome)) }
+    ensures printed { OnOk result
+        (Appends (W.contents out.old) (W.contents out.new) (printed outcome)) }
 {
     let status = status(&outcome);
     let text = text_of(alloc, &outcome)?;

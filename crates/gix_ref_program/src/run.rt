@@ -54,8 +54,8 @@ pub struct RunResult<F> {
 
 /// The namespace that a NAME expands to, if there is one.
 fn expanded(alloc: Global, name: Option<&[u8]>) -> Result<Option<Namespace>, Refusal>
-    ensures { MatchResult result (λ n. namespace_text n ≡ namespace_of
-        (option_map (λ text. text.now) name.entry))
+    ensures { MatchResult result (λ n. namespace_text n
+        ≡ namespace_of (option_map (λ text. text.now) name.entry))
         (NoNamespace (option_map (λ text. text.now) name.entry)) }
 {
     let Some(name) = name else {
@@ -88,8 +88,8 @@ fn store_at<F>(
     kind: Kind,
     write_reflog: WriteReflog,
 ) -> Result<Store<F>, (F, Refusal)>
-    ensures { MatchResult result (IsAt files dir.now kind write_reflog) (λ r. (r.0 ≡ files)
-        × IsBadFolder dir.now r.1) }
+    ensures { MatchResult result (IsAt files dir.now kind write_reflog)
+        (λ r. (r.0 ≡ files) × IsBadFolder dir.now r.1) }
 {
     let Ok(git_dir) = dir.to_vec(alloc) else {
         return Err((files, Refusal::Memory));
@@ -109,8 +109,8 @@ fn store_at<F>(
 
 /// The store of a line, in its namespace. A refusal hands the files back.
 fn store_in<F>(alloc: Global, files: F, line: &Line<'_>) -> Result<Store<F>, (F, Refusal)>
-    ensures { MatchResult result (IsOpened files (line_asked line.now)) (λ r. (r.0 ≡ files)
-        × IsUnopened (line_asked line.now) r.1) }
+    ensures { MatchResult result (IsOpened files (line_asked line.now))
+        (λ r. (r.0 ≡ files) × IsUnopened (line_asked line.now) r.1) }
 {
     let write_reflog = write_reflog_for(line.committer);
     let mut store = store_at(alloc, files, line.dir, line.object_hash, write_reflog)?;
@@ -173,9 +173,8 @@ fn edit_to(
     expected: PreviousValue,
 ) -> Result<RefEdit, Refusal>
     requires { full_error (full_bytes name) ≡ None }
-    ensures { MatchResult result (IsEditOf (full_bytes name) deref
-        (option_map (λ text. text.now) text.entry) (target_value new) expected)
-        (λ refusal. refusal ≡ Refusal.Memory) }
+    ensures { MatchResult result (IsEditOf (full_bytes name) deref (option_map (λ text. text.now)
+        text.entry) (target_value new) expected) (λ refusal. refusal ≡ Refusal.Memory) }
 {
     Ok(RefEdit {
         change: Change::Update {
@@ -197,8 +196,8 @@ fn update_edit(
     id: ObjectId,
     expected: PreviousValue,
 ) -> Result<RefEdit, Refusal>
-    ensures { MatchResult result (IsEditOf name.now deref
-        (option_map (λ text. text.now) text.entry) (object_id id) expected) (IsNoName name.now) }
+    ensures { MatchResult result (IsEditOf name.now deref (option_map (λ text. text.now) text.entry)
+        (object_id id) expected) (IsNoName name.now) }
 {
     match full_name(alloc, name) {
         Ok(name) => edit_to(alloc, name, deref, text, Target::Object(id), expected),
@@ -213,9 +212,8 @@ fn symbolic_edit(
     text: Option<&[u8]>,
     target: &[u8],
 ) -> Result<RefEdit, Refusal>
-    ensures { MatchResult result (IsEditOf name.now false
-        (option_map (λ text. text.now) text.entry) (symbolic_name target.now) PreviousValue.Any)
-        (NoEdit (Symbolic name.now target.now)) }
+    ensures { MatchResult result (IsEditOf name.now false (option_map (λ text. text.now) text.entry)
+        (symbolic_name target.now) PreviousValue.Any) (NoEdit (Symbolic name.now target.now)) }
 {
     let name = match full_name(alloc, name) {
         Ok(name) => name,
@@ -280,11 +278,11 @@ fn make_update<F: Files>(
     edit: RefEdit,
 ) -> (PackedRefs, Outcome)
     ensures packed_refs { result.0 ≡ packed_refs }
-    ensures outcome { EditOutcome F.honest F.means F.faults (HasReadFault F.Reader.faults) store.old
-        store.new committer.entry edit result.1 }
+    ensures outcome { EditOutcome F.honest F.means F.faults
+        (HasReadFault F.Reader.faults) store.old store.new committer.entry edit result.1 }
     ensures leaves { F.honest → Leaves (F.means (files_of store.old)) (F.means (files_of store.new))
-        (λ T. (T ≡ tree_of F.means store.old) ⊎ IsStopOf F.honest F.means F.faults store.old
-        committer.entry (edit ∷ []) T) }
+        (λ T. (T ≡ tree_of F.means store.old)
+        ⊎ IsStopOf F.honest F.means F.faults store.old committer.entry (edit ∷ []) T) }
 {
     let Ok(edits) = one_edit(alloc, edit) else {
         return (packed_refs, refused(alloc, Refusal::Memory));
@@ -355,8 +353,8 @@ fn print_among<F: Files, W: Write>(
     out: &mut W,
 ) -> io::Result<u8>
     ensures prints { Prints (ListRanAmong F.honest F.means F.faults store.old store.new prefix.now
-        (AreHeldFor store.old prefix.now packed.entry))
-        (W.contents out.old) (W.contents out.new) result }
+        (AreHeldFor store.old prefix.now packed.entry)) (W.contents out.old)
+        (W.contents out.new) result }
     ensures unchanged { LooksUp F.honest F.means store.old store.new }
 {
     match store.iter_prefixed_packed(alloc, prefix, packed) {
@@ -377,8 +375,8 @@ fn print_listing<F: Files, W: Write>(
     out: &mut W,
 ) -> io::Result<u8>
     ensures prints { Prints (ListRan F.honest F.means F.faults F.Reader.ReadAt store.old store.new
-        (prefix_asked store.old (option_map (λ text. text.now) prefix.entry)))
-        (W.contents out.old) (W.contents out.new) result }
+        (prefix_asked store.old (option_map (λ text. text.now) prefix.entry))) (W.contents out.old)
+        (W.contents out.new) result }
     ensures unchanged { LooksUp F.honest F.means store.old store.new }
 {
     let prefix = match prefix {
@@ -404,10 +402,9 @@ fn print_update<F: Files, W: Write>(
     out: &mut W,
 ) -> (PackedRefs, io::Result<u8>)
     ensures packed_refs { result.0 ≡ packed_refs }
-    ensures prints { (kind : Kind) (message : Option (List ℕ)) (asked : Asked) →
-        MatchResult edit (IsAskedFor kind message asked) (NoEdit asked) →
-        Prints (UpdateRan F.honest F.means F.faults (HasReadFault F.Reader.faults) store.old
-        store.new committer.entry kind message asked)
+    ensures prints { (kind : Kind) (message : Option (List ℕ)) (asked : Asked) → MatchResult edit
+        (IsAskedFor kind message asked) (NoEdit asked) → Prints (UpdateRan F.honest F.means F.faults
+        (HasReadFault F.Reader.faults) store.old store.new committer.entry kind message asked)
         (W.contents out.old) (W.contents out.new) result.1 }
     ensures leaves { F.honest → (kind : Kind) (message : Option (List ℕ)) (asked : Asked) →
         MatchResult edit (IsAskedFor kind message asked) (NoEdit asked) →

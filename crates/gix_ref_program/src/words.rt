@@ -107,9 +107,8 @@ fn deref_of(words: &[String]) -> (bool, &[String])
 /// `NAME ID [OLD]` behind `[--deref]`, where NAME is not that option.
 fn update_of(deref: bool, words: &[String]) -> Option<Command<'_>>
     ensures { MatchOption result ((name : List ℕ) (id : ObjectId) (old : Option ObjectId) →
-        IsUpdate (texts words.now) name id old → ⊥)
-        (λ command. IsCommand (codes "update" ∷ (deref_words deref ++ texts words.now))
-        (command_asked command)) }
+        IsUpdate (texts words.now) name id old → ⊥) (λ command. IsCommand
+        (codes "update" ∷ (deref_words deref ++ texts words.now)) (command_asked command)) }
 {
     let (name, rest) = words.split_first()?;
     if name.as_bytes() == b"--deref".as_slice() {
@@ -129,9 +128,8 @@ fn update_of(deref: bool, words: &[String]) -> Option<Command<'_>>
 /// `NAME [OLD]` behind `[--deref]`, where NAME is not that option.
 fn deletion_of(deref: bool, words: &[String]) -> Option<Command<'_>>
     ensures { MatchOption result ((name : List ℕ) (old : Option ObjectId) →
-        IsDeletion (texts words.now) name old → ⊥)
-        (λ command. IsCommand (codes "delete" ∷ (deref_words deref ++ texts words.now))
-        (command_asked command)) }
+        IsDeletion (texts words.now) name old → ⊥) (λ command. IsCommand
+        (codes "delete" ∷ (deref_words deref ++ texts words.now)) (command_asked command)) }
 {
     let (name, rest) = words.split_first()?;
     if name.as_bytes() == b"--deref".as_slice() {
@@ -159,9 +157,8 @@ fn name_of(words: &[String]) -> Option<&[u8]>
 
 /// `NAME TARGET`.
 fn names_of(words: &[String]) -> Option<(&[u8], &[u8])>
-    ensures { MatchOption result
-        ((name target : List ℕ) → texts words.now ≡ name ∷ (target ∷ []) → ⊥)
-        (λ names. texts words.now ≡ names.0.now ∷ (names.1.now ∷ [])) }
+    ensures { MatchOption result ((name target : List ℕ) → texts words.now ≡ name ∷ (target ∷ []) →
+        ⊥) (λ names. texts words.now ≡ names.0.now ∷ (names.1.now ∷ [])) }
 {
     let (name, rest) = words.split_first()?;
     let target = name_of(rest)?;
@@ -170,8 +167,8 @@ fn names_of(words: &[String]) -> Option<(&[u8], &[u8])>
 
 /// `[PREFIX]`, and an error for other words.
 fn prefix_of(words: &[String]) -> Result<Option<&[u8]>, WrongWords>
-    ensures { MatchResult result
-        (λ prefix. texts words.now ≡ prefix_words (option_map (λ text. text.now) prefix))
+    ensures { MatchResult result (λ prefix. texts words.now
+        ≡ prefix_words (option_map (λ text. text.now) prefix))
         (λ _. (prefix : Option (List ℕ)) → texts words.now ≡ prefix_words prefix → ⊥) }
 {
     let Some((prefix, rest)) = words.split_first() else {
@@ -218,9 +215,8 @@ fn command_of(words: &[String]) -> Option<Command<'_>>
 
 /// `[OPTION VALUE]`: the value, if the option comes first, and the words behind it; `None` for an option alone.
 fn value_of<'w>(words: &'w [String], option: &[u8]) -> Option<(Option<&'w [u8]>, &'w [String])>
-    ensures { MatchOption result (texts words.now ≡ option.now ∷ [])
-        (λ r. IsOption option.now (texts words.now) (option_map (λ value. value.now) r.0)
-        (texts r.1.now)) }
+    ensures { MatchOption result (texts words.now ≡ option.now ∷ []) (λ r. IsOption option.now
+        (texts words.now) (option_map (λ value. value.now) r.0) (texts r.1.now)) }
 {
     let Some(rest) = strip_word(words, option) else {
         return Some((None, words));
@@ -231,10 +227,8 @@ fn value_of<'w>(words: &'w [String], option: &[u8]) -> Option<(Option<&'w [u8]>,
 
 /// The committer whose signature this text is, and an error for a text that is no signature.
 fn committer_of(signature: Option<&[u8]>) -> Result<Option<SignatureRef<'_>>, WrongWords>
-    ensures { MatchResult result
-        (λ committer. IsSigned (option_map (λ text. text.now) signature.entry)
-        (option_map signature_ref_who committer))
-        (λ _. (committer : Option Who) →
+    ensures { MatchResult result (λ committer. IsSigned (option_map (λ text. text.now)
+        signature.entry) (option_map signature_ref_who committer)) (λ _. (committer : Option Who) →
         IsSigned (option_map (λ text. text.now) signature.entry) committer → ⊥) }
 {
     let Some(text) = signature else {

@@ -5,4 +5,5 @@ use Rattle.gix_ref_records.specs.OpenedText.{Heads}
 
 -- the header of the text, and the offset of the first record in it
 abbrev pub HeadsAt : List ℕ → HeaderEnd → Type 0
-HeadsAt text heading = Heads text heading.header (drop heading.start text) × (heading.start ≤ length text)
+HeadsAt text heading = Heads text heading.header (drop heading.start text)
+    × (heading.start ≤ length text)

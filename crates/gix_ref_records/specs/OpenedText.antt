@@ -52,7 +52,8 @@ line_count = sum_by lines_of
 -- these records are at the front of the text, and what follows them
 abbrev pub Fronts : Kind → List ℕ → List Record → List ℕ → Type 0
 Fronts kind text [] rest = text ≡ rest
-Fronts kind text (r ∷ rs) rest = (after : List ℕ) × Takes kind text r after × Fronts kind after rs rest
+Fronts kind text (r ∷ rs) rest = (after : List ℕ) × Takes kind text r after
+    × Fronts kind after rs rest
 
 -- behind some records, in the line of that number, no record begins; the first line has the number `first`
 pub record StuckAt (kind : Kind) (first : ℕ) (text : List ℕ) (line : ℕ) : Type 0 where
@@ -86,7 +87,8 @@ is_lower p q = is_lt (slice_cmp nat_cmp p.said.name q.said.name)
 pub record SortsByName (old new : List Piece) : Type 0 where
   pub moved : IsPermutation old new
   pub rises : Rising (records_in new)
-  pub stable : (p : Piece) → Contains old p → filter (ties is_lower p) new ≡ filter (ties is_lower p) old
+  pub stable : (p : Piece) → Contains old p →
+      filter (ties is_lower p) new ≡ filter (ties is_lower p) old
 
 -- The records of a text with their bytes, in the order of their names. A text whose names do not descend stays.
 pub record SortsText (kind : Kind) (rest kept : List ℕ) : Type 0 where
@@ -117,11 +119,13 @@ pub record OpensTo (kind : Kind) (text kept : List ℕ) (line : ℕ) : Type 0 wh
 -- a text whose records must be read, and the line of the first that is no record
 abbrev pub HasBadLine : Kind → List ℕ → ℕ → Type 0
 HasBadLine kind text line =
-    (header : Option Header) × (rest : List ℕ) × Heads text header rest × (says_sorted header ≡ false) × StuckAt kind (line_behind header) rest line
+    (header : Option Header) × (rest : List ℕ) × Heads text header rest
+    × (says_sorted header ≡ false) × StuckAt kind (line_behind header) rest line
 
 -- `packed-refs` is well formed: the whole text is a header and records, no two of one name, and they ascend where the
 -- header says so
-pub record IsWellFormed (kind : Kind) (text : List ℕ) (h : Option Header) (rs : List Record) : Type 0 where
+pub record IsWellFormed (kind : Kind) (text : List ℕ) (h : Option Header)
+    (rs : List Record) : Type 0 where
   pub whole : PackedText kind text h rs
   pub distinct : AllPairs (λ r s. r.name ≢ s.name) rs
   pub ascends : says_sorted h ≡ true → Ascending rs

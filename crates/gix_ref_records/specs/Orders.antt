@@ -19,5 +19,6 @@ pub record SameReference (a b : Reference) : Type 0 where
 -- by the bytes of the name, the target and the peeled id
 abbrev pub reference_cmp : Reference → Reference → Ordering
 reference_cmp a b = ordering_then
-    (ordering_then (slice_cmp nat_cmp (full_bytes a.name) (full_bytes b.name)) (target_cmp (target_value a.target) (target_value b.target)))
+    (ordering_then (slice_cmp nat_cmp (full_bytes a.name) (full_bytes b.name))
+    (target_cmp (target_value a.target) (target_value b.target)))
     (option_cmp id_cmp a.peeled b.peeled)

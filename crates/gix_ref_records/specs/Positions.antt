@@ -51,21 +51,25 @@ NameAt kind text name = (digits rest : List ℕ) × RecordLine kind text digits 
 abbrev pub Compares : Kind → List ℕ → List ℕ → Option Ordering → Type 0
 Compares kind text wanted order =
     MatchOption order ((name : List ℕ) → name ≢ [] → NameAt kind text name → ⊥)
-    (λ o. (name : List ℕ) × NameAt kind text name × (o ≡ slice_cmp nat_cmp name wanted) × (name ≢ []))
+    (λ o. (name : List ℕ) × NameAt kind text name × (o ≡ slice_cmp nat_cmp name wanted)
+    × (name ≢ []))
 
 -- no byte up to CR is in it: so it compares with the bytes of a line as with the name at the front of them
 abbrev pub IsPlain : List ℕ → Type 0
 IsPlain name = All (λ b. 13 < b) name
 
 -- how the name there compares with the wanted one, if there is one; where it is the wanted one, or `sure` holds, there is one
-pub record Orders (kind : Kind) (text wanted : List ℕ) (sure : Bool) (order : Ordering) : Type 0 where
+pub record Orders (kind : Kind) (text wanted : List ℕ) (sure : Bool)
+    (order : Ordering) : Type 0 where
   pub compares : (name : List ℕ) → NameAt kind text name → order ≡ slice_cmp nat_cmp name wanted
-  pub named : (sure ≡ true) ⊎ (order ≡ Equal) → (name : List ℕ) × NameAt kind text name × (name ≢ [])
+  pub named : (sure ≡ true) ⊎ (order ≡ Equal) → (name : List ℕ) × NameAt kind text name
+      × (name ≢ [])
 
 -- the same, or that no name is there; an empty name is no name
 abbrev pub OrdersIfNamed : Kind → List ℕ → List ℕ → Bool → Option Ordering → Type 0
 OrdersIfNamed kind text wanted sure order =
-    MatchOption order ((name : List ℕ) → name ≢ [] → NameAt kind text name → ⊥) (Orders kind text wanted sure)
+    MatchOption order ((name : List ℕ) → name ≢ [] → NameAt kind text name → ⊥)
+    (Orders kind text wanted sure)
 
 -- on any text: a line begins there, with the wanted name in a record's place
 pub record HitsAt (kind : Kind) (text wanted : List ℕ) (start : ℕ) : Type 0 where
@@ -74,7 +78,8 @@ pub record HitsAt (kind : Kind) (text wanted : List ℕ) (start : ℕ) : Type 0 
   pub named : NameAt kind (drop start text) wanted
 
 -- in a list of records: the one of that name begins there
-pub record FindsAt (kind : Kind) (text : List ℕ) (rs : List Record) (wanted : List ℕ) (start : ℕ) : Type 0 where
+pub record FindsAt (kind : Kind) (text : List ℕ) (rs : List Record) (wanted : List ℕ)
+    (start : ℕ) : Type 0 where
   pub found : Record
   pub is : record_named wanted rs ≡ Some found
   pub rest : List ℕ

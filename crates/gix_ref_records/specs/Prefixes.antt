@@ -17,7 +17,8 @@ pub record IsListStart (text : List ℕ) (start : ℕ) : Type 0 where
   pub begins : (start ≡ length text) ⊎ BeginsLine text start
 
 -- the names before the place are below the wanted one, and those from there on are not
-pub record SplitsAt (kind : Kind) (text : List ℕ) (rs : List Record) (wanted : List ℕ) (start : ℕ) : Type 0 where
+pub record SplitsAt (kind : Kind) (text : List ℕ) (rs : List Record) (wanted : List ℕ)
+    (start : ℕ) : Type 0 where
   pub before : List Record
   pub after : List Record
   pub is : rs ≡ before ++ after

@@ -8,7 +8,12 @@ use Rattle.gix_ref_base.specs.PackedRecords.{Record}
 
 -- the record of these bytes
 abbrev pub record_with : List ℕ → List ℕ → Option (Bor (List ℕ)) → Record
-record_with name target object = record { name = name; target = target; object = option_map (λ o. o.now) object }
+record_with name target object =
+    record { name = name; target = target; object = option_map (λ o. o.now) object }
 
 abbrev pub record_of : Reference → Record
-record_of r = record { name = full_ref_bytes r.name; target = r.target.now; object = option_map (λ o. o.now) r.object }
+record_of r = record {
+  name = full_ref_bytes r.name;
+  target = r.target.now;
+  object = option_map (λ o. o.now) r.object;
+}

@@ -17,22 +17,27 @@ IsWindow text from window = window ≡ take (length window) (drop from text)
 
 -- of each text that has this window, which begins with the text where `at_start` holds
 abbrev pub EachText : Bool → List ℕ → (List ℕ → ℕ → Type 0) → Type 0
-EachText at_start window P = (text : List ℕ) (from : ℕ) → IsWindow text from window → (at_start ≡ true → from ≡ 0) → P text from
+EachText at_start window P = (text : List ℕ) (from : ℕ) → IsWindow text from window →
+    (at_start ≡ true → from ≡ 0) → P text from
 
 -- the byte's line begins there, if it begins in the window
 abbrev pub ShowsLine : Bool → List ℕ → ℕ → Option ℕ → Type 0
-ShowsLine at_start window at found = IfSome found (λ start. EachText at_start window (λ text from. LineOf text (from + start) (from + at)))
+ShowsLine at_start window at found = IfSome found
+    (λ start. EachText at_start window (λ text from. LineOf text (from + start) (from + at)))
 
 -- the byte's record begins there, if it begins in the window
 abbrev pub ShowsRecord : Bool → List ℕ → ℕ → Option ℕ → Type 0
-ShowsRecord at_start window at found = IfSome found (λ start. EachText at_start window (λ text from. RecordOf text (from + start) (from + at)))
+ShowsRecord at_start window at found = IfSome found
+    (λ start. EachText at_start window (λ text from. RecordOf text (from + start) (from + at)))
 
 -- the name in a record's place at the front of a text, or that no name is there, if the part of it shows that; the
 -- part is the whole text where `at_eof` holds
 abbrev pub ShowsName : Kind → Bool → List ℕ → InWindow (Option (Bor (List ℕ))) → Type 0
 ShowsName kind at_eof part found =
-    IfHere found (λ name. (text : List ℕ) → part ≡ take (length part) text → (at_eof ≡ true → part ≡ text) →
-    MatchOption name ((n : List ℕ) → n ≢ [] → NameAt kind text n → ⊥) (λ n. (n.now ≢ []) × NameAt kind text n.now))
+    IfHere found
+    (λ name. (text : List ℕ) → part ≡ take (length part) text → (at_eof ≡ true → part ≡ text) →
+    MatchOption name ((n : List ℕ) → n ≢ [] → NameAt kind text n → ⊥)
+    (λ n. (n.now ≢ []) × NameAt kind text n.now))
 
 -- the digits, where they are there, are read as this id
 abbrev pub ReadsOption : Option (List ℕ) → Option ObjectId → Type 0
@@ -56,7 +61,8 @@ AreFound (Some r) None = ⊥
 -- the record at the front of a text, or that no record is there
 abbrev pub FrontIs : Kind → List ℕ → Option Found → Type 0
 FrontIs kind text None = NoRecord kind text
-FrontIs kind text (Some found) = (r : Record) × (rest : List ℕ) × Takes kind text r rest × IsFound r found
+FrontIs kind text (Some found) = (r : Record) × (rest : List ℕ) × Takes kind text r rest
+    × IsFound r found
 
 -- the ids are those of a record of that name at the start of a line
 pub record HitsRecord (kind : Kind) (text wanted : List ℕ) (found : Found) : Type 0 where

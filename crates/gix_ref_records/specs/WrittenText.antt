@@ -15,9 +15,11 @@ written_header = record { peeled = Fully; sorted = true }
 
 -- the written text of such records is that of these records
 abbrev pub WrittenTextReadsBack : Type 0
-WrittenTextReadsBack = (kind : Kind) (rs : List Record) → All (IsReadable kind) rs → PackedText kind (written_text rs) (Some written_header) rs
+WrittenTextReadsBack = (kind : Kind) (rs : List Record) → All (IsReadable kind) rs →
+    PackedText kind (written_text rs) (Some written_header) rs
 
 -- a text is that of one header and one list of records at most
 abbrev pub PackedTextIsOne : Type 0
 PackedTextIsOne =
-    (kind : Kind) (text : List ℕ) (g h : Option Header) (rs ss : List Record) → PackedText kind text g rs → PackedText kind text h ss → (g ≡ h) × (rs ≡ ss)
+    (kind : Kind) (text : List ℕ) (g h : Option Header) (rs ss : List Record) →
+    PackedText kind text g rs → PackedText kind text h ss → (g ≡ h) × (rs ≡ ss)

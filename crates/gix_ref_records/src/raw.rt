@@ -59,9 +59,8 @@ impl Reference {
     /// The name inside of the namespace. `None` where the name does not begin with it, and where the rest is no valid
     /// partial name. As gix-ref's `Reference::name_without_namespace`.
     pub fn name_without_namespace(&self, namespace: &Namespace) -> Option<FullNameRef<'_>>
-        ensures { MatchOption result
-            ((rest : List ℕ) → IsPartialName rest
-            → full_bytes self.now.name ≢ namespace_bytes namespace.now ++ rest)
+        ensures { MatchOption result ((rest : List ℕ) → IsPartialName rest →
+            full_bytes self.now.name ≢ namespace_bytes namespace.now ++ rest)
             (λ n. full_bytes self.now.name ≡ namespace_bytes namespace.now ++ full_ref_bytes n) }
     {
         self.name.as_ref().without_namespace(namespace)

@@ -18,18 +18,22 @@ time_cmp s o s' o' = ordering_then (int_cmp s s') (int_cmp o o')
 
 -- by the name, the email, the seconds and the offset
 abbrev pub who_cmp : Who → Who → Ordering
-who_cmp a b = ordering_then (ordering_then (text_cmp a.name b.name) (text_cmp a.email b.email)) (time_cmp a.seconds a.offset b.seconds b.offset)
+who_cmp a b = ordering_then (ordering_then (text_cmp a.name b.name) (text_cmp a.email b.email))
+    (time_cmp a.seconds a.offset b.seconds b.offset)
 
 -- by the ids, the signature and the message
 abbrev pub line_cmp : Line → Line → Ordering
 line_cmp a b = ordering_then
-    (ordering_then (ordering_then (id_cmp a.previous_oid b.previous_oid) (id_cmp a.new_oid b.new_oid)) (who_cmp (signature_who a.signature) (signature_who b.signature)))
+    (ordering_then (ordering_then (id_cmp a.previous_oid b.previous_oid) (id_cmp a.new_oid
+    b.new_oid)) (who_cmp (signature_who a.signature) (signature_who b.signature)))
     (text_cmp a.message.items b.message.items)
 
 -- by the digits of the ids as they are written, the signature and the message
 abbrev pub line_ref_cmp : LineRef → LineRef → Ordering
 line_ref_cmp a b = ordering_then
-    (ordering_then (ordering_then (text_cmp a.previous_oid.now b.previous_oid.now) (text_cmp a.new_oid.now b.new_oid.now)) (who_cmp (signature_ref_who a.signature) (signature_ref_who b.signature)))
+    (ordering_then (ordering_then (text_cmp a.previous_oid.now b.previous_oid.now)
+    (text_cmp a.new_oid.now b.new_oid.now))
+    (who_cmp (signature_ref_who a.signature) (signature_ref_who b.signature)))
     (text_cmp a.message.now b.message.now)
 
 -- the same ids, signature and message

@@ -18,10 +18,10 @@ fn allowed_path(
     settings: Settings<'_>,
     name: FullNameRef<'_>,
 ) -> Result<Vec<u8>, Error>
-    ensures path { IfOk result (λ path. path.items ≡ log_path settings.entry (full_ref_bytes
-        name.entry)) }
-    ensures allowed { OnOk result (is_prohibited settings.entry (full_ref_bytes name.entry) ≡
-        false) }
+    ensures path { IfOk result (λ path. path.items
+        ≡ log_path settings.entry (full_ref_bytes name.entry)) }
+    ensures allowed { OnOk result
+        (is_prohibited settings.entry (full_ref_bytes name.entry) ≡ false) }
     ensures failed { IfErr result (IsNoPath settings.entry (full_ref_bytes name.entry)) }
 {
     let path = settings.log(alloc, name)?;
@@ -38,11 +38,10 @@ pub fn log_exists<F: Files>(
     settings: Settings<'_>,
     name: FullNameRef<'_>,
 ) -> Result<bool, Error>
-    ensures exists { F.honest → IfOk result (λ exists.
-        exists ≡ is_file (log_content settings.entry (F.means files.old).tree (full_ref_bytes
-        name.entry))) }
-    ensures allowed { OnOk result (is_prohibited settings.entry (full_ref_bytes name.entry) ≡
-        false) }
+    ensures exists { F.honest → IfOk result (λ exists. exists ≡ is_file
+        (log_content settings.entry (F.means files.old).tree (full_ref_bytes name.entry))) }
+    ensures allowed { OnOk result
+        (is_prohibited settings.entry (full_ref_bytes name.entry) ≡ false) }
     ensures failed { IfErr result (IsNoLog settings.entry (full_ref_bytes name.entry)) }
     ensures count { F.faults files.new ≡ count_log result (F.faults files.old) }
     ensures leaves { F.honest → Leaves (F.means files.old) (F.means files.new)
@@ -64,10 +63,10 @@ pub fn read_log<F: Files>(
     name: FullNameRef<'_>,
     buf: &mut Vec<u8>,
 ) -> Result<bool, Error>
-    ensures read { F.honest → IfOk result (HoldsLog (log_content settings.entry (F.means
-        files.old).tree (full_ref_bytes name.entry)) buf.new.items) }
-    ensures allowed { OnOk result (is_prohibited settings.entry (full_ref_bytes name.entry) ≡
-        false) }
+    ensures read { F.honest → IfOk result (HoldsLog (log_content settings.entry
+        (F.means files.old).tree (full_ref_bytes name.entry)) buf.new.items) }
+    ensures allowed { OnOk result
+        (is_prohibited settings.entry (full_ref_bytes name.entry) ≡ false) }
     ensures failed { IfErr result (IsNoLog settings.entry (full_ref_bytes name.entry)) }
     ensures count { F.faults files.new ≡ count_log result (F.faults files.old) }
     ensures leaves { F.honest → Leaves (F.means files.old) (F.means files.new)
@@ -87,10 +86,10 @@ pub fn open_log<F: Files>(
     settings: Settings<'_>,
     name: FullNameRef<'_>,
 ) -> Result<Option<F::Reader>, Error>
-    ensures opened { F.honest → IfOk result (Opens F.Reader.honest F.Reader.bytes (F.means
-        files.old).tree (log_path settings.entry (full_ref_bytes name.entry))) }
-    ensures allowed { OnOk result (is_prohibited settings.entry (full_ref_bytes name.entry) ≡
-        false) }
+    ensures opened { F.honest → IfOk result (Opens F.Reader.honest F.Reader.bytes
+        (F.means files.old).tree (log_path settings.entry (full_ref_bytes name.entry))) }
+    ensures allowed { OnOk result
+        (is_prohibited settings.entry (full_ref_bytes name.entry) ≡ false) }
     ensures failed { IfErr result (IsNoLog settings.entry (full_ref_bytes name.entry)) }
     ensures count { F.faults files.new ≡ count_log result (F.faults files.old) }
     ensures leaves { F.honest → Leaves (F.means files.old) (F.means files.new)

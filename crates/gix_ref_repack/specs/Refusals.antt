@@ -47,17 +47,20 @@ IsReadText kind text = (rs : List Record) × Records kind text rs
 -- each line of the file behind its header is a record, or there is no file
 abbrev pub IsReadFile : Kind → Option Content → Type 0
 IsReadFile kind packed =
-    (is_file packed ≡ false) ⊎ ((text : List ℕ) × (first : ℕ) × OpensTo kind (bytes_of packed) text first × IsReadText kind text)
+    (is_file packed ≡ false) ⊎ ((text : List ℕ) × (first : ℕ)
+    × OpensTo kind (bytes_of packed) text first × IsReadText kind text)
 
 -- the file is opened, and in the line of that number no record begins
 abbrev pub IsStuckFile : Kind → Option Content → ℕ → Type 0
 IsStuckFile kind packed line =
-    (is_file packed ≡ true) × (text : List ℕ) × (first : ℕ) × OpensTo kind (bytes_of packed) text first × StuckAt kind first text line
+    (is_file packed ≡ true) × (text : List ℕ) × (first : ℕ)
+    × OpensTo kind (bytes_of packed) text first × StuckAt kind first text line
 
 -- the file is not opened, for its header or for the line of that number; or it is opened, and no record begins there
 abbrev pub IsBadLine : Kind → Option Content → ℕ → Type 0
 IsBadLine kind packed line =
-    ((line ≡ 1) × IsRefusedFile kind packed HeaderParsing) ⊎ (IsRefusedFile kind packed (Iter line) ⊎ IsStuckFile kind packed line)
+    ((line ≡ 1) × IsRefusedFile kind packed HeaderParsing)
+    ⊎ (IsRefusedFile kind packed (Iter line) ⊎ IsStuckFile kind packed line)
 
 -- `Iteration` reports a bad line of `packed-refs`
 abbrev pub IsRefusedRewrite : Kind → Option Content → Error → Type 0

@@ -36,7 +36,8 @@ pub record AreWithout (keys : List (List ℕ)) (old new : List Record) : Type 0 
   pub ascending : Ascending new
 
 -- the text of such records, which is read as they are
-pub record IsTextWithout (kind : Kind) (keys : List (List ℕ)) (old : List Record) (text : List ℕ) : Type 0 where
+pub record IsTextWithout (kind : Kind) (keys : List (List ℕ)) (old : List Record)
+    (text : List ℕ) : Type 0 where
   pub new : List Record
   pub without : AreWithout keys old new
   pub some : new ≢ []
@@ -47,7 +48,8 @@ pub record IsTextWithout (kind : Kind) (keys : List (List ℕ)) (old : List Reco
 abbrev pub IsWithout : Kind → List (List ℕ) → List Record → Rewrite → Type 0
 IsWithout kind keys old Unchanged = finds_some keys old ≡ false
 IsWithout kind keys old Removed = (finds_some keys old ≡ true) × AreWithout keys old []
-IsWithout kind keys old (Text text) = (finds_some keys old ≡ true) × IsTextWithout kind keys old text.items
+IsWithout kind keys old (Text text) = (finds_some keys old ≡ true)
+    × IsTextWithout kind keys old text.items
 
 -- why the records of a text, whose first line has that number, cannot be rewritten
 abbrev pub IsStuckIn : Kind → ℕ → List ℕ → Error → Type 0

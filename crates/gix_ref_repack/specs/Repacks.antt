@@ -19,7 +19,8 @@ abbrev pub removes_record : Edit → Bool
 removes_record edit = deletes_reference edit.update.change && is_some edit.packed
 
 -- The new text of `packed-refs`: that of the merged records, which is well formed and read as these records.
-pub record IsNewPacked (s : Store) (kind : Kind) (rs : List Record) (edits : List plan.Edit) (text : List ℕ) : Type 0 where
+pub record IsNewPacked (s : Store) (kind : Kind) (rs : List Record) (edits : List plan.Edit)
+    (text : List ℕ) : Type 0 where
   pub merged : List Record
   pub is_merged : MergesRecords s DeletionsOnly edits rs merged
   pub is_file : file_of_records s merged ≡ Some text
@@ -30,5 +31,7 @@ pub record IsNewPacked (s : Store) (kind : Kind) (rs : List Record) (edits : Lis
 -- left, and else has a new text.
 abbrev pub IsRepack : Store → Kind → List Record → List plan.Edit → Rewrite → Type 0
 IsRepack s kind rs edits Unchanged = alters_packed s DeletionsOnly rs edits ≡ false
-IsRepack s kind rs edits Removed = (alters_packed s DeletionsOnly rs edits ≡ true) × MergesRecords s DeletionsOnly edits rs []
-IsRepack s kind rs edits (Text text) = (alters_packed s DeletionsOnly rs edits ≡ true) × IsNewPacked s kind rs edits text.items
+IsRepack s kind rs edits Removed = (alters_packed s DeletionsOnly rs edits ≡ true)
+    × MergesRecords s DeletionsOnly edits rs []
+IsRepack s kind rs edits (Text text) = (alters_packed s DeletionsOnly rs edits ≡ true)
+    × IsNewPacked s kind rs edits text.items

@@ -14,11 +14,11 @@ use gix_ref_files::lock::LockFile;
 /// Puts the text into the lock, which is empty, and syncs it.
 pub fn write_text<F: Files>(files: &mut F, lock: &LockFile, text: &[u8]) -> Result<(), FileError>
     ensures filled { F.honest → (F.means files.old).tree (lock_of lock.now) ≡ Some (File []) →
-        OnOk result ((F.means files.new).tree ≡ put (F.means files.old).tree (lock_of lock.now)
-        (Some (File text.now))) }
+        OnOk result ((F.means files.new).tree
+        ≡ put (F.means files.old).tree (lock_of lock.now) (Some (File text.now))) }
     ensures leaves { F.honest → (F.means files.old).tree (lock_of lock.now) ≡ Some (File []) →
-        Leaves (F.means files.old) (F.means files.new) (FillsLock (F.means files.old).tree
-        (lock_of lock.now)) }
+        Leaves (F.means files.old) (F.means files.new)
+        (FillsLock (F.means files.old).tree (lock_of lock.now)) }
     ensures whole { F.honest → IsWholeAt (disk_of (F.means files.old)) (lock_of lock.now) [] →
         OnOk result (IsWholeAt (disk_of (F.means files.new)) (lock_of lock.now) text.now) }
     ensures passes { F.honest → Passes (F.means files.old) (F.means files.new)

@@ -33,8 +33,8 @@ fn key_of(
     settings: &Settings<'_>,
     edit: &Edit,
 ) -> Result<Option<Vec<u8>>, AllocError>
-    ensures { IfOk result
-        (λ key. option_map vec_items key ≡ removed_key (setting_of settings.now) edit.now) }
+    ensures { IfOk result (λ key. option_map vec_items key
+        ≡ removed_key (setting_of settings.now) edit.now) }
 {
     if !removes(edit) {
         return Ok(None);
@@ -48,8 +48,8 @@ fn keys_of(
     settings: &Settings<'_>,
     edits: &[Edit],
 ) -> Result<Vec<Vec<u8>>, AllocError>
-    ensures { IfOk result (λ keys. map vec_items keys.items ≡ keys_to_remove
-        (setting_of settings.now) edits.now) }
+    ensures { IfOk result (λ keys. map vec_items keys.items
+        ≡ keys_to_remove (setting_of settings.now) edits.now) }
 {
     let mut keys = Vec::new(alloc);
     for edit in edits {
@@ -66,10 +66,9 @@ pub fn sorted_keys(
     settings: &Settings<'_>,
     edits: &[Edit],
 ) -> Result<Vec<Vec<u8>>, AllocError>
-    ensures moved { IfOk result (λ keys. IsPermutation (keys_to_remove
-        (setting_of settings.now) edits.now) (map vec_items keys.items)) }
-    ensures sorted { IfOk result
-        (λ keys. IsSorted (slice_cmp nat_cmp) (map vec_items keys.items)) }
+    ensures moved { IfOk result (λ keys. IsPermutation
+        (keys_to_remove (setting_of settings.now) edits.now) (map vec_items keys.items)) }
+    ensures sorted { IfOk result (λ keys. IsSorted (slice_cmp nat_cmp) (map vec_items keys.items)) }
 {
     let mut keys = keys_of(alloc, settings, edits)?;
     keys.sort_unstable();

@@ -64,9 +64,8 @@ pub fn without(
     keys: &[Vec<u8>],
 ) -> Result<Rewrite, Error>
     ensures rewritten { (rs : List Record) → HoldsRecords kind rs (buffer_text buffer.now) →
-        IsStrictlySortedBy (slice_cmp nat_cmp) (map vec_items keys.now) →
-        MatchResult result (IsWithout kind (map vec_items keys.now) rs)
-        (λ error. error ≡ Error.Memory) }
+        IsStrictlySortedBy (slice_cmp nat_cmp) (map vec_items keys.now) → MatchResult result
+        (IsWithout kind (map vec_items keys.now) rs) (λ error. error ≡ Error.Memory) }
     ensures whole { OnOk result (IsReadText kind (buffer_text buffer.now)) }
     ensures refused { IfErr result
         (IsStuckIn kind (buffer_line buffer.now) (buffer_text buffer.now)) }
@@ -88,10 +87,9 @@ pub fn file_without<F: Files>(
     ensures rewritten { F.honest → (rs : List Record) →
         ArePackedRecords settings.now.kind (packed_refs_in settings.now (F.means files.old)) rs →
         IsStrictlySortedBy (slice_cmp nat_cmp) (map vec_items keys.now) →
-        MatchResult result (IsWithout settings.now.kind (map vec_items keys.now) rs)
-        IsRepackFault }
-    ensures whole { F.honest → OnOk result (IsReadFile settings.now.kind ((F.means files.old).tree
-        (meaning_in settings.now).packed_path)) }
+        MatchResult result (IsWithout settings.now.kind (map vec_items keys.now) rs) IsRepackFault }
+    ensures whole { F.honest → OnOk result (IsReadFile settings.now.kind
+        ((F.means files.old).tree (meaning_in settings.now).packed_path)) }
     ensures refused { F.honest → IfErr result (IsRefusedRewrite settings.now.kind
         ((F.means files.old).tree (meaning_in settings.now).packed_path)) }
     ensures reads { OnlyReads F.honest F.means F.faults files.old files.new }

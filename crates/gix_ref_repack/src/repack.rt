@@ -43,25 +43,23 @@ pub fn repack<F: Files>(
     // Of a well-formed file, among whose records the edits have their ids, it is what the edits make of it, where no two have
     // one place; and there is no fault but of files or of memory.
     ensures repacked { F.honest → AreEdits (setting_of settings.now) (planned (updates edits.now)) →
-        (rs : List Record) →
-        ArePackedRecords settings.now.kind (packed_refs_in settings.now (F.means files.old)) rs →
-        ids_in edits.now ≡ ids_among (setting_of settings.now) rs (updates edits.now) →
-        IfOk result (IsRepack (setting_of settings.now) settings.now.kind rs
-        (planned (updates edits.now))) }
+        (rs : List Record) → ArePackedRecords settings.now.kind
+        (packed_refs_in settings.now (F.means files.old)) rs →
+        ids_in edits.now ≡ ids_among (setting_of settings.now) rs (updates edits.now) → IfOk result
+        (IsRepack (setting_of settings.now) settings.now.kind rs (planned (updates edits.now))) }
     ensures sound { F.honest → AreEdits (setting_of settings.now) (planned (updates edits.now)) →
-        (rs : List Record) →
-        ArePackedRecords settings.now.kind (packed_refs_in settings.now (F.means files.old)) rs →
-        IfErr result IsRepackFault }
+        (rs : List Record) → ArePackedRecords settings.now.kind
+        (packed_refs_in settings.now (F.means files.old)) rs → IfErr result IsRepackFault }
 
     // Of any file, a line that is reported is no record, and where an edit removes a record each line is one. Where no edit removes
     // a record, no file is looked at.
-    ensures whole { F.honest → list_any removes_record edits.now ≡ true → OnOk result
-        (IsReadFile settings.now.kind ((F.means files.old).tree
-        (setting_of settings.now).packed_path)) }
+    ensures whole { F.honest → list_any removes_record edits.now ≡ true →
+        OnOk result (IsReadFile settings.now.kind
+        ((F.means files.old).tree (setting_of settings.now).packed_path)) }
     ensures refused { F.honest → IfErr result (IsRefusedRewrite settings.now.kind
         ((F.means files.old).tree (setting_of settings.now).packed_path)) }
-    ensures idle { list_any removes_record edits.now ≡ false →
-        (files.new ≡ files.old) × (result ≡ Ok Rewrite.Unchanged) }
+    ensures idle { list_any removes_record edits.now ≡ false → (files.new ≡ files.old)
+        × (result ≡ Ok Rewrite.Unchanged) }
     ensures reads { OnlyReads F.honest F.means F.faults files.old files.new }
     ensures counted { IfErr result (IsCountedRefusal (F.faults files.old) (F.faults files.new)) }
 {

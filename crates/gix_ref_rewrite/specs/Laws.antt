@@ -21,8 +21,10 @@ IsIdIfAny kind (Some id) = IsIdOf kind id
 -- a new record with a valid full name and ids of the kind can be read
 abbrev pub NewRecordsAreReadable : Type 0
 NewRecordsAreReadable =
-    (kind : Kind) (key : List ℕ) (new : NewRecord) → IsFullName key → IsIdOf kind new.target → IsIdIfAny kind new.peeled → IsReadable kind (new_record key new)
+    (kind : Kind) (key : List ℕ) (new : NewRecord) → IsFullName key → IsIdOf kind new.target →
+    IsIdIfAny kind new.peeled → IsReadable kind (new_record key new)
 
 -- each name is below each that follows
 abbrev pub AscendingInPairs : Type 0
-AscendingInPairs = (rs : List Record) → Ascending rs → AllPairs (λ r later. Below r.name later.name) rs
+AscendingInPairs = (rs : List Record) → Ascending rs →
+    AllPairs (λ r later. Below r.name later.name) rs

@@ -9,7 +9,8 @@ use Rattle.gix_ref_rewrite.specs.declared.edit.RecordEdit.{RecordEdit}
 
 -- the record of a key with new ids
 abbrev pub new_record : List ℕ → NewRecord → Record
-new_record key new = record { name = key; target = written_id new.target; object = option_map written_id new.peeled }
+new_record key new =
+    record { name = key; target = written_id new.target; object = option_map written_id new.peeled }
 
 -- the record that an edit puts, if it is no removal
 abbrev pub record_put : RecordEdit → Option Record
@@ -18,7 +19,8 @@ record_put e = option_map (new_record e.key.now) e.put
 -- the record of a key after the edits, of which at most one is of the key, where `old` was there
 abbrev pub record_after : List RecordEdit → List ℕ → Option Record → Option Record
 record_after [] key old = old
-record_after (e ∷ edits) key old = if bytes_eq e.key.now key then record_put e else record_after edits key old
+record_after (e ∷ edits) key old = if bytes_eq e.key.now key then record_put e
+    else record_after edits key old
 
 -- each key is below all that follow, so no two are of one key
 abbrev pub KeysAscend : List RecordEdit → Type 0

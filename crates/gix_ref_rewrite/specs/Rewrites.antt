@@ -33,15 +33,18 @@ IsReadableIfAny kind None = Unit {0}
 IsReadableIfAny kind (Some r) = IsReadable kind r
 
 -- The new text is that of the merged records, and it is read as these records, in their order.
-pub record IsNewText (kind : Kind) (edits : List RecordEdit) (old : List Record) (text : List ℕ) : Type 0 where
+pub record IsNewText (kind : Kind) (edits : List RecordEdit) (old : List Record)
+    (text : List ℕ) : Type 0 where
   pub new : List Record
   pub merged : IsMerged edits old new
   pub some : new ≢ []
   pub is_text : text ≡ written_text new
-  pub reads_back : All (λ e. IsReadableIfAny kind (record_put e)) edits → IsWellFormed kind text (Some written_header) new
+  pub reads_back : All (λ e. IsReadableIfAny kind (record_put e)) edits →
+      IsWellFormed kind text (Some written_header) new
 
 -- what becomes of these records by the edits
 abbrev pub IsRewrite : Kind → List RecordEdit → List Record → Rewrite → Type 0
 IsRewrite kind edits old Unchanged = are_altered edits old ≡ false
 IsRewrite kind edits old Removed = (are_altered edits old ≡ true) × IsMerged edits old []
-IsRewrite kind edits old (Text text) = (are_altered edits old ≡ true) × IsNewText kind edits old text.items
+IsRewrite kind edits old (Text text) = (are_altered edits old ≡ true)
+    × IsNewText kind edits old text.items

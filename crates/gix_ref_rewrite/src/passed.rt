@@ -30,8 +30,8 @@ pub fn pass_until<'a>(ahead: Ahead<'a>, kind: Kind, left: usize) -> Result<Ahead
 
 /// What follows the first record, where that is the record of the key.
 pub fn pass_named<'a>(ahead: Ahead<'a>, kind: Kind, key: &[u8]) -> Option<Ahead<'a>>
-    ensures { MatchOption result
-        ((r : Record) (rest : List ℕ) → Takes kind ahead.entry.rest.now r rest → r.name ≢ key.now)
+    ensures { MatchOption result ((r : Record) (rest : List ℕ) →
+        Takes kind ahead.entry.rest.now r rest → r.name ≢ key.now)
         (λ next. (r : Record) × (r.name ≡ key.now) × PassesRecords kind ahead.entry (r ∷ []) next) }
 {
     let Some((reference, after)) = take_record(ahead.rest, kind) else {

@@ -55,8 +55,8 @@ pub fn rewrite(
     requires line { first_line ≤ 2 }
 
     // Of records in the order of their names it is what the edits make of them, and fails for want of memory alone.
-    ensures rewritten { (rs : List Record) → Records kind records.now rs → Ascending rs
-        → KeysAscend edits.now →
+    ensures rewritten { (rs : List Record) → Records kind records.now rs →
+        Ascending rs → KeysAscend edits.now →
         MatchResult result (IsRewrite kind edits.now rs) (λ error. error ≡ Memory) }
 
     // Any text that it rewrites is records as a whole; else some line is no record, or there was no memory.

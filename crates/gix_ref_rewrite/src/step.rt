@@ -21,8 +21,7 @@ fn copy_until<'a>(
     kind: Kind,
     left: usize,
 ) -> Result<Ahead<'a>, Error>
-    ensures copies { IfOk result
-        (CopiesUntil kind left ahead.entry text.old.items text.new.items) }
+    ensures copies { IfOk result (CopiesUntil kind left ahead.entry text.old.items text.new.items) }
     ensures refused { IfErr result (IsStuckAt kind ahead.entry.line ahead.entry.rest.now) }
 {
     let next = pass_until(ahead, kind, left)?;
@@ -38,8 +37,7 @@ fn copy_below<'a>(
     kind: Kind,
     key: &[u8],
 ) -> Result<Ahead<'a>, Error>
-    ensures copies { IfOk result
-        (Copies kind key.now ahead.entry text.old.items text.new.items) }
+    ensures copies { IfOk result (Copies kind key.now ahead.entry text.old.items text.new.items) }
     ensures refused { IfErr result (IsStuckAt kind ahead.entry.line ahead.entry.rest.now) }
 {
     let place = lower_bound_in_memory(ahead.rest, kind, key);

@@ -49,8 +49,8 @@ pub fn push_run(text: &mut Vec<u8>, run: &[u8]) -> Result<(), AllocError>
 
 /// Adds the line of a peeled id to a text, if there is one.
 fn push_peeled(text: &mut Vec<u8>, peeled: Option<ObjectId>) -> Result<(), AllocError>
-    ensures { OnOk result (text.new.items
-        ≡ text.old.items ++ object_line (option_map written_id peeled)) }
+    ensures { OnOk result
+        (text.new.items ≡ text.old.items ++ object_line (option_map written_id peeled)) }
 {
     let Some(peeled) = peeled else {
         return Ok(());
@@ -63,8 +63,8 @@ fn push_peeled(text: &mut Vec<u8>, peeled: Option<ObjectId>) -> Result<(), Alloc
 
 /// Adds the record of a key with new ids to a text.
 pub fn push_new(text: &mut Vec<u8>, key: &[u8], new: &NewRecord) -> Result<(), AllocError>
-    ensures { OnOk result (text.new.items
-        ≡ text.old.items ++ record_text (new_record key.now new.now)) }
+    ensures { OnOk result
+        (text.new.items ≡ text.old.items ++ record_text (new_record key.now new.now)) }
 {
     new.target.push_hex(text)?;
     text.extend_from_slice(b" ")?;

@@ -26,14 +26,19 @@ line_rules store committer = record {
 }
 
 -- the lines that are due for prepared edits as their commit begins, edit by edit
-abbrev pub lines_due : {F : Type 0} (means : F → Meaning) → Store F → (committer : Option SignatureRef) → List Edit → List (Option (List ℕ))
-lines_due means store committer held = due_lines (line_rules store committer) (view_of (tree_of means store)) (asked held)
+abbrev pub lines_due : {F : Type 0} (means : F → Meaning) → Store F →
+    (committer : Option SignatureRef) → List Edit → List (Option (List ℕ))
+lines_due means store committer held = due_lines (line_rules store committer)
+    (view_of (tree_of means store)) (asked held)
 
 -- each line that is due can be made and added: there is a committer, its signature and the message can be written, and no file is in the
 -- path of the log
-abbrev pub LinesPass : {F : Type 0} (honest : Type 0) (means : F → Meaning) → Store F → (committer : Option SignatureRef) → List Edit → Type 0
-LinesPass honest means store committer held = honest → AllHaveNoCause (line_rules store committer) (view_of (tree_of means store)) (asked held)
+abbrev pub LinesPass : {F : Type 0} (honest : Type 0) (means : F → Meaning) → Store F →
+    (committer : Option SignatureRef) → List Edit → Type 0
+LinesPass honest means store committer held = honest →
+    AllHaveNoCause (line_rules store committer) (view_of (tree_of means store)) (asked held)
 
 -- the path of the log of the edit at this place of the list
 abbrev pub log_path_at : {F : Type 0} → Store F → List Edit → ℕ → Path
-log_path_at store held at = get_or (map (λ (e : Edit). (meaning_of store).log (name_of e.update)) held) at []
+log_path_at store held at =
+    get_or (map (λ (e : Edit). (meaning_of store).log (name_of e.update)) held) at []

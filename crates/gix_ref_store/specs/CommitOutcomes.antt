@@ -16,7 +16,9 @@ use Rattle.gix_ref_store.specs.declared.file.store.Store.{Store}
 
 module _ {F : Type 0} (honest : Type 0) (means : F → Meaning) (faults : F → ℕ) where
   -- A commit that succeeded: it hands back these edits, and names these locks.
-  pub record HasSucceeded (start new : Store F) (committer : Option SignatureRef) (packed : Option Path) (held : List Edit) (returned : List RefEdit) (left : List Path) : Type 0 where
+  pub record HasSucceeded (start new : Store F) (committer : Option SignatureRef)
+      (packed : Option Path) (held : List Edit) (returned : List RefEdit)
+      (left : List Path) : Type 0 where
     -- the edits are those that were prepared
     pub edits : returned ≡ updates held
     -- they are committed
@@ -29,7 +31,8 @@ module _ {F : Type 0} (honest : Type 0) (means : F → Meaning) (faults : F → 
     pub settled : SettlesFrom honest means faults start new packed held
 
   -- A commit that failed with this error.
-  pub record HasEndedEarly (start new : Store F) (committer : Option SignatureRef) (packed : Option Path) (held : List Edit) (error : Error) : Type 0 where
+  pub record HasEndedEarly (start new : Store F) (committer : Option SignatureRef)
+      (packed : Option Path) (held : List Edit) (error : Error) : Type 0 where
     -- the cause, and the step at which it ended
     pub cause : FailsFor honest means faults start new committer packed held error
     -- which is no line of a well-formed `packed-refs`
@@ -37,14 +40,16 @@ module _ {F : Type 0} (honest : Type 0) (means : F → Meaning) (faults : F → 
 
   -- At each moment of a commit, where `packed-refs` was well formed, each reference reads as before or as edited; and of the locks only
   -- these stay, which it names.
-  pub record EveryMomentIsSafe (start new : Store F) (committer : Option SignatureRef) (packed : Option Path) (held : List Edit) (left : List Path) : Type 0 where
+  pub record EveryMomentIsSafe (start new : Store F) (committer : Option SignatureRef)
+      (packed : Option Path) (held : List Edit) (left : List Path) : Type 0 where
     -- at every stop, and at its end
     pub stops : EveryStopFrom honest means faults start new committer packed held left
     -- after every loss of power
     pub losses : EveryLossFrom honest means faults start new committer packed held
 
   -- What else holds of every commit. It names these locks.
-  pub record KeepsTheRest (start new : Store F) (committer : Option SignatureRef) (packed : Option Path) (held : List Edit) (left : List Path) : Type 0 where
+  pub record KeepsTheRest (start new : Store F) (committer : Option SignatureRef)
+      (packed : Option Path) (held : List Edit) (left : List Path) : Type 0 where
     -- no folder goes but those at or below a path that is written, and those above one that is removed
     pub folders : KeepsFolders honest means faults start new committer packed held
     -- for each lock that is named a fault was counted

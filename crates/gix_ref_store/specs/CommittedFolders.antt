@@ -47,7 +47,8 @@ log_of_deletion log (plan.Change.Update target) = []
 
 -- the paths that an edit removes: the log of a deletion, and its loose file, where that goes
 abbrev pub deleted_by : readings.Store → Edit → List Path
-deleted_by s edit = log_of_deletion (s.log (name_of edit.update)) (change_of edit.update.change) ++ removed_file edit.lock edit.effect
+deleted_by s edit = log_of_deletion (s.log (name_of edit.update))
+    (change_of edit.update.change) ++ removed_file edit.lock edit.effect
 
 -- at or below one of these paths
 abbrev pub IsInOneOf : List Path → Path → Type 0
@@ -58,20 +59,25 @@ IsInOneOf (path ∷ paths) q = IsAtOrBelow path q ⊎ IsInOneOf paths q
 -- path that was removed: up to `logs`, or `refs` and one component more. The git folder, the common folder and those above them stay.
 abbrev pub FoldersStay : Dirs → (written deleted : List Path) → (before T : Tree) → Type 0
 FoldersStay dirs written deleted before T =
-    (q : Path) → before q ≡ Some Folder → (T q ≡ Some Folder) ⊎ ((IsIn q (roots_of dirs) → ⊥) × (IsInOneOf written q ⊎ IsAbove dirs deleted q))
+    (q : Path) → before q ≡ Some Folder → (T q ≡ Some Folder)
+    ⊎ ((IsIn q (roots_of dirs) → ⊥) × (IsInOneOf written q ⊎ IsAbove dirs deleted q))
 
 module _ {F : Type 0} (honest : Type 0) (means : F → Meaning) (faults : F → ℕ) where
   -- what becomes of the logs of these edits as their commit begins
   abbrev pub outcomes_in : Store F → Option SignatureRef → List Edit → List LogOutcome
-  outcomes_in start committer held = log_outcomes (line_rules start committer) (view_of (means (files_of start)).tree) (asked held)
+  outcomes_in start committer held = log_outcomes (line_rules start committer)
+      (view_of (means (files_of start)).tree) (asked held)
 
   -- where a commit of these edits writes: `packed-refs`, where its lock is held, each loose file that is written, and each log whose line is due
   abbrev pub written_in : Store F → Option SignatureRef → Option Path → List Edit → List Path
-  written_in start committer packed held = packed_places packed ++ (flat_map written_by held ++ flat_map lined_by (outcomes_in start committer held))
+  written_in start committer packed held = packed_places packed
+      ++ (flat_map written_by held ++ flat_map lined_by (outcomes_in start committer held))
 
   -- and so for a commit of these edits, whose lock of `packed-refs` is empty, where it is held
-  abbrev pub KeepsFolders : (start new : Store F) → Option SignatureRef → Option Path → List Edit → Type 0
+  abbrev pub KeepsFolders : (start new : Store F) → Option SignatureRef → Option Path →
+      List Edit → Type 0
   KeepsFolders start new committer packed held =
       honest → IsPackedEmpty honest means faults start packed →
-      FoldersStay start.dirs (written_in start committer packed held) (flat_map (deleted_by (meaning_of start)) held)
+      FoldersStay start.dirs (written_in start committer packed held)
+      (flat_map (deleted_by (meaning_of start)) held)
       (means (files_of start)).tree (means (files_of new)).tree

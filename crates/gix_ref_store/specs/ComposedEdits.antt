@@ -21,7 +21,8 @@ abbrev pub AreComposedEdits : (given asked : List RefEdit) → Type 0
 AreComposedEdits [] [] = Unit {0}
 AreComposedEdits [] (edit ∷ asked) = ⊥
 AreComposedEdits (edit ∷ given) [] = ⊥
-AreComposedEdits (edit ∷ given) (other ∷ asked) = IsComposedEdit edit other × AreComposedEdits given asked
+AreComposedEdits (edit ∷ given) (other ∷ asked) = IsComposedEdit edit other
+    × AreComposedEdits given asked
 
 -- The edits that a store is asked for: those that are given; of the composed names, where it composes names.
 abbrev pub AreAskedAs : (composes : Bool) → (given asked : List RefEdit) → Type 0

@@ -46,26 +46,34 @@ module _ {F : Type 0} (honest : Type 0) (means : F → Meaning) (faults : F → 
   -- or memory was refused.
   abbrev pub IsUndecided : (start new : Store F) → Option SignatureRef → List Edit → Error → Type 0
   IsUndecided start new committer held (CreateOrUpdateRefLog (Append source path)) =
-      IsFaultBetween honest means faults start new source × ((at : ℕ) × (at < length held) × (honest → path.items ≡ log_path_at start held at))
+      IsFaultBetween honest means faults start new source
+      × ((at : ℕ) × (at < length held) × (honest → path.items ≡ log_path_at start held at))
   IsUndecided start new committer held (LockCommit source name) =
-      IsFaultBetween honest means faults start new source × ((at : ℕ) × (at < length held) × IsNameAt (updates held) at name)
+      IsFaultBetween honest means faults start new source
+      × ((at : ℕ) × (at < length held) × IsNameAt (updates held) at name)
   IsUndecided start new committer held (CreateOrUpdateRefLog error) =
-      (honest → FirstFails (line_rules start committer) (view_of (tree_of means start)) (asked held) error)
+      (honest → FirstFails (line_rules start committer) (view_of (tree_of means start))
+      (asked held) error)
       × IsCountedError (faults (files_of start)) (faults (files_of new)) error
-  IsUndecided start new committer held (PackedTransactionCommit (repack.Io fault)) = IsFaultBetween honest means faults start new fault
+  IsUndecided start new committer held (PackedTransactionCommit (repack.Io fault)) =
+      IsFaultBetween honest means faults start new fault
   IsUndecided start new committer held (PackedTransactionCommit (repack.Iteration line)) =
       (honest → IsBadLine (kind_of start) (tree_of means start (meaning_of start).packed_path) line)
       × (honest → AreEdits (meaning_of start) (planned (updates held)) → (rs : List Record) →
-      ArePackedRecords (kind_of start) (view_of (tree_of means start) (meaning_of start).packed_path) rs → ⊥)
+      ArePackedRecords (kind_of start)
+      (view_of (tree_of means start) (meaning_of start).packed_path) rs → ⊥)
       × LinesPass honest means start committer held
   IsUndecided start new committer held Memory = Unit {0}
   IsUndecided start new committer held other = ⊥
 
   -- What was decided of the logs of these edits, which became `ran`, and of `packed-refs`, with the path that it has. The new text of
   -- `packed-refs` is in its lock.
-  pub record TextsAreDecided (start new : Store F) (committer : Option SignatureRef) (packed : Option Path) (held ran : List Edit) (rewrite : Rewrite) (place : Path) : Type 0 where
+  pub record TextsAreDecided (start new : Store F) (committer : Option SignatureRef)
+      (packed : Option Path) (held ran : List Edit) (rewrite : Rewrite)
+      (place : Path) : Type 0 where
     -- each edit has what becomes of its log
-    pub logs : honest → outcomes_of ran ≡ log_outcomes (line_rules start committer) (view_of (tree_of means start)) (asked held)
+    pub logs : honest → outcomes_of ran ≡ log_outcomes (line_rules start committer)
+        (view_of (tree_of means start)) (asked held)
     -- and whether that was seen to be there
     pub logged : honest → SeeLogs (tree_of means start) ran
     -- each line that is due can be made and added
@@ -75,15 +83,20 @@ module _ {F : Type 0} (honest : Type 0) (means : F → Meaning) (faults : F → 
     -- the path of `packed-refs`, where its lock is held
     pub path : packed ≢ None → place ≡ (meaning_of start).packed_path
     -- no other file has changed
-    pub filled : honest → IsPackedEmpty honest means faults start packed → IsFilled packed rewrite (tree_of means start) (tree_of means new)
+    pub filled : honest → IsPackedEmpty honest means faults start packed →
+        IsFilled packed rewrite (tree_of means start) (tree_of means new)
     -- each lock whose text was synced has a synced one still
-    pub wholes : honest → IsPackedEmpty honest means faults start packed → (locks : List Path) → AreWholeLocks (disk_in means start) locks → AreWholeLocks (disk_in means new) locks
+    pub wholes : honest → IsPackedEmpty honest means faults start packed → (locks : List Path) →
+        AreWholeLocks (disk_in means start) locks → AreWholeLocks (disk_in means new) locks
 
   -- All that a commit decides before its first write.
-  pub record AllIsDecided (start new : Store F) (committer : Option SignatureRef) (packed : Option Path) (held ran : List Edit) (decided : Decisions) : Type 0 where
+  pub record AllIsDecided (start new : Store F) (committer : Option SignatureRef)
+      (packed : Option Path) (held ran : List Edit) (decided : Decisions) : Type 0 where
     -- what becomes of logs and of `packed-refs`
-    pub texts : TextsAreDecided start new committer packed held ran decided.rewrite decided.path.items
+    pub texts : TextsAreDecided start new committer packed held ran decided.rewrite
+        decided.path.items
     -- the paths of the logs and loose files that are removed
     pub removed : paths_of decided.removed.items ≡ all_removed ran
     -- the folders that are removed before each step
-    pub in_way : honest → AllInWay ran start.dirs (tree_of means new) (folder_lists decided.ways.items) (planned_entries start.dirs ran packed decided.rewrite)
+    pub in_way : honest → AllInWay ran start.dirs (tree_of means new)
+        (folder_lists decided.ways.items) (planned_entries start.dirs ran packed decided.rewrite)

@@ -61,7 +61,8 @@ module _ {F : Type 0} where
 
   -- the buffer has the records of the prefix of these; or there is none, and there are none
   abbrev pub AreHeldFor : Store F → (prefix : List ℕ) → Option (Bor Buffer) → List Record → Type 0
-  AreHeldFor store prefix packed records = AreHeldOf (key_in (settings_of store) prefix) packed records
+  AreHeldFor store prefix packed records = AreHeldOf
+      (key_in (settings_of store) prefix) packed records
 
   -- these are yet to come of an iterator
   abbrev pub AreYetIn : LooseThenPacked F Remaining → List Listed → Type 0
@@ -77,13 +78,16 @@ module _ {F : Type 0} where
 
   -- why `packed-refs` is not opened: a fault, or a text that is refused, or no memory
   abbrev pub IsNotOpened : (means : F → Meaning) → Store F → ListError → Type 0
-  IsNotOpened means store error = (why : OpenError) × RefusesBuffer means store why × (error ≡ of_open why)
+  IsNotOpened means store error = (why : OpenError) × RefusesBuffer means store why
+      × (error ≡ of_open why)
 
   -- and then nothing has changed but the count of faults, which a fault of files has raised by one
-  abbrev pub LeavesUnopened : (honest : Type 0) (means : F → Meaning) (faults : F → ℕ) → (old new : Store F) → ListError → Type 0
+  abbrev pub LeavesUnopened : (honest : Type 0) (means : F → Meaning) (faults : F → ℕ) →
+      (old new : Store F) → ListError → Type 0
   LeavesUnopened honest means faults old new error =
       LooksUp honest means old new
-      × ((why : OpenError) × (error ≡ of_open why) × (faults (stores.files_of new) ≡ count_open (Err why) (faults (stores.files_of old))))
+      × ((why : OpenError) × (error ≡ of_open why)
+      × (faults (stores.files_of new) ≡ count_open (Err why) (faults (stores.files_of old))))
 
   module _ (honest : Type 0) (means : F → Meaning) (faults : F → ℕ) where
     -- the count of faults
@@ -91,10 +95,12 @@ module _ {F : Type 0} where
     count_in it = faults (stores.files_of it.store.now)
 
     -- One call of `next`: it gives the next item, and changes no file and nothing of the store.
-    pub record NextItem (s : LooseThenPacked F Remaining) (r : Option (Result Reference Error)) (t : LooseThenPacked F Remaining) : Type 0 where
+    pub record NextItem (s : LooseThenPacked F Remaining) (r : Option (Result Reference Error))
+        (t : LooseThenPacked F Remaining) : Type 0 where
       pub same_reference : t.store.ghost_name ≡ s.store.ghost_name
       pub same_store : stores.IsSameStore s.store.now t.store.now
-      pub gives : GivesNext honest means faults (settings_of s.store.now) (stores.files_of s.store.now) (stores.files_of t.store.now) s.rest.merge r t.rest.merge
+      pub gives : GivesNext honest means faults (settings_of s.store.now)
+          (stores.files_of s.store.now) (stores.files_of t.store.now) s.rest.merge r t.rest.merge
 
     -- A record that is lent: it is the first of those that are yet to come; and a reference with its name, its id and the id at
     -- which its tag ends is what `next` gives.
@@ -104,40 +110,51 @@ module _ {F : Type 0} where
 
     -- These are the first items of a listing, in its order, and `rest` is yet to come. Each is made between two counts of faults, the
     -- first of which is `before`, and the last at most `now`.
-    abbrev pub AreFirst : Settings → View → (before now : ℕ) → (listed rest : List Listed) → List (Result Reference Error) → Type 0
+    abbrev pub AreFirst : Settings → View → (before now : ℕ) → (listed rest : List Listed) →
+        List (Result Reference Error) → Type 0
     AreFirst settings view before now listed rest [] = (before ≤ now) × (listed ≡ rest)
     AreFirst settings view before now listed rest (item ∷ items) =
         (mid : ℕ) × (one : Listed) × (more : List Listed) × (listed ≡ one ∷ more)
-        × (before ≤ mid) × IsItem honest settings view before mid one item × AreFirst settings view mid now more rest items
+        × (before ≤ mid) × IsItem honest settings view before mid one item
+        × AreFirst settings view mid now more rest items
 
     -- What calls of `next` gave up to the iterator t: the first items of the listing, each as the files of the store are; and a call
     -- gives none only where none is left.
-    pub record GivesFirst (store : Store F) (listed : List Listed) (it t : LooseThenPacked F Remaining) (items : List (Result Reference Error)) : Type 0 where
+    pub record GivesFirst (store : Store F) (listed : List Listed)
+        (it t : LooseThenPacked F Remaining) (items : List (Result Reference Error)) : Type 0 where
       pub rest : List Listed
-      pub first : AreFirst (settings_of store) (view_in means store) (count_in it) (count_in t) listed rest items
+      pub first : AreFirst (settings_of store) (view_in means store) (count_in it)
+          (count_in t) listed rest items
       pub ends : (u : LooseThenPacked F Remaining) → NextItem t None u → rest ≡ []
 
     -- An iterator over the listing of a prefix of a store: whatever its calls give are the first items of the listing. A folder that
     -- could not be listed is among them only where the count of faults rose.
-    pub record IteratesListing (store : Store F) (records : List Record) (prefix : List ℕ) (it : LooseThenPacked F Remaining) : Type 0 where
+    pub record IteratesListing (store : Store F) (records : List Record) (prefix : List ℕ)
+        (it : LooseThenPacked F Remaining) : Type 0 where
       pub listed : List Listed
       pub is : IsListing (settings_of store) (view_in means store) records prefix listed
       pub counts : faults (stores.files_of store) ≤ count_in it
-      pub names : AllByRecursion IsNameItem listed ⊎ HasRisen (faults (stores.files_of store)) (count_in it)
-      pub runs : (items : List (Result Reference Error)) (t : LooseThenPacked F Remaining) → Yields (NextItem) it items t → GivesFirst store listed it t items
+      pub names : AllByRecursion IsNameItem listed
+          ⊎ HasRisen (faults (stores.files_of store)) (count_in it)
+      pub runs : (items : List (Result Reference Error)) (t : LooseThenPacked F Remaining) →
+          Yields (NextItem) it items t → GivesFirst store listed it t items
 
     -- and so over the listing of its pseudo references
     pub record IteratesPseudo (store : Store F) (it : LooseThenPacked F Remaining) : Type 0 where
       pub listed : List Listed
       pub is : IsPseudoListing (settings_of store) (view_in means store) listed
       pub counts : faults (stores.files_of store) ≤ count_in it
-      pub names : AllByRecursion IsNameItem listed ⊎ HasRisen (faults (stores.files_of store)) (count_in it)
-      pub runs : (items : List (Result Reference Error)) (t : LooseThenPacked F Remaining) → Yields (NextItem) it items t → GivesFirst store listed it t items
+      pub names : AllByRecursion IsNameItem listed
+          ⊎ HasRisen (faults (stores.files_of store)) (count_in it)
+      pub runs : (items : List (Result Reference Error)) (t : LooseThenPacked F Remaining) →
+          Yields (NextItem) it items t → GivesFirst store listed it t items
 
 module _ {F : Type 0} (honest : Type 0) (means : F → Meaning) (faults : F → ℕ) where
   -- Why there is no listing: `packed-refs` is not opened, by a call of files that failed or for its text; the prefix has none; no memory.
-  abbrev pub IsNoListing : {R : Type 0} (G : Ghosts R) → (start new : Store F) → (prefix : List ℕ) → ListError → Type 0
+  abbrev pub IsNoListing : {R : Type 0} (G : Ghosts R) → (start new : Store F) → (prefix : List ℕ) →
+      ListError → Type 0
   IsNoListing G start new prefix (PackedOpen error) =
-      honest → RefusesBuffer means start error × CountsRefusal G.faults (faults (stores.files_of start)) (faults (stores.files_of new)) error
+      honest → RefusesBuffer means start error × CountsRefusal G.faults
+      (faults (stores.files_of start)) (faults (stores.files_of new)) error
   IsNoListing G start new prefix Memory = Unit {0}
   IsNoListing G start new prefix error = IsRefusedPrefix start.namespace prefix error

@@ -57,12 +57,14 @@ held (Some buffer) = sources.Held buffer
 -- these are its records; where there is no buffer, there are none
 abbrev pub AreHeld : Option (Bor Buffer) → List Record → Type 0
 AreHeld None records = records ≡ []
-AreHeld (Some buffer) records = HoldsRecords (buffer_kind buffer.now) records (buffer_text buffer.now)
+AreHeld (Some buffer) records = HoldsRecords (buffer_kind buffer.now) records
+    (buffer_text buffer.now)
 
 -- what a lookup finds, as a loose reference
 abbrev pub AnswersLoose : Option Hit → Option Loose → Type 0
 AnswersLoose None None = Unit {0}
-AnswersLoose (Some hit) (Some r) = (full_bytes r.name ≡ hit.name) × (hit.reading ≡ Is (target_value r.target))
+AnswersLoose (Some hit) (Some r) = (full_bytes r.name ≡ hit.name)
+    × (hit.reading ≡ Is (target_value r.target))
 AnswersLoose found answer = ⊥
 
 module _ {F : Type 0} (means : F → Meaning) where
@@ -72,22 +74,27 @@ module _ {F : Type 0} (means : F → Meaning) where
 
   -- these are the records of the `packed-refs` of a store, which is well formed; where there is no such file, there are none
   abbrev pub AreRecordsIn : StoreValue F → List Record → Type 0
-  AreRecordsIn store records = ArePackedRecords (stores.kind_of store) (view_in store (packed_refs (stores.folders store))) records
+  AreRecordsIn store records = ArePackedRecords (stores.kind_of store)
+      (view_in store (packed_refs (stores.folders store))) records
 
   -- what a lookup of a partial name in a store finds among these records
   abbrev pub hit_in : (asks_records : Bool) → StoreValue F → List Record → List ℕ → Option Hit
-  hit_in asks_records store records p = lookup_of (composes_in asks_records store) (stores.meaning_of store) (view_in store) records p
+  hit_in asks_records store records p = lookup_of (composes_in asks_records store)
+      (stores.meaning_of store) (view_in store) records p
 
   -- a lookup of a partial name in a store finds this among these records; names are composed only where records are asked
-  abbrev pub FindsBy : (asks_records : Bool) → StoreValue F → List Record → List ℕ → Option Reference → Type 0
-  FindsBy asks_records store records p found = ReturnsHit (hit_in asks_records store records p) found
+  abbrev pub FindsBy : (asks_records : Bool) → StoreValue F → List Record → List ℕ →
+      Option Reference → Type 0
+  FindsBy asks_records store records p found =
+      ReturnsHit (hit_in asks_records store records p) found
 
   -- and this among these records of its `packed-refs`
   abbrev pub FindsAmong : StoreValue F → List Record → List ℕ → Option Reference → Type 0
   FindsAmong store records p found = FindsBy true store records p found
 
   -- and this among these records of a buffer of the caller; without one, no records are asked
-  abbrev pub FindsHeld : Option (Bor Buffer) → StoreValue F → List Record → List ℕ → Option Reference → Type 0
+  abbrev pub FindsHeld : Option (Bor Buffer) → StoreValue F → List Record → List ℕ →
+      Option Reference → Type 0
   FindsHeld packed store records p found = FindsBy (is_some packed) store records p found
 
   -- and this among loose files alone
@@ -95,7 +102,8 @@ module _ {F : Type 0} (means : F → Meaning) where
   FindsLoose store p found = AnswersLoose (hit_in false store [] p) found
 
   -- one that has to find something finds nothing, or fails by a fault, a loose file or want of memory
-  abbrev pub MissesBy : (asks_records : Bool) → StoreValue F → List Record → List ℕ → Missing → Type 0
+  abbrev pub MissesBy : (asks_records : Bool) → StoreValue F → List Record → List ℕ →
+      Missing → Type 0
   MissesBy asks_records store records p (Find error) = IsSound error
   MissesBy asks_records store records p (NotFound name) = FindsBy asks_records store records p None
 
@@ -104,7 +112,8 @@ module _ {F : Type 0} (means : F → Meaning) where
   MissesAmong store records p error = MissesBy true store records p error
 
   -- and so among the records of a buffer
-  abbrev pub MissesHeld : Option (Bor Buffer) → StoreValue F → List Record → List ℕ → Missing → Type 0
+  abbrev pub MissesHeld : Option (Bor Buffer) → StoreValue F → List Record → List ℕ →
+      Missing → Type 0
   MissesHeld packed store records p error = MissesBy (is_some packed) store records p error
 
   -- and so among loose files alone
@@ -119,7 +128,8 @@ module _ {F : Type 0} (means : F → Meaning) where
   -- this is its `packed-refs` in memory; or there is no such file
   abbrev pub OpensBuffer : StoreValue F → Option Buffer → Type 0
   OpensBuffer store None = is_file (packed_refs_at store) ≡ false
-  OpensBuffer store (Some buffer) = (is_file (packed_refs_at store) ≡ true) × Opened (stores.kind_of store) (bytes_of (packed_refs_at store)) buffer
+  OpensBuffer store (Some buffer) = (is_file (packed_refs_at store) ≡ true)
+      × Opened (stores.kind_of store) (bytes_of (packed_refs_at store)) buffer
 
   -- why it is not opened
   abbrev pub RefusesBuffer : StoreValue F → OpenError → Type 0
@@ -128,32 +138,41 @@ module _ {F : Type 0} (means : F → Meaning) where
 module _ {F R : Type 0} {G : Ghosts R} (means : F → Meaning) where
   -- the records that a lookup in a store asks are these
   abbrev pub AreAskedIn : StoreValue F → Records R G → List Record → Type 0
-  AreAskedIn store asked records = AreAsked (stores.kind_of store) (view_in means store (packed_refs (stores.folders store))) asked records
+  AreAskedIn store asked records = AreAsked (stores.kind_of store)
+      (view_in means store (packed_refs (stores.folders store))) asked records
 
   -- and what a lookup leaves of them
   abbrev pub AreStillAskedIn : StoreValue F → (old new : Records R G) → Type 0
-  AreStillAskedIn store old new = AreStillAsked (stores.kind_of store) (view_in means store (packed_refs (stores.folders store))) old new
+  AreStillAskedIn store old new = AreStillAsked (stores.kind_of store)
+      (view_in means store (packed_refs (stores.folders store))) old new
 
   -- on any text of `packed-refs`: what is found is a loose file of a name that is asked for, or a record of it that begins a
   -- line
-  abbrev pub HitsIn : (asks_records : Bool) → StoreValue F → Records R G → List ℕ → Option Reference → Type 0
-  HitsIn asks_records store asked p found = IfSome found (IsHitOf (composes_in asks_records store) (settings_of store) (view_in means store) asked p)
+  abbrev pub HitsIn : (asks_records : Bool) → StoreValue F → Records R G → List ℕ →
+      Option Reference → Type 0
+  HitsIn asks_records store asked p found = IfSome found
+      (IsHitOf (composes_in asks_records store) (settings_of store) (view_in means store) asked p)
 
 module _ {F : Type 0} (honest : Type 0) (means : F → Meaning) where
   -- What a lookup changes: nothing but the count of faults and the clock.
   pub record LooksUp (old new : StoreValue F) : Type 0 where
-    pub leaves : honest → Leaves (means (stores.files_of old)) (means (stores.files_of new)) (Unchanged (means (stores.files_of old)).tree)
+    pub leaves : honest → Leaves (means (stores.files_of old)) (means (stores.files_of new))
+        (Unchanged (means (stores.files_of old)).tree)
     pub same : stores.IsSameStore old new
 
-module _ {F R : Type 0} {G : Ghosts R} (honest : Type 0) (means : F → Meaning) (faults : F → ℕ) where
+module _ {F R : Type 0} {G : Ghosts R} (honest : Type 0) (means : F → Meaning)
+    (faults : F → ℕ) where
   -- why a lookup fails: no memory, or the first of its names that is not passed fails
-  abbrev pub FailsIn : (asks_records : Bool) → (old new : StoreValue F) → Records R G → List ℕ → Error → Type 0
+  abbrev pub FailsIn : (asks_records : Bool) → (old new : StoreValue F) → Records R G → List ℕ →
+      Error → Type 0
   FailsIn asks_records old new asked p error =
       (error ≡ Memory)
-      ⊎ FailsAmong honest (settings_of old) (means (stores.files_of old)).tree asked (faults (stores.files_of old)) (faults (stores.files_of new))
+      ⊎ FailsAmong honest (settings_of old) (means (stores.files_of old)).tree asked
+      (faults (stores.files_of old)) (faults (stores.files_of new))
       (asked_names (name_asked (composes_in asks_records old) p)) error
 
   -- and one that has to find something: it fails, or finds nothing
-  abbrev pub MissesIn : (asks_records : Bool) → (old new : StoreValue F) → Records R G → List ℕ → Missing → Type 0
+  abbrev pub MissesIn : (asks_records : Bool) → (old new : StoreValue F) → Records R G → List ℕ →
+      Missing → Type 0
   MissesIn asks_records old new asked p (Find error) = FailsIn asks_records old new asked p error
   MissesIn asks_records old new asked p (NotFound name) = partial_bytes name ≡ p

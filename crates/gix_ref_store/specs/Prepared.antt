@@ -44,7 +44,8 @@ module _ {F : Type 0} (means : F → Meaning) where
 
   -- its `packed-refs` is well formed, or there is none
   abbrev pub HasGoodRecords : Store F → Type 0
-  HasGoodRecords store = IsPackedWell (kind_of store) (view_of (tree_of store) (meaning_of store).packed_path)
+  HasGoodRecords store = IsPackedWell (kind_of store)
+      (view_of (tree_of store) (meaning_of store).packed_path)
 
   -- Nothing of a store is unsynced but locks, and folders that hold no other file; and the git folder, the common folder and those above
   -- them stay after every loss of power.
@@ -66,7 +67,8 @@ module _ {F : Type 0} (means : F → Meaning) where
   pub record LosesNothingBut (old new : Store F) (places : List Path) : Type 0 where
     pub keeps : KeepsAllBut old new places
     pub loses : Loses (means (files_of old)) (means (files_of new))
-        (λ T. (q : Path) → IsSpokenOf places (disk_in old) q → view_of T q ≡ view_of (tree_of old) q)
+        (λ T. (q : Path) → IsSpokenOf places (disk_in old) q →
+        view_of T q ≡ view_of (tree_of old) q)
 
   -- and so but for the locks of a transaction of these edits
   abbrev pub LosesNothing : (old new : Store F) → List RefEdit → Type 0
@@ -76,67 +78,93 @@ module _ {F : Type 0} (honest read : Type 0) (means : F → Meaning) (faults : F
   -- A refusal. Where `packed-refs` is well formed, its error is the first cause that applies; `Packed` is returned for a `packed-refs` that is
   -- refused, and `PackedFind` where the record of an edit cannot be read; a fault of files came with a rise of their count, or a read by a reader failed; all is as before but for the locks that are
   -- named, and folders that lead to locks; those that are named are locks of the edits, and one is named only where a fault came.
-  pub record RefusesFrom (old new : Store F) (given : List RefEdit) (error : Error) (left : List Path) : Type 0 where
+  pub record RefusesFrom (old new : Store F) (given : List RefEdit) (error : Error)
+      (left : List Path) : Type 0 where
     -- the edits whose locks are tried: those of the split list, or as they are given, where there is none
     pub tried : List RefEdit
-    pub split : honest → AreSplit (meaning_of old) (view_of (tree_of means old)) given tried ⊎ (tried ≡ given)
+    pub split : honest → AreSplit (meaning_of old) (view_of (tree_of means old)) given tried
+        ⊎ (tried ≡ given)
     pub direct : AreDirect given → tried ≡ given
-    pub cause : honest → HasGoodRecords means old → Refuses (meaning_of old) (kind_of old) (tree_of means old) given error
-    pub opened : honest → IsPackedRefusal (kind_of old) (tree_of means old (meaning_of old).packed_path) error
-    pub unread : honest → IsFindCause (meaning_of old) (kind_of old) (view_of (tree_of means old) (meaning_of old).packed_path) tried error
+    pub cause : honest → HasGoodRecords means old →
+        Refuses (meaning_of old) (kind_of old) (tree_of means old) given error
+    pub opened : honest → IsPackedRefusal (kind_of old)
+        (tree_of means old (meaning_of old).packed_path) error
+    pub unread : honest → IsFindCause (meaning_of old) (kind_of old)
+        (view_of (tree_of means old) (meaning_of old).packed_path) tried error
     pub counted : IsCountedWith honest read (faults (files_of old)) (faults (files_of new)) error
-    pub as_before : honest → AddsLocks left (locks_in means old tried) (tree_of means old) (tree_of means new)
-    pub ours : (q : Path) → is_in left q ≡ true → is_in (possible_locks (meaning_of old) tried) q ≡ true
+    pub as_before : honest → AddsLocks left (locks_in means old tried) (tree_of means old)
+        (tree_of means new)
+    pub ours : (q : Path) → is_in left q ≡ true →
+        is_in (possible_locks (meaning_of old) tried) q ≡ true
     -- and each is named once: no more often than it is among the locks that the edits can have
     pub once : (q : Path) → times q left ≤ times q (possible_locks (meaning_of old) tried)
     pub named : HasRisenBy (length left) (faults (files_of old)) (faults (files_of new))
-    pub leaves : honest → Leaves (means (files_of old)) (means (files_of new)) (AddsLocks (locks_in means old tried) (locks_in means old tried) (tree_of means old))
+    pub leaves : honest → Leaves (means (files_of old)) (means (files_of new))
+        (AddsLocks (locks_in means old tried) (locks_in means old tried) (tree_of means old))
     pub lost : honest → LosesNothing means old new tried
     pub same : IsSameStore old new
 
   -- A refusal of edits that are given: of the edits that are asked for, if there was memory for their names.
-  pub record RefusesGiven (old new : Store F) (given : List RefEdit) (error : Error) (left : List Path) : Type 0 where
+  pub record RefusesGiven (old new : Store F) (given : List RefEdit) (error : Error)
+      (left : List Path) : Type 0 where
     pub asked : List RefEdit
-    pub composed : AreAskedAs old.precompose_unicode given asked ⊎ ((error ≡ Memory) × (asked ≡ given))
+    pub composed : AreAskedAs old.precompose_unicode given asked
+        ⊎ ((error ≡ Memory) × (asked ≡ given))
     pub refuses : RefusesFrom old new asked error left
 
   -- A refusal of a split list: its locks could not be taken, or a name is doubled.
-  pub record RefusesSplit (old new : Store F) (split : List RefEdit) (error : Error) (left : List Path) : Type 0 where
+  pub record RefusesSplit (old new : Store F) (split : List RefEdit) (error : Error)
+      (left : List Path) : Type 0 where
     pub cause : honest → HasGoodRecords means old → IsIoOrMemory error
-        ⊎ (IsDoubling split error ⊎ (NoneDoubled (names_of split) × IsLockCause (meaning_of old) (kind_of old) (tree_of means old) split error))
-    pub opened : honest → IsPackedRefusal (kind_of old) (tree_of means old (meaning_of old).packed_path) error
-    pub unread : honest → IsFindCause (meaning_of old) (kind_of old) (view_of (tree_of means old) (meaning_of old).packed_path) split error
+        ⊎ (IsDoubling split error ⊎ (NoneDoubled (names_of split)
+        × IsLockCause (meaning_of old) (kind_of old) (tree_of means old) split error))
+    pub opened : honest → IsPackedRefusal (kind_of old)
+        (tree_of means old (meaning_of old).packed_path) error
+    pub unread : honest → IsFindCause (meaning_of old) (kind_of old)
+        (view_of (tree_of means old) (meaning_of old).packed_path) split error
     pub counted : IsCountedWith honest read (faults (files_of old)) (faults (files_of new)) error
-    pub as_before : honest → AddsLocks left (locks_in means old split) (tree_of means old) (tree_of means new)
-    pub ours : (q : Path) → is_in left q ≡ true → is_in (possible_locks (meaning_of old) split) q ≡ true
+    pub as_before : honest → AddsLocks left (locks_in means old split) (tree_of means old)
+        (tree_of means new)
+    pub ours : (q : Path) → is_in left q ≡ true →
+        is_in (possible_locks (meaning_of old) split) q ≡ true
     pub once : (q : Path) → times q left ≤ times q (possible_locks (meaning_of old) split)
     pub named : HasRisenBy (length left) (faults (files_of old)) (faults (files_of new))
-    pub leaves : honest → Leaves (means (files_of old)) (means (files_of new)) (AddsLocks (locks_in means old split) (locks_in means old split) (tree_of means old))
+    pub leaves : honest → Leaves (means (files_of old)) (means (files_of new))
+        (AddsLocks (locks_in means old split) (locks_in means old split) (tree_of means old))
     pub same : IsSameStore old new
 
 module _ {F : Type 0} (honest : Type 0) (means : F → Meaning) (faults : F → ℕ) where
   -- Locks that are held. Where `packed-refs` is well formed, no cause applies; this was found of each edit; each lock has its whole text.
   -- In any case each edit is valid by itself, its lock was free, and nothing else was added but folders that lead to locks.
-  pub record HoldsFrom (old new : Store F) (edits : List RefEdit) (was : List (Option TargetValue)) : Type 0 where
-    pub accepted : honest → HasGoodRecords means old → IsAccepted (meaning_of old) (kind_of old) (tree_of means old) edits
-    pub found : honest → HasGoodRecords means old → was ≡ old_targets (meaning_of old) (tree_of means old) edits
-    pub texts : honest → HasGoodRecords means old → HoldTexts (meaning_of old) (tree_of means old) (tree_of means new) edits
+  pub record HoldsFrom (old new : Store F) (edits : List RefEdit)
+      (was : List (Option TargetValue)) : Type 0 where
+    pub accepted : honest → HasGoodRecords means old →
+        IsAccepted (meaning_of old) (kind_of old) (tree_of means old) edits
+    pub found : honest → HasGoodRecords means old →
+        was ≡ old_targets (meaning_of old) (tree_of means old) edits
+    pub texts : honest → HasGoodRecords means old →
+        HoldTexts (meaning_of old) (tree_of means old) (tree_of means new) edits
     pub valid : AllValid (meaning_of old) (kind_of old) [] edits
     pub lockable : honest → AreLockable (meaning_of old) (kind_of old) (tree_of means old) [] edits
-    pub adds : honest → AddsLocks (locks_in means old edits) (locks_in means old edits) (tree_of means old) (tree_of means new)
-    pub leaves : honest → Leaves (means (files_of old)) (means (files_of new)) (AddsLocks (locks_in means old edits) (locks_in means old edits) (tree_of means old))
+    pub adds : honest → AddsLocks (locks_in means old edits) (locks_in means old edits)
+        (tree_of means old) (tree_of means new)
+    pub leaves : honest → Leaves (means (files_of old)) (means (files_of new))
+        (AddsLocks (locks_in means old edits) (locks_in means old edits) (tree_of means old))
     pub no_fewer : faults (files_of old) ≤ faults (files_of new)
     pub same : IsSameStore old new
 
   -- The lock of `packed-refs` is held where it is due, and is empty.
-  pub record HoldsPacked (old new : Store F) (edits : List RefEdit) (packed_place : Option Path) : Type 0 where
+  pub record HoldsPacked (old new : Store F) (edits : List RefEdit)
+      (packed_place : Option Path) : Type 0 where
     pub place : IsPackedPlace (meaning_of old) packed_place
-    pub due : honest → packed_places packed_place ≡ packed_taken (meaning_of old) (tree_of means old) edits
+    pub due : honest → packed_places packed_place
+        ≡ packed_taken (meaning_of old) (tree_of means old) edits
     pub empty : honest → AreEmpty (tree_of means new) (map lock_of (packed_places packed_place))
 
   -- A transaction whose split list is prepared: its locks are held, that of `packed-refs` too; its edits carry what was found, and are
   -- those of the list, with their places.
-  pub record PreparesFrom (old new : Store F) (edits : List RefEdit) (packed_place : Option Path) (after : List Edit) : Type 0 where
+  pub record PreparesFrom (old new : Store F) (edits : List RefEdit) (packed_place : Option Path)
+      (after : List Edit) : Type 0 where
     pub was : List (Option TargetValue)
     pub held : HoldsFrom old new edits was
     pub lost : honest → LosesNothing means old new edits
@@ -146,17 +174,21 @@ module _ {F : Type 0} (honest : Type 0) (means : F → Meaning) (faults : F → 
     pub places : place_paths after ≡ places_of (meaning_of old) edits
     pub packed : HoldsPacked old new edits packed_place
     -- what becomes of each loose file is decided by the files before
-    pub effects : honest → HasGoodRecords means old → effects_of after ≡ effects_on (meaning_of old) (view_of (tree_of means old)) edits
+    pub effects : honest → HasGoodRecords means old →
+        effects_of after ≡ effects_on (meaning_of old) (view_of (tree_of means old)) edits
     -- whether there was one is by these too
-    pub files : honest → HasGoodRecords means old → seen_files after ≡ files_at (meaning_of old) (tree_of means old) edits
+    pub files : honest → HasGoodRecords means old →
+        seen_files after ≡ files_at (meaning_of old) (tree_of means old) edits
     -- and the ids of their records are those of the files before
-    pub ids : honest → HasGoodRecords means old → ids_in after ≡ packed_ids (meaning_of old) (tree_of means old) edits
+    pub ids : honest → HasGoodRecords means old →
+        ids_in after ≡ packed_ids (meaning_of old) (tree_of means old) edits
 
   -- What becomes of the edits that are given: their split list, in which each that was looked up may be, and which is theirs where none
   -- follows.
   pub record SplitsFrom (old : Store F) (given split : List RefEdit) : Type 0 where
     pub is : honest → AreSplit (meaning_of old) (view_of (tree_of means old)) given split
-    pub can_follow : honest → All (CanFollow (meaning_of old)) (all_rounds (meaning_of old) (view_of (tree_of means old)) given)
+    pub can_follow : honest → All (CanFollow (meaning_of old))
+        (all_rounds (meaning_of old) (view_of (tree_of means old)) given)
     pub valid : AllValid (meaning_of old) (kind_of old) [] given
     pub updates : AreUpdates given → AreUpdates split
     pub direct : AreDirect given → split ≡ given
@@ -169,11 +201,13 @@ module _ {F : Type 0} (honest : Type 0) (means : F → Meaning) (faults : F → 
 
   -- each edit has the place of the one that it was split from
   abbrev pub HaveParents : Store F → (asked : List RefEdit) → List Edit → Type 0
-  HaveParents old asked edits = parents_in edits ≡ split_parents (name_led_to (meaning_of old) (view_of (tree_of means old))) (values_of asked)
+  HaveParents old asked edits = parents_in edits
+      ≡ split_parents (name_led_to (meaning_of old) (view_of (tree_of means old))) (values_of asked)
 
   -- The edits of a split list as they are held: each with what was found of it, its place, its parent, what becomes of its loose file, and
   -- the id of its record.
-  pub record HoldsGiven (old new : Store F) (given : List RefEdit) (packed_place : Option Path) (edits : List Edit) : Type 0 where
+  pub record HoldsGiven (old new : Store F) (given : List RefEdit) (packed_place : Option Path)
+      (edits : List Edit) : Type 0 where
     pub splits : SplitsGiven old given (updates edits)
     pub parents : honest → HaveParents old splits.asked edits
     pub held : HoldsFrom old new (updates edits) (targets_of edits)
@@ -181,12 +215,16 @@ module _ {F : Type 0} (honest : Type 0) (means : F → Meaning) (faults : F → 
     pub whole : honest → AreWholeLocks (disk_in means new) (locks_in means old (updates edits))
     pub packed : HoldsPacked old new (updates edits) packed_place
     pub places : place_paths edits ≡ places_of (meaning_of old) (updates edits)
-    pub effects : honest → HasGoodRecords means old → effects_of edits ≡ effects_on (meaning_of old) (view_of (tree_of means old)) (updates edits)
-    pub files : honest → HasGoodRecords means old → seen_files edits ≡ files_at (meaning_of old) (tree_of means old) (updates edits)
-    pub ids : honest → HasGoodRecords means old → ids_in edits ≡ packed_ids (meaning_of old) (tree_of means old) (updates edits)
+    pub effects : honest → HasGoodRecords means old →
+        effects_of edits ≡ effects_on (meaning_of old) (view_of (tree_of means old)) (updates edits)
+    pub files : honest → HasGoodRecords means old →
+        seen_files edits ≡ files_at (meaning_of old) (tree_of means old) (updates edits)
+    pub ids : honest → HasGoodRecords means old →
+        ids_in edits ≡ packed_ids (meaning_of old) (tree_of means old) (updates edits)
 
   -- A transaction that is prepared from given edits: their split list is.
-  pub record PreparesGiven (old new : Store F) (given : List RefEdit) (packed : Option Path) (after : List Edit) : Type 0 where
+  pub record PreparesGiven (old new : Store F) (given : List RefEdit) (packed : Option Path)
+      (after : List Edit) : Type 0 where
     pub split : List RefEdit
     pub splits : SplitsGiven old given split
     pub prepared : PreparesFrom old new split packed after
@@ -194,13 +232,17 @@ module _ {F : Type 0} (honest : Type 0) (means : F → Meaning) (faults : F → 
 
   -- A transaction that is given up: of its locks only those stay that are named, and one is named only where a fault came.
   pub record RollsBackFrom (old new : Store F) (locks left : List Path) : Type 0 where
-    pub gone : honest → (q : Path) → is_in locks q ≡ true → is_in left q ≡ false → is_file (tree_of means new q) ≡ false
+    pub gone : honest → (q : Path) → is_in locks q ≡ true → is_in left q ≡ false →
+        is_file (tree_of means new q) ≡ false
     pub ours : (q : Path) → is_in left q ≡ true → is_in locks q ≡ true
     -- and each is named once: no more often than it is held
     pub once : (q : Path) → times q left ≤ times q locks
     pub named : HasRisenBy (length left) (faults (files_of old)) (faults (files_of new))
-    pub leaves : honest → Leaves (means (files_of old)) (means (files_of new)) (RemovesLocks locks (tree_of means old))
+    pub leaves : honest → Leaves (means (files_of old)) (means (files_of new))
+        (RemovesLocks locks (tree_of means old))
     pub removes : honest → OnlyRemoves locks (means (files_of old)) (means (files_of new))
     -- every loss of power meanwhile leaves each file that was settled, but for these locks, whatever places they are the locks of
-    pub lost : honest → (places : List Path) → ((q : Path) → is_in locks q ≡ true → IsOwnLock places q) → LosesNothingBut means old new places
+    pub lost : honest → (places : List Path) →
+        ((q : Path) → is_in locks q ≡ true → IsOwnLock places q) →
+        LosesNothingBut means old new places
     pub same : IsSameStore old new

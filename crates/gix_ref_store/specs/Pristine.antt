@@ -10,12 +10,15 @@ use Rattle.gix_ref_store.specs.declared.file.store.Store.{Store}
 module _ {F : Type 0} (means : F → Meaning) where
   -- `HEAD` is symbolic to this name, no loose reference can be read, and there is no `packed-refs`
   abbrev pub IsPristineStore : Store F → (name : List ℕ) → Type 0
-  IsPristineStore store name = stores_as_made.IsPristine (settings_of store) (means (files_of store)).tree (prefix_of_all store.namespace) name
+  IsPristineStore store name = stores_as_made.IsPristine (settings_of store)
+      (means (files_of store)).tree (prefix_of_all store.namespace) name
 
   -- `HEAD` is something else, a loose reference can be read, or there is a `packed-refs`
   abbrev pub IsStoreInUse : Store F → (name : List ℕ) → Type 0
-  IsStoreInUse store name = stores_as_made.IsInUse (settings_of store) (means (files_of store)).tree (prefix_of_all store.namespace) name
+  IsStoreInUse store name = stores_as_made.IsInUse (settings_of store) (means (files_of store)).tree
+      (prefix_of_all store.namespace) name
 
   -- no target is read of `HEAD`
   abbrev pub HasNoHead : Store F → Type 0
-  HasNoHead store = stores_as_made.ReadsNone (settings_of store) (view_in means store) (stores_as_made.head_path (settings_of store))
+  HasNoHead store = stores_as_made.ReadsNone (settings_of store) (view_in means store)
+      (stores_as_made.head_path (settings_of store))

@@ -21,37 +21,46 @@ use Rattle.gix_ref_store.specs.declared.file.store.Store.{Store}
 
 -- what is at the path of the log of a name; the name has a log where that is a file
 abbrev pub reflog_at : {F : Type 0} → (F → Meaning) → Store F → List ℕ → Option Content
-reflog_at means store name = (means (stores.files_of store)).tree ((stores.meaning_of store).log name)
+reflog_at means store name = (means (stores.files_of store)).tree
+    ((stores.meaning_of store).log name)
 
 -- that path has the name of a device, and the store prohibits these
 abbrev pub is_log_prohibited : {F : Type 0} → Store F → List ℕ → Bool
-is_log_prohibited store name = (stores.meaning_of store).is_prohibited ((stores.meaning_of store).log name)
+is_log_prohibited store name = (stores.meaning_of store).is_prohibited
+    ((stores.meaning_of store).log name)
 
 -- oldest first: each run gives the lines of the log; or there is none
 abbrev pub ReadsForward : Option Content → Option Forward → Type 0
 ReadsForward content None = is_file content ≡ false
 ReadsForward content (Some lines) =
-    (is_file content ≡ true) × EachRunFrom ForwardStep lines (λ run. IsForwardRun (run.whole ≡ true) 1 (log_lines (bytes_of content)) run.items)
+    (is_file content ≡ true) × EachRunFrom ForwardStep lines
+    (λ run. IsForwardRun (run.whole ≡ true) 1 (log_lines (bytes_of content)) run.items)
 
 -- why it is not read
 abbrev pub IsNoReflog : {F : Type 0} → Store F → List ℕ → Error → Type 0
 IsNoReflog store name error = reflogs.IsNoLog (settings_of store) name error
 
 -- why it is not read from its end: so, or there is a log and the buffer has no byte
-abbrev pub IsNoReverse : {F : Type 0} → (honest : Type 0) → Option Content → (room : ℕ) → Store F → List ℕ → Error → Type 0
-IsNoReverse honest content room store name EmptyBuffer = (room ≡ 0) × (honest → is_file content ≡ true)
+abbrev pub IsNoReverse : {F : Type 0} → (honest : Type 0) → Option Content → (room : ℕ) → Store F →
+    List ℕ → Error → Type 0
+IsNoReverse honest content room store name EmptyBuffer = (room ≡ 0)
+    × (honest → is_file content ≡ true)
 IsNoReverse honest content room store name other = IsNoReflog store name other
 
 -- a run backward: each run by the steps of the iterator has this
-abbrev pub EachRunBackward : {R : Type 0} (G : Ghosts R) → (List (Result Line ReverseError) → Type 0 → Type 0) → Reverse R → Type 0
-EachRunBackward G P lines = EachRunFrom (NextStep G.honest G.bytes G.faults) lines (λ run. P run.items (run.whole ≡ true))
+abbrev pub EachRunBackward : {R : Type 0} (G : Ghosts R) →
+    (List (Result Line ReverseError) → Type 0 → Type 0) → Reverse R → Type 0
+EachRunBackward G P lines = EachRunFrom (NextStep G.honest G.bytes G.faults) lines
+    (λ run. P run.items (run.whole ≡ true))
 
 -- newest first: each run gives the items for which a buffer of this length has room, or a beginning of them and one fault
 -- of reading or of memory; or there is no log
-abbrev pub ReadsBackward : {R : Type 0} (G : Ghosts R) → Option Content → (room : ℕ) → Option (Reverse R) → Type 0
+abbrev pub ReadsBackward : {R : Type 0} (G : Ghosts R) → Option Content → (room : ℕ) →
+    Option (Reverse R) → Type 0
 ReadsBackward G content room None = is_file content ≡ false
 ReadsBackward G content room (Some lines) =
-    (is_file content ≡ true) × EachRunBackward G (λ items ended. IsRun ended (items_from room 1 (bytes_of content)) items) lines
+    (is_file content ≡ true) × EachRunBackward G
+    (λ items ended. IsRun ended (items_from room 1 (bytes_of content)) items) lines
 
 -- nothing follows an error but a decode fault
 abbrev pub EndsAtErrors : {R : Type 0} (G : Ghosts R) → Option (Reverse R) → Type 0

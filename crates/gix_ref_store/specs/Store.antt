@@ -31,7 +31,8 @@ kind_of store = store.object_hash
 
 -- where it keeps names and what it reads: loose files, and the records of `packed-refs`
 abbrev pub meaning_of : {F : Type 0} → Store F → readings.Store
-meaning_of store = store_of (folders store) (git_options (kind_of store) store.prohibit_windows_device_names)
+meaning_of store =
+    store_of (folders store) (git_options (kind_of store) store.prohibit_windows_device_names)
 
 -- the threshold that it keeps for its `packed-refs`
 abbrev pub threshold_of : {F : Type 0} → Store F → ℕ
@@ -74,7 +75,8 @@ pub record IsSameStore {F : Type 0} (old new : Store F) : Type 0 where
   pub threshold : threshold_of new ≡ threshold_of old
 
 -- a store that was made of this
-pub record IsMade {F : Type 0} (files : F) (git_dir : Vec ℕ Global) (common_dir : Option (Vec ℕ Global)) (kind : Kind) (options : Options) (store : Store F) : Type 0 where
+pub record IsMade {F : Type 0} (files : F) (git_dir : Vec ℕ Global) (common_dir : Option
+    (Vec ℕ Global)) (kind : Kind) (options : Options) (store : Store F) : Type 0 where
   pub files_are : files_of store ≡ files
   pub git : store.dirs.git_dir ≡ git_dir
   pub common : store.dirs.common_dir ≡ common_dir
@@ -92,4 +94,5 @@ AreDirs git common = (are_clean git common ≡ true) × AreCompatible git.items 
 -- why no store can be made; the files are handed back
 abbrev pub HasNoStore : {F : Type 0} → F → Vec ℕ Global → Option (Vec ℕ Global) → Error F → Type 0
 HasNoStore files git common (PathNotClean back) = (back ≡ files) × (are_clean git common ≡ false)
-HasNoStore files git common (FoldersMeet back) = (back ≡ files) × (are_clean git common ≡ true) × (AreCompatible git.items (common_of git common) → ⊥)
+HasNoStore files git common (FoldersMeet back) = (back ≡ files) × (are_clean git common ≡ true)
+    × (AreCompatible git.items (common_of git common) → ⊥)

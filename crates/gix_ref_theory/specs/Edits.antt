@@ -83,14 +83,17 @@ effect_of_change s mode key old (Update target) =
 -- an edit of a log alone leaves the loose file
 abbrev pub effect : Store → Mode → View → Edit → Effect
 effect s mode view e =
-    if e.and_reference then effect_of_change s mode (s.key e.name) (reading s view e.name) e.change else Keeps
+    if e.and_reference then effect_of_change s mode (s.key e.name)
+    (reading s view e.name) e.change else Keeps
 
 -- the record of an edit's key after the edit, where `old` was there
 abbrev pub edited_record : Mode → List ℕ → Edit → Change → Option Record → Option Record
 edited_record mode key e Delete old = None
 edited_record mode key e (Update (symbolic_name name)) old = old
 edited_record mode key e (Update (object_id id)) old =
-    if packs_updates mode then Some (record { name = key; target = written_id id; object = option_map written_id e.peeled }) else old
+    if packs_updates mode then Some
+    (record { name = key; target = written_id id; object = option_map written_id e.peeled })
+    else old
 
 -- the key is there, and it is this one
 abbrev pub is_key : Option (List ℕ) → List ℕ → Bool
@@ -112,7 +115,8 @@ alters_change mode (Some key) (Update target) records = packs mode (Some key) ta
 
 -- and so for some edit of a reference
 abbrev pub alters_packed : Store → Mode → List Record → List Edit → Bool
-alters_packed s mode records edits = list_any (λ (e : Edit). e.and_reference && alters_change mode (s.key e.name) e.change records) edits
+alters_packed s mode records edits = list_any
+    (λ (e : Edit). e.and_reference && alters_change mode (s.key e.name) e.change records) edits
 
 -- the file of these records: none where there is no record
 abbrev pub file_of_records : Store → List Record → Option (List ℕ)
@@ -131,15 +135,18 @@ line_due (Update target) line = line
 
 -- the lines that are due for a log, in the order of the edits: several names may share a log
 abbrev pub due : Store → List Edit → Path → List ℕ
-due s edits log = flat_map (λ (e : Edit). if bytes_eq (s.log e.name) log then file_bytes (line_due e.change e.line) else []) edits
+due s edits log = flat_map (λ (e : Edit). if bytes_eq (s.log e.name) log
+    then file_bytes (line_due e.change e.line) else []) edits
 
 -- a line is due for this log
 abbrev pub is_due : Store → List Edit → Path → Bool
-is_due s edits log = list_any (λ (e : Edit). is_some (line_due e.change e.line) && bytes_eq (s.log e.name) log) edits
+is_due s edits log =
+    list_any (λ (e : Edit). is_some (line_due e.change e.line) && bytes_eq (s.log e.name) log) edits
 
 -- the log goes with a deletion, whether that is of the reference or of the log alone
 abbrev pub removes_log : Store → List Edit → Path → Bool
-removes_log s edits log = list_any (λ (e : Edit). is_deletion e.change && bytes_eq (s.log e.name) log) edits
+removes_log s edits log =
+    list_any (λ (e : Edit). is_deletion e.change && bytes_eq (s.log e.name) log) edits
 
 -- the reading that an edit asks for
 abbrev pub new_reading : Store → Change → Reading

@@ -51,7 +51,8 @@ is_there Fault = true
 abbrev pub first_hit : Store → View → List Record → List (List ℕ) → Option Hit
 first_hit s view records [] = None
 first_hit s view records (name ∷ names) =
-    if is_there (reading_among s view records name) then Some (hit s view records name) else first_hit s view records names
+    if is_there (reading_among s view records name) then Some (hit s view records name)
+    else first_hit s view records names
 
 -- the first hit, or else the head of a remote, which is asked for as a loose file alone
 abbrev pub hit_or_head : Store → View → Option Hit → Option (List ℕ) → Option Hit
@@ -60,5 +61,7 @@ hit_or_head s view None None = None
 hit_or_head s view None (Some head) = first_hit s view [] (head ∷ [])
 
 -- Lookup: the first of these candidates that is there, or else the head of a remote.
-abbrev pub lookup : Store → View → List Record → (candidates : List (List ℕ)) → (head : Option (List ℕ)) → Option Hit
-lookup s view records candidates head = hit_or_head s view (first_hit s view records candidates) head
+abbrev pub lookup : Store → View → List Record → (candidates : List (List ℕ)) →
+    (head : Option (List ℕ)) → Option Hit
+lookup s view records candidates head = hit_or_head s view
+    (first_hit s view records candidates) head

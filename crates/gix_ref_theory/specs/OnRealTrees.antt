@@ -20,8 +20,10 @@ view_of T path = file_of (T path)
 -- what a step makes of the files: steps on folders change none
 abbrev pub after_step : Step → View → View
 after_step (Create path) view = changed_at path (Some []) view
-after_step (AppendStep path bytes) view = changed_at path (Some (file_bytes (view path) ++ bytes)) view
-after_step (LineStep path bytes) view = changed_at path (Some (file_bytes (view path) ++ bytes)) view
+after_step (AppendStep path bytes) view = changed_at path
+    (Some (file_bytes (view path) ++ bytes)) view
+after_step (LineStep path bytes) view = changed_at path
+    (Some (file_bytes (view path) ++ bytes)) view
 after_step (Rename from to) view = changed_at to (view from) (changed_at from None view)
 after_step (RemoveFile path) view = changed_at path None view
 after_step (MakeFolders path) view = view
@@ -35,55 +37,71 @@ abbrev pub CarryOut : List Path → View → List Step → List Write → Type 0
 CarryOut locked view [] writes = writes ≡ []
 CarryOut locked view (Create path ∷ steps) writes =
     (IsOwnLock locked path × CarryOut locked (after_step (Create path) view) steps writes)
-    ⊎ ((line : List ℕ) × (rest : List Write) × (IsOwnLock locked path → ⊥) × (writes ≡ Append path line ∷ rest) × CarryOut locked (after_step (Create path) view) steps writes)
+    ⊎ ((line : List ℕ) × (rest : List Write) × (IsOwnLock locked path → ⊥) × (writes
+    ≡ Append path line ∷ rest) × CarryOut locked (after_step (Create path) view) steps writes)
 CarryOut locked view (AppendStep path bytes ∷ steps) writes =
     (IsOwnLock locked path × CarryOut locked (after_step (AppendStep path bytes) view) steps writes)
-    ⊎ ((rest : List Write) × (IsOwnLock locked path → ⊥) × (writes ≡ Append path bytes ∷ rest) × CarryOut locked (after_step (AppendStep path bytes) view) steps rest)
+    ⊎ ((rest : List Write) × (IsOwnLock locked path → ⊥) × (writes ≡ Append path bytes ∷ rest)
+    × CarryOut locked (after_step (AppendStep path bytes) view) steps rest)
 CarryOut locked view (LineStep path bytes ∷ steps) writes =
-    (rest : List Write) × (IsOwnLock locked path → ⊥) × (writes ≡ Append path bytes ∷ rest) × CarryOut locked (after_step (LineStep path bytes) view) steps rest
+    (rest : List Write) × (IsOwnLock locked path → ⊥) × (writes ≡ Append path bytes ∷ rest)
+    × CarryOut locked (after_step (LineStep path bytes) view) steps rest
 CarryOut locked view (Rename from to ∷ steps) writes =
-    (rest : List Write) × IsOwnLock locked from × (writes ≡ Put to (file_bytes (view from)) ∷ rest) × CarryOut locked (after_step (Rename from to) view) steps rest
+    (rest : List Write) × IsOwnLock locked from × (writes ≡ Put to (file_bytes (view from)) ∷ rest)
+    × CarryOut locked (after_step (Rename from to) view) steps rest
 CarryOut locked view (RemoveFile path ∷ steps) writes =
     (IsOwnLock locked path × CarryOut locked (after_step (RemoveFile path) view) steps writes)
-    ⊎ ((rest : List Write) × (writes ≡ Remove path ∷ rest) × CarryOut locked (after_step (RemoveFile path) view) steps rest)
+    ⊎ ((rest : List Write) × (writes ≡ Remove path ∷ rest)
+    × CarryOut locked (after_step (RemoveFile path) view) steps rest)
 CarryOut locked view (MakeFolders path ∷ steps) writes = CarryOut locked view steps writes
 CarryOut locked view (RemoveFolder path ∷ steps) writes = CarryOut locked view steps writes
 CarryOut locked view (End ∷ steps) writes = Unit {0}
 
 -- A commit on real trees, from the tree `before` the locks were taken and the tree `start` of its beginning: it is
 -- prepared, and its steps carry out its plan.
-pub record IsCommitRun (s : Store) (mode : Mode) (locked : List Path) (edits : List Edit) (before start : Tree) (steps : List Step) : Type 0 where
+pub record IsCommitRun (s : Store) (mode : Mode) (locked : List Path) (edits : List Edit)
+    (before start : Tree) (steps : List Step) : Type 0 where
   pub merged : List Record
   pub prepared : IsPrepared s mode (view_of start) edits merged
   pub locks : IsSameButLocks locked (view_of before) (view_of start)
-  pub steps_are_planned : CarryOut locked (view_of start) steps (plan s mode (view_of start) edits merged)
+  pub steps_are_planned : CarryOut locked (view_of start) steps
+      (plan s mode (view_of start) edits merged)
 
 -- between, and in the keeping modes no deletion first and the updates in order
-pub record IsOldOrNewTree (s : Store) (mode : Mode) (locked : List Path) (edits : List Edit) (before left : Tree) : Type 0 where
+pub record IsOldOrNewTree (s : Store) (mode : Mode) (locked : List Path) (edits : List Edit)
+    (before left : Tree) : Type 0 where
   pub between : IsBetween s mode locked edits (view_of before) (view_of left)
-  pub no_deletion_first : removes_packed mode ≡ false → NoDeletionFirst s edits (view_of before) (view_of left)
+  pub no_deletion_first : removes_packed mode ≡ false →
+      NoDeletionFirst s edits (view_of before) (view_of left)
   pub in_order : removes_packed mode ≡ false → InOrder s edits (view_of before) (view_of left)
 
 -- steps that make and remove folders change no file, wherever they stop
 abbrev pub FoldersHoldNoFile : Type 0
-FoldersHoldNoFile = (before T : Tree) (path : Path) → Begins (MakeFolders path) before T ⊎ Begins (RemoveFolder path) before T → IsSameView (view_of T) (view_of before)
+FoldersHoldNoFile = (before T : Tree) (path : Path) → Begins (MakeFolders path) before T ⊎ Begins
+    (RemoveFolder path) before T → IsSameView (view_of T) (view_of before)
 
 -- every tree that a stop among the steps could leave
 abbrev pub EveryTreeIsBetween : Type 0
 EveryTreeIsBetween =
-    (s : Store) → HasLaws s → (mode : Mode) (locked : List Path) (edits : List Edit) (before start left : Tree) (steps : List Step) →
-    IsCommitRun s mode locked edits before start steps → IsLeftBySteps steps start left → IsOldOrNewTree s mode locked edits before left
+    (s : Store) → HasLaws s → (mode : Mode) (locked : List Path) (edits : List Edit)
+    (before start left : Tree) (steps : List Step) →
+    IsCommitRun s mode locked edits before start steps → IsLeftBySteps steps start left →
+    IsOldOrNewTree s mode locked edits before left
 
 -- and the tree after a step that ended the run, as by a fault or a folder in place
 abbrev pub EveryEndIsBetween : Type 0
 EveryEndIsBetween =
-    (s : Store) → HasLaws s → (mode : Mode) (locked : List Path) (edits : List Edit) (before start left : Tree) (steps : List Step) (at : ℕ) (cause : Cause) →
-    IsCommitRun s mode locked edits before start steps → EndsAt steps at cause start left → IsOldOrNewTree s mode locked edits before left
+    (s : Store) → HasLaws s → (mode : Mode) (locked : List Path) (edits : List Edit)
+    (before start left : Tree) (steps : List Step) (at : ℕ) (cause : Cause) →
+    IsCommitRun s mode locked edits before start steps → EndsAt steps at cause start left →
+    IsOldOrNewTree s mode locked edits before left
 
 -- the tree after all steps is committed, where the locks but for those that stay are as they were before
 abbrev pub EveryWholeRunCommits : Type 0
 EveryWholeRunCommits =
-    (s : Store) → HasLaws s → (mode : Mode) (locked staying : List Path) (edits : List Edit) (before start left : Tree) (steps : List Step) →
+    (s : Store) → HasLaws s → (mode : Mode) (locked staying : List Path) (edits : List Edit)
+    (before start left : Tree) (steps : List Step) →
     IsCommitRun s mode locked edits before start steps → IsAfter steps start left →
-    ((path : Path) → IsOwnLock locked path → (IsOwnLock staying path → ⊥) → view_of left path ≡ view_of before path) →
+    ((path : Path) → IsOwnLock locked path → (IsOwnLock staying path → ⊥) →
+    view_of left path ≡ view_of before path) →
     IsCommitted s mode staying edits (view_of before) (view_of left)

@@ -27,7 +27,8 @@ place_writes place Keeps = []
 abbrev pub writes_of_updates : Store → Mode → View → List Edit → List Write
 writes_of_updates s mode view [] = []
 writes_of_updates s mode view (e ∷ edits) =
-    line_writes (s.log e.name) e.change e.line ++ (place_writes (s.place e.name) (effect s mode view e) ++ writes_of_updates s mode view edits)
+    line_writes (s.log e.name) e.change e.line ++ (place_writes (s.place e.name)
+    (effect s mode view e) ++ writes_of_updates s mode view edits)
 
 -- 2. Removal of the logs of deletions, so that no reference that is gone leaves its log to a later one of its name.
 abbrev pub log_removal : Path → Change → List Write
@@ -46,7 +47,8 @@ file_writes path (Some bytes) = Put path bytes ∷ []
 -- only where some edit alters it
 abbrev pub packed_writes : Store → Mode → View → List Edit → List Record → List Write
 packed_writes s mode view edits merged =
-    if alters_packed s mode (records_of_file s (view s.packed_path)) edits then file_writes s.packed_path (file_of_records s merged) else []
+    if alters_packed s mode (records_of_file s (view s.packed_path)) edits
+    then file_writes s.packed_path (file_of_records s merged) else []
 
 -- 4. Removal of loose files. Behind each there is no record any more, or the new one: an old one never shows.
 abbrev pub place_removal : Path → Effect → List Write
@@ -56,9 +58,11 @@ place_removal place Keeps = []
 
 -- for each edit
 abbrev pub loose_removals : Store → Mode → View → List Edit → List Write
-loose_removals s mode view edits = flat_map (λ (e : Edit). place_removal (s.place e.name) (effect s mode view e)) edits
+loose_removals s mode view edits =
+    flat_map (λ (e : Edit). place_removal (s.place e.name) (effect s mode view e)) edits
 
 -- all of them, where `merged` are the records of the new `packed-refs`
 abbrev pub plan : Store → Mode → View → List Edit → List Record → List Write
 plan s mode view edits merged =
-    writes_of_updates s mode view edits ++ (log_removals s edits ++ (packed_writes s mode view edits merged ++ loose_removals s mode view edits))
+    writes_of_updates s mode view edits ++ (log_removals s edits
+    ++ (packed_writes s mode view edits merged ++ loose_removals s mode view edits))

@@ -27,12 +27,16 @@ pub record Store : Type 0 where
 
 -- The laws of places: all that is used of the table of places.
 pub record HasLaws (s : Store) : Type 0 where
-  pub one_key : (m n : List ℕ) → s.is_reference m ≡ true → s.is_reference n ≡ true → s.place m ≡ s.place n → s.key m ≡ s.key n
-  pub one_place : (m n k : List ℕ) → s.is_reference m ≡ true → s.is_reference n ≡ true → s.key m ≡ Some k → s.key n ≡ Some k → s.place m ≡ s.place n
-  pub place_is_no_log : (m n : List ℕ) → s.is_reference m ≡ true → s.is_reference n ≡ true → s.place m ≢ s.log n
+  pub one_key : (m n : List ℕ) → s.is_reference m ≡ true → s.is_reference n ≡ true →
+      s.place m ≡ s.place n → s.key m ≡ s.key n
+  pub one_place : (m n k : List ℕ) → s.is_reference m ≡ true → s.is_reference n ≡ true →
+      s.key m ≡ Some k → s.key n ≡ Some k → s.place m ≡ s.place n
+  pub place_is_no_log : (m n : List ℕ) → s.is_reference m ≡ true → s.is_reference n ≡ true →
+      s.place m ≢ s.log n
   pub place_is_not_packed : (n : List ℕ) → s.is_reference n ≡ true → s.place n ≢ s.packed_path
   pub log_is_not_packed : (n : List ℕ) → s.is_reference n ≡ true → s.log n ≢ s.packed_path
-  pub place_is_no_lock : (n : List ℕ) (path : Path) → s.is_reference n ≡ true → s.place n ≢ lock_of path
+  pub place_is_no_lock : (n : List ℕ) (path : Path) → s.is_reference n ≡ true →
+      s.place n ≢ lock_of path
   pub log_is_no_lock : (n : List ℕ) (path : Path) → s.is_reference n ≡ true → s.log n ≢ lock_of path
   pub packed_is_no_lock : (path : Path) → s.packed_path ≢ lock_of path
 

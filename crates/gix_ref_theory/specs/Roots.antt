@@ -8,7 +8,8 @@ use Rattle.gix_ref_theory.specs.ConcreteStore.{Options, store_of}
 
 -- How long the root of a path is: the git folder for a path below it, else the common folder.
 abbrev pub root_of : (git common : Path) → Path → ℕ
-root_of git common path = if starts_with nat_eq path (below git []) then length git else length common
+root_of git common path = if starts_with nat_eq path (below git []) then length git
+    else length common
 
 -- the roots, with all folders above them
 abbrev pub roots : Layout → List Path
@@ -18,15 +19,18 @@ roots f = (fronts f.git ++ f.git ∷ []) ++ (fronts f.common ++ f.common ∷ [])
 abbrev pub PlacesSettle : Type 0
 PlacesSettle =
     (f : Layout) (o : Options) (name : List ℕ) → 1 ≤ length f.git → 1 ≤ length f.common →
-    SettlesPath (roots f) ((store_of f o).place name) (climb ((store_of f o).place name) (root_of f.git f.common ((store_of f o).place name)))
+    SettlesPath (roots f) ((store_of f o).place name)
+    (climb ((store_of f o).place name) (root_of f.git f.common ((store_of f o).place name)))
 
 -- and so are its log, and `packed-refs`
 abbrev pub LogsSettle : Type 0
 LogsSettle =
     (f : Layout) (o : Options) (name : List ℕ) → 1 ≤ length f.git → 1 ≤ length f.common →
-    SettlesPath (roots f) ((store_of f o).log name) (climb ((store_of f o).log name) (root_of f.git f.common ((store_of f o).log name)))
+    SettlesPath (roots f) ((store_of f o).log name)
+    (climb ((store_of f o).log name) (root_of f.git f.common ((store_of f o).log name)))
 
 abbrev pub PackedSettles : Type 0
 PackedSettles =
     (f : Layout) (o : Options) → 1 ≤ length f.git → 1 ≤ length f.common →
-    SettlesPath (roots f) (store_of f o).packed_path (climb (store_of f o).packed_path (root_of f.git f.common (store_of f o).packed_path))
+    SettlesPath (roots f) (store_of f o).packed_path
+    (climb (store_of f o).packed_path (root_of f.git f.common (store_of f o).packed_path))

@@ -23,5 +23,8 @@ lock_texts = changed_at (codes "r/a.lock") (Some (codes "I")) (λ q. None)
 -- the premises are met
 abbrev pub SmallCommitIsCarriedOut : Type 0
 SmallCommitIsCarriedOut =
-    IsAllSettled (all_synced lock_tree) × AllStay (all_synced lock_tree) (codes "r" ∷ []) × AreWhole lock_texts (all_synced lock_tree)
-    × CarryOutSynced (IsSpokenOf (codes "r/a" ∷ []) (all_synced lock_tree)) (codes "r" ∷ []) lock_texts (With (Rename (codes "r/a.lock") (codes "r/a")) (OfFolder (codes "r") ∷ []) ∷ []) (Put (codes "r/a") (codes "I") ∷ [])
+    IsAllSettled (all_synced lock_tree) × AllStay (all_synced lock_tree) (codes "r" ∷ [])
+    × AreWhole lock_texts (all_synced lock_tree)
+    × CarryOutSynced (IsSpokenOf (codes "r/a" ∷ []) (all_synced lock_tree)) (codes "r" ∷ [])
+    lock_texts (With (Rename (codes "r/a.lock") (codes "r/a")) (OfFolder (codes "r") ∷ []) ∷ [])
+    (Put (codes "r/a") (codes "I") ∷ [])

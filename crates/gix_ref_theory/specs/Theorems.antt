@@ -16,51 +16,65 @@ use Rattle.gix_ref_theory.specs.Between.{MergesRecords, IsPrepared, IsBetween, N
 -- every stop leaves each reference old or new
 abbrev pub EveryStopIsBetween : Type 0
 EveryStopIsBetween =
-    (s : Store) → HasLaws s → (mode : Mode) (locked : List Path) (edits : List Edit) (merged : List Record) (before view left : View) →
-    IsPrepared s mode view edits merged → IsSameButLocks locked before view → IsLeft locked (plan s mode view edits merged) view left →
+    (s : Store) → HasLaws s → (mode : Mode) (locked : List Path) (edits : List Edit)
+    (merged : List Record) (before view left : View) →
+    IsPrepared s mode view edits merged → IsSameButLocks locked before view →
+    IsLeft locked (plan s mode view edits merged) view left →
     IsBetween s mode locked edits before left
 
 -- and where loose files are kept, no deletion shows before every update
 abbrev pub NoDeletionShowsFirst : Type 0
 NoDeletionShowsFirst =
-    (s : Store) → HasLaws s → (mode : Mode) (locked : List Path) (edits : List Edit) (merged : List Record) (before view left : View) →
-    IsPrepared s mode view edits merged → IsSameButLocks locked before view → IsLeft locked (plan s mode view edits merged) view left →
+    (s : Store) → HasLaws s → (mode : Mode) (locked : List Path) (edits : List Edit)
+    (merged : List Record) (before view left : View) →
+    IsPrepared s mode view edits merged → IsSameButLocks locked before view →
+    IsLeft locked (plan s mode view edits merged) view left →
     removes_packed mode ≡ false → NoDeletionFirst s edits before left
 
 -- and no update before an earlier one
 abbrev pub UpdatesShowInOrder : Type 0
 UpdatesShowInOrder =
-    (s : Store) → HasLaws s → (mode : Mode) (locked : List Path) (edits : List Edit) (merged : List Record) (before view left : View) →
-    IsPrepared s mode view edits merged → IsSameButLocks locked before view → IsLeft locked (plan s mode view edits merged) view left →
+    (s : Store) → HasLaws s → (mode : Mode) (locked : List Path) (edits : List Edit)
+    (merged : List Record) (before view left : View) →
+    IsPrepared s mode view edits merged → IsSameButLocks locked before view →
+    IsLeft locked (plan s mode view edits merged) view left →
     removes_packed mode ≡ false → InOrder s edits before left
 
 -- the whole plan commits, where the locks but for those that stay are as they were before
 abbrev pub WholePlanCommits : Type 0
 WholePlanCommits =
-    (s : Store) → HasLaws s → (mode : Mode) (locked staying : List Path) (edits : List Edit) (merged : List Record) (before view left : View) →
-    IsPrepared s mode view edits merged → IsSameButLocks locked before view → IsSameButLocks locked left (after (plan s mode view edits merged) view) →
-    ((path : Path) → IsOwnLock locked path → (IsOwnLock staying path → ⊥) → left path ≡ before path) →
+    (s : Store) → HasLaws s → (mode : Mode) (locked staying : List Path) (edits : List Edit)
+    (merged : List Record) (before view left : View) →
+    IsPrepared s mode view edits merged → IsSameButLocks locked before view →
+    IsSameButLocks locked left (after (plan s mode view edits merged) view) →
+    ((path : Path) → IsOwnLock locked path → (IsOwnLock staying path → ⊥) →
+    left path ≡ before path) →
     IsCommitted s mode staying edits before left
 
 -- the transaction's locks change neither the plan nor what `prepare` has seen to
 abbrev pub PlanSeesNoLocks : Type 0
 PlanSeesNoLocks =
-    (s : Store) → HasLaws s → (mode : Mode) (locked : List Path) (edits : List Edit) (merged : List Record) (before view : View) →
+    (s : Store) → HasLaws s → (mode : Mode) (locked : List Path) (edits : List Edit)
+    (merged : List Record) (before view : View) →
     IsSameButLocks locked before view → IsPrepared s mode before edits merged →
-    IsPrepared s mode view edits merged × (plan s mode before edits merged ≡ plan s mode view edits merged)
+    IsPrepared s mode view edits merged
+    × (plan s mode before edits merged ≡ plan s mode view edits merged)
 
 -- what is said of merged records leaves one list, and so one text of `packed-refs`
 abbrev pub MergedRecordsAreOne : Type 0
 MergedRecordsAreOne =
-    (s : Store) (mode : Mode) (edits : List Edit) (old new other : List Record) → MergesRecords s mode edits old new → MergesRecords s mode edits old other → new ≡ other
+    (s : Store) (mode : Mode) (edits : List Edit) (old new other : List Record) →
+    MergesRecords s mode edits old new → MergesRecords s mode edits old other → new ≡ other
 
 -- the table gives each name paths, those that are computed, and no other
 abbrev pub PathsAreTheTable : Type 0
-PathsAreTheTable = (f : Layout) (name : List ℕ) → HasPaths f name (paths_at f name) × ((r : RefPaths) → HasPaths f name r → paths_at f name ≡ r)
+PathsAreTheTable = (f : Layout) (name : List ℕ) → HasPaths f name (paths_at f name)
+    × ((r : RefPaths) → HasPaths f name r → paths_at f name ≡ r)
 
 -- a name is safe where its test says so, and nowhere else
 abbrev pub SafeNamesAreTested : Type 0
-SafeNamesAreTested = (name : List ℕ) → (IsSafe name → is_safe name ≡ true) × (is_safe name ≡ true → IsSafe name)
+SafeNamesAreTested = (name : List ℕ) → (IsSafe name → is_safe name ≡ true)
+    × (is_safe name ≡ true → IsSafe name)
 
 -- the places of the table keep the laws
 abbrev pub PlacesKeepTheLaws : Type 0
@@ -69,7 +83,8 @@ PlacesKeepTheLaws = (f : Layout) (o : Options) → IsLayout f → HasLaws (store
 -- references of one place have one log, in a namespace and in linked worktrees too
 abbrev pub OnePlaceHasOneLog : Type 0
 OnePlaceHasOneLog =
-    (f : Layout) (o : Options) → IsLayout f → (m n : List ℕ) → (store_of f o).is_reference m ≡ true → (store_of f o).is_reference n ≡ true →
+    (f : Layout) (o : Options) → IsLayout f → (m n : List ℕ) →
+    (store_of f o).is_reference m ≡ true → (store_of f o).is_reference n ≡ true →
     (store_of f o).place m ≡ (store_of f o).place n → (store_of f o).log m ≡ (store_of f o).log n
 
 -- In a namespace, where the git folder is that of the linked worktree w: a name, and the same behind `worktrees/w/`.
@@ -82,10 +97,14 @@ pub record SharesLog (f : Layout) (name long : List ℕ) : Type 0 where
 -- references of one log have one place, but for such pairs
 abbrev pub OneLogHasOnePlace : Type 0
 OneLogHasOnePlace =
-    (f : Layout) (o : Options) → IsLayout f → (m n : List ℕ) → (store_of f o).is_reference m ≡ true → (store_of f o).is_reference n ≡ true →
-    (store_of f o).log m ≡ (store_of f o).log n → ((store_of f o).place m ≡ (store_of f o).place n) ⊎ (SharesLog f m n ⊎ SharesLog f n m)
+    (f : Layout) (o : Options) → IsLayout f → (m n : List ℕ) →
+    (store_of f o).is_reference m ≡ true → (store_of f o).is_reference n ≡ true →
+    (store_of f o).log m ≡ (store_of f o).log n → ((store_of f o).place m ≡ (store_of f o).place n)
+    ⊎ (SharesLog f m n ⊎ SharesLog f n m)
 
 -- each place lies in the namespace: below the common folder or the git folder, the namespace and then more
 abbrev pub PlacesLieInTheNamespace : Type 0
 PlacesLieInTheNamespace =
-    (f : Layout) (o : Options) (name : List ℕ) → (folder rest : Path) × ((folder ≡ f.common) ⊎ (folder ≡ f.git)) × ((store_of f o).place name ≡ below folder (f.namespace ++ rest))
+    (f : Layout) (o : Options) (name : List ℕ) → (folder rest : Path)
+    × ((folder ≡ f.common) ⊎ (folder ≡ f.git))
+    × ((store_of f o).place name ≡ below folder (f.namespace ++ rest))

@@ -51,14 +51,16 @@ IsPartOf Loss left bytes = length left ≤ length bytes
 -- an end inside a write leaves all as it was, or of an append a part of its bytes
 abbrev pub BeginsWrite : Ending → Write → View → View → Type 0
 BeginsWrite ending (Append path bytes) view left =
-    IsSameView left view ⊎ ((part : List ℕ) × IsPartOf ending part bytes × IsSameView left (after_write (Append path part) view))
+    IsSameView left view ⊎ ((part : List ℕ) × IsPartOf ending part bytes
+    × IsSameView left (after_write (Append path part) view))
 BeginsWrite ending (Put path bytes) view left = IsSameView left view
 BeginsWrite ending (Remove path) view left = IsSameView left view
 
 -- an end among the writes: some of them are done, and the next one is perhaps begun
 abbrev pub IsLeftByWrites : Ending → List Write → View → View → Type 0
 IsLeftByWrites ending [] view left = IsSameView left view
-IsLeftByWrites ending (write ∷ writes) view left = BeginsWrite ending write view left ⊎ IsLeftByWrites ending writes (after_write write view) left
+IsLeftByWrites ending (write ∷ writes) view left = BeginsWrite ending write view left
+    ⊎ IsLeftByWrites ending writes (after_write write view) left
 
 -- the lock of one of these paths
 abbrev pub IsOwnLock : List Path → Path → Type 0
@@ -67,7 +69,8 @@ IsOwnLock (locked ∷ others) path = (path ≡ lock_of locked) ⊎ IsOwnLock oth
 
 -- the same files but for these locks
 abbrev pub IsSameButLocks : List Path → View → View → Type 0
-IsSameButLocks locked left right = (path : Path) → (IsOwnLock locked path → ⊥) → left path ≡ right path
+IsSameButLocks locked left right = (path : Path) → (IsOwnLock locked path → ⊥) →
+    left path ≡ right path
 
 -- A stop among the writes leaves these files, whatever it leaves of the locks of these paths.
 pub record IsLeft (locked : List Path) (writes : List Write) (view left : View) : Type 0 where
@@ -79,7 +82,8 @@ pub record IsLeft (locked : List Path) (writes : List Write) (view left : View) 
 -- where it appends, the old bytes and after them any bytes, no more than were appended.
 abbrev pub LostIn : Write → View → Path → Option (List ℕ) → Type 0
 LostIn (Append path bytes) view q file =
-    (file ≡ view q) ⊎ ((path ≡ q) × ((any : List ℕ) × (length any ≤ length bytes) × (file ≡ Some (file_bytes (view q) ++ any))))
+    (file ≡ view q) ⊎ ((path ≡ q)
+    × ((any : List ℕ) × (length any ≤ length bytes) × (file ≡ Some (file_bytes (view q) ++ any))))
 LostIn (Put path bytes) view q file = (file ≡ view q) ⊎ ((path ≡ q) × (file ≡ Some bytes))
 LostIn (Remove path) view q file = (file ≡ view q) ⊎ ((path ≡ q) × (file ≡ None))
 
@@ -88,4 +92,5 @@ LostIn (Remove path) view q file = (file ≡ view q) ⊎ ((path ≡ q) × (file 
 abbrev pub IsLostBy : (Path → Type 0) → List Write → View → View → Type 0
 IsLostBy Counts [] view left = (q : Path) → Counts q → left q ≡ view q
 IsLostBy Counts (write ∷ writes) view left =
-    ((q : Path) → Counts q → LostIn write view q (left q)) ⊎ IsLostBy Counts writes (after_write write view) left
+    ((q : Path) → Counts q → LostIn write view q (left q))
+    ⊎ IsLostBy Counts writes (after_write write view) left

@@ -22,16 +22,20 @@ edit_of edit = record {
 }
 
 -- An edit that carries what was found of it: it expects just that.
-pub record IsCarried (before : RefEdit) (found : Option TargetValue) (after : RefEdit) : Type 0 where
+pub record IsCarried (before : RefEdit) (found : Option TargetValue)
+    (after : RefEdit) : Type 0 where
   pub name : after.name ≡ before.name
   pub deref : after.deref ≡ before.deref
   pub change : change_of after.change ≡ change_of before.change
   pub mode : mode_of after.change ≡ mode_of before.change
   pub forced : is_forced after.change ≡ is_forced before.change
   pub message : message_of after.change ≡ message_of before.change
-  pub expected : MatchOption found (expected_of after.change ≡ expected_of before.change) (λ target. matched (expected_of after.change) ≡ Some target)
+  pub expected : MatchOption found (expected_of after.change ≡ expected_of before.change)
+      (λ target. matched (expected_of after.change) ≡ Some target)
 
 -- edits that carry what was found of each
-pub record AreCarried (before : List RefEdit) (found : List (Option TargetValue)) (after : List RefEdit) : Type 0 where
+pub record AreCarried (before : List RefEdit) (found : List (Option TargetValue))
+    (after : List RefEdit) : Type 0 where
   pub len : length after ≡ length before
-  pub each : (k : ℕ) (d : RefEdit) → k < length before → IsCarried (slice_index_or before k d) (slice_index_or found k None) (slice_index_or after k d)
+  pub each : (k : ℕ) (d : RefEdit) → k < length before →
+      IsCarried (slice_index_or before k d) (slice_index_or found k None) (slice_index_or after k d)

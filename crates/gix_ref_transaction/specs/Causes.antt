@@ -52,7 +52,8 @@ IsCounted before now other = Unit {0}
 -- And so where `packed-refs` is read too: of honest files, `Packed` of `Io` is returned only where that count rose, or a read by a reader
 -- failed.
 abbrev pub IsCountedWith : (honest read : Type 0) → ℕ → ℕ → Error → Type 0
-IsCountedWith honest read before now (Packed (unread error)) = honest → (HasRisen before now ⊎ read) × (error ≡ out_of_memory → ⊥)
+IsCountedWith honest read before now (Packed (unread error)) = honest → (HasRisen before now ⊎ read)
+    × (error ≡ out_of_memory → ⊥)
 IsCountedWith honest read before now (Packed error) = Unit {0}
 IsCountedWith honest read before now (PackedFind error) = Unit {0}
 IsCountedWith honest read before now error = IsCounted before now error
@@ -95,7 +96,8 @@ OfSomeKey Bad s edits = Any (λ (edit : RefEdit). OfKey s (name_of edit) Bad) ed
 
 -- `PackedFind` is returned only where the record of an edit cannot be read
 abbrev pub IsFindCause : Store → Kind → Option (List ℕ) → List RefEdit → Error → Type 0
-IsFindCause s kind packed edits error = OfFind (OfSomeKey (IsUnreadableRecord kind packed) s edits) error
+IsFindCause s kind packed edits error = OfFind
+    (OfSomeKey (IsUnreadableRecord kind packed) s edits) error
 
 -- `packed-refs` is well formed, or there is none
 abbrev pub IsPackedWell : Kind → Option (List ℕ) → Type 0
@@ -127,7 +129,8 @@ IsWholeTarget other = Unit {0}
 
 -- both ids of an edit, the new and the expected one
 abbrev pub HasKind : Kind → RefEdit → Type 0
-HasKind kind edit = IsOfKind kind (new_of edit.change) × IsOfKind kind (previous_of (expected_of edit.change))
+HasKind kind edit = IsOfKind kind (new_of edit.change)
+    × IsOfKind kind (previous_of (expected_of edit.change))
 
 -- a name that may be edited: it is safe, and its place is not prohibited
 pub record IsWellNamed (s : Store) (name : List ℕ) : Type 0 where
@@ -151,18 +154,24 @@ pub record IsValidEdit (s : Store) (kind : Kind) (edit : RefEdit) : Type 0 where
 -- the first of these that does not hold
 abbrev pub IsInvalidEdit : Store → Kind → RefEdit → Error → Type 0
 IsInvalidEdit s kind edit UnsafeName = is_safe (name_of edit) ≡ false
-IsInvalidEdit s kind edit DeviceName = (is_safe (name_of edit) ≡ true) × (s.is_prohibited (s.place (name_of edit)) ≡ true)
-IsInvalidEdit s kind edit DeleteMustNotExist = IsWellNamed s (name_of edit) × (IsPossible edit.change → ⊥)
-IsInvalidEdit s kind edit TargetNotFull = IsWellNamed s (name_of edit) × IsPossible edit.change × (IsFullTarget (new_of edit.change) → ⊥)
+IsInvalidEdit s kind edit DeviceName = (is_safe (name_of edit) ≡ true)
+    × (s.is_prohibited (s.place (name_of edit)) ≡ true)
+IsInvalidEdit s kind edit DeleteMustNotExist = IsWellNamed s (name_of edit)
+    × (IsPossible edit.change → ⊥)
+IsInvalidEdit s kind edit TargetNotFull = IsWellNamed s (name_of edit) × IsPossible edit.change
+    × (IsFullTarget (new_of edit.change) → ⊥)
 IsInvalidEdit s kind edit OtherHashKind =
-    IsWellNamed s (name_of edit) × IsPossible edit.change × IsFullTarget (new_of edit.change) × (HasKind kind edit → ⊥)
+    IsWellNamed s (name_of edit) × IsPossible edit.change × IsFullTarget (new_of edit.change)
+    × (HasKind kind edit → ⊥)
 IsInvalidEdit s kind edit other = ⊥
 
 abbrev pub AllValid : Store → Kind → List RefEdit → List RefEdit → Type 0
-AllValid s kind seen edits = AllPass {E = Error} (λ _ edit. IsValidEdit s kind edit) (λ _ edit error. IsInvalidEdit s kind edit error) seen edits
+AllValid s kind seen edits = AllPass {E = Error} (λ _ edit. IsValidEdit s kind edit)
+    (λ _ edit error. IsInvalidEdit s kind edit error) seen edits
 
 abbrev pub IsFirstInvalid : Store → Kind → List RefEdit → List RefEdit → Error → Type 0
-IsFirstInvalid s kind seen edits error = FirstFault (λ _ edit. IsValidEdit s kind edit) (λ _ edit error. IsInvalidEdit s kind edit error) seen edits error
+IsFirstInvalid s kind seen edits error = FirstFault (λ _ edit. IsValidEdit s kind edit)
+    (λ _ edit error. IsInvalidEdit s kind edit error) seen edits error
 
 -- No two edits have one name.
 
@@ -172,7 +181,8 @@ names_of edits = map name_of edits
 
 -- the least name that occurs twice
 abbrev pub IsDoubling : List RefEdit → Error → Type 0
-IsDoubling edits (PreprocessingFailed (DoubledName name)) = IsLeastDoubled (names_of edits) (full_bytes name)
+IsDoubling edits (PreprocessingFailed (DoubledName name)) =
+    IsLeastDoubled (names_of edits) (full_bytes name)
 IsDoubling edits other = ⊥
 
 -- The lock of `packed-refs`: it is taken before the records are read, where an edit of a reference may have one.
@@ -192,7 +202,8 @@ IsInTheWay T lock = IsSome (T lock) ⊎ (is_blocked T lock ≡ true)
 abbrev pub IsPackedLocked : Store → Tree → List RefEdit → Type 0
 IsPackedLocked s T edits =
     (ask_packed s edits ≡ true)
-    × (IsSome (T (lock_of s.packed_path)) ⊎ ((is_file (T s.packed_path) ≡ true) × IsInTheWay T (lock_of s.packed_path)))
+    × (IsSome (T (lock_of s.packed_path))
+    ⊎ ((is_file (T s.packed_path) ≡ true) × IsInTheWay T (lock_of s.packed_path)))
 
 abbrev pub IsPackedCause : Store → Tree → List RefEdit → Error → Type 0
 IsPackedCause s T edits PackedTransactionAcquire = IsPackedLocked s T edits
@@ -200,7 +211,8 @@ IsPackedCause s T edits other = ⊥
 
 -- It is taken where `packed-refs` is a file: the place of the lock, or none.
 abbrev pub packed_taken : Store → Tree → List RefEdit → List Path
-packed_taken s T edits = if ask_packed s edits && is_file (T s.packed_path) then s.packed_path ∷ [] else []
+packed_taken s T edits = if ask_packed s edits && is_file (T s.packed_path)
+    then s.packed_path ∷ [] else []
 
 -- What is found of a reference: its reading, with a file that holds no target counted as none.
 
@@ -242,14 +254,18 @@ required kind other = None
 -- nothing was found where something has to be; another target than the new one, where none was to be; another than the expected one
 abbrev pub IsMismatch : Kind → RefEdit → Option TargetValue → Error → Type 0
 IsMismatch kind edit found (DeleteReferenceMustExist name) =
-    (full_bytes name ≡ name_of edit) × (new_of edit.change ≡ None) × IsSome (required kind (expected_of edit.change)) × (found ≡ None)
+    (full_bytes name ≡ name_of edit) × (new_of edit.change ≡ None)
+    × IsSome (required kind (expected_of edit.change)) × (found ≡ None)
 IsMismatch kind edit found (must_exist name expected) =
-    (full_bytes name ≡ name_of edit) × IsSome (new_of edit.change) × (required kind (expected_of edit.change) ≡ Some (target_value expected)) × (found ≡ None)
+    (full_bytes name ≡ name_of edit) × IsSome (new_of edit.change)
+    × (required kind (expected_of edit.change) ≡ Some (target_value expected)) × (found ≡ None)
 IsMismatch kind edit found (MustNotExist name actual new) =
-    (full_bytes name ≡ name_of edit) × (expected_of edit.change ≡ must_not_exist) × (new_of edit.change ≡ Some (target_value new))
+    (full_bytes name ≡ name_of edit) × (expected_of edit.change ≡ must_not_exist)
+    × (new_of edit.change ≡ Some (target_value new))
     × (found ≡ Some (target_value actual)) × (target_value actual ≢ target_value new)
 IsMismatch kind edit found (ReferenceOutOfDate name expected actual) =
-    (full_bytes name ≡ name_of edit) × (previous_of (expected_of edit.change) ≡ Some (target_value expected))
+    (full_bytes name ≡ name_of edit)
+    × (previous_of (expected_of edit.change) ≡ Some (target_value expected))
     × (found ≡ Some (target_value actual)) × (target_value actual ≢ target_value expected)
 IsMismatch kind edit found Memory = Unit {0}
 IsMismatch kind edit found other = ⊥
@@ -261,10 +277,12 @@ locks_of s edits = map (λ (edit : RefEdit). lock_of (s.place (name_of edit))) e
 module _ (s : Store) (kind : Kind) (T : Tree) where
   -- a file in the path of the lock; or something at the lock, in the tree or by an earlier edit of the same place
   abbrev pub IsUnlockable : List RefEdit → RefEdit → Error → Type 0
-  IsUnlockable earlier edit (PathCollision name) = (full_bytes name ≡ name_of edit) × (is_blocked T (lock_of (s.place (name_of edit))) ≡ true)
+  IsUnlockable earlier edit (PathCollision name) = (full_bytes name ≡ name_of edit)
+      × (is_blocked T (lock_of (s.place (name_of edit))) ≡ true)
   IsUnlockable earlier edit (LockAcquire name) =
       (full_bytes name ≡ name_of edit)
-      × (IsSome (T (lock_of (s.place (name_of edit)))) ⊎ (is_in (locks_of s earlier) (lock_of (s.place (name_of edit))) ≡ true))
+      × (IsSome (T (lock_of (s.place (name_of edit))))
+      ⊎ (is_in (locks_of s earlier) (lock_of (s.place (name_of edit))) ≡ true))
   IsUnlockable earlier edit other = ⊥
 
   pub record IsLockable (earlier : List RefEdit) (edit : RefEdit) : Type 0 where
@@ -274,12 +292,14 @@ module _ (s : Store) (kind : Kind) (T : Tree) where
 
   -- an edit passes: its lock can be taken, and it expects what is found
   abbrev pub IsEditAccepted : List RefEdit → RefEdit → Type 0
-  IsEditAccepted earlier edit = IsLockable earlier edit × Expects (expected_of edit.change) (new_of edit.change) (found s (view_of T) (name_of edit))
+  IsEditAccepted earlier edit = IsLockable earlier edit
+      × Expects (expected_of edit.change) (new_of edit.change) (found s (view_of T) (name_of edit))
 
   -- an edit is at fault: at its lock, and then at its expectation; files and memory can fail anywhere
   abbrev pub IsEditFault : List RefEdit → RefEdit → Error → Type 0
   IsEditFault earlier edit error =
-      IsIoOrMemory error ⊎ (IsUnlockable earlier edit error ⊎ (IsLockable earlier edit × IsMismatch kind edit (found s (view_of T) (name_of edit)) error))
+      IsIoOrMemory error ⊎ (IsUnlockable earlier edit error ⊎ (IsLockable earlier edit
+      × IsMismatch kind edit (found s (view_of T) (name_of edit)) error))
 
 -- The lock of `packed-refs` is not that of an edit, nor on the way to it, nor its place.
 pub record IsApartFromPacked (s : Store) (edit : RefEdit) : Type 0 where
@@ -289,8 +309,10 @@ pub record IsApartFromPacked (s : Store) (edit : RefEdit) : Type 0 where
 
 -- No lock lies at a place, at `packed-refs` or on the way to a lock.
 pub record LocksAreApart (s : Store) (edits : List RefEdit) : Type 0 where
-  pub ways : (lock q : Path) → is_in (locks_of s edits) lock ≡ true → is_in (locks_of s edits) q ≡ true → is_in (fronts lock) q ≡ false
-  pub places : All (λ (edit : RefEdit). is_in (locks_of s edits) (s.place (name_of edit)) ≡ false) edits
+  pub ways : (lock q : Path) → is_in (locks_of s edits) lock ≡ true →
+      is_in (locks_of s edits) q ≡ true → is_in (fronts lock) q ≡ false
+  pub places : All
+      (λ (edit : RefEdit). is_in (locks_of s edits) (s.place (name_of edit)) ≡ false) edits
   pub packed : is_in (locks_of s edits) s.packed_path ≡ false
   pub packed_locks : All (IsApartFromPacked s) edits
   pub packed_lock : s.packed_path ≢ lock_of s.packed_path
@@ -301,11 +323,13 @@ NoCause s kind T seen edits = AllPass (IsEditAccepted s kind T) (IsEditFault s k
 
 -- The cause of the first edit that has one.
 abbrev pub IsFirstCause : Store → Kind → Tree → List RefEdit → List RefEdit → Error → Type 0
-IsFirstCause s kind T seen edits error = FirstFault (IsEditAccepted s kind T) (IsEditFault s kind T) seen edits error
+IsFirstCause s kind T seen edits error = FirstFault (IsEditAccepted s kind T)
+    (IsEditFault s kind T) seen edits error
 
 -- The cause of the locks: that of `packed-refs` comes first.
 abbrev pub IsLockCause : Store → Kind → Tree → List RefEdit → Error → Type 0
-IsLockCause s kind T edits error = IsPackedCause s T edits error ⊎ ((IsPackedLocked s T edits → ⊥) × IsFirstCause s kind T [] edits error)
+IsLockCause s kind T edits error = IsPackedCause s T edits error
+    ⊎ ((IsPackedLocked s T edits → ⊥) × IsFirstCause s kind T [] edits error)
 
 -- no cause applies
 pub record IsAccepted (s : Store) (kind : Kind) (T : Tree) (edits : List RefEdit) : Type 0 where

@@ -39,12 +39,15 @@ module _ {F : Type 0} (honest : Type 0) (means : F → Meaning) (faults : F → 
   -- A run that takes the lock of this place, or fails to, and does nothing else but make folders that lead to it: on honest files no stop in
   -- it leaves another tree, and none finds another disk; and no fault is forgotten.
   pub record TakesItsLock (place : Path) (before now : F) : Type 0 where
-    pub leaves : honest → Leaves (means before) (means now) (AddsLocks (lock_of place ∷ []) (lock_of place ∷ []) (means before).tree)
-    pub passes : honest → Passes (means before) (means now) (LockingOn (disk_of (means before)) place)
+    pub leaves : honest → Leaves (means before) (means now)
+        (AddsLocks (lock_of place ∷ []) (lock_of place ∷ []) (means before).tree)
+    pub passes : honest → Passes (means before) (means now)
+        (LockingOn (disk_of (means before)) place)
     pub no_fewer : faults before ≤ faults now
 
   -- Why the lock of an edit of this name is not taken. Nothing was added then but folders; and it is `Io` only where the count of faults rose.
-  pub record IsNotTaken (name : List ℕ) (lock : Path) (before now : F) (error : Error) : Type 0 where
+  pub record IsNotTaken (name : List ℕ) (lock : Path) (before now : F)
+      (error : Error) : Type 0 where
     pub cause : honest → IsRefusedLock (means before).tree name lock error
     pub kept : honest → AddsLocks [] (lock ∷ []) (means before).tree (means now).tree
     pub counted : IsCounted (faults before) (faults now) error
@@ -52,17 +55,22 @@ module _ {F : Type 0} (honest : Type 0) (means : F → Meaning) (faults : F → 
   -- A run that gives this lock, which is empty, a text, or does nothing: on honest files no stop in it leaves another tree, and none finds
   -- another disk; and no fault is forgotten.
   pub record OnlyFills (lock : Path) (before now : F) : Type 0 where
-    pub leaves : honest → (means before).tree lock ≡ Some (File []) → Leaves (means before) (means now) (FillsLock (means before).tree lock)
-    pub passes : honest → Passes (means before) (means now) (FillingOn (disk_of (means before)) lock)
+    pub leaves : honest → (means before).tree lock ≡ Some (File []) →
+        Leaves (means before) (means now) (FillsLock (means before).tree lock)
+    pub passes : honest → Passes (means before) (means now)
+        (FillingOn (disk_of (means before)) lock)
     pub no_fewer : faults before ≤ faults now
 
   -- Why an edit with the id of its record is not accepted, by its own cause; and it is `Io` only where the count of faults rose.
-  pub record IsNotAccepted (s : Store) (edit : Edit) (Cause : Error → Type 0) (before now : F) (error : Error) : Type 0 where
+  pub record IsNotAccepted (s : Store) (edit : Edit) (Cause : Error → Type 0) (before now : F)
+      (error : Error) : Type 0 where
     pub cause : honest → HasItsId s (means before).tree edit → IsIoOrMemory error ⊎ Cause error
     pub counted : IsCounted (faults before) (faults now) error
 
 -- What was found and decided of an edit with the id of its record is by the files before, if its lock was empty; and its lock is whole, if it
 -- was.
 pub record IsWritten (s : Store) (old new : Meaning) (before now : Edit) : Type 0 where
-  pub decided : HasItsId s old.tree before → old.tree (lock_of before.lock) ≡ Some (File []) → IsDecided s old.tree new.tree before now
-  pub whole : IsWholeAt (disk_of old) (lock_of before.lock) [] → IsSomeWhole (disk_of new) (lock_of before.lock)
+  pub decided : HasItsId s old.tree before → old.tree (lock_of before.lock) ≡ Some (File []) →
+      IsDecided s old.tree new.tree before now
+  pub whole : IsWholeAt (disk_of old) (lock_of before.lock) [] →
+      IsSomeWhole (disk_of new) (lock_of before.lock)

@@ -25,33 +25,41 @@ pub record AreReady (s : Store) (kind : Kind) (edits : List Edit) : Type 0 where
 
 -- A run that takes some of these locks and gives them texts, and does nothing else but make folders that lead to them: on honest files no
 -- stop in it leaves another tree, and none finds another disk; and no fault is forgotten.
-pub record OnlyTakes {F : Type 0} (honest : Type 0) (means : F → Meaning) (faults : F → ℕ) (locks : List Path) (before now : F) : Type 0 where
-  pub leaves : honest → Leaves (means before) (means now) (AddsLocks locks locks (means before).tree)
+pub record OnlyTakes {F : Type 0} (honest : Type 0) (means : F → Meaning) (faults : F → ℕ)
+    (locks : List Path) (before now : F) : Type 0 where
+  pub leaves : honest → Leaves (means before) (means now)
+      (AddsLocks locks locks (means before).tree)
   pub passes : honest → OnlyLocks locks (means before) (means now)
   pub no_fewer : faults before ≤ faults now
 
 -- All locks of these edits are taken: where the records are `known`, each edit is settled; each lock could be taken, and has a whole text.
-pub record AreTaken (known : Type 0) (s : Store) (kind : Kind) (locks : List Path) (old new : Meaning) (before now : List Edit) : Type 0 where
+pub record AreTaken (known : Type 0) (s : Store) (kind : Kind) (locks : List Path)
+    (old new : Meaning) (before now : List Edit) : Type 0 where
   pub settled : known → AreSettled s kind old.tree new.tree before now
   pub lockable : AreLockable s kind old.tree [] (updates before)
   pub whole : AreWholeLocks (disk_of new) locks
 
 -- All locks of these edits are held: what is asked for and the room for what remains are the same; on honest files nothing was added but the
 -- locks and folders that lead to them, and all are taken.
-pub record HoldAllLocks (honest known : Type 0) (s : Store) (kind : Kind) (locks : List Path) (old new : Meaning) (before now : List Edit) (room rest : Remains) : Type 0 where
+pub record HoldAllLocks (honest known : Type 0) (s : Store) (kind : Kind) (locks : List Path)
+    (old new : Meaning) (before now : List Edit) (room rest : Remains) : Type 0 where
   pub asked : all_asked now ≡ all_asked before
   pub remains : rest ≡ room
   pub adds : honest → AddsLocks locks locks old.tree new.tree
   pub taken : honest → AreTaken known s kind locks old new before now
 
 -- So many edits at the beginning have their locks: these were free, and nothing else was added but folders that lead to a lock.
-pub record FirstAreTaken (honest : Type 0) (s : Store) (edits : List Edit) (n : ℕ) (old new : Tree) : Type 0 where
+pub record FirstAreTaken (honest : Type 0) (s : Store) (edits : List Edit) (n : ℕ)
+    (old new : Tree) : Type 0 where
   pub within : n ≤ length edits
-  pub adds : honest → AddsLocks (locks_of s (take n (updates edits))) (locks_of s (updates edits)) old new
-  pub free : honest → (q : Path) → is_in (locks_of s (take n (updates edits))) q ≡ true → old q ≡ None
+  pub adds : honest → AddsLocks (locks_of s (take n (updates edits)))
+      (locks_of s (updates edits)) old new
+  pub free : honest → (q : Path) → is_in (locks_of s (take n (updates edits))) q ≡ true →
+      old q ≡ None
 
 -- The lock of `packed-refs` is held where it is due: it is an empty file, and nothing was in the way of it.
-pub record HoldsPackedLock (honest : Type 0) (s : Store) (old new : Tree) (edits : List RefEdit) (packed : Option Path) : Type 0 where
+pub record HoldsPackedLock (honest : Type 0) (s : Store) (old new : Tree) (edits : List RefEdit)
+    (packed : Option Path) : Type 0 where
   pub place : IsPackedPlace s packed
   pub due : honest → packed_places packed ≡ packed_taken s old edits
   pub empty : honest → AreEmpty new (map lock_of (packed_places packed))
@@ -59,20 +67,26 @@ pub record HoldsPackedLock (honest : Type 0) (s : Store) (old new : Tree) (edits
 
 module _ {F : Type 0} (honest : Type 0) (means : F → Meaning) (faults : F → ℕ) where
   -- Why the locks of edits with the ids of their records are not taken: the first cause; and `Io` only where the count of faults rose.
-  pub record IsTakingFault (s : Store) (kind : Kind) (edits : List Edit) (before now : F) (error : Error) : Type 0 where
-    pub first : honest → ids_in edits ≡ packed_ids s (means before).tree (updates edits) → IsFirstCause s kind (means before).tree [] (updates edits) error
+  pub record IsTakingFault (s : Store) (kind : Kind) (edits : List Edit) (before now : F)
+      (error : Error) : Type 0 where
+    pub first : honest → ids_in edits ≡ packed_ids s (means before).tree (updates edits) →
+        IsFirstCause s kind (means before).tree [] (updates edits) error
     pub counted : IsCounted (faults before) (faults now) error
 
   -- The locks that were taken are removed again: of these locks only those are left that are named, and each is named once.
-  pub record AreRemovedAgain (locks possible : List Path) (left : Vec (Vec ℕ Global) Global) (before now : F) : Type 0 where
-    pub as_before : honest → AddsLocks (paths_of left.items) locks (means before).tree (means now).tree
+  pub record AreRemovedAgain (locks possible : List Path) (left : Vec (Vec ℕ Global) Global)
+      (before now : F) : Type 0 where
+    pub as_before : honest → AddsLocks (paths_of left.items) locks (means before).tree
+        (means now).tree
     pub named : AreNamedOnce possible left (faults before) (faults now)
 
   -- Why no lock is held. Where `packed-refs` is well formed, it is this cause, or a fault of files or of memory; `Packed` is returned for a
   -- `packed-refs` that is refused, and `PackedFind` where the record of an edit cannot be read; a fault of files came with a rise of their
   -- count, or a read by a reader failed.
-  pub record IsHeldBack (read : Type 0) (s : Store) (kind : Kind) (edits : List RefEdit) (Cause : Error → Type 0) (before now : F) (error : Error) : Type 0 where
-    pub cause : honest → IsPackedWell kind (view_of (means before).tree s.packed_path) → IsIoOrMemory error ⊎ Cause error
+  pub record IsHeldBack (read : Type 0) (s : Store) (kind : Kind) (edits : List RefEdit)
+      (Cause : Error → Type 0) (before now : F) (error : Error) : Type 0 where
+    pub cause : honest → IsPackedWell kind (view_of (means before).tree s.packed_path) →
+        IsIoOrMemory error ⊎ Cause error
     pub opened : honest → IsPackedRefusal kind ((means before).tree s.packed_path) error
     pub unread : honest → IsFindCause s kind (view_of (means before).tree s.packed_path) edits error
     pub counted : IsCountedWith honest read (faults before) (faults now) error

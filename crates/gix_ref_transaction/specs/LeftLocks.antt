@@ -26,26 +26,32 @@ pub record HasRoomForEdits (held : Vec Edit Global) (remains : Remains) : Type 0
 
 -- A run that removes some of these locks, and does nothing else: on honest files no stop in it leaves another tree, and none finds another
 -- disk; and no fault is forgotten.
-pub record OnlyReleases {F : Type 0} (honest : Type 0) (means : F → Meaning) (faults : F → ℕ) (locks : List Path) (before now : F) : Type 0 where
+pub record OnlyReleases {F : Type 0} (honest : Type 0) (means : F → Meaning) (faults : F → ℕ)
+    (locks : List Path) (before now : F) : Type 0 where
   pub leaves : honest → Leaves (means before) (means now) (RemovesLocks locks (means before).tree)
   pub passes : honest → OnlyRemoves locks (means before) (means now)
   pub no_fewer : faults before ≤ faults now
 
 -- The locks that are left are among these, each is named no more often than it is among them, and the count of faults rose by one for each.
-pub record AreNamedOnce (locks : List Path) (left : Vec (Vec ℕ Global) Global) (before now : ℕ) : Type 0 where
+pub record AreNamedOnce (locks : List Path) (left : Vec (Vec ℕ Global) Global)
+    (before now : ℕ) : Type 0 where
   pub ours : (q : Path) → is_in (paths_of left.items) q ≡ true → is_in locks q ≡ true
   pub once : (q : Path) → times q (paths_of left.items) ≤ times q locks
   pub named : HasRisenBy (vec_len left) before now
 
 -- Some of these locks, so many at the most, are named behind those that were left already, without more memory; and the count of faults rose
 -- by one for each that is left, if it had for those that were left already.
-pub record NamesMore (locks : List Path) (most : ℕ) (old new : Vec (Vec ℕ Global) Global) (before now : ℕ) : Type 0 where
-  pub ours : (q : Path) → is_in (paths_of new.items) q ≡ true → (is_in (paths_of old.items) q ≡ true) ⊎ (is_in locks q ≡ true)
+pub record NamesMore (locks : List Path) (most : ℕ) (old new : Vec (Vec ℕ Global) Global)
+    (before now : ℕ) : Type 0 where
+  pub ours : (q : Path) → is_in (paths_of new.items) q ≡ true →
+      (is_in (paths_of old.items) q ≡ true) ⊎ (is_in locks q ≡ true)
   pub kept : (q : Path) → is_in (paths_of old.items) q ≡ true → is_in (paths_of new.items) q ≡ true
-  pub once : (q : Path) → times q (paths_of new.items) ≤ times q (paths_of old.items) + times q locks
+  pub once : (q : Path) → times q (paths_of new.items)
+      ≤ times q (paths_of old.items) + times q locks
   pub len : vec_len new ≤ vec_len old + most
   pub room : vec_capacity new ≡ vec_capacity old
-  pub counted : (base : ℕ) → HasRisenBy (vec_len old) base before → HasRisenBy (vec_len new) base now
+  pub counted : (base : ℕ) → HasRisenBy (vec_len old) base before →
+      HasRisenBy (vec_len new) base now
 
 -- The edits are handed back, in their order, with the place and the log of the one at which a commit ended.
 pub record HandsBack (given : Vec Edit Global) (done : ℕ) (remains : Remains) : Type 0 where
@@ -56,7 +62,8 @@ pub record HandsBack (given : Vec Edit Global) (done : ℕ) (remains : Remains) 
 -- One edit more is kept, and behind the others its lock, where that could not be removed; neither takes more memory.
 pub record AddsEdit (edit : Edit) (removed : Bool) (old new : Remains) : Type 0 where
   pub edits : new.edits.items ≡ old.edits.items ++ edit.update ∷ []
-  pub left : paths_of new.left.items ≡ paths_of old.left.items ++ (if removed then [] else lock_of edit.lock ∷ [])
+  pub left : paths_of new.left.items
+      ≡ paths_of old.left.items ++ (if removed then [] else lock_of edit.lock ∷ [])
   pub same : removed ≡ true → new.left.items ≡ old.left.items
   pub room : vec_capacity new.left ≡ vec_capacity old.left
   pub room_for_edits : vec_capacity new.edits ≡ vec_capacity old.edits

@@ -34,22 +34,27 @@ IsOurs taken all q None = ⊥
 
 -- All that was there before is as it was, and nothing more is there but what the transaction adds.
 abbrev pub AddsLocks : (taken all : List Path) → Tree → Tree → Type 0
-AddsLocks taken all before T = (q : Path) → (T q ≡ before q) ⊎ ((before q ≡ None) × IsOurs taken all q (T q))
+AddsLocks taken all before T = (q : Path) → (T q ≡ before q)
+    ⊎ ((before q ≡ None) × IsOurs taken all q (T q))
 
 -- Nothing changed but that files at some of these locks are gone.
 abbrev pub RemovesLocks : List Path → Tree → Tree → Type 0
-RemovesLocks locks before T = (q : Path) → (T q ≡ before q) ⊎ ((is_in locks q ≡ true) × (T q ≡ None) × (is_file (before q) ≡ true))
+RemovesLocks locks before T = (q : Path) → (T q ≡ before q)
+    ⊎ ((is_in locks q ≡ true) × (T q ≡ None) × (is_file (before q) ≡ true))
 
 -- All that was done is that some of these locks were removed: where they are the transaction's, a disk that was among its writes
 -- stays where it was.
 abbrev pub OnlyRemoves : List Path → Meaning → Meaning → Type 0
 OnlyRemoves locks old new =
-    (locked staying : List Path) (writes : List Write) (first : Disk) → ((q : Path) → is_in locks q ≡ true → IsOwnLock locked q) →
-    IsAmong locked staying writes first (disk_of old) → Passes old new (IsAmong locked staying writes first)
+    (locked staying : List Path) (writes : List Write) (first : Disk) →
+    ((q : Path) → is_in locks q ≡ true → IsOwnLock locked q) →
+    IsAmong locked staying writes first (disk_of old) →
+    Passes old new (IsAmong locked staying writes first)
 
 -- All that was done is that some of these locks were taken, and got a text: where they are the transaction's, a disk that was as the one at
 -- its beginning stays so.
 abbrev pub OnlyLocks : List Path → Meaning → Meaning → Type 0
 OnlyLocks locks old new =
-    (locked staying : List Path) (first : Disk) → ((q : Path) → is_in locks q ≡ true → IsOwnLock locked q) →
+    (locked staying : List Path) (first : Disk) →
+    ((q : Path) → is_in locks q ≡ true → IsOwnLock locked q) →
     IsAsBefore locked staying first (disk_of old) → Passes old new (IsAsBefore locked staying first)

@@ -21,12 +21,14 @@ module _ (find : List ℕ → Option (List ℕ)) where
   -- the parents of the children of edits, the first of which is at this place
   unfoldable pub parents_from : (place : ℕ) → List EditValue → List (Option ℕ)
   parents_from place [] = []
-  parents_from place (edit ∷ edits) = parent_list place (referent find edit.name edit.deref) ++ parents_from (suc place) edits
+  parents_from place (edit ∷ edits) = parent_list place
+      (referent find edit.name edit.deref) ++ parents_from (suc place) edits
 
   -- Those of a level: its edits are the children of the level before it, which begins where the levels before that one end.
   unfoldable pub level_parents : List EditValue → ℕ → List (Option ℕ)
   level_parents edits zero = parents_given edits
-  level_parents edits (suc k) = parents_from (length (first_levels find edits k)) (level find edits k)
+  level_parents edits (suc k) = parents_from (length (first_levels find edits k))
+      (level find edits k)
 
   -- those of the first levels, joined
   unfoldable pub first_parents : List EditValue → ℕ → List (Option ℕ)

@@ -110,11 +110,13 @@ held_locks packed edits = map lock_of (packed_places packed) ++ lock_paths edits
 -- The lock of `packed-refs` was taken, or not: it was free, and is an empty file.
 abbrev pub TakesPacked : (before : Tree) → Option Path → Tree → Type 0
 TakesPacked before None T = T ≡ before
-TakesPacked before (Some place) T = (before (lock_of place) ≡ None) × (T ≡ put before (lock_of place) (Some (File [])))
+TakesPacked before (Some place) T = (before (lock_of place) ≡ None)
+    × (T ≡ put before (lock_of place) (Some (File [])))
 
 -- why a lock is not taken in this tree
 abbrev pub IsRefusedLock : Tree → List ℕ → Path → Error → Type 0
-IsRefusedLock T name lock (PathCollision told) = (full_bytes told ≡ name) × (is_blocked T lock ≡ true)
+IsRefusedLock T name lock (PathCollision told) = (full_bytes told ≡ name)
+    × (is_blocked T lock ≡ true)
 IsRefusedLock T name lock (LockAcquire told) = (full_bytes told ≡ name) × IsSome (T lock)
 IsRefusedLock T name lock (Io error) = Unit {0}
 IsRefusedLock T name lock Memory = Unit {0}
@@ -128,7 +130,8 @@ pub record IsNewLock (before : Tree) (lock : Path) (T : Tree) : Type 0 where
 
 -- the tree with some text in a lock
 abbrev pub FillsLock : Tree → Path → Tree → Type 0
-FillsLock before lock T = (T ≡ before) ⊎ ((text : List ℕ) × (T ≡ put before lock (Some (File text))))
+FillsLock before lock T = (T ≡ before)
+    ⊎ ((text : List ℕ) × (T ≡ put before lock (Some (File text))))
 
 -- the disks that are found while a lock gets its text, or none
 abbrev pub FillingOn : Disk → Path → Disk → Type 0
@@ -172,7 +175,8 @@ lock_text Keeps = []
 abbrev pub HoldTexts : Store → (before T : Tree) → List RefEdit → Type 0
 HoldTexts s before T [] = Unit {0}
 HoldTexts s before T (edit ∷ edits) =
-    (T (lock_of (s.place (name_of edit))) ≡ Some (File (lock_text (effect_on s (view_of before) edit)))) × HoldTexts s before T edits
+    (T (lock_of (s.place (name_of edit))) ≡ Some
+    (File (lock_text (effect_on s (view_of before) edit)))) × HoldTexts s before T edits
 
 -- On the disk D a lock is whole: all of its text is synced.
 abbrev pub IsSomeWhole : Disk → Path → Type 0
@@ -191,7 +195,8 @@ AreLockable s kind T seen edits = AllPass {E = Error} (IsLockable s kind T) (λ 
 
 -- the target of its loose file, or else the object of its record
 abbrev pub target_by : List ℕ → Loose → Option ObjectId → Option TargetValue
-target_by namespace (loose_files.Holds target) packed = Some (stripped_target namespace (target_value target))
+target_by namespace (loose_files.Holds target) packed =
+    Some (stripped_target namespace (target_value target))
 target_by namespace other packed = option_map object_id packed
 
 -- there is a loose file
@@ -210,12 +215,14 @@ abbrev pub is_new : TargetValue → (old : Option TargetValue) → (damaged : Bo
 is_new new old damaged = damaged || not (is_found old new)
 
 -- The decision: an update of a reference writes where it changes it, and a deletion removes; an edit of the log alone leaves the file.
-abbrev pub decision_of : Option TargetValue → (old : Option TargetValue) → (damaged : Bool) → Decision
+abbrev pub decision_of : Option TargetValue → (old : Option TargetValue) →
+    (damaged : Bool) → Decision
 decision_of None old damaged = Remove
 decision_of (Some new) old damaged = if is_new new old damaged then Write else Keep
 
 abbrev pub decision : Change → (old : Option TargetValue) → (damaged : Bool) → Decision
-decision change old damaged = if is_of_reference (mode_of change) then decision_of (new_of change) old damaged else Keep
+decision change old damaged = if is_of_reference (mode_of change)
+    then decision_of (new_of change) old damaged else Keep
 
 -- the text of a new target
 abbrev pub text_of_new : Option TargetValue → List ℕ
@@ -237,8 +244,10 @@ pub record IsDecided (s : Store) (before T : Tree) (old new : Edit) : Type 0 whe
   pub was : value_of new.found ≡ found s (view_of before) (name_of old.update)
   pub file : new.has_file ≡ has_file_at s before old.update
   pub what : effect_value old.update.change new.effect ≡ effect_on s (view_of before) old.update
-  pub expects : Expects (expected_of old.update.change) (new_of old.update.change) (found s (view_of before) (name_of old.update))
-  pub filled : T ≡ put before (lock_of old.lock) (Some (File (lock_text (effect_on s (view_of before) old.update))))
+  pub expects : Expects (expected_of old.update.change) (new_of old.update.change)
+      (found s (view_of before) (name_of old.update))
+  pub filled : T ≡ put before (lock_of old.lock)
+      (Some (File (lock_text (effect_on s (view_of before) old.update))))
 
 -- what was decided of each edit
 abbrev pub decisions : List Edit → List Decision
@@ -265,7 +274,8 @@ effects_on s view edits = map (effect_on s view) edits
 
 -- All of these edits are settled, from the tree `before` to T: this was found and decided of each, none has a cause to be refused, and its
 -- lock has its text.
-pub record AreSettled (s : Store) (kind : Kind) (before T : Tree) (old new : List Edit) : Type 0 where
+pub record AreSettled (s : Store) (kind : Kind) (before T : Tree)
+    (old new : List Edit) : Type 0 where
   pub was : targets_of new ≡ old_targets s before (updates old)
   pub files : seen_files new ≡ files_at s before (updates old)
   pub what : effects_of new ≡ effects_on s (view_of before) (updates old)

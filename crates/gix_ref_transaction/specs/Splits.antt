@@ -53,7 +53,8 @@ pub record IsFirstMisnamed (s : Store) (edits : List EditValue) (error : Error) 
 -- a fifth round finds children, where all may be looked up
 abbrev pub IsTooLong : Store → View → List RefEdit → Error → Type 0
 IsTooLong s view given (PreprocessingFailed (TooManySplits rounds)) =
-    (rounds ≡ 5) × All (CanFollow s) (all_rounds s view given) × (level (name_led_to s view) (values_of given) 5 ≡ [] → ⊥)
+    (rounds ≡ 5) × All (CanFollow s) (all_rounds s view given)
+    × (level (name_led_to s view) (values_of given) 5 ≡ [] → ⊥)
 IsTooLong s view given other = ⊥
 
 -- no edit follows a symbolic reference
@@ -65,7 +66,8 @@ abbrev pub IsSplitCause : Store → Kind → Tree → List RefEdit → Error →
 IsSplitCause s kind T given error =
     IsIoOrMemory error
     ⊎ (IsFirstInvalid s kind [] given error
-    ⊎ (AllValid s kind [] given × (IsFirstMisnamed s (all_rounds s (view_of T) given) error ⊎ IsTooLong s (view_of T) given error)))
+    ⊎ (AllValid s kind [] given × (IsFirstMisnamed s (all_rounds s (view_of T) given) error
+    ⊎ IsTooLong s (view_of T) given error)))
 
 -- The first cause: each edit as it is given; then the splits, with the name of each edit that is looked up; then a name of two edits of
 -- the split list; then the lock of `packed-refs`; then, edit by edit, its lock and what it expects.

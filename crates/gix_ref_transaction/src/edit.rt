@@ -124,8 +124,8 @@ fn object_of(packed: Option<ObjectId>) -> Option<Target>
 
 /// What there is of a reference, by its loose file and its record.
 fn was_of(loose: Loose, packed: Option<ObjectId>, namespace: &Option<Namespace>) -> Was
-    ensures target { value_of result.target ≡ target_by (namespace_text namespace.now) loose
-        packed }
+    ensures target { value_of result.target
+        ≡ target_by (namespace_text namespace.now) loose packed }
     ensures file { result.has_file ≡ is_loose_file loose }
     ensures damaged { result.damaged ≡ is_undecodable loose }
 {
@@ -164,9 +164,8 @@ fn was_at<F: Files>(
         (decoded (setting_of settings.now) (view_of (F.means files.old).tree place.now)) packed) }
     ensures file { F.honest →
         IfOk result (λ was. was.has_file ≡ is_some (view_of (F.means files.old).tree place.now)) }
-    ensures damaged { F.honest →
-        IfOk result (λ was. was.damaged ≡ is_damaged (setting_of settings.now)
-        (view_of (F.means files.old).tree place.now)) }
+    ensures damaged { F.honest → IfOk result (λ was. was.damaged
+        ≡ is_damaged (setting_of settings.now) (view_of (F.means files.old).tree place.now)) }
     ensures outside { IfErr result IsIoOrMemory }
     ensures reads { OnlyReads F.honest F.means F.faults files.old files.new }
     ensures counted { IfErr result (IsCounted (F.faults files.old) (F.faults files.new)) }
@@ -286,8 +285,8 @@ fn take_lock<F: Files>(files: &mut F, lock: &LockFile, is_ready: bool) -> Result
 /// Puts the text into the lock, which is empty, and syncs it.
 fn write_lock<F: Files>(files: &mut F, lock: &LockFile, text: &[u8]) -> Result<(), Error>
     ensures filled { F.honest → (F.means files.old).tree (lock_of lock.now) ≡ Some (File []) →
-        OnOk result ((F.means files.new).tree ≡ put (F.means files.old).tree (lock_of lock.now)
-        (Some (File text.now))) }
+        OnOk result ((F.means files.new).tree
+        ≡ put (F.means files.old).tree (lock_of lock.now) (Some (File text.now))) }
     ensures whole { F.honest → IsWholeAt (disk_of (F.means files.old)) (lock_of lock.now) [] →
         OnOk result (IsWholeAt (disk_of (F.means files.new)) (lock_of lock.now) text.now) }
     ensures failed { IfErr result (IsFileOrMemoryFault (F.faults files.old) (F.faults files.new)) }
@@ -307,8 +306,8 @@ impl Edit {
     ) -> Result<Edit, AllocError>
         ensures update { IfOk result (λ edit. edit.update ≡ update) }
         ensures parent { IfOk result (λ edit. edit.parent ≡ parent) }
-        ensures place { IfOk result (λ edit. edit.lock ≡ (setting_of settings.now).place
-            (name_of update)) }
+        ensures place { IfOk result (λ edit. edit.lock
+            ≡ (setting_of settings.now).place (name_of update)) }
     {
         let place = settings.place(alloc, update.name.as_ref())?;
         Ok(Edit {
@@ -349,8 +348,8 @@ impl Edit {
     pub fn take<F: Files>(&self, files: &mut F, is_ready: bool) -> Result<(), Error>
         requires ready { F.honest → is_ready ≡ true →
             has_folders (F.means files.old).tree self.now.lock ≡ true }
-        ensures taken { F.honest → OnOk result (IsLockTaken (F.means files.old) (F.means files.new)
-            (lock_of self.now.lock)) }
+        ensures taken { F.honest → OnOk result
+            (IsLockTaken (F.means files.old) (F.means files.new) (lock_of self.now.lock)) }
         ensures refused { IfErr result (IsNotTaken F.honest F.means F.faults
             (name_of self.now.update) (lock_of self.now.lock) files.old files.new) }
         ensures takes { TakesItsLock F.honest F.means F.faults self.now.lock files.old files.new }
@@ -368,8 +367,8 @@ impl Edit {
         ensures given { given self.new ≡ given self.old }
         ensures found { self.new.found ≡ was.target }
         ensures file { self.new.has_file ≡ was.has_file }
-        ensures effect { self.new.effect ≡ decision self.old.update.change (value_of was.target)
-            was.damaged }
+        ensures effect { self.new.effect ≡ decision self.old.update.change
+            (value_of was.target) was.damaged }
     {
         self.effect = effect_of(&self.update.change, &was);
         self.has_file = was.has_file;
@@ -378,16 +377,16 @@ impl Edit {
 
     /// Gives the lock, which is empty, the text that is to be written.
     fn write<F: Files>(&self, alloc: Global, files: &mut F) -> Result<(), Error>
-        ensures filled { F.honest → (F.means files.old).tree (lock_of self.now.lock) ≡ Some
-            (File []) → OnOk result ((F.means files.new).tree ≡ put (F.means files.old).tree
-            (lock_of self.now.lock)
+        ensures filled { F.honest → (F.means files.old).tree
+            (lock_of self.now.lock) ≡ Some (File []) → OnOk result
+            ((F.means files.new).tree ≡ put (F.means files.old).tree (lock_of self.now.lock)
             (Some (File (lock_text (effect_value self.now.update.change self.now.effect))))) }
         ensures whole { F.honest → IsWholeAt (disk_of (F.means files.old)) (lock_of self.now.lock)
             [] → OnOk result (IsSomeWhole (disk_of (F.means files.new)) (lock_of self.now.lock)) }
         ensures failed { IfErr result
             (IsFileOrMemoryFault (F.faults files.old) (F.faults files.new)) }
-        ensures fills { OnlyFills F.honest F.means F.faults (lock_of self.now.lock) files.old
-            files.new }
+        ensures fills { OnlyFills F.honest F.means F.faults
+            (lock_of self.now.lock) files.old files.new }
     {
         match self.effect {
             Effect::Write => {
@@ -410,12 +409,12 @@ impl Edit {
         ensures given { given self.new ≡ given self.old }
         ensures written { F.honest → OnOk result (IsWritten (setting_of settings.now)
             (F.means files.old) (F.means files.new) self.old self.new) }
-        ensures refused { IfErr result (IsNotAccepted F.honest F.means F.faults
-            (setting_of settings.now) self.old (IsMismatch settings.now.kind self.old.update
-            (found (setting_of settings.now) (view_of (F.means files.old).tree)
-            (name_of self.old.update))) files.old files.new) }
-        ensures fills { OnlyFills F.honest F.means F.faults (lock_of self.old.lock) files.old
-            files.new }
+        ensures refused { IfErr result
+            (IsNotAccepted F.honest F.means F.faults (setting_of settings.now) self.old
+            (IsMismatch settings.now.kind self.old.update (found (setting_of settings.now)
+            (view_of (F.means files.old).tree) (name_of self.old.update))) files.old files.new) }
+        ensures fills { OnlyFills F.honest F.means F.faults
+            (lock_of self.old.lock) files.old files.new }
     {
         let was = was_at(alloc, files, settings, self.lock.place(), self.packed)?;
         check_expected(&self.update, &was.target, settings.kind)?;

@@ -68,10 +68,8 @@ impl Remains {
         requires room { vec_len self.old.left < vec_capacity self.old.left }
         requires room_for_edit { vec_len self.old.edits < vec_capacity self.old.edits }
         ensures adds { AddsEdit edit removed self.old self.new }
-        ensures place { self.new.place.items ≡ (if here then edit.lock else
-            self.old.place.items) }
-        ensures log { self.new.log.items ≡ (if here then path_in edit.log else
-            self.old.log.items) }
+        ensures place { self.new.place.items ≡ (if here then edit.lock else self.old.place.items) }
+        ensures log { self.new.log.items ≡ (if here then path_in edit.log else self.old.log.items) }
     {
         let Edit {
             update,
@@ -120,8 +118,8 @@ pub fn release_packed<F: Files>(files: &mut F, packed: Option<LockFile>, left: &
         ≡ paths_of left.old.items ++ map lock_of (packed_places packed)) }
     ensures named { NamesMore (map lock_of (packed_places packed)) 1 left.old left.new
         (F.faults files.old) (F.faults files.new) }
-    ensures releases { OnlyReleases F.honest F.means F.faults (map lock_of
-        (packed_places packed)) files.old files.new }
+    ensures releases { OnlyReleases F.honest F.means F.faults
+        (map lock_of (packed_places packed)) files.old files.new }
 {
     if let Some(lock) = packed {
         if !remove_lock(files, lock.path()) {
@@ -167,8 +165,8 @@ pub fn release_locks<F: Files>(
         is_file ((F.means files.new).tree (lock_at edits.items k)) ≡ false }
     ensures named { NamesMore (lock_paths edits.items) (vec_len edits) remains.left result.left
         (F.faults files.old) (F.faults files.new) }
-    ensures releases { OnlyReleases F.honest F.means F.faults (lock_paths edits.items) files.old
-        files.new }
+    ensures releases { OnlyReleases F.honest F.means F.faults
+        (lock_paths edits.items) files.old files.new }
 {
     while let Some(edit) = edits.pop() {
         let at = edits.len();
@@ -192,14 +190,13 @@ pub fn release_all<F: Files>(
     ensures gone { F.honest → (k : ℕ) → k < vec_len edits → stays_at edits.items done k ≡ true →
         is_in (paths_of result.left.items) (lock_at edits.items k) ≡ false →
         is_file ((F.means files.new).tree (lock_at edits.items k)) ≡ false }
-    ensures packed_gone { F.honest → (q : Path) →
-        is_in (map lock_of (packed_places packed)) q ≡ true →
-        is_in (paths_of result.left.items) q ≡ false →
+    ensures packed_gone { F.honest → (q : Path) → is_in (map lock_of (packed_places packed)) q
+        ≡ true → is_in (paths_of result.left.items) q ≡ false →
         is_file ((F.means files.new).tree q) ≡ false }
-    ensures named { AreNamedOnce (held_locks packed edits.items) result.left
-        (F.faults files.old) (F.faults files.new) }
-    ensures releases { OnlyReleases F.honest F.means F.faults (held_locks packed edits.items)
-        files.old files.new }
+    ensures named { AreNamedOnce (held_locks packed edits.items) result.left (F.faults files.old)
+        (F.faults files.new) }
+    ensures releases { OnlyReleases F.honest F.means F.faults
+        (held_locks packed edits.items) files.old files.new }
 {
     release_packed(files, packed, &mut remains.left);
     release_locks(files, done, edits, remains)

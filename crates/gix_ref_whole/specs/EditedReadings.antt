@@ -34,10 +34,12 @@ further name = drop 1 (candidates name)
 -- may be short for; and a fault is an error.
 abbrev pub AnswersName : Store → View → List ℕ → Reading → Option Reference → Type 0
 AnswersName s view name (Is target) (Some r) =
-    (target_value r.target ≡ target) × (full_bytes r.name ≡ hit_name s name (s.key name) (view (s.place name)))
+    (target_value r.target ≡ target)
+    × (full_bytes r.name ≡ hit_name s name (s.key name) (view (s.place name)))
 AnswersName s view name (Is target) None = ⊥
 AnswersName s view name Fault found = ⊥
-AnswersName s view name Absent found = ReturnsHit (lookup s view (records_of_file s (view s.packed_path)) (further name) (remote_head name)) found
+AnswersName s view name Absent found = ReturnsHit
+    (lookup s view (records_of_file s (view s.packed_path)) (further name) (remote_head name)) found
 
 -- Why a lookup of such a name has an error: there was no memory; or, where the name reads a target, a call of files failed. Where it
 -- reads a fault, that is one; where it reads nothing, one of the further names may have one.
@@ -48,7 +50,9 @@ FailsAs failed Fault error = Unit {0}
 FailsAs failed Absent error = Unit {0}
 
 -- and so as the result of `find`; the error of a lookup is a fault of files, a file that cannot be decoded, or want of memory
-abbrev pub IsFoundAs : Store → View → List ℕ → (failed : Type 0) → Reading → Result Reference Missing → Type 0
+abbrev pub IsFoundAs : Store → View → List ℕ → (failed : Type 0) → Reading →
+    Result Reference Missing → Type 0
 IsFoundAs s view name failed reading (Ok r) = AnswersName s view name reading (Some r)
 IsFoundAs s view name failed reading (Err (NotFound partial)) = AnswersName s view name reading None
-IsFoundAs s view name failed reading (Err (Find error)) = IsSound error × FailsAs failed reading error
+IsFoundAs s view name failed reading (Err (Find error)) = IsSound error
+    × FailsAs failed reading error

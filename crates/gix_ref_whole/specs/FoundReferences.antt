@@ -15,9 +15,12 @@ module _ {F : Type 0} (honest : Type 0) (means : F → Meaning) (faults : F → 
   -- names that the name may be short for that reads something, and `NotFound` says that none does; on any text it finds a loose file of
   -- one of these names, or a record that begins a line. It fails at the first of them that is not passed, for a reason that applies to
   -- that one. It changes nothing but the count of faults and the clock, and where it finds something not that count.
-  pub record FindsIn {R : Type 0} (G : Ghosts R) (start new : Store F) (name : List ℕ) (found : Result Reference Missing) : Type 0 where
-    pub finds : honest → (records : List Record) → AreRecordsIn means start records → IfOk found (λ r. FindsAmong means start records name (Some r))
-    pub misses : honest → (records : List Record) → AreRecordsIn means start records → IfErr found (MissesAmong means start records name)
+  pub record FindsIn {R : Type 0} (G : Ghosts R) (start new : Store F) (name : List ℕ)
+      (found : Result Reference Missing) : Type 0 where
+    pub finds : honest → (records : List Record) → AreRecordsIn means start records →
+        IfOk found (λ r. FindsAmong means start records name (Some r))
+    pub misses : honest → (records : List Record) → AreRecordsIn means start records →
+        IfErr found (MissesAmong means start records name)
     pub hits : honest → IfOk found (λ r. HitsIn {G = G} means true start Unopened name (Some r))
     pub fails : IfErr found (MissesIn {G = G} honest means faults true start new Unopened name)
     pub counts : OnOk found (faults (files_of new) ≡ faults (files_of start))

@@ -22,37 +22,46 @@ use Rattle.gix_ref_store.specs.declared.file.store.Store.{Store}
 
 module _ {F : Type 0} (honest : Type 0) (means : F → Meaning) (faults : F → ℕ) where
   -- the next item was added to those before it, if there was one
-  pub record TakesNext (s t : LooseThenPacked F Remaining) (before after : List (Result Reference Error)) (more : Bool) : Type 0 where
+  pub record TakesNext (s t : LooseThenPacked F Remaining)
+      (before after : List (Result Reference Error)) (more : Bool) : Type 0 where
     pub item : Option (Result Reference Error)
     pub gives : NextItem honest means faults s item t
     pub more_is : more ≡ is_some item
     pub adds : after ≡ before ++ option_to_list item
 
   -- these are all items that an iterator gave up to its end
-  pub record GivesAll (s t : LooseThenPacked F Remaining) (items : List (Result Reference Error)) : Type 0 where
+  pub record GivesAll (s t : LooseThenPacked F Remaining)
+      (items : List (Result Reference Error)) : Type 0 where
     pub last : LooseThenPacked F Remaining
     pub gives : Yields (NextItem honest means faults) s items last
     pub ends : NextItem honest means faults last None t
 
   -- These are the items of the listing of a prefix in a store, all of them, while the count of faults went from `before` to `now`. A folder
   -- that could not be listed is among them only where that rose.
-  pub record AreItemsIn (store : Store F) (before now : ℕ) (records : List Record) (prefix : List ℕ) (items : List (Result Reference Error)) : Type 0 where
+  pub record AreItemsIn (store : Store F) (before now : ℕ) (records : List Record) (prefix : List ℕ)
+      (items : List (Result Reference Error)) : Type 0 where
     pub listed : List Listed
     pub is : IsListing (settings_of store) (view_in means store) records prefix listed
     pub names : AllByRecursion IsNameItem listed ⊎ HasRisen before now
-    pub first : AreFirst honest means faults (settings_of store) (view_in means store) before now listed [] items
+    pub first : AreFirst honest means faults (settings_of store)
+        (view_in means store) before now listed [] items
 
   -- A listing of a prefix of the store `start`, which leaves `new`, among the records that `Are` accepts: the items; or the prefix has no
   -- listing, or there was no memory.
-  abbrev pub ListsAmong : (start new : Store F) → (prefix : List ℕ) → (Are : List Record → Type 0) → Result (Vec (Result Reference Error) Global) PrefixError → Type 0
+  abbrev pub ListsAmong : (start new : Store F) → (prefix : List ℕ) → (Are : List Record → Type 0) →
+      Result (Vec (Result Reference Error) Global) PrefixError → Type 0
   ListsAmong start new prefix Are (Ok all) =
       IsAcceptedPrefix start.namespace prefix
-      × (honest → (records : List Record) → Are records → AreItemsIn start (faults (files_of start)) (faults (files_of new)) records prefix all.items)
-  ListsAmong start new prefix Are (Err error) = (error ≡ Memory) ⊎ IsRefusedPrefix start.namespace prefix error
+      × (honest → (records : List Record) → Are records →
+      AreItemsIn start (faults (files_of start)) (faults (files_of new)) records prefix all.items)
+  ListsAmong start new prefix Are (Err error) = (error ≡ Memory)
+      ⊎ IsRefusedPrefix start.namespace prefix error
 
   -- and a listing among the records of its `packed-refs`
-  abbrev pub ListsIn : {R : Type 0} (G : Ghosts R) → (start new : Store F) → (prefix : List ℕ) → Result (Vec (Result Reference Error) Global) PrefixError → Type 0
+  abbrev pub ListsIn : {R : Type 0} (G : Ghosts R) → (start new : Store F) → (prefix : List ℕ) →
+      Result (Vec (Result Reference Error) Global) PrefixError → Type 0
   ListsIn G start new prefix (Ok all) =
       IsAcceptedPrefix start.namespace prefix
-      × (honest → (records : List Record) → AreRecordsIn means start records → AreItemsIn start (faults (files_of start)) (faults (files_of new)) records prefix all.items)
+      × (honest → (records : List Record) → AreRecordsIn means start records →
+      AreItemsIn start (faults (files_of start)) (faults (files_of new)) records prefix all.items)
   ListsIn G start new prefix (Err error) = IsNoListing honest means faults G start new prefix error

@@ -27,12 +27,14 @@ IsFolderOf f folder = (folder ≡ f.common) ⊎ (folder ≡ f.git)
 
 -- a place in the namespace: below a folder of the store, the namespace and then more
 abbrev pub IsPlaceInside : Layout → Path → Type 0
-IsPlaceInside f path = (folder rest : Path) × IsFolderOf f folder × (path ≡ below folder (f.namespace ++ rest))
+IsPlaceInside f path = (folder rest : Path) × IsFolderOf f folder
+    × (path ≡ below folder (f.namespace ++ rest))
 
 -- a log in the namespace: below a folder of the store, `logs/`, the namespace and then more; or so below the folder of a linked worktree
 abbrev pub IsLogInside : Layout → Path → Type 0
 IsLogInside f path =
-    ((folder rest : Path) × IsFolderOf f folder × (path ≡ below folder (codes "logs/" ++ (f.namespace ++ rest))))
+    ((folder rest : Path) × IsFolderOf f folder
+    × (path ≡ below folder (codes "logs/" ++ (f.namespace ++ rest))))
     ⊎ ((w rest : List ℕ) × NoByte 47 w × (path ≡ linked_log f w rest))
 
 -- a key in the namespace begins with it
@@ -56,55 +58,70 @@ pub record IsOutside (f : Layout) (Excepted : Path → Type 0) (path : Path) : T
 
 -- From the tree `before` to T all outside of the namespace is as before: each file, but for locks that are excepted, and in `packed-refs` the
 -- record of each key.
-pub record OutsideIsAsBefore (f : Layout) (s : Store) (Excepted : Path → Type 0) (before T : Tree) : Type 0 where
+pub record OutsideIsAsBefore (f : Layout) (s : Store) (Excepted : Path → Type 0)
+    (before T : Tree) : Type 0 where
   pub files : (path : Path) → IsOutside f Excepted path → view_of T path ≡ view_of before path
   pub records : (key : List ℕ) → (IsKeyInside f key → ⊥) →
-      record_named key (records_of_file s (view_of T s.packed_path)) ≡ record_named key (records_of_file s (view_of before s.packed_path))
+      record_named key (records_of_file s (view_of T s.packed_path))
+      ≡ record_named key (records_of_file s (view_of before s.packed_path))
 
 -- the place of each name lies in the namespace
 abbrev pub PlacesLieInside : Type 0
-PlacesLieInside = (f : Layout) (o : Options) (name : List ℕ) → IsPlaceInside f ((store_of f o).place name)
+PlacesLieInside = (f : Layout) (o : Options) (name : List ℕ) →
+    IsPlaceInside f ((store_of f o).place name)
 
 -- and so does its log
 abbrev pub LogsLieInTheNamespace : Type 0
-LogsLieInTheNamespace = (f : Layout) (o : Options) (name : List ℕ) → IsLogInside f ((store_of f o).log name)
+LogsLieInTheNamespace = (f : Layout) (o : Options) (name : List ℕ) →
+    IsLogInside f ((store_of f o).log name)
 
 -- and its key, where it has one
 abbrev pub KeysLieInTheNamespace : Type 0
-KeysLieInTheNamespace = (f : Layout) (o : Options) (name key : List ℕ) → (store_of f o).key name ≡ Some key → IsKeyInside f key
+KeysLieInTheNamespace = (f : Layout) (o : Options) (name key : List ℕ) →
+    (store_of f o).key name ≡ Some key → IsKeyInside f key
 
 -- Where each reference is as before or as edited, as at a stop inside a commit, all outside of the namespace is as before, but for the
 -- locks of the transaction.
 abbrev pub EveryStopLeavesTheOutside : Type 0
 EveryStopLeavesTheOutside =
-    (f : Layout) (k : Kind) (prohibits : Bool) (edits : List RefEdit) (lines : List (Option (List ℕ))) (before T : Tree) →
-    IsPackedWell k (view_of before (packed_refs f)) → IsOldOrNew (store_of f (git_options k prohibits)) edits lines before T →
-    OutsideIsAsBefore f (store_of f (git_options k prohibits)) (IsOneOf (own_locks (store_of f (git_options k prohibits)) before edits)) before T
+    (f : Layout) (k : Kind) (prohibits : Bool) (edits : List RefEdit)
+    (lines : List (Option (List ℕ))) (before T : Tree) →
+    IsPackedWell k (view_of before (packed_refs f)) →
+    IsOldOrNew (store_of f (git_options k prohibits)) edits lines before T →
+    OutsideIsAsBefore f (store_of f (git_options k prohibits))
+    (IsOneOf (own_locks (store_of f (git_options k prohibits)) before edits)) before T
 
 -- And so after a loss of power inside a commit that began on a settled disk D, but for locks.
 abbrev pub EveryLossLeavesTheOutside : Type 0
 EveryLossLeavesTheOutside =
-    (f : Layout) (k : Kind) (prohibits : Bool) (edits : List RefEdit) (lines : List (Option (List ℕ))) (D : Disk) (before T : Tree) →
+    (f : Layout) (k : Kind) (prohibits : Bool) (edits : List RefEdit)
+    (lines : List (Option (List ℕ))) (D : Disk) (before T : Tree) →
     IsPackedWell k (view_of before (packed_refs f)) → IsAllSettled D →
-    IsLostWell (store_of f (git_options k prohibits)) DeletionsOnly (own_places (store_of f (git_options k prohibits)) before edits) (with_lines edits lines) D before T →
+    IsLostWell (store_of f (git_options k prohibits)) DeletionsOnly
+    (own_places (store_of f (git_options k prohibits)) before edits)
+    (with_lines edits lines) D before T →
     OutsideIsAsBefore f (store_of f (git_options k prohibits)) IsLock before T
 
 -- the locks of a transaction are locks
 abbrev pub OwnLocksAreLocks : Type 0
-OwnLocksAreLocks = (s : Store) (T : Tree) (edits : List RefEdit) (q : Path) → is_in (own_locks s T edits) q ≡ true → IsLock q
+OwnLocksAreLocks = (s : Store) (T : Tree) (edits : List RefEdit) (q : Path) →
+    is_in (own_locks s T edits) q ≡ true → IsLock q
 
 -- and what is as before but for these locks is so but for all locks
 abbrev pub TheseLocksAreLocks : Type 0
 TheseLocksAreLocks =
-    (f : Layout) (s : Store) (locks : List Path) (before T : Tree) → ((q : Path) → is_in locks q ≡ true → IsLock q) →
+    (f : Layout) (s : Store) (locks : List Path) (before T : Tree) →
+    ((q : Path) → is_in locks q ≡ true → IsLock q) →
     OutsideIsAsBefore f s (IsOneOf locks) before T → OutsideIsAsBefore f s IsLock before T
 
 -- So a reference whose place and key are outside reads as before: as one of a store in the same common folder with another namespace, or
 -- with none.
 abbrev pub ReadingsOutsideStay : Type 0
 ReadingsOutsideStay =
-    (f g : Layout) (o : Options) (before T : Tree) → g.common ≡ f.common → OutsideIsAsBefore f (store_of f o) IsLock before T →
-    (name : List ℕ) → IsOutside f IsLock ((store_of g o).place name) → ((key : List ℕ) → (store_of g o).key name ≡ Some key → IsKeyInside f key → ⊥) →
+    (f g : Layout) (o : Options) (before T : Tree) → g.common ≡ f.common →
+    OutsideIsAsBefore f (store_of f o) IsLock before T →
+    (name : List ℕ) → IsOutside f IsLock ((store_of g o).place name) →
+    ((key : List ℕ) → (store_of g o).key name ≡ Some key → IsKeyInside f key → ⊥) →
     reading (store_of g o) (view_of T) name ≡ reading (store_of g o) (view_of before) name
 
 -- the same folders with another namespace
@@ -114,7 +131,10 @@ with_namespace f namespace = record { git = f.git; common = f.common; namespace 
 -- So each reference of another namespace of the same folders reads as before, where neither namespace begins with the other.
 abbrev pub OtherNamespacesStay : Type 0
 OtherNamespacesStay =
-    (f : Layout) (other : List ℕ) (o : Options) (before T : Tree) → IsLayout f → IsLayout (with_namespace f other) →
-    (BeginsWith other f.namespace → ⊥) → (BeginsWith f.namespace other → ⊥) → OutsideIsAsBefore f (store_of f o) IsLock before T →
+    (f : Layout) (other : List ℕ) (o : Options) (before T : Tree) → IsLayout f →
+    IsLayout (with_namespace f other) →
+    (BeginsWith other f.namespace → ⊥) → (BeginsWith f.namespace other → ⊥) →
+    OutsideIsAsBefore f (store_of f o) IsLock before T →
     (name : List ℕ) → (store_of (with_namespace f other) o).is_reference name ≡ true →
-    reading (store_of (with_namespace f other) o) (view_of T) name ≡ reading (store_of (with_namespace f other) o) (view_of before) name
+    reading (store_of (with_namespace f other) o) (view_of T) name
+    ≡ reading (store_of (with_namespace f other) o) (view_of before) name

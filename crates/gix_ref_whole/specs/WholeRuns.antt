@@ -43,40 +43,49 @@ use Rattle.gix_ref_whole.specs.declared.error.Error.TheVariants.{Prepare, Commit
 module _ {F : Type 0} (honest : Type 0) (means : F → Meaning) (faults : F → ℕ) where
   -- what each reference of a store reads after these edits
   abbrev pub reads_after : Store F → List RefEdit → List ℕ → Reading
-  reads_after old edits name = reading_after (meaning_of old) (view_in means old) (planned edits) name
+  reads_after old edits name = reading_after (meaning_of old) (view_in means old)
+      (planned edits) name
 
   -- outside of the namespace of the store `old` all is in T as it was, but for the locks that are excepted
   abbrev pub IsSameOutside : Store F → (Excepted : Path → Type 0) → Tree → Type 0
-  IsSameOutside old Excepted T = OutsideIsAsBefore (folders old) (meaning_of old) Excepted (tree_of means old) T
+  IsSameOutside old Excepted T = OutsideIsAsBefore (folders old) (meaning_of old) Excepted
+      (tree_of means old) T
 
   -- and so at every stop between `old` and `new`, but for the locks of a transaction of these edits
   abbrev pub StopsOutside : (old new : Store F) → List RefEdit → Type 0
-  StopsOutside old new edits = Leaves (means (files_of old)) (means (files_of new)) (IsSameOutside old (IsOneOf (locks_in means old edits)))
+  StopsOutside old new edits = Leaves (means (files_of old)) (means (files_of new))
+      (IsSameOutside old (IsOneOf (locks_in means old edits)))
 
   -- and after every loss of power meanwhile, but for locks
   abbrev pub LossesOutside : (old new : Store F) → Type 0
-  LossesOutside old new = Loses (means (files_of old)) (means (files_of new)) (IsSameOutside old IsLock)
+  LossesOutside old new = Loses (means (files_of old)) (means (files_of new))
+      (IsSameOutside old IsLock)
 
   -- Edits that were committed: of the store `old` they made `new`, and these locks stay. They are the split list of those that were given,
   -- of the composed names where the store composes names; where it does not, and none follows a symbolic reference, they are the given
   -- ones. Where `packed-refs` was well formed or missing, it is so again, and each reference reads as edited.
-  pub record ReadsEdited (old new : Store F) (given : List RefEdit) (left : List Path) : Type 0 where
+  pub record ReadsEdited (old new : Store F) (given : List RefEdit)
+      (left : List Path) : Type 0 where
     pub split : List RefEdit
     pub splits : SplitsGiven honest means faults old given split
     pub good : honest → HasGoodRecords means old → HasGoodRecords means new
-    pub reads : honest → HasGoodRecords means old → (name : List ℕ) → (meaning_of old).is_reference name ≡ true →
+    pub reads : honest → HasGoodRecords means old → (name : List ℕ) →
+        (meaning_of old).is_reference name ≡ true →
         reading (meaning_of old) (view_in means new) name ≡ reads_after old split name
     pub named : (q : Path) → is_in left q ≡ true → IsLock q
     -- outside of the namespace all is as it was but for the locks that stay, and meanwhile but for those of the edits
-    pub outside : honest → HasGoodRecords means old → IsSameOutside old (IsOneOf left) (tree_of means new)
+    pub outside : honest → HasGoodRecords means old →
+        IsSameOutside old (IsOneOf left) (tree_of means new)
     pub stops : honest → HasGoodRecords means old → StopsOutside old new split
 
   -- And what they did is there after every later loss of power: a store that was at rest before is at rest again, and in each tree that a
   -- loss of power leaves of its disk each reference reads as edited.
-  pub record KeepsEdited (old new : Store F) (given : List RefEdit) (left : List Path) : Type 0 where
+  pub record KeepsEdited (old new : Store F) (given : List RefEdit)
+      (left : List Path) : Type 0 where
     pub made : ReadsEdited old new given left
     pub rests : honest → IsAtRest means old → IsAtRest means new
-    pub kept : honest → HasGoodRecords means old → IsAtRest means old → (T : Tree) → Lost (disk_in means new) T → (name : List ℕ) → (meaning_of old).is_reference name ≡ true →
+    pub kept : honest → HasGoodRecords means old → IsAtRest means old → (T : Tree) →
+        Lost (disk_in means new) T → (name : List ℕ) → (meaning_of old).is_reference name ≡ true →
         reading (meaning_of old) (view_of T) name ≡ reads_after old made.split name
     -- and a loss of power meanwhile leaves all outside of the namespace
     pub losses : honest → HasGoodRecords means old → IsAtRest means old → LossesOutside old new
@@ -85,66 +94,88 @@ module _ {F : Type 0} (honest : Type 0) (means : F → Meaning) (faults : F → 
   -- files before, and the mode that a transaction begins with. Of the files before it made the edited ones, and each log gained the line
   -- that is due by them, or none; each due line could be made. No folder is gone but those in the way of a write and those above what was
   -- deleted; where a record was removed each line of `packed-refs` is one; and for each lock that stays a call of files failed.
-  pub record HasCommitted {T : Type 0} (old new : Store F) (committer : Option SignatureRef) (given : List RefEdit) (done : Done T) : Type 0 where
+  pub record HasCommitted {T : Type 0} (old new : Store F) (committer : Option SignatureRef)
+      (given : List RefEdit) (done : Done T) : Type 0 where
     pub mid : Store F
     pub packed : Option Path
     pub held : List Edit
     pub prepared : PreparesGiven honest means faults old mid given packed held
     pub edits : done.edits.items ≡ updates held
     pub mode : done.packed_refs ≡ DeletionsOnly
-    pub carried : honest → HasGoodRecords means old → AreCarried prepared.split (old_targets (meaning_of old) (tree_of means old) prepared.split) done.edits.items
+    pub carried : honest → HasGoodRecords means old → AreCarried prepared.split
+        (old_targets (meaning_of old) (tree_of means old) prepared.split) done.edits.items
     pub committed : honest → HasGoodRecords means old →
-        AreCommitted (meaning_of old) prepared.split (lines_due means old committer held) (tree_of means old) (paths_of done.locks_left.items) (tree_of means new)
+        AreCommitted (meaning_of old) prepared.split (lines_due means old committer held)
+        (tree_of means old) (paths_of done.locks_left.items) (tree_of means new)
     pub passed : LinesPass honest means mid committer held
     pub folders : KeepsFolders honest means faults mid new committer packed held
     pub read : ReadsPacked honest means faults mid packed held
-    pub named : HasRisenBy (length (paths_of done.locks_left.items)) (faults (files_of mid)) (faults (files_of new))
+    pub named : HasRisenBy (length (paths_of done.locks_left.items)) (faults (files_of mid))
+        (faults (files_of new))
 
   -- What `make` says of edits that it committed: both are of one split list.
-  pub record MakesEdited {T : Type 0} (old new : Store F) (committer : Option SignatureRef) (given : List RefEdit) (done : Done T) : Type 0 where
+  pub record MakesEdited {T : Type 0} (old new : Store F) (committer : Option SignatureRef)
+      (given : List RefEdit) (done : Done T) : Type 0 where
     pub kept : KeepsEdited old new given (paths_of done.locks_left.items)
     pub commits : HasCommitted old new committer given done
     pub same : kept.made.split ≡ commits.prepared.split
 
   -- a call of files failed from the store `start` to `new`, or a read of an open file did
   abbrev pub HasFault : {R : Type 0} (G : Ghosts R) → (start new : Store F) → Type 0
-  HasFault G start new = HasRisen (faults (files_of start)) (faults (files_of new)) ⊎ HasReadFault G.faults
+  HasFault G start new = HasRisen (faults (files_of start)) (faults (files_of new))
+      ⊎ HasReadFault G.faults
 
   -- And a lookup after them, in the store `start` that the commit left, says what every lookup says; and of a full name it finds what that
   -- reads as edited.
-  pub record FindsEdited {R : Type 0} (G : Ghosts R) (old start new : Store F) (given : List RefEdit) (left : List Path) (name : List ℕ) (found : Result Reference Missing) : Type 0 where
+  pub record FindsEdited {R : Type 0} (G : Ghosts R) (old start new : Store F)
+      (given : List RefEdit) (left : List Path) (name : List ℕ)
+      (found : Result Reference Missing) : Type 0 where
     pub made : ReadsEdited old new given left
     pub lookup : FindsIn honest means faults G start new name found
-    pub finds : honest → HasGoodRecords means old → IsAskedFirst (meaning_of old) (composes_in true old) name →
-        IsFoundAs (meaning_of old) (view_in means new) name (HasFault G start new) (reads_after old made.split name) found
+    pub finds : honest → HasGoodRecords means old →
+        IsAskedFirst (meaning_of old) (composes_in true old) name →
+        IsFoundAs (meaning_of old) (view_in means new) name (HasFault G start new)
+        (reads_after old made.split name) found
 
   -- in the store that the commit left
-  abbrev pub FindsAfter : {R T : Type 0} (G : Ghosts R) → (old new : Store F) → Option SignatureRef → List RefEdit → Done T → List ℕ → Result Reference Missing → Type 0
+  abbrev pub FindsAfter : {R T : Type 0} (G : Ghosts R) → (old new : Store F) →
+      Option SignatureRef → List RefEdit → Done T → List ℕ → Result Reference Missing → Type 0
   FindsAfter G old new committer given done name found =
-      (start : Store F) × MakesEdited old start committer given done × FindsEdited G old start new given (paths_of done.locks_left.items) name found
+      (start : Store F) × MakesEdited old start committer given done
+      × FindsEdited G old start new given (paths_of done.locks_left.items) name found
 
   -- What the items of a listing of the names with a prefix below `refs/` are, from the store `start` to `new`: just the names that read
   -- something as edited, each with its target, or why it is not given; unless a folder could not be listed. The files have composed
   -- names, where the store composes names.
-  abbrev pub ListsNames : (old start new : Store F) → (split : List RefEdit) → (prefix : List ℕ) → List (Result Reference ItemError) → Type 0
+  abbrev pub ListsNames : (old start new : Store F) → (split : List RefEdit) → (prefix : List ℕ) →
+      List (Result Reference ItemError) → Type 0
   ListsNames old start new split prefix items =
-      honest → HasGoodRecords means old → BeginsWith prefix (codes "refs/") → AreComposed (settings_of old) (view_in means new) → AllByRecursion IsNoFolder items →
-      ListsReadings (meaning_of old) (reads_after old split) (faults (files_of start)) (faults (files_of new)) prefix items
+      honest → HasGoodRecords means old → BeginsWith prefix (codes "refs/") →
+      AreComposed (settings_of old) (view_in means new) → AllByRecursion IsNoFolder items →
+      ListsReadings (meaning_of old) (reads_after old split) (faults (files_of start))
+      (faults (files_of new)) prefix items
 
   -- And a listing after them, in the store `start` that the commit left, says what every listing says; and it gives the edited references.
-  pub record ListsEdited {R : Type 0} (G : Ghosts R) (old start new : Store F) (given : List RefEdit) (left : List Path) (prefix : List ℕ) (items : Result (Vec (Result Reference ItemError) Global) PrefixError) : Type 0 where
+  pub record ListsEdited {R : Type 0} (G : Ghosts R) (old start new : Store F)
+      (given : List RefEdit) (left : List Path) (prefix : List ℕ)
+      (items : Result (Vec (Result Reference ItemError) Global) PrefixError) : Type 0 where
     pub made : ReadsEdited old new given left
     pub listing : ListsIn honest means faults G start new prefix items
     pub changes : LooksUp honest means start new
     pub lists : IfOk items (λ all. ListsNames old start new made.split prefix all.items)
 
   -- in the store that the commit left
-  abbrev pub ListsAfter : {R T : Type 0} (G : Ghosts R) → (old new : Store F) → Option SignatureRef → List RefEdit → Done T → (prefix : List ℕ) → Result (Vec (Result Reference ItemError) Global) PrefixError → Type 0
+  abbrev pub ListsAfter : {R T : Type 0} (G : Ghosts R) → (old new : Store F) →
+      Option SignatureRef → List RefEdit → Done T → (prefix : List ℕ) →
+      Result (Vec (Result Reference ItemError) Global) PrefixError → Type 0
   ListsAfter G old new committer given done prefix items =
-      (start : Store F) × MakesEdited old start committer given done × ListsEdited G old start new given (paths_of done.locks_left.items) prefix items
+      (start : Store F) × MakesEdited old start committer given done
+      × ListsEdited G old start new given (paths_of done.locks_left.items) prefix items
 
   -- And both: the listing begins in the store that the lookup left.
-  pub record ReadsAfter {R T : Type 0} (G : Ghosts R) (old new : Store F) (committer : Option SignatureRef) (given : List RefEdit) (done : Done T) (name prefix : List ℕ) (found : Result Reference Missing)
+  pub record ReadsAfter {R T : Type 0} (G : Ghosts R) (old new : Store F)
+      (committer : Option SignatureRef) (given : List RefEdit) (done : Done T)
+      (name prefix : List ℕ) (found : Result Reference Missing)
       (items : Result (Vec (Result Reference ItemError) Global) PrefixError) : Type 0 where
     pub start : Store F
     pub mid : Store F
@@ -153,7 +184,8 @@ module _ {F : Type 0} (honest : Type 0) (means : F → Meaning) (faults : F → 
     pub lists : ListsEdited G old mid new given (paths_of done.locks_left.items) prefix items
 
   -- A commit that failed of edits that were prepared, and the locks that stay.
-  pub record HasFailed (old new : Store F) (committer : Option SignatureRef) (given : List RefEdit) (error : CommitError) (left : List Path) : Type 0 where
+  pub record HasFailed (old new : Store F) (committer : Option SignatureRef) (given : List RefEdit)
+      (error : CommitError) (left : List Path) : Type 0 where
     pub mid : Store F
     pub packed : Option Path
     pub held : List Edit
@@ -168,6 +200,9 @@ module _ {F : Type 0} (honest : Type 0) (means : F → Meaning) (faults : F → 
     pub losses : honest → HasGoodRecords means old → IsAtRest means old → LossesOutside old new
 
   -- Why edits were not committed, and what is left then: they were refused, or their commit failed.
-  abbrev pub IsNotMade : (read : Type 0) → (old new : Store F) → Option SignatureRef → List RefEdit → Error → Type 0
-  IsNotMade read old new committer given (Prepare refused) = RefusesGiven honest read means faults old new given refused.error (paths_of refused.locks_left.items)
-  IsNotMade read old new committer given (Commit failed) = HasFailed old new committer given failed.error (paths_of failed.locks_left.items)
+  abbrev pub IsNotMade : (read : Type 0) → (old new : Store F) → Option SignatureRef →
+      List RefEdit → Error → Type 0
+  IsNotMade read old new committer given (Prepare refused) = RefusesGiven honest read means faults
+      old new given refused.error (paths_of refused.locks_left.items)
+  IsNotMade read old new committer given (Commit failed) =
+      HasFailed old new committer given failed.error (paths_of failed.locks_left.items)

@@ -36,9 +36,8 @@ pub fn commit_then_find<F: Files>(
     committer: Option<SignatureRef<'_>>,
     name: PartialNameRef<'_>,
 ) -> Result<Found, Error>
-    ensures found { IfOk result (λ r. FindsAfter F.honest F.means F.faults F.Reader.ReadAt
-        store.old store.new committer.entry edits.items r.done (partial_ref_bytes name.entry)
-        r.found) }
+    ensures found { IfOk result (λ r. FindsAfter F.honest F.means F.faults F.Reader.ReadAt store.old
+        store.new committer.entry edits.items r.done (partial_ref_bytes name.entry) r.found) }
     ensures not_made { IfErr result (IsNotMade F.honest F.means F.faults
         (HasReadFault F.Reader.faults) store.old store.new committer.entry edits.items) }
 {

@@ -33,11 +33,11 @@ fn take_next<F: Files>(
     items: &mut LooseThenPacked<'_, F>,
 ) -> Result<bool, AllocError>
     ensures same_reference { items.new.store.ghost_name ≡ items.old.store.ghost_name }
-    ensures takes { IfOk result (TakesNext F.honest F.means F.faults items.old items.new
-        all.old.items all.new.items) }
+    ensures takes { IfOk result
+        (TakesNext F.honest F.means F.faults items.old items.new all.old.items all.new.items) }
     ensures unchanged { LooksUp F.honest F.means (store_listed items.old) (store_listed items.new) }
-    ensures left { IfOk result
-        (λ more. more ≡ true → items_ahead items.new < items_ahead items.old) }
+    ensures left { IfOk result (λ more. more ≡ true →
+        items_ahead items.new < items_ahead items.old) }
 {
     match items.next() {
         Some(item) => {
@@ -54,8 +54,8 @@ fn collect<F: Files>(
     items: &mut LooseThenPacked<'_, F>,
 ) -> Result<Vec<Result<Reference, loose_then_packed::Error>>, AllocError>
     ensures same_reference { items.new.store.ghost_name ≡ items.old.store.ghost_name }
-    ensures gives { IfOk result (λ all. GivesAll F.honest F.means F.faults items.old items.new
-        all.items) }
+    ensures gives { IfOk result
+        (λ all. GivesAll F.honest F.means F.faults items.old items.new all.items) }
     ensures unchanged { LooksUp F.honest F.means (store_listed items.old) (store_listed items.new) }
 {
     let mut all = Vec::new(alloc);
@@ -93,8 +93,8 @@ pub(crate) fn list<F: Files>(
     store: &mut Store<F>,
     prefix: &[u8],
 ) -> Result<Vec<Result<Reference, loose_then_packed::Error>>, iter::Error>
-    ensures lists { ListsIn F.honest F.means F.faults F.Reader.ReadAt store.old store.new prefix.now
-        result }
+    ensures lists { ListsIn F.honest F.means F.faults F.Reader.ReadAt store.old store.new
+        prefix.now result }
     ensures unchanged { LooksUp F.honest F.means store.old store.new }
 {
     match store.open_packed_prefixed(alloc, prefix) {

@@ -22,8 +22,8 @@ pub fn make<F: Files>(
     edits: Vec<RefEdit>,
     committer: Option<SignatureRef<'_>>,
 ) -> Result<Done, Error>
-    ensures made { IfOk result (MakesEdited F.honest F.means F.faults store.old store.new
-        committer.entry edits.items) }
+    ensures made { IfOk result
+        (MakesEdited F.honest F.means F.faults store.old store.new committer.entry edits.items) }
     ensures not_made { IfErr result (IsNotMade F.honest F.means F.faults
         (HasReadFault F.Reader.faults) store.old store.new committer.entry edits.items) }
     ensures same { IsSameStore store.old store.new }

@@ -41,9 +41,9 @@ pub fn commit_then_read<F: Files>(
     name: PartialNameRef<'_>,
     prefix: &[u8],
 ) -> Result<Read, Error>
-    ensures read { IfOk result (λ r. ReadsAfter F.honest F.means F.faults F.Reader.ReadAt
-        store.old store.new committer.entry edits.items r.done (partial_ref_bytes name.entry)
-        prefix.now r.found r.items) }
+    ensures read { IfOk result (λ r. ReadsAfter F.honest F.means F.faults F.Reader.ReadAt store.old
+        store.new committer.entry edits.items r.done
+        (partial_ref_bytes name.entry) prefix.now r.found r.items) }
     ensures not_made { IfErr result (IsNotMade F.honest F.means F.faults
         (HasReadFault F.Reader.faults) store.old store.new committer.entry edits.items) }
 {

@@ -45,7 +45,8 @@ kept_records = a_record (codes "refs/tags/u") twos ∷ []
 
 -- these with both updates packed
 abbrev pub packed_records : List Record
-packed_records = a_record (codes "refs/heads/a") twos ∷ a_record (codes "refs/heads/b") twos ∷ kept_records
+packed_records = a_record (codes "refs/heads/a") twos ∷ a_record (codes "refs/heads/b") twos
+    ∷ kept_records
 
 -- a decoder of the loose texts that occur here
 abbrev pub example_target : List ℕ → Option TargetValue
@@ -78,19 +79,28 @@ files path =
 
 -- an update to twos
 abbrev pub update : List ℕ → Edit
-update name = record { name = name; change = Update (object_id twos); and_reference = true; line = None; peeled = None }
+update name = record {
+  name = name;
+  change = Update (object_id twos);
+  and_reference = true;
+  line = None;
+  peeled = None;
+}
 
 -- a deletion
 abbrev pub deletion : List ℕ → Edit
-deletion name = record { name = name; change = Delete; and_reference = true; line = None; peeled = None }
+deletion name =
+    record { name = name; change = Delete; and_reference = true; line = None; peeled = None }
 
 -- updates of a and b, and a deletion of t
 abbrev pub edits : List Edit
-edits = update (codes "refs/heads/a") ∷ update (codes "refs/heads/b") ∷ deletion (codes "refs/tags/t") ∷ []
+edits = update (codes "refs/heads/a") ∷ update (codes "refs/heads/b")
+    ∷ deletion (codes "refs/tags/t") ∷ []
 
 -- what a, b, t and u read
 abbrev pub shown_readings : View → List Reading
-shown_readings view = map (λ name. reading store view name) (codes "refs/heads/a" ∷ codes "refs/heads/b" ∷ codes "refs/tags/t" ∷ codes "refs/tags/u" ∷ [])
+shown_readings view = map (λ name. reading store view name)
+    (codes "refs/heads/a" ∷ codes "refs/heads/b" ∷ codes "refs/tags/t" ∷ codes "refs/tags/u" ∷ [])
 
 -- the files after so many writes of the plan
 abbrev pub files_after : Mode → List Record → ℕ → View
@@ -104,12 +114,15 @@ ExampleIsPrepared = IsPrepared store DeletionsOnly files edits kept_records
 abbrev pub PlanIsFiveWrites : Type 0
 PlanIsFiveWrites =
     plan store DeletionsOnly files edits kept_records
-    ≡ Put (codes "/r/refs/heads/a") (loose_text (object_id twos)) ∷ Put (codes "/r/refs/heads/b") (loose_text (object_id twos))
-    ∷ Remove (codes "/r/logs/refs/tags/t") ∷ Put (codes "/r/packed-refs") (written_text kept_records) ∷ Remove (codes "/r/refs/tags/t") ∷ []
+    ≡ Put (codes "/r/refs/heads/a") (loose_text (object_id twos)) ∷ Put (codes "/r/refs/heads/b")
+    (loose_text (object_id twos))
+    ∷ Remove (codes "/r/logs/refs/tags/t") ∷ Put (codes "/r/packed-refs")
+    (written_text kept_records) ∷ Remove (codes "/r/refs/tags/t") ∷ []
 
 -- after so many writes, a and b read these ids and t reads this; u is always as before
 abbrev pub Shows : ℕ → ObjectId → ObjectId → Reading → Type 0
-Shows n a b t = shown_readings (files_after DeletionsOnly kept_records n) ≡ Is (object_id a) ∷ Is (object_id b) ∷ t ∷ Is (object_id twos) ∷ []
+Shows n a b t = shown_readings (files_after DeletionsOnly kept_records n)
+    ≡ Is (object_id a) ∷ Is (object_id b) ∷ t ∷ Is (object_id twos) ∷ []
 
 -- the four rows, in this order and no others
 abbrev pub FourRows : Type 0
@@ -121,36 +134,43 @@ FourRows =
 
 -- `packed-refs` goes from 152 bytes to 99
 abbrev pub PackedTextsAreThese : Type 0
-PackedTextsAreThese = (length (written_text old_records) ≡ 152) × (length (written_text kept_records) ≡ 99)
+PackedTextsAreThese = (length (written_text old_records) ≡ 152)
+    × (length (written_text kept_records) ≡ 99)
 
 -- with `packed-refs` replaced before the updates, the deletion shows first
 abbrev pub PackedFirstIsWrong : Type 0
-PackedFirstIsWrong = NoDeletionFirst store edits files (after (Put (codes "/r/packed-refs") (written_text kept_records) ∷ []) files) → ⊥
+PackedFirstIsWrong = NoDeletionFirst store edits files
+    (after (Put (codes "/r/packed-refs") (written_text kept_records) ∷ []) files) → ⊥
 
 -- with the updates in reverse, the second shows first
 abbrev pub ReverseIsWrong : Type 0
-ReverseIsWrong = InOrder store edits files (after (Put (codes "/r/refs/heads/b") (loose_text (object_id twos)) ∷ []) files) → ⊥
+ReverseIsWrong = InOrder store edits files
+    (after (Put (codes "/r/refs/heads/b") (loose_text (object_id twos)) ∷ []) files) → ⊥
 
 -- t is loose too, at twos: with this file removed before `packed-refs` is replaced, its older record shows
 abbrev pub RemovedFirstIsWrong : Type 0
 RemovedFirstIsWrong =
     let loose = changed_at (codes "/r/refs/tags/t") (Some (loose_text (object_id twos))) files in
     let left = after (Remove (codes "/r/refs/tags/t") ∷ []) loose in
-    ReadsAsBefore store loose left (codes "refs/tags/t") ⊎ ReadsAsEdited store edits loose left (codes "refs/tags/t") → ⊥
+    ReadsAsBefore store loose left (codes "refs/tags/t")
+    ⊎ ReadsAsEdited store edits loose left (codes "refs/tags/t") → ⊥
 
 -- in the removing mode the plan itself shows the deletion first: t is gone while a's loose file still exists
 abbrev pub RemovingModeShowsDeletionFirst : Type 0
-RemovingModeShowsDeletionFirst = NoDeletionFirst store edits files (files_after PackingAndRemoving packed_records 2) → ⊥
+RemovingModeShowsDeletionFirst = NoDeletionFirst store edits files
+    (files_after PackingAndRemoving packed_records 2) → ⊥
 
 -- and, where b has no loose file but a record, its update before that of a
 abbrev pub RemovingModeShowsOutOfOrder : Type 0
 RemovingModeShowsOutOfOrder =
     let bare = changed_at (codes "/r/refs/heads/b") None files in
-    InOrder store edits bare (after (take 2 (plan store PackingAndRemoving bare edits packed_records)) bare) → ⊥
+    InOrder store edits bare
+    (after (take 2 (plan store PackingAndRemoving bare edits packed_records)) bare) → ⊥
 
 -- the paths whose locks the transaction holds
 abbrev pub locked : List Path
-locked = codes "/r/refs/heads/a" ∷ codes "/r/refs/heads/b" ∷ codes "/r/refs/tags/t" ∷ codes "/r/packed-refs" ∷ []
+locked = codes "/r/refs/heads/a" ∷ codes "/r/refs/heads/b" ∷ codes "/r/refs/tags/t"
+    ∷ codes "/r/packed-refs" ∷ []
 
 -- the files as `commit` begins: the locks of updates hold their texts, the others nothing yet
 abbrev pub files_with_locks : View
@@ -174,11 +194,13 @@ steps =
 
 -- these steps carry out the plan
 abbrev pub StepsCarryOutThePlan : Type 0
-StepsCarryOutThePlan = CarryOut locked files_with_locks steps (plan store DeletionsOnly files_with_locks edits kept_records)
+StepsCarryOutThePlan = CarryOut locked files_with_locks steps
+    (plan store DeletionsOnly files_with_locks edits kept_records)
 
 -- the folders of the linked worktree w, outside of a namespace or in the namespace `foo`
 abbrev pub linked : List ℕ → Layout
-linked namespace = record { git = codes "/r/worktrees/w"; common = codes "/r"; namespace = namespace }
+linked namespace =
+    record { git = codes "/r/worktrees/w"; common = codes "/r"; namespace = namespace }
 
 -- its place, log and key there
 abbrev pub HasPlaces : List ℕ → List ℕ → List ℕ → List ℕ → Option (List ℕ) → Type 0
@@ -188,10 +210,15 @@ HasPlaces namespace name place log key = paths_at (linked namespace) name ≡ re
 abbrev pub PlacesInLinked : Type 0
 PlacesInLinked =
     let foo = codes "refs/namespaces/foo/" in
-    HasPlaces [] (codes "HEAD") (codes "/r/worktrees/w/HEAD") (codes "/r/worktrees/w/logs/HEAD") None
+    HasPlaces [] (codes "HEAD") (codes "/r/worktrees/w/HEAD")
+    (codes "/r/worktrees/w/logs/HEAD") None
     × HasPlaces [] (codes "main-worktree/HEAD") (codes "/r/HEAD") (codes "/r/logs/HEAD") None
-    × HasPlaces [] (codes "refs/bisect/x") (codes "/r/worktrees/w/refs/bisect/x") (codes "/r/worktrees/w/logs/refs/bisect/x") None
-    × HasPlaces [] (codes "worktrees/w/refs/bisect/x") (codes "/r/worktrees/w/refs/bisect/x") (codes "/r/worktrees/w/logs/refs/bisect/x") None
-    × HasPlaces foo (codes "refs/heads/x") (codes "/r/refs/namespaces/foo/refs/heads/x") (codes "/r/logs/refs/namespaces/foo/refs/heads/x")
+    × HasPlaces [] (codes "refs/bisect/x") (codes "/r/worktrees/w/refs/bisect/x")
+    (codes "/r/worktrees/w/logs/refs/bisect/x") None
+    × HasPlaces [] (codes "worktrees/w/refs/bisect/x") (codes "/r/worktrees/w/refs/bisect/x")
+    (codes "/r/worktrees/w/logs/refs/bisect/x") None
+    × HasPlaces foo (codes "refs/heads/x") (codes "/r/refs/namespaces/foo/refs/heads/x")
+    (codes "/r/logs/refs/namespaces/foo/refs/heads/x")
     (Some (codes "refs/namespaces/foo/refs/heads/x"))
-    × HasPlaces foo (codes "worktrees/w/HEAD") (codes "/r/refs/namespaces/foo/worktrees/w/HEAD") (codes "/r/worktrees/w/logs/refs/namespaces/foo/HEAD") None
+    × HasPlaces foo (codes "worktrees/w/HEAD") (codes "/r/refs/namespaces/foo/worktrees/w/HEAD")
+    (codes "/r/worktrees/w/logs/refs/namespaces/foo/HEAD") None

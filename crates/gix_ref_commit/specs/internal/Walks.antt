@@ -38,18 +38,21 @@ StopsFor dirs T path all = all ≡ false → HoldsMore dirs T path
 
 -- the folder of an entry was added, and the entry is no file
 abbrev pub AddsFolder : (folder : Path) → FolderEntry → (old new : List Path) → Type 0
-AddsFolder folder entry old new = (entry.is_folder ≡ true) × (new ≡ old ++ (folder ++ 47 ∷ entry_name entry) ∷ [])
+AddsFolder folder entry old new = (entry.is_folder ≡ true)
+    × (new ≡ old ++ (folder ++ 47 ∷ entry_name entry) ∷ [])
 
 -- and so of all entries
 abbrev pub AddsAll : (folder : Path) → List FolderEntry → (old new : List Path) → Type 0
-AddsAll folder entries old new = All (λ entry. entry.is_folder ≡ true) entries × (new ≡ old ++ map (λ entry. folder ++ 47 ∷ entry_name entry) entries)
+AddsAll folder entries old new = All (λ entry. entry.is_folder ≡ true) entries
+    × (new ≡ old ++ map (λ entry. folder ++ 47 ∷ entry_name entry) entries)
 
 -- All that is in a folder was added, and is folders.
 pub record AddsFolders (T : Tree) (folder : Path) (old new : List Path) : Type 0 where
   pub names : List (List ℕ)
   pub are_names : All IsEntryName names
   pub added : new ≡ old ++ map (λ name. folder ++ 47 ∷ name) names
-  pub each : is_folder (T folder) ≡ true → (name : List ℕ) → IsEntryName name → IsSome (T (folder ++ 47 ∷ name)) → (is_folder (T (folder ++ 47 ∷ name)) ≡ true) × Contains names name
+  pub each : is_folder (T folder) ≡ true → (name : List ℕ) → IsEntryName name → IsSome
+      (T (folder ++ 47 ∷ name)) → (is_folder (T (folder ++ 47 ∷ name)) ≡ true) × Contains names name
 
 -- Of the folders that were found each holds only others of them, and none lies in a later one.
 pub record AreClosedFolders (T : Tree) (folders : List Path) : Type 0 where
@@ -58,10 +61,12 @@ pub record AreClosedFolders (T : Tree) (folders : List Path) : Type 0 where
 
 -- the folder at a path, and then folders in it
 abbrev pub IsWalked : Dirs → (path : Path) → List Path → Type 0
-IsWalked dirs path folders = (rest : List Path) × (folders ≡ path ∷ rest) × AreFolders dirs path folders
+IsWalked dirs path folders = (rest : List Path) × (folders ≡ path ∷ rest)
+    × AreFolders dirs path folders
 
 -- Before a step that writes a file, the folder at its path could not be listed.
-pub record IsUnlisted (plan : List Entry) (before now : ℕ) (fault : FileError) (step : Entry) : Type 0 where
+pub record IsUnlisted (plan : List Entry) (before now : ℕ) (fault : FileError)
+    (step : Entry) : Type 0 where
   pub seen : List Entry
   pub rest : List Entry
   pub cut : plan ≡ seen ++ step ∷ rest
@@ -73,11 +78,13 @@ pub record IsUnlisted (plan : List Entry) (before now : ℕ) (fault : FileError)
 abbrev pub FailsBefore : Planned About → (before now : ℕ) → Unfinished → Type 0
 FailsBefore planned before now Memory = Unit {0}
 FailsBefore planned before now (Step about (File fault)) =
-    (planned.about ≡ about) × (written_at (step_of planned.action) ≢ None) × HasRisen before now × (fault ≢ no_memory)
+    (planned.about ≡ about) × (written_at (step_of planned.action) ≢ None) × HasRisen before now
+    × (fault ≢ no_memory)
 FailsBefore planned before now (Step about cause) = ⊥
 
 -- why the search ended
 abbrev pub FailsToList : List Entry → (before now : ℕ) → Unfinished → Type 0
 FailsToList plan before now Memory = Unit {0}
-FailsToList plan before now (Step about (File fault)) = (step : Entry) × (step.1 ≡ about) × IsUnlisted plan before now fault step
+FailsToList plan before now (Step about (File fault)) = (step : Entry) × (step.1 ≡ about)
+    × IsUnlisted plan before now fault step
 FailsToList plan before now (Step about cause) = ⊥

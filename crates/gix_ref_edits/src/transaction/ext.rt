@@ -65,9 +65,9 @@ pub trait RefEditsExt<T: EditEntry> {
         requires keeps { KeepsEdits T.edit_of M.step }
         ensures find { F.IsAlwaysCallable find.new }
         ensures make { M.IsAlwaysCallable make_entry.new }
-        ensures split { OnOk result (HasSplits F.step M.step T.edit_of T.with_edit
-            (find.old, make_entry.old) (entries self.old) (entries self.new)
-            (find.new, make_entry.new)) }
+        ensures split { OnOk result
+            (HasSplits F.step M.step T.edit_of T.with_edit (find.old, make_entry.old)
+            (entries self.old) (entries self.new) (find.new, make_entry.new)) }
         ensures fault { IfErr result (IsSplitFault F.step find.old find.new
             (HasTooManySplits F.step find.old (edits_of T.edit_of (entries self.old)) find.new)
             (λ _. ⊥)) };
@@ -95,9 +95,9 @@ pub trait RefEditsExt<T: EditEntry> {
         requires keeps { KeepsEdits T.edit_of M.step }
         ensures find { F.IsAlwaysCallable find.new }
         ensures make { M.IsAlwaysCallable make_entry.new }
-        ensures split { OnOk result (HasSplits F.step M.step T.edit_of T.with_edit
-            (find.old, make_entry.old) (entries self.old) (entries self.new)
-            (find.new, make_entry.new)) }
+        ensures split { OnOk result
+            (HasSplits F.step M.step T.edit_of T.with_edit (find.old, make_entry.old)
+            (entries self.old) (entries self.new) (find.new, make_entry.new)) }
         ensures single { OnOk result (NoneDoubled (entry_names T.edit_of (entries self.new))) }
         ensures fault { IfErr result (IsSplitFault F.step find.old find.new
             (HasTooManySplits F.step find.old (edits_of T.edit_of (entries self.old)) find.new)

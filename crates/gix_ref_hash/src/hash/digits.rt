@@ -41,8 +41,8 @@ const SECOND: [usize; 16] = [1, 3, 5, 7, 9, 11, 13, 15, 17, 19, 21, 23, 25, 27, 
 /// The values of hex digits, of either case: the low four bits of a digit, and nine more for a letter.
 #[inline(always)]
 fn digit_values(digits: u8x16) -> u8x16
-    ensures { (k : ℕ) → k < 16 → is_hex_digit (get_or digits k 0) ≡ true
-        → hex_digit_value (get_or digits k 0) ≡ Some (get_or result k 0) }
+    ensures { (k : ℕ) → k < 16 → is_hex_digit (get_or digits k 0) ≡ true →
+        hex_digit_value (get_or digits k 0) ≡ Some (get_or result k 0) }
 {
     (digits & u8x16::splat(15)) + (digits >> u8x16::splat(6)) * u8x16::splat(9)
 }

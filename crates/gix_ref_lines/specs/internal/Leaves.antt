@@ -21,12 +21,15 @@ handed e (Below id) = Below id
 abbrev pub leaf_from : (place next : ℕ) → Leaf → List Edit → Leaf
 leaf_from place next leaf [] = leaf
 leaf_from place next leaf (e ∷ rest) =
-    if is_child place e.parent then leaf_from next (next + 1) (Below (expected_id e.update.change)) rest
+    if is_child place e.parent then leaf_from next (next + 1)
+    (Below (expected_id e.update.change)) rest
     else leaf_from place (next + 1) leaf rest
 
 -- the leaves of the edits up to the place `next`, where the edits from there on are known, and of those
 pub record AreLeaves (edits : List Edit) (next : ℕ) (leaves : List Leaf) : Type 0 where
   pub len : length leaves ≡ length edits
   pub within : next ≤ length edits
-  pub before : (q : ℕ) → q < next → slice_index_or leaves q Itself ≡ leaf_from q next Itself (drop next edits)
-  pub done : (q : ℕ) → next ≤ q → q < length edits → slice_index_or leaves q Itself ≡ leaf_from q (q + 1) Itself (drop (q + 1) edits)
+  pub before : (q : ℕ) → q < next → slice_index_or leaves q Itself ≡ leaf_from q next Itself
+      (drop next edits)
+  pub done : (q : ℕ) → next ≤ q → q < length edits →
+      slice_index_or leaves q Itself ≡ leaf_from q (q + 1) Itself (drop (q + 1) edits)

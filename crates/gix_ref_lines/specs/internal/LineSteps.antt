@@ -30,18 +30,21 @@ IsUnmade committer message Memory = Unit {0}
 
 -- why a due line is not added
 abbrev pub IsUnadded : Option Who → (message : List ℕ) → Path → (blocked : Bool) → Refusal → Type 0
-IsUnadded committer message path blocked (CreateOrUpdateRefLog error) = CannotAdd committer message path blocked error
+IsUnadded committer message path blocked (CreateOrUpdateRefLog error) =
+    CannotAdd committer message path blocked error
 IsUnadded committer message path blocked Memory = Unit {0}
 
 -- a fault in the search for the log at this path
 abbrev pub IsFaultAt : Path → Refusal → Type 0
-IsFaultAt path (CreateOrUpdateRefLog (CreateLeadingDirectories (Some fault) folder)) = folder.items ≡ folder_of path
+IsFaultAt path (CreateOrUpdateRefLog (CreateLeadingDirectories (Some fault) folder)) = folder.items
+    ≡ folder_of path
 IsFaultAt path (CreateOrUpdateRefLog error) = ⊥
 IsFaultAt path Memory = Unit {0}
 
 -- a file is in the path of the log
 abbrev pub IsInPath : Path → Refusal → Type 0
-IsInPath path (CreateOrUpdateRefLog (CreateLeadingDirectories None folder)) = folder.items ≡ folder_of path
+IsInPath path (CreateOrUpdateRefLog (CreateLeadingDirectories None folder)) = folder.items
+    ≡ folder_of path
 IsInPath path (CreateOrUpdateRefLog error) = ⊥
 IsInPath path Memory = Unit {0}
 

@@ -20,4 +20,5 @@ pub record HasFront (text : List ℕ) (l : LogLine) : Type 0 where
 
 -- the log's first line has these parts, and the rest follows it
 abbrev pub BeginsWithLine : List ℕ → LineRef → List ℕ → Type 0
-BeginsWithLine log line rest = (text : List ℕ) × (log_lines log ≡ text ∷ log_lines rest) × IsLine text (line_ref_parts line)
+BeginsWithLine log line rest = (text : List ℕ) × (log_lines log ≡ text ∷ log_lines rest)
+    × IsLine text (line_ref_parts line)

@@ -25,10 +25,9 @@ fn digit_marks(text: &[u8]) -> u64
 #[inline(always)]
 fn pairs(text: &[u8]) -> [u16; 8]
     requires { length text.now ≡ 18 }
-    ensures { (k : ℕ) → k < 8 → IsDigit (slice_index text.now (2 * k + 2))
-        → IsDigit (slice_index text.now (2 * k + 3))
-        → slice_index result k ≡ 10 * (slice_index text.now (2 * k + 2) - 48)
-        + (slice_index text.now (2 * k + 3) - 48) }
+    ensures { (k : ℕ) → k < 8 → IsDigit (slice_index text.now (2 * k + 2)) →
+        IsDigit (slice_index text.now (2 * k + 3)) → slice_index result k
+        ≡ 10 * (slice_index text.now (2 * k + 2) - 48) + (slice_index text.now (2 * k + 3) - 48) }
 {
     let values = u16x8::from_le_bytes(u8x16::from_slice(&text[2..]) - u8x16::splat(b'0'));
     let tens = values & u16x8::splat(255);
@@ -39,9 +38,8 @@ fn pairs(text: &[u8]) -> [u16; 8]
 /// The offset of a zone of this sign, so many hours and minutes.
 #[inline(always)]
 fn offset_of(sign: u8, hours: u16, minutes: u16) -> Option<i32>
-    ensures { IfSome result (λ n. ((sign ≡ 43) ⊎ (sign ≡ 45))
-        × (n ≡ (if sign == 45 then neg_ℤ (pos (hours * 3600 + minutes * 60))
-        else pos (hours * 3600 + minutes * 60)))) }
+    ensures { IfSome result (λ n. ((sign ≡ 43) ⊎ (sign ≡ 45)) × (n ≡ (if sign == 45 then neg_ℤ
+        (pos (hours * 3600 + minutes * 60)) else pos (hours * 3600 + minutes * 60)))) }
 {
     let size = (u32::from(hours) * 3600 + u32::from(minutes) * 60) as i32;
     match sign {
@@ -54,9 +52,9 @@ fn offset_of(sign: u8, hours: u16, minutes: u16) -> Option<i32>
 /// The seconds that five pairs of digits are.
 #[inline(always)]
 fn seconds_of(pairs: &[u16; 8]) -> u64
-    ensures { result ≡ (((slice_index pairs.now 0 * 100 + slice_index pairs.now 1) * 100
-        + slice_index pairs.now 2) * 100 + slice_index pairs.now 3) * 100
-        + slice_index pairs.now 4 }
+    ensures { result
+        ≡ (((slice_index pairs.now 0 * 100 + slice_index pairs.now 1) * 100 + slice_index pairs.now
+        2) * 100 + slice_index pairs.now 3) * 100 + slice_index pairs.now 4 }
 {
     let &[a, b, c, d, e, ..] = pairs;
     let front = (u64::from(a) * 100 + u64::from(b)) * 100 + u64::from(c);

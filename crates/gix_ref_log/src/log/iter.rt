@@ -71,11 +71,11 @@ pub fn reverse<F: ReadAt + Drop>(
         (λ run. IsRun (run.whole ≡ true) (items_from (length buf.old) 1 (F.bytes log)) run.items)) }
 
     // Of any reader: an `Io` is a fault that the reader counted, and nothing follows an error but a decode fault.
-    ensures faults { IfOk result (λ r. (items : List (Result Line ReverseError)) (s : _)
-        → Yields (NextStep F.honest F.bytes F.faults) r items s
-        → F.faults s.reader ≡ faults_after (F.faults log) items) }
-    ensures ends { IfOk result (λ r. EachRunFrom (NextStep F.honest F.bytes F.faults) r
-        (λ run. EndsAtError run.items)) }
+    ensures faults { IfOk result (λ r. (items : List (Result Line ReverseError)) (s : _) →
+        Yields (NextStep F.honest F.bytes F.faults) r items s →
+        F.faults s.reader ≡ faults_after (F.faults log) items) }
+    ensures ends { IfOk result
+        (λ r. EachRunFrom (NextStep F.honest F.bytes F.faults) r (λ run. EndsAtError run.items)) }
 {
     if buf.is_empty() {
         return Err(EmptyBuffer);

@@ -117,18 +117,17 @@ impl Line {
     /// line.write_to(&mut out)?;
     /// ```
     pub fn write_to<W: io::Write>(&self, out: &mut W) -> Result<(), WriteError>
-        ensures written { OnOk result (CanWriteLine
-            (signature_who self.now.signature) self.now.message.items
+        ensures written { OnOk result
+            (CanWriteLine (signature_who self.now.signature) self.now.message.items
             × Appends (W.contents out.old) (W.contents out.new) (line_text self.now)) }
         ensures message { IsErrOf result WriteError.MessageWithNewlines
             ↔ (NoByte 10 self.now.message.items → ⊥) }
-        ensures signature { IsErrOf result WriteError.SignatureUnwritable
-            ↔ (NoByte 10 self.now.message.items
-            × (CanWrite (signature_who self.now.signature) → ⊥)) }
-        ensures message_untouched { IsErrOf result WriteError.MessageWithNewlines
-            → out.new ≡ out.old }
-        ensures signature_untouched { IsErrOf result WriteError.SignatureUnwritable
-            → out.new ≡ out.old }
+        ensures signature { IsErrOf result WriteError.SignatureUnwritable ↔ (NoByte 10
+            self.now.message.items × (CanWrite (signature_who self.now.signature) → ⊥)) }
+        ensures message_untouched { IsErrOf result WriteError.MessageWithNewlines →
+            out.new ≡ out.old }
+        ensures signature_untouched { IsErrOf result WriteError.SignatureUnwritable →
+            out.new ≡ out.old }
     {
         if self.message.as_slice().find_byte(b'\n').is_some() {
             return Err(WriteError::MessageWithNewlines);

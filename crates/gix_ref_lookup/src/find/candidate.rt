@@ -38,8 +38,8 @@ pub fn read_at<F: Files>(
     name: FullNameRef<'_>,
     path: Vec<u8>,
 ) -> Result<Option<Target>, Error>
-    ensures found { F.honest → IfOk result (IsLooseTarget (meaning_in settings.entry)
-        (view_of (F.means files.old).tree path.items)) }
+    ensures found { F.honest → IfOk result
+        (IsLooseTarget (meaning_in settings.entry) (view_of (F.means files.old).tree path.items)) }
     ensures allowed { OnOk result ((meaning_in settings.entry).is_prohibited path.items ≡ false) }
     ensures failed { IfErr result (IsNotReadAt F.honest settings.entry.kind
         (meaning_in settings.entry) (view_of (F.means files.old).tree) (F.faults files.old)
@@ -78,15 +78,13 @@ fn read_loose<F: Files>(
     settings: Settings<'_>,
     name: FullNameRef<'_>,
 ) -> Result<Option<Target>, Error>
-    ensures found { F.honest → IfOk result (IsLooseTarget (meaning_in settings.entry)
-        (view_of (F.means files.old).tree ((meaning_in settings.entry).place (full_ref_bytes
-        name.entry)))) }
+    ensures found { F.honest → IfOk result (IsLooseTarget (meaning_in settings.entry) (view_of
+        (F.means files.old).tree ((meaning_in settings.entry).place (full_ref_bytes name.entry)))) }
     ensures allowed { OnOk result ((meaning_in settings.entry).is_prohibited
         ((meaning_in settings.entry).place (full_ref_bytes name.entry)) ≡ false) }
-    ensures failed { IfErr result (IsNotRead F.honest settings.entry.kind (meaning_in
-        settings.entry)
-        (view_of (F.means files.old).tree) (F.faults files.old) (F.faults files.new)
-        (full_ref_bytes name.entry)) }
+    ensures failed { IfErr result (IsNotRead F.honest settings.entry.kind
+        (meaning_in settings.entry) (view_of (F.means files.old).tree) (F.faults files.old)
+        (F.faults files.new) (full_ref_bytes name.entry)) }
     ensures no_fault { OnOk result (F.faults files.new ≡ F.faults files.old) }
     ensures leaves { F.honest → Leaves (F.means files.old) (F.means files.new)
         (Unchanged (F.means files.old).tree) }
@@ -106,8 +104,8 @@ fn strip_name(name: &mut FullName, namespace: &Option<Namespace>)
 
 /// The reference of a record: its name less the namespace, and its ids.
 fn packed_reference(namespace: &Option<Namespace>, mut name: FullName, found: Found) -> Reference
-    ensures name { full_bytes result.name ≡ stripped (namespace_text namespace.now) (full_bytes
-        name) }
+    ensures name { full_bytes result.name ≡ stripped (namespace_text namespace.now)
+        (full_bytes name) }
     ensures target { target_value result.target ≡ object_id found.target }
     ensures peeled { result.peeled ≡ found.object }
 {
@@ -131,13 +129,12 @@ fn find_key<R: ReadAt + Drop>(
         IfOk result (IsOfKey (namespace_text namespace.now) rs (full_ref_bytes key.entry)) }
     ensures sound { (kind : Kind) (rs : List Record) → AreAsked kind None records.old rs →
         IfErr result IsFaultOrMemory }
-    ensures hit { AreHonest records.old → (kind : Kind) → IfOk result (λ r. IfSome r
-        (IsHitOfKey kind None records.old (namespace_text namespace.now) (full_ref_bytes
-        key.entry))) }
-    ensures failed { (kind : Kind) → IfErr result (IsNotPacked (AreHonest records.old)
-        (HasReadFault R.faults)
-        (OfSearched kind None records.old (λ k text. CannotRead k text (full_ref_bytes key.entry)))
-        (λ error. ⊥)) }
+    ensures hit { AreHonest records.old → (kind : Kind) →
+        IfOk result (λ r. IfSome r (IsHitOfKey kind None records.old (namespace_text namespace.now)
+        (full_ref_bytes key.entry))) }
+    ensures failed { (kind : Kind) → IfErr result
+        (IsNotPacked (AreHonest records.old) (HasReadFault R.faults) (OfSearched kind
+        None records.old (λ k text. CannotRead k text (full_ref_bytes key.entry))) (λ error. ⊥)) }
     ensures honest { AreHonest records.old → AreHonest records.new }
     ensures searched { (kind k : Kind) (text : List ℕ) → IsSearched kind None records.new k text →
         IsSearched kind None records.old k text }
@@ -161,40 +158,34 @@ fn find_at_key<F: Files>(
     key: FullNameRef<'_>,
     records: &mut Records<'_, F::Reader>,
 ) -> Result<Option<Reference>, Error>
-    ensures found { F.honest → (rs : List Record) →
-        AreAsked settings.entry.kind (packed_refs_in settings.entry (F.means files.old))
-        records.old rs →
-        (name : List ℕ) → HasKey (meaning_in settings.entry) name (full_ref_bytes key.entry) →
+    ensures found { F.honest → (rs : List Record) → AreAsked settings.entry.kind
+        (packed_refs_in settings.entry (F.means files.old)) records.old rs → (name : List ℕ) →
+        HasKey (meaning_in settings.entry) name (full_ref_bytes key.entry) →
         IfOk result (IsByRecord (meaning_in settings.entry) rs name) }
-    ensures sound { F.honest → (rs : List Record) →
-        AreAsked settings.entry.kind (packed_refs_in settings.entry (F.means files.old))
-        records.old rs →
+    ensures sound { F.honest → (rs : List Record) → AreAsked settings.entry.kind
+        (packed_refs_in settings.entry (F.means files.old)) records.old rs →
         IfErr result IsFaultOrMemory }
-    ensures hit { F.honest → AreHonest records.old →
-        (name : List ℕ) → HasKey (meaning_in settings.entry) name (full_ref_bytes key.entry) →
-        IfOk result (λ r. IfSome r (λ r. OfKey (meaning_in settings.entry) name (λ key.
-        IsHitOfKey settings.entry.kind (packed_refs_in settings.entry (F.means files.old))
+    ensures hit { F.honest → AreHonest records.old → (name : List ℕ) →
+        HasKey (meaning_in settings.entry) name (full_ref_bytes key.entry) →
+        IfOk result (λ r. IfSome r (λ r. OfKey (meaning_in settings.entry) name
+        (λ key. IsHitOfKey settings.entry.kind (packed_refs_in settings.entry (F.means files.old))
         records.old (namespace_text settings.entry.namespace.now) key r))) }
-    ensures failed { (name : List ℕ) → HasKey (meaning_in settings.entry) name (full_ref_bytes
-        key.entry) →
-        IfErr result (IsNotPacked (F.honest × AreHonest records.old)
-        (HasRisen (F.faults files.old) (F.faults files.new) ⊎ HasReadFault F.Reader.faults)
-        (OfKey (meaning_in settings.entry) name (λ key.
-        OfSearched settings.entry.kind (packed_refs_in settings.entry (F.means files.old))
-        records.old (λ k text. CannotRead k text key)))
-        (IsRefusedFile settings.entry.kind ((F.means files.old).tree (meaning_in
-        settings.entry).packed_path))) }
-    ensures asked { F.honest → (rs : List Record) →
-        AreAsked settings.entry.kind (packed_refs_in settings.entry (F.means files.old))
-        records.old rs →
-        AreAsked settings.entry.kind (packed_refs_in settings.entry (F.means files.old))
-        records.new rs }
+    ensures failed { (name : List ℕ) → HasKey
+        (meaning_in settings.entry) name (full_ref_bytes key.entry) →
+        IfErr result (IsNotPacked (F.honest × AreHonest records.old) (HasRisen (F.faults files.old)
+        (F.faults files.new) ⊎ HasReadFault F.Reader.faults) (OfKey (meaning_in settings.entry) name
+        (λ key. OfSearched settings.entry.kind (packed_refs_in settings.entry (F.means files.old))
+        records.old (λ k text. CannotRead k text key))) (IsRefusedFile settings.entry.kind
+        ((F.means files.old).tree (meaning_in settings.entry).packed_path))) }
+    ensures asked { F.honest → (rs : List Record) → AreAsked settings.entry.kind
+        (packed_refs_in settings.entry (F.means files.old)) records.old rs →
+        AreAsked settings.entry.kind
+        (packed_refs_in settings.entry (F.means files.old)) records.new rs }
     ensures honest { F.honest → AreHonest records.old → AreHonest records.new }
-    ensures searched { F.honest → (kind : Kind) (text : List ℕ) →
-        IsSearched settings.entry.kind (packed_refs_in settings.entry (F.means files.old))
-        records.new kind text →
-        IsSearched settings.entry.kind (packed_refs_in settings.entry (F.means files.old))
-        records.old kind text }
+    ensures searched { F.honest → (kind : Kind) (text : List ℕ) → IsSearched settings.entry.kind
+        (packed_refs_in settings.entry (F.means files.old)) records.new kind text →
+        IsSearched settings.entry.kind
+        (packed_refs_in settings.entry (F.means files.old)) records.old kind text }
     ensures no_fault { OnOk result (F.faults files.new ≡ F.faults files.old) }
     ensures leaves { F.honest → Leaves (F.means files.old) (F.means files.new)
         (Unchanged (F.means files.old).tree) }
@@ -213,36 +204,31 @@ fn find_packed<F: Files>(
     name: FullNameRef<'_>,
     records: &mut Records<'_, F::Reader>,
 ) -> Result<Option<Reference>, Error>
-    ensures found { F.honest → (rs : List Record) →
-        AreAsked settings.entry.kind (packed_refs_in settings.entry (F.means files.old))
-        records.old rs →
+    ensures found { F.honest → (rs : List Record) → AreAsked settings.entry.kind
+        (packed_refs_in settings.entry (F.means files.old)) records.old rs →
         IfOk result (IsByRecord (meaning_in settings.entry) rs (full_ref_bytes name.entry)) }
-    ensures sound { F.honest → (rs : List Record) →
-        AreAsked settings.entry.kind (packed_refs_in settings.entry (F.means files.old))
-        records.old rs →
+    ensures sound { F.honest → (rs : List Record) → AreAsked settings.entry.kind
+        (packed_refs_in settings.entry (F.means files.old)) records.old rs →
         IfErr result IsFaultOrMemory }
-    ensures hit { F.honest → AreHonest records.old → IfOk result (λ r. IfSome r (λ r.
-        OfKey (meaning_in settings.entry) (full_ref_bytes name.entry) (λ key.
-        IsHitOfKey settings.entry.kind (packed_refs_in settings.entry (F.means files.old))
+    ensures hit { F.honest → AreHonest records.old → IfOk result
+        (λ r. IfSome r (λ r. OfKey (meaning_in settings.entry) (full_ref_bytes name.entry)
+        (λ key. IsHitOfKey settings.entry.kind (packed_refs_in settings.entry (F.means files.old))
         records.old (namespace_text settings.entry.namespace.now) key r))) }
     ensures failed { IfErr result (IsNotPacked (F.honest × AreHonest records.old)
         (HasRisen (F.faults files.old) (F.faults files.new) ⊎ HasReadFault F.Reader.faults)
-        (OfKey (meaning_in settings.entry) (full_ref_bytes name.entry) (λ key.
-        OfSearched settings.entry.kind (packed_refs_in settings.entry (F.means files.old))
-        records.old (λ k text. CannotRead k text key)))
-        (IsRefusedFile settings.entry.kind ((F.means files.old).tree (meaning_in
-        settings.entry).packed_path))) }
-    ensures asked { F.honest → (rs : List Record) →
-        AreAsked settings.entry.kind (packed_refs_in settings.entry (F.means files.old))
-        records.old rs →
-        AreAsked settings.entry.kind (packed_refs_in settings.entry (F.means files.old))
-        records.new rs }
+        (OfKey (meaning_in settings.entry) (full_ref_bytes name.entry)
+        (λ key. OfSearched settings.entry.kind (packed_refs_in settings.entry (F.means files.old))
+        records.old (λ k text. CannotRead k text key))) (IsRefusedFile settings.entry.kind
+        ((F.means files.old).tree (meaning_in settings.entry).packed_path))) }
+    ensures asked { F.honest → (rs : List Record) → AreAsked settings.entry.kind
+        (packed_refs_in settings.entry (F.means files.old)) records.old rs →
+        AreAsked settings.entry.kind
+        (packed_refs_in settings.entry (F.means files.old)) records.new rs }
     ensures honest { F.honest → AreHonest records.old → AreHonest records.new }
-    ensures searched { F.honest → (kind : Kind) (text : List ℕ) →
-        IsSearched settings.entry.kind (packed_refs_in settings.entry (F.means files.old))
-        records.new kind text →
-        IsSearched settings.entry.kind (packed_refs_in settings.entry (F.means files.old))
-        records.old kind text }
+    ensures searched { F.honest → (kind : Kind) (text : List ℕ) → IsSearched settings.entry.kind
+        (packed_refs_in settings.entry (F.means files.old)) records.new kind text →
+        IsSearched settings.entry.kind
+        (packed_refs_in settings.entry (F.means files.old)) records.old kind text }
     ensures no_fault { OnOk result (F.faults files.new ≡ F.faults files.old) }
     ensures leaves { F.honest → Leaves (F.means files.old) (F.means files.new)
         (Unchanged (F.means files.old).tree) }
@@ -266,32 +252,26 @@ pub fn find_candidate<F: Files>(
     name: FullNameRef<'_>,
     records: &mut Records<'_, F::Reader>,
 ) -> Result<Option<Reference>, Error>
-    ensures found { F.honest → (rs : List Record) →
-        AreAsked settings.entry.kind (packed_refs_in settings.entry (F.means files.old))
-        records.old rs →
+    ensures found { F.honest → (rs : List Record) → AreAsked settings.entry.kind
+        (packed_refs_in settings.entry (F.means files.old)) records.old rs →
         IfOk result (IsCandidate (meaning_in settings.entry) (view_of (F.means files.old).tree) rs
         (full_ref_bytes name.entry)) }
-    ensures sound { F.honest → (rs : List Record) →
-        AreAsked settings.entry.kind (packed_refs_in settings.entry (F.means files.old))
-        records.old rs →
-        IfErr result IsSound }
-    ensures hit { F.honest → AreHonest records.old → IfOk result (λ r. IfSome r
-        (IsHit settings.entry (view_of (F.means files.old).tree) records.old (full_ref_bytes
-        name.entry))) }
+    ensures sound { F.honest → (rs : List Record) → AreAsked settings.entry.kind
+        (packed_refs_in settings.entry (F.means files.old)) records.old rs → IfErr result IsSound }
+    ensures hit { F.honest → AreHonest records.old →
+        IfOk result (λ r. IfSome r (IsHit settings.entry
+        (view_of (F.means files.old).tree) records.old (full_ref_bytes name.entry))) }
     ensures failed { IfErr result (CandidateFails F.honest settings.entry (F.means files.old).tree
-        records.old
-        (F.faults files.old) (F.faults files.new) (full_ref_bytes name.entry)) }
-    ensures asked { F.honest → (rs : List Record) →
-        AreAsked settings.entry.kind (packed_refs_in settings.entry (F.means files.old))
-        records.old rs →
-        AreAsked settings.entry.kind (packed_refs_in settings.entry (F.means files.old))
-        records.new rs }
+        records.old (F.faults files.old) (F.faults files.new) (full_ref_bytes name.entry)) }
+    ensures asked { F.honest → (rs : List Record) → AreAsked settings.entry.kind
+        (packed_refs_in settings.entry (F.means files.old)) records.old rs →
+        AreAsked settings.entry.kind
+        (packed_refs_in settings.entry (F.means files.old)) records.new rs }
     ensures honest { F.honest → AreHonest records.old → AreHonest records.new }
-    ensures searched { F.honest → (kind : Kind) (text : List ℕ) →
-        IsSearched settings.entry.kind (packed_refs_in settings.entry (F.means files.old))
-        records.new kind text →
-        IsSearched settings.entry.kind (packed_refs_in settings.entry (F.means files.old))
-        records.old kind text }
+    ensures searched { F.honest → (kind : Kind) (text : List ℕ) → IsSearched settings.entry.kind
+        (packed_refs_in settings.entry (F.means files.old)) records.new kind text →
+        IsSearched settings.entry.kind
+        (packed_refs_in settings.entry (F.means files.old)) records.old kind text }
     ensures no_fault { OnOk result (F.faults files.new ≡ F.faults files.old) }
     ensures leaves { F.honest → Leaves (F.means files.old) (F.means files.new)
         (Unchanged (F.means files.old).tree) }

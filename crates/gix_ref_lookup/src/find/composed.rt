@@ -25,8 +25,8 @@ pub fn composed_name(
     composes: bool,
     name: PartialNameRef<'_>,
 ) -> Result<Option<PartialName>, AllocError>
-    ensures { let asked = name_asked composes (partial_ref_bytes name.entry) in
-        IfOk result (λ r. MatchOption r (asked ≡ partial_ref_bytes name.entry)
+    ensures { let asked = name_asked composes (partial_ref_bytes name.entry) in IfOk result
+        (λ r. MatchOption r (asked ≡ partial_ref_bytes name.entry)
         (λ n. (partial_bytes n ≡ asked) × (asked ≢ partial_ref_bytes name.entry))) }
 {
     if composes {
@@ -71,24 +71,19 @@ pub fn find_reference<F: Files>(
     name: PartialNameRef<'_>,
     records: &mut Records<'_, F::Reader>,
 ) -> Result<Option<Reference>, Error>
-    ensures found { F.honest → (rs : List Record) →
-        AreAsked settings.entry.kind (packed_refs_in settings.entry (F.means files.old))
-        records.old rs →
-        IfOk result (ReturnsHit (lookup_of composes
-        (meaning_in settings.entry) (view_of (F.means files.old).tree) rs
-        (partial_ref_bytes name.entry))) }
-    ensures sound { F.honest → (rs : List Record) →
-        AreAsked settings.entry.kind (packed_refs_in settings.entry (F.means files.old))
-        records.old rs →
-        IfErr result IsSound }
-    ensures hit { F.honest → AreHonest records.old → IfOk result (λ r. IfSome r
-        (IsHitOf composes settings.entry
+    ensures found { F.honest → (rs : List Record) → AreAsked settings.entry.kind
+        (packed_refs_in settings.entry (F.means files.old)) records.old rs →
+        IfOk result (ReturnsHit (lookup_of composes (meaning_in settings.entry)
+        (view_of (F.means files.old).tree) rs (partial_ref_bytes name.entry))) }
+    ensures sound { F.honest → (rs : List Record) → AreAsked settings.entry.kind
+        (packed_refs_in settings.entry (F.means files.old)) records.old rs → IfErr result IsSound }
+    ensures hit { F.honest → AreHonest records.old →
+        IfOk result (λ r. IfSome r (IsHitOf composes settings.entry
         (view_of (F.means files.old).tree) records.old (partial_ref_bytes name.entry))) }
-    ensures failed { IfErr result (λ error. (error ≡ Error.Memory) ⊎ FailsAmong F.honest
-        settings.entry
-        (F.means files.old).tree records.old (F.faults files.old) (F.faults files.new)
-        (asked_names (name_asked composes
-        (partial_ref_bytes name.entry))) error) }
+    ensures failed { IfErr result (λ error. (error ≡ Error.Memory)
+        ⊎ FailsAmong F.honest settings.entry (F.means files.old).tree records.old
+        (F.faults files.old) (F.faults files.new)
+        (asked_names (name_asked composes (partial_ref_bytes name.entry))) error) }
     ensures asked { F.honest → OnOk result (AreStillAsked settings.entry.kind
         (packed_refs_in settings.entry (F.means files.old)) records.old records.new) }
     ensures no_fault { OnOk result (F.faults files.new ≡ F.faults files.old) }

@@ -27,21 +27,17 @@ fn find_first<F: Files>(
     name: PartialNameRef<'_>,
     records: &mut Records<'_, F::Reader>,
 ) -> Result<Option<Reference>, Error>
-    ensures found { F.honest → (rs : List Record) →
-        AreAsked settings.entry.kind (packed_refs_in settings.entry (F.means files.old))
-        records.old rs →
-        IfOk result (ReturnsHit (first_hit (meaning_in settings.entry) (view_of (F.means
-        files.old).tree) rs
+    ensures found { F.honest → (rs : List Record) → AreAsked settings.entry.kind
+        (packed_refs_in settings.entry (F.means files.old)) records.old rs →
+        IfOk result (ReturnsHit (first_hit (meaning_in settings.entry)
+        (view_of (F.means files.old).tree) rs (candidates (partial_ref_bytes name.entry)))) }
+    ensures sound { F.honest → (rs : List Record) → AreAsked settings.entry.kind
+        (packed_refs_in settings.entry (F.means files.old)) records.old rs → IfErr result IsSound }
+    ensures hit { F.honest → AreHonest records.old → IfOk result (λ r. IfSome r
+        (λ r. Among (λ n. IsHit settings.entry (view_of (F.means files.old).tree) records.old n r)
         (candidates (partial_ref_bytes name.entry)))) }
-    ensures sound { F.honest → (rs : List Record) →
-        AreAsked settings.entry.kind (packed_refs_in settings.entry (F.means files.old))
-        records.old rs →
-        IfErr result IsSound }
-    ensures hit { F.honest → AreHonest records.old → IfOk result (λ r. IfSome r (λ r. Among (λ n.
-        IsHit settings.entry (view_of (F.means files.old).tree) records.old n r)
-        (candidates (partial_ref_bytes name.entry)))) }
-    ensures failed { IfErr result (FailsAmong F.honest settings.entry (F.means files.old).tree
-        records.old
+    ensures failed { IfErr result
+        (FailsAmong F.honest settings.entry (F.means files.old).tree records.old
         (F.faults files.old) (F.faults files.new) (candidates (partial_ref_bytes name.entry))) }
     ensures asked { F.honest → OnOk result (AreStillAsked settings.entry.kind
         (packed_refs_in settings.entry (F.means files.old)) records.old records.new) }
@@ -73,15 +69,13 @@ fn find_head<F: Files>(
     ensures found { F.honest → IfOk result (ReturnsHit (hit_or_head (meaning_in settings.entry)
         (view_of (F.means files.old).tree) None (remote_head (partial_ref_bytes name.entry)))) }
     ensures sound { F.honest → IfErr result IsSound }
-    ensures failed { IfErr result (λ error. (error ≡ Error.Memory) ⊎ FailsAmong {G =
-        F.Reader.ReadAt} F.honest
-        settings.entry (F.means files.old).tree Records.None (F.faults files.old) (F.faults
-        files.new)
+    ensures failed { IfErr result (λ error. (error ≡ Error.Memory)
+        ⊎ FailsAmong {G = F.Reader.ReadAt} F.honest settings.entry
+        (F.means files.old).tree Records.None (F.faults files.old) (F.faults files.new)
         (option_to_list (remote_head (partial_ref_bytes name.entry))) error) }
-    ensures hit { F.honest → IfOk result (λ r. IfSome r (λ r. Among (λ n.
-        IsHit {G = F.Reader.ReadAt} settings.entry (view_of (F.means files.old).tree) Records.None
-        n r)
-        (option_to_list (remote_head (partial_ref_bytes name.entry))))) }
+    ensures hit { F.honest → IfOk result (λ r. IfSome r (λ r. Among
+        (λ n. IsHit {G = F.Reader.ReadAt} settings.entry (view_of (F.means files.old).tree)
+        Records.None n r) (option_to_list (remote_head (partial_ref_bytes name.entry))))) }
     ensures no_fault { OnOk result (F.faults files.new ≡ F.faults files.old) }
     ensures leaves { F.honest → Leaves (F.means files.old) (F.means files.new)
         (Unchanged (F.means files.old).tree) }
@@ -104,23 +98,18 @@ pub fn find_asked<F: Files>(
     name: PartialNameRef<'_>,
     records: &mut Records<'_, F::Reader>,
 ) -> Result<Option<Reference>, Error>
-    ensures found { F.honest → (rs : List Record) →
-        AreAsked settings.entry.kind (packed_refs_in settings.entry (F.means files.old))
-        records.old rs →
-        IfOk result (ReturnsHit (lookup (meaning_in settings.entry)
-        (view_of (F.means files.old).tree) rs (candidates (partial_ref_bytes name.entry))
-        (remote_head (partial_ref_bytes name.entry)))) }
-    ensures sound { F.honest → (rs : List Record) →
-        AreAsked settings.entry.kind (packed_refs_in settings.entry (F.means files.old))
-        records.old rs →
-        IfErr result IsSound }
-    ensures hit { F.honest → AreHonest records.old → IfOk result (λ r. IfSome r (λ r. Among (λ n.
-        IsHit settings.entry (view_of (F.means files.old).tree) records.old n r)
+    ensures found { F.honest → (rs : List Record) → AreAsked settings.entry.kind
+        (packed_refs_in settings.entry (F.means files.old)) records.old rs → IfOk result
+        (ReturnsHit (lookup (meaning_in settings.entry) (view_of (F.means files.old).tree) rs
+        (candidates (partial_ref_bytes name.entry)) (remote_head (partial_ref_bytes name.entry)))) }
+    ensures sound { F.honest → (rs : List Record) → AreAsked settings.entry.kind
+        (packed_refs_in settings.entry (F.means files.old)) records.old rs → IfErr result IsSound }
+    ensures hit { F.honest → AreHonest records.old → IfOk result (λ r. IfSome r
+        (λ r. Among (λ n. IsHit settings.entry (view_of (F.means files.old).tree) records.old n r)
         (asked_names (partial_ref_bytes name.entry)))) }
     ensures failed { IfErr result (λ error. (error ≡ Error.Memory) ⊎ FailsAmong F.honest
-        settings.entry
-        (F.means files.old).tree records.old (F.faults files.old) (F.faults files.new)
-        (asked_names (partial_ref_bytes name.entry)) error) }
+        settings.entry (F.means files.old).tree records.old (F.faults files.old)
+        (F.faults files.new) (asked_names (partial_ref_bytes name.entry)) error) }
     ensures asked { F.honest → OnOk result (AreStillAsked settings.entry.kind
         (packed_refs_in settings.entry (F.means files.old)) records.old records.new) }
     ensures no_fault { OnOk result (F.faults files.new ≡ F.faults files.old) }

@@ -93,23 +93,18 @@ fn open_records<'b, F: Files>(
     settings: Settings<'_>,
 ) -> Result<Records<'b, F::Reader>, Error>
     ensures ready { IfOk result IsReady }
-    ensures asked { F.honest → (records : List Record) →
-        ArePackedRecords settings.entry.kind (packed_refs_in settings.entry (F.means files.old))
-        records →
+    ensures asked { F.honest → (records : List Record) → ArePackedRecords settings.entry.kind
+        (packed_refs_in settings.entry (F.means files.old)) records →
         IfOk result (λ r. AreAsked settings.entry.kind None r records) }
-    ensures sound { F.honest → (records : List Record) →
-        ArePackedRecords settings.entry.kind (packed_refs_in settings.entry (F.means files.old))
-        records →
-        IfErr result IsFaultOrMemory }
+    ensures sound { F.honest → (records : List Record) → ArePackedRecords settings.entry.kind
+        (packed_refs_in settings.entry (F.means files.old)) records → IfErr result IsFaultOrMemory }
     ensures searched { F.honest → IfOk result (λ r. (kind : Kind) (text : List ℕ) →
-        IsSearched settings.entry.kind None r kind text →
-        IsOpenedText settings.entry.kind (packed_refs_in settings.entry (F.means files.old)) kind
-        text) }
+        IsSearched settings.entry.kind None r kind text → IsOpenedText settings.entry.kind
+        (packed_refs_in settings.entry (F.means files.old)) kind text) }
     ensures honest { F.honest → IfOk result AreHonest }
-    ensures refused { IfErr result (IsNotPacked F.honest
-        (HasRisen (F.faults files.old) (F.faults files.new) ⊎ HasReadFault F.Reader.faults) ⊥
-        (IsRefusedFile settings.entry.kind ((F.means files.old).tree (meaning_in
-        settings.entry).packed_path))) }
+    ensures refused { IfErr result (IsNotPacked F.honest (HasRisen (F.faults files.old)
+        (F.faults files.new) ⊎ HasReadFault F.Reader.faults) ⊥ (IsRefusedFile settings.entry.kind
+        ((F.means files.old).tree (meaning_in settings.entry).packed_path))) }
     ensures no_fault { OnOk result (F.faults files.new ≡ F.faults files.old) }
     ensures reads { OnlyReads F.honest F.means F.faults files.old files.new }
 {
@@ -142,23 +137,19 @@ impl<R: ReadAt + Drop> Records<'_, R> {
     ) -> Result<(), Error>
         ensures ready { OnOk result (IsReady self.new) }
         ensures kept { OnErr result (self.new ≡ self.old) }
-        ensures asked { F.honest → (records : List Record) →
-            AreAsked settings.entry.kind (packed_refs_in settings.entry (F.means files.old))
-            self.old records →
+        ensures asked { F.honest → (records : List Record) → AreAsked settings.entry.kind
+            (packed_refs_in settings.entry (F.means files.old)) self.old records →
             OnOk result (AreAsked settings.entry.kind None self.new records) }
-        ensures sound { F.honest → (records : List Record) →
-            AreAsked settings.entry.kind (packed_refs_in settings.entry (F.means files.old))
-            self.old records →
+        ensures sound { F.honest → (records : List Record) → AreAsked settings.entry.kind
+            (packed_refs_in settings.entry (F.means files.old)) self.old records →
             IfErr result IsFaultOrMemory }
-        ensures searched { F.honest → (kind : Kind) (text : List ℕ) →
-            IsSearched settings.entry.kind None self.new kind text →
-            OnOk result (IsSearched settings.entry.kind (packed_refs_in settings.entry (F.means
-            files.old)) self.old kind text) }
+        ensures searched { F.honest → (kind : Kind) (text : List ℕ) → IsSearched settings.entry.kind
+            None self.new kind text → OnOk result (IsSearched settings.entry.kind
+            (packed_refs_in settings.entry (F.means files.old)) self.old kind text) }
         ensures honest { F.honest → AreHonest self.old → OnOk result (AreHonest self.new) }
-        ensures refused { IfErr result (IsNotPacked F.honest
-            (HasRisen (F.faults files.old) (F.faults files.new) ⊎ HasReadFault R.faults) ⊥
-            (IsRefusedFile settings.entry.kind ((F.means files.old).tree (meaning_in
-            settings.entry).packed_path))) }
+        ensures refused { IfErr result (IsNotPacked F.honest (HasRisen (F.faults files.old)
+            (F.faults files.new) ⊎ HasReadFault R.faults) ⊥ (IsRefusedFile settings.entry.kind
+            ((F.means files.old).tree (meaning_in settings.entry).packed_path))) }
         ensures no_fault { OnOk result (F.faults files.new ≡ F.faults files.old) }
         ensures reads { OnlyReads F.honest F.means F.faults files.old files.new }
     {
@@ -180,17 +171,14 @@ impl<R: ReadAt + Drop> Records<'_, R> {
     pub fn find(&mut self, key: FullNameRef<'_>) -> Result<Option<Found>, Error>
         requires { IsReady self.now }
         ensures found { (kind : Kind) (records : List Record) →
-            AreAsked kind None self.old records →
-            MatchResult result (AreFound (record_named (full_ref_bytes key.entry) records))
-            IsFaultOrMemory }
+            AreAsked kind None self.old records → MatchResult result
+            (AreFound (record_named (full_ref_bytes key.entry) records)) IsFaultOrMemory }
         ensures hit { AreHonest self.old → (kind : Kind) →
-            IfOk result (λ found. IfSome found (λ f.
-            OfSearched kind None self.old (λ k text. HitsRecord k text (full_ref_bytes key.entry)
-            f))) }
-        ensures failed { (kind : Kind) → IfErr result (IsNotPacked (AreHonest self.old)
-            (HasReadFault R.faults)
-            (OfSearched kind None self.old (λ k text. CannotRead k text (full_ref_bytes
-            key.entry))) (λ error. ⊥)) }
+            IfOk result (λ found. IfSome found (λ f. OfSearched kind None self.old
+            (λ k text. HitsRecord k text (full_ref_bytes key.entry) f))) }
+        ensures failed { (kind : Kind) → IfErr result
+            (IsNotPacked (AreHonest self.old) (HasReadFault R.faults) (OfSearched kind None self.old
+            (λ k text. CannotRead k text (full_ref_bytes key.entry))) (λ error. ⊥)) }
         ensures honest { AreHonest self.old → AreHonest self.new }
         ensures asked { (kind : Kind) (records : List Record) →
             AreAsked kind None self.old records → AreAsked kind None self.new records }

@@ -25,17 +25,16 @@ pub fn append_now(
     path: &[u8],
     bytes: &[u8],
 ) -> Result<bool, AllocError>
-    ensures answer { IfOk result (Appends (tree_after changes.old) path.now bytes.now
-        (tree_after changes.new)) }
+    ensures answer { IfOk result
+        (Appends (tree_after changes.old) path.now bytes.now (tree_after changes.new)) }
     ensures failed { OnErr result (changes.new.items ≡ changes.old.items) }
     ensures shape { IsShaped (tree_after changes.old) → IsShaped (tree_after changes.new) }
     ensures disk { IfOk result (λ there. disk_after changes.new
         ≡ after_append (disk_after changes.old) path.now bytes.now there) }
     ensures passes { Passes (meaning_after changes.old.items) (meaning_after changes.new.items)
         (AppendingOn (disk_after changes.old) path.now bytes.now) }
-    ensures adds { OnOk result (AddsDisks (meaning_after changes.old.items)
-        (meaning_after changes.new.items)
-        (AppendingOn (disk_after changes.old) path.now bytes.now)) }
+    ensures adds { OnOk result (AddsDisks (meaning_after changes.old.items) (meaning_after
+        changes.new.items) (AppendingOn (disk_after changes.old) path.now bytes.now)) }
 {
     match find(changes, path) {
         Some(Stands::FileOf(old)) => {
@@ -59,8 +58,7 @@ pub fn append_some(
     most: usize,
 ) -> Result<(), AllocError>
     ensures done { OnOk result (after_changes changes.new.items no_tree
-        ≡ appended (tree_after changes.old)
-        path.now (take most bytes.now)) }
+        ≡ appended (tree_after changes.old) path.now (take most bytes.now)) }
     ensures shape { IsShaped (tree_after changes.old) → IsShaped (tree_after changes.new) }
     ensures passes { Passes (meaning_after changes.old.items) (meaning_after changes.new.items)
         (AppendingOn (disk_after changes.old) path.now bytes.now) }
@@ -77,9 +75,8 @@ pub fn rename_now(
     from: &[u8],
     to: &[u8],
 ) -> Result<Option<Rename>, AllocError>
-    ensures answer { IfOk result
-        (λ answer. IfSome answer (Renames (tree_after changes.old) from.now to.now
-        (tree_after changes.new))) }
+    ensures answer { IfOk result (λ answer. IfSome answer
+        (Renames (tree_after changes.old) from.now to.now (tree_after changes.new))) }
     ensures none { IfOk result
         (λ answer. IfNone answer (IsMovable (tree_after changes.old) from.now to.now → ⊥)) }
     ensures none_same { IfOk result
@@ -121,8 +118,8 @@ pub fn remove_file_now(
     changes: &mut Vec<Change>,
     path: &[u8],
 ) -> Result<bool, AllocError>
-    ensures answer { IfOk result (RemovesFile (tree_after changes.old) path.now
-        (tree_after changes.new)) }
+    ensures answer { IfOk result
+        (RemovesFile (tree_after changes.old) path.now (tree_after changes.new)) }
     ensures failed { OnErr result (changes.new.items ≡ changes.old.items) }
     ensures shape { IsShaped (tree_after changes.old) → IsShaped (tree_after changes.new) }
     ensures disk { IfOk result (λ removed. disk_after changes.new
@@ -148,9 +145,8 @@ pub fn create_now(
     changes: &mut Vec<Change>,
     path: &[u8],
 ) -> Result<Option<Create>, AllocError>
-    ensures answer { IfOk result
-        (λ answer. IfSome answer (Creates (tree_after changes.old) path.now
-        (tree_after changes.new))) }
+    ensures answer { IfOk result (λ answer. IfSome answer
+        (Creates (tree_after changes.old) path.now (tree_after changes.new))) }
     ensures none { IfOk result (λ answer. IfNone answer (changes.new.items ≡ changes.old.items)) }
     ensures no_way { IfOk result
         (λ answer. IfNone answer (HasNoWay (tree_after changes.old) path.now)) }
@@ -186,8 +182,8 @@ pub fn remove_folder_now(
     changes: &mut Vec<Change>,
     path: &[u8],
 ) -> Result<bool, AllocError>
-    ensures answer { IfOk result (RemovesFolder (tree_after changes.old) path.now
-        (tree_after changes.new)) }
+    ensures answer { IfOk result
+        (RemovesFolder (tree_after changes.old) path.now (tree_after changes.new)) }
     ensures failed { OnErr result (changes.new.items ≡ changes.old.items) }
     ensures shape { IsShaped (tree_after changes.old) → IsShaped (tree_after changes.new) }
     ensures disk { IfOk result (λ removed. disk_after changes.new
@@ -214,9 +210,8 @@ fn place_file(
     path: &[u8],
     bytes: &[u8],
 ) -> Result<(), AllocError>
-    ensures placed { OnOk result (after_changes changes.new.items no_tree ≡ put
-        (with_folders (tree_after changes.old) (fronts path.now)) path.now
-        (Some (File bytes.now))) }
+    ensures placed { OnOk result (after_changes changes.new.items no_tree ≡ put (with_folders
+        (tree_after changes.old) (fronts path.now)) path.now (Some (File bytes.now))) }
     ensures disk { OnOk result (disk_after changes.new
         ≡ placed_on (disk_after changes.old) path.now bytes.now) }
     ensures kept { OnErr result (take (length changes.old.items) changes.new.items
@@ -244,10 +239,10 @@ pub fn put_now(
     path: &[u8],
     bytes: &[u8],
 ) -> Result<bool, AllocError>
-    ensures answer { IfOk result (Puts (tree_after changes.old) path.now bytes.now
-        (tree_after changes.new)) }
-    ensures disk { IfOk result (λ put. disk_after changes.new ≡ (if put then
-        placed_on (disk_after changes.old) path.now bytes.now else disk_after changes.old)) }
+    ensures answer { IfOk result
+        (Puts (tree_after changes.old) path.now bytes.now (tree_after changes.new)) }
+    ensures disk { IfOk result (λ put. disk_after changes.new ≡ (if put then placed_on
+        (disk_after changes.old) path.now bytes.now else disk_after changes.old)) }
     ensures failed { OnErr result (changes.new.items ≡ changes.old.items) }
     ensures shape { IsShaped (tree_after changes.old) → IsShaped (tree_after changes.new) }
 {

@@ -19,8 +19,7 @@ fn make_folder(
     synced: bool,
 ) -> Result<(), AllocError>
     ensures made { OnOk result (after_changes changes.new.items no_tree
-        ≡ put (tree_after changes.old) path.now
-        (Some Folder)) }
+        ≡ put (tree_after changes.old) path.now (Some Folder)) }
     ensures failed { OnErr result (changes.new.items ≡ changes.old.items) }
     ensures kept { take (length changes.old.items) changes.new.items ≡ changes.old.items }
     ensures shape { has_folders (tree_after changes.old) path.now ≡ true →
@@ -53,8 +52,7 @@ pub fn make_fronts(
     synced: bool,
 ) -> Result<(), AllocError>
     ensures made { OnOk result (after_changes changes.new.items no_tree
-        ≡ with_folders (tree_after changes.old)
-        (take most (fronts path.now))) }
+        ≡ with_folders (tree_after changes.old) (take most (fronts path.now))) }
     ensures kept { take (length changes.old.items) changes.new.items ≡ changes.old.items }
     ensures shape { IsShaped (tree_after changes.old) → IsShaped (tree_after changes.new) }
     ensures leads { length (fronts path.now) ≤ most →
@@ -64,8 +62,7 @@ pub fn make_fronts(
     ensures passes { Passes (meaning_after changes.old.items) (meaning_after changes.new.items)
         (MakingFrontsOn synced (disk_after changes.old) (fronts path.now)) }
     ensures adds { length (fronts path.now) ≤ most →
-        OnOk result (AddsDisks (meaning_after changes.old.items)
-        (meaning_after changes.new.items)
+        OnOk result (AddsDisks (meaning_after changes.old.items) (meaning_after changes.new.items)
         (MakingFrontsOn synced (disk_after changes.old) (fronts path.now))) }
 {
     let mut left = most;
@@ -103,16 +100,15 @@ pub fn make_folders_now(
     changes: &mut Vec<Change>,
     path: &[u8],
 ) -> Result<bool, AllocError>
-    ensures answer { IfOk result (MakesFolders (tree_after changes.old) path.now
-        (tree_after changes.new)) }
+    ensures answer { IfOk result
+        (MakesFolders (tree_after changes.old) path.now (tree_after changes.new)) }
     ensures shape { IsShaped (tree_after changes.old) → IsShaped (tree_after changes.new) }
     ensures disk { IfOk result (λ made. disk_after changes.new
         ≡ after_folders (disk_after changes.old) path.now made) }
     ensures passes { Passes (meaning_after changes.old.items) (meaning_after changes.new.items)
         (MakingFoldersOn (disk_after changes.old) path.now) }
     ensures adds { OnOk result (AddsDisks (meaning_after changes.old.items)
-        (meaning_after changes.new.items)
-        (MakingFoldersOn (disk_after changes.old) path.now)) }
+        (meaning_after changes.new.items) (MakingFoldersOn (disk_after changes.old) path.now)) }
 {
     if stands_in_the_way(changes, path) {
         return Ok(false);
@@ -129,10 +125,9 @@ pub fn make_some_folders(
     path: &[u8],
     most: usize,
 ) -> Result<(), AllocError>
-    ensures done { OnOk result
-        (IsDone (tree_after changes.old) (is_in_the_way (tree_after changes.old) path.now ≡ false)
-        (with_folders (tree_after changes.old) (take most (folders_to path.now)))
-        (tree_after changes.new)) }
+    ensures done { OnOk result (IsDone (tree_after changes.old)
+        (is_in_the_way (tree_after changes.old) path.now ≡ false) (with_folders
+        (tree_after changes.old) (take most (folders_to path.now))) (tree_after changes.new)) }
     ensures shape { IsShaped (tree_after changes.old) → IsShaped (tree_after changes.new) }
     ensures passes { Passes (meaning_after changes.old.items) (meaning_after changes.new.items)
         (MakingFoldersOn (disk_after changes.old) path.now) }

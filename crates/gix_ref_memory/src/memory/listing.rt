@@ -25,9 +25,8 @@ fn below<'a>(folder: &[u8], path: &'a [u8]) -> Option<&'a [u8]>
 
 /// The name of a path that lies right in a folder.
 fn child<'a>(folder: &[u8], path: &'a [u8]) -> Option<&'a [u8]>
-    ensures { MatchOption result ((name : List ℕ) → IsEntryName name →
-        path.now ≡ folder.now ++ 47 ∷ name → ⊥) (λ name. IsEntryName name.now
-        × (path.now ≡ folder.now ++ 47 ∷ name.now)) }
+    ensures { MatchOption result ((name : List ℕ) → IsEntryName name → path.now ≡ folder.now ++ 47
+        ∷ name → ⊥) (λ name. IsEntryName name.now × (path.now ≡ folder.now ++ 47 ∷ name.now)) }
 {
     match below(folder, path) {
         Some(name) if !name.is_empty() && !name.contains(&b'/') => Some(name),
@@ -69,9 +68,8 @@ fn add_entry(
 ) -> Result<(), AllocError>
     requires name { IsEntryName name.now }
     requires path { path.now ≡ folder.now ++ 47 ∷ name.now }
-    ensures { OnOk result
-        (AddsEntries (after_changes changes.now no_tree) folder.now name.now entries.old.items
-        entries.new.items) }
+    ensures { OnOk result (AddsEntries (after_changes changes.now no_tree) folder.now name.now
+        entries.old.items entries.new.items) }
 {
     if is_listed(entries, name) {
         return Ok(());
@@ -87,8 +85,8 @@ fn add_entry(
 
 /// The entries of a folder, in the order in which they were first made.
 pub fn list_now(alloc: Global, changes: &[Change], folder: &[u8]) -> Result<Vec<Entry>, AllocError>
-    ensures { IfOk result (λ entries. ListsFolder (after_changes changes.now no_tree) folder.now
-        entries.items) }
+    ensures { IfOk result
+        (λ entries. ListsFolder (after_changes changes.now no_tree) folder.now entries.items) }
 {
     let mut entries = Vec::new(alloc);
     for change in changes {

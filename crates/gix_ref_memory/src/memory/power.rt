@@ -93,8 +93,8 @@ fn leave(
     path: &[u8],
     pick: u64,
 ) -> Result<(), AllocError>
-    ensures { OnOk result (Fills (IsChoice changes.now pick) (λ q. path.now ≡ q)
-        left.old.items left.new.items) }
+    ensures { OnOk result
+        (Fills (IsChoice changes.now pick) (λ q. path.now ≡ q) left.old.items left.new.items) }
 {
     let stored = left_at(alloc, changes, births, path, pick)?;
     put_synced(alloc, left, path, stored)
@@ -109,8 +109,8 @@ fn leave_named(
     change: &Change,
     pick: u64,
 ) -> Result<(), AllocError>
-    ensures { OnOk result (Fills (IsChoice changes.now pick) (Names change.now)
-        left.old.items left.new.items) }
+    ensures { OnOk result
+        (Fills (IsChoice changes.now pick) (Names change.now) left.old.items left.new.items) }
 {
     match change {
         Change::Put { path, .. } => leave(alloc, left, changes, births, path, pick),
@@ -145,8 +145,7 @@ fn reach(
     path: &[u8],
 ) -> Result<(), AllocError>
     ensures { OnOk result (Fills (IsReachable (after_changes entries.now no_tree))
-        (λ q. path.now ≡ q)
-        left.old.items left.new.items) }
+        (λ q. path.now ≡ q) left.old.items left.new.items) }
 {
     let stored = if stands_in_folders(entries, path) {
         let stands = find(entries, path);
@@ -159,8 +158,8 @@ fn reach(
 
 /// What can be reached of the entries: with a folder's own entry goes all below it.
 fn reachable_entries(alloc: Global, entries: &[Change]) -> Result<Vec<Change>, AllocError>
-    ensures tree { IfOk result (λ left.
-        after_changes left.items no_tree ≡ reachable (after_changes entries.now no_tree)) }
+    ensures tree { IfOk result (λ left. after_changes left.items no_tree
+        ≡ reachable (after_changes entries.now no_tree)) }
     ensures synced { IfOk result (λ left. AreSynced left.items) }
 {
     let mut left = Vec::new(alloc);
@@ -172,8 +171,8 @@ fn reachable_entries(alloc: Global, entries: &[Change]) -> Result<Vec<Change>, A
 
 /// The changes that make what a loss of power leaves, all of it synced.
 pub fn left_by_loss(alloc: Global, changes: &[Change], pick: u64) -> Result<Vec<Change>, AllocError>
-    ensures lost { IfOk result (λ left.
-        Lost (disk_of (meaning_after changes.now)) (after_changes left.items no_tree)) }
+    ensures lost { IfOk result
+        (λ left. Lost (disk_of (meaning_after changes.now)) (after_changes left.items no_tree)) }
     ensures none { pick ≡ 0 → IfOk result (λ left. after_changes left.items no_tree
         ≡ lost_by (λ p. false) (λ p. false) (disk_of (meaning_after changes.now))) }
     ensures settled { IfOk result (λ left. disk_of (meaning_after left.items)

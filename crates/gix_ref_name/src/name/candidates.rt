@@ -37,9 +37,8 @@ pub fn is_rooted(name: &[u8]) -> bool
 
 /// Whether a name is `refs`, `main-worktree` or `worktrees`.
 fn is_root(name: &[u8]) -> bool
-    ensures { result ≡ (pointwise nat_eq name.now (codes "refs")
-        || pointwise nat_eq name.now (codes "main-worktree")
-        || pointwise nat_eq name.now (codes "worktrees")) }
+    ensures { result ≡ (pointwise nat_eq name.now (codes "refs") || pointwise nat_eq name.now
+        (codes "main-worktree") || pointwise nat_eq name.now (codes "worktrees")) }
 {
     name == b"refs".as_slice()
         || name == b"main-worktree".as_slice()
@@ -48,8 +47,8 @@ fn is_root(name: &[u8]) -> bool
 
 /// What goes in front of a name with `/HEAD` behind it.
 fn remotes_front(name: &[u8]) -> &'static [u8]
-    ensures { let whole = name.now ++ codes "/HEAD" in
-        result.now ≡ (if rooted whole then codes "remotes/" else codes "refs/remotes/") }
+    ensures { let whole = name.now ++ codes "/HEAD" in result.now
+        ≡ (if rooted whole then codes "remotes/" else codes "refs/remotes/") }
 {
     if is_rooted(name) || is_root(name) {
         b"remotes/"
@@ -103,8 +102,8 @@ pub fn name_behind(
 /// slash. `None` for the name `HEAD`. The error says that there was no memory. As the last rule of gix-ref's
 /// `file::Store::try_find`.
 pub fn remote_head(alloc: Global, name: PartialNameRef<'_>) -> Result<Option<FullName>, AllocError>
-    ensures bytes { IfOk result
-        (λ r. option_map full_bytes r ≡ head_of_remote (partial_ref_bytes name.entry)) }
+    ensures bytes { IfOk result (λ r. option_map full_bytes r
+        ≡ head_of_remote (partial_ref_bytes name.entry)) }
     ensures valid { IfOk result (λ r. IfSome r (λ n. IsFullName (full_bytes n))) }
 {
     let path = name.to_partial_path();

@@ -18,8 +18,8 @@ use unicode_normalization::{to_nfc, to_nfd};
 /// let composed = compose(alloc, name)?;
 /// ```
 pub fn compose(alloc: Global, name: PartialNameRef<'_>) -> Result<Option<PartialName>, AllocError>
-    ensures { let bytes = partial_ref_bytes name.entry in
-        IfOk result (λ r. MatchOption r (composed bytes ≡ bytes)
+    ensures { let bytes = partial_ref_bytes name.entry in IfOk result
+        (λ r. MatchOption r (composed bytes ≡ bytes)
         (λ n. (composed bytes ≡ partial_bytes n) × (partial_bytes n ≢ bytes))) }
 {
     let path = name.to_partial_path();

@@ -130,8 +130,8 @@ impl Buffer {
     ) -> Result<Buffer, Error>
         requires inside { start ≤ vec_len bytes }
         requires line { first_line ≤ 2 }
-        ensures keeps { IfOk result (λ b. Keeps kind false (drop start bytes.items)
-            (buffer_text b)) }
+        ensures keeps { IfOk result
+            (λ b. Keeps kind false (drop start bytes.items) (buffer_text b)) }
         ensures kind { IfOk result (λ b. buffer_kind b ≡ kind) }
         ensures line { IfOk result (λ b. buffer_line b ≡ first_line) }
         ensures refused { IfErr result (IsStuck kind first_line (drop start bytes.items)) }

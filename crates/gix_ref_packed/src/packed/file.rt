@@ -146,8 +146,8 @@ impl<R: ReadAt + Drop> PackedFile<R> {
             (packed_file_text self.old) (full_ref_bytes name.entry) result }
 
         // A fault is counted where the file could not be read, and nowhere else.
-        ensures no_fault { IfOk result
-            (λ _. packed_file_faults self.new ≡ packed_file_faults self.old) }
+        ensures no_fault { IfOk result (λ _. packed_file_faults self.new
+            ≡ packed_file_faults self.old) }
         ensures fault { IfErr result (λ error. packed_file_faults self.new
             ≡ count_find error (packed_file_faults self.old)) }
         ensures failed { IfErr result (FailsFindByRead R.faults) }
@@ -174,9 +174,8 @@ impl<R: ReadAt + Drop> PackedFile<R> {
     /// }
     /// ```
     pub fn into_prefixed(self, alloc: Global, prefix: &[u8]) -> Result<Buffer, ReadError>
-        ensures holds { R.honest → IfOk result
-            (HoldsPrefix (packed_file_kind self) (packed_file_text self) (packed_file_line self)
-            prefix.now) }
+        ensures holds { R.honest → IfOk result (HoldsPrefix (packed_file_kind self)
+            (packed_file_text self) (packed_file_line self) prefix.now) }
         ensures refused { R.honest → IfErr result IsNoChange }
         ensures failed { IfErr result (FailsReadBy R.faults) }
     {

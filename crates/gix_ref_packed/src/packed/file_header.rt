@@ -14,9 +14,9 @@ use gix_ref_records::packed::window::InWindow;
 /// What the header of a beginning of a text says of the text, which it is as a whole where `at_eof` holds. `Here(None)` where
 /// the text begins with `#` and has no header.
 fn header_end_in(part: &[u8], at_eof: bool) -> InWindow<Option<HeaderEnd>>
-    ensures heads { IfHere result (λ found. (text : List ℕ)
-        → part.now ≡ take (length part.now) text →
-        (at_eof ≡ true → part.now ≡ text) → MatchOption found (NoHeader text) (HeadsAt text)) }
+    ensures heads { IfHere result (λ found. (text : List ℕ) →
+        part.now ≡ take (length part.now) text → (at_eof ≡ true → part.now ≡ text) →
+        MatchOption found (NoHeader text) (HeadsAt text)) }
     ensures sure { at_eof ≡ true → IsHere result }
 {
     let Some(heading) = read_header_end(part) else {
@@ -47,9 +47,8 @@ pub fn file_header<R: ReadAt>(
     ensures fault { IfErr result (λ error. R.faults reader.new
         ≡ count_read error (R.faults reader.old)) }
     ensures stays { IfErr result IsNoChange }
-    ensures heads { R.honest → IfOk result
-        (λ found. MatchOption found (NoHeader (R.bytes reader.old))
-        (HeadsAt (R.bytes reader.old))) }
+    ensures heads { R.honest → IfOk result (λ found. MatchOption found
+        (NoHeader (R.bytes reader.old)) (HeadsAt (R.bytes reader.old))) }
 {
     for turn in 0..MAX_WINDOW_DOUBLINGS {
         let len = window_size(turn).min(reader.len());

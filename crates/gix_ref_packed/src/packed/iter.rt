@@ -46,8 +46,7 @@ impl<'a> Iter<'a> {
     /// ```
     pub fn new(text: &'a [u8], kind: Kind) -> Result<Iter<'a>, Error<'a>>
         ensures items { IfOk result (λ it. (h : Option Header) × (rest : List _)
-            × Heads text.now h rest × EachRunFrom ItemStep it
-            (λ run. AreItems (run.whole ≡ true)
+            × Heads text.now h rest × EachRunFrom ItemStep it (λ run. AreItems (run.whole ≡ true)
             (unread_text kind (line_behind h) rest) run.items)) }
         ensures refused { IfErr result (IsHeaderError text.now) }
     {
@@ -63,8 +62,7 @@ impl<'a> Iter<'a> {
     /// The records of a text whose first line has that number.
     fn from(text: &'a [u8], kind: Kind, line: u64) -> Iter<'a>
         requires { line < 3 }
-        ensures { unread result
-            ≡ unread_text kind line text.now }
+        ensures { unread result ≡ unread_text kind line text.now }
     {
         Iter {
             rest: text,
@@ -135,17 +133,16 @@ impl Buffer {
     /// ```
     pub fn iter(&self) -> Iter<'_>
         // Whatever calls of `next` follow, they give the records and the faults of the text.
-        ensures items { EachRunFrom ItemStep result (λ run. AreItems (run.whole ≡ true)
-            (unread_buffer self.now) run.items) }
+        ensures items { EachRunFrom ItemStep result
+            (λ run. AreItems (run.whole ≡ true) (unread_buffer self.now) run.items) }
 
         // Where the text is records, they give these.
-        ensures records { (rs : List Record)
-            → Records (buffer_kind self.now) (buffer_text self.now) rs →
-            EachRunFrom ItemStep result (λ run. AreRecords (run.whole ≡ true) rs run.items) }
+        ensures records { (rs : List Record) → Records (buffer_kind self.now) (buffer_text self.now)
+            rs → EachRunFrom ItemStep result (λ run. AreRecords (run.whole ≡ true) rs run.items) }
 
         // The same for a caller that takes one item at a time: it is yet to give these.
-        ensures yet { (rs : List Record)
-            → Records (buffer_kind self.now) (buffer_text self.now) rs → IsYet result rs }
+        ensures yet { (rs : List Record) → Records (buffer_kind self.now)
+            (buffer_text self.now) rs → IsYet result rs }
     {
         Iter::from(self.as_bytes(), self.kind(), self.first_line())
     }
@@ -166,15 +163,13 @@ impl Buffer {
             (unread_from self.now prefix.items start) run.items) }
 
         // Where the text is records whose names do not descend, they give those of the prefix.
-        ensures records { (rs : List Record)
-            → Records (buffer_kind self.now) (buffer_text self.now) rs → Rising rs →
-            EachRunFrom ItemStep result
+        ensures records { (rs : List Record) → Records (buffer_kind self.now)
+            (buffer_text self.now) rs → Rising rs → EachRunFrom ItemStep result
             (λ run. AreRecords (run.whole ≡ true) (records_prefixed prefix.items rs) run.items) }
 
         // The same for a caller that takes one item at a time: it is yet to give those of the prefix.
-        ensures yet { (rs : List Record)
-            → Records (buffer_kind self.now) (buffer_text self.now) rs → Rising rs →
-            IsYet result (records_prefixed prefix.items rs) }
+        ensures yet { (rs : List Record) → Records (buffer_kind self.now) (buffer_text self.now)
+            rs → Rising rs → IsYet result (records_prefixed prefix.items rs) }
     {
         let text = self.as_bytes();
         let start = lower_bound_in_memory(text, self.kind(), prefix.as_slice());

@@ -67,9 +67,8 @@ impl<R: ReadAt + Drop> SortedFile<R> {
         ensures no_fault { IfOk result (λ _. R.faults self.new.reader ≡ R.faults self.old.reader) }
         ensures fault { IfErr result (λ error. R.faults self.new.reader
             ≡ count_read error (R.faults self.old.reader)) }
-        ensures encloses { R.honest → IfOk result (λ places.
-            Encloses kind (drop self.old.base (R.bytes self.old.reader)) prefix.now places.0
-            places.1) }
+        ensures encloses { R.honest → IfOk result (λ places. Encloses kind
+            (drop self.old.base (R.bytes self.old.reader)) prefix.now places.0 places.1) }
         ensures stays { R.honest → IfErr result IsNoChange }
     {
         let start = match lower_bound(self, kind, prefix) {
@@ -100,8 +99,7 @@ impl<R: ReadAt + Drop> SortedFile<R> {
             ≡ count_read error (R.faults self.old.reader)) }
         ensures part { R.honest → IfOk result (λ part. part.items
             ≡ take (end - start) (drop start (drop self.old.base (R.bytes self.old.reader)))) }
-        ensures stays { R.honest →
-            start ≤ length (drop self.old.base (R.bytes self.old.reader)) →
+        ensures stays { R.honest → start ≤ length (drop self.old.base (R.bytes self.old.reader)) →
             IfErr result IsNoChange }
     {
         if start > self.records_len() {
@@ -131,9 +129,8 @@ impl<R: ReadAt + Drop> SortedFile<R> {
         ensures no_fault { IfOk result (λ _. R.faults self.new.reader ≡ R.faults self.old.reader) }
         ensures fault { IfErr result (λ error. R.faults self.new.reader
             ≡ count_read error (R.faults self.old.reader)) }
-        ensures holds { R.honest → IfOk result
-            (HoldsPrefix kind (drop self.old.base (R.bytes self.old.reader)) first_line
-            prefix.now) }
+        ensures holds { R.honest → IfOk result (HoldsPrefix kind
+            (drop self.old.base (R.bytes self.old.reader)) first_line prefix.now) }
         ensures stays { R.honest → IfErr result IsNoChange }
     {
         let (start, end) = self.places_of(alloc, kind, prefix)?;

@@ -113,8 +113,8 @@ pub(crate) fn read_window<R: ReadAt>(
         ≡ count_read error (R.faults reader.old)) }
     ensures stays { IfErr result IsNoChange }
     ensures len { OnOk result (length window.new.items ≡ len) }
-    ensures read { R.honest → OnOk result
-        (window.new.items ≡ take (length window.new.items) (drop place (R.bytes reader.old))) }
+    ensures read { R.honest → OnOk result (window.new.items
+        ≡ take (length window.new.items) (drop place (R.bytes reader.old))) }
 {
     window.resize(len, 0)?;
     match reader.read_exact_at(place, window.as_mut_slice()) {
@@ -171,12 +171,11 @@ impl<R: ReadAt + Drop> SortedFile<R> {
         ensures no_fault { IfOk result (λ _. R.faults self.new.reader ≡ R.faults self.old.reader) }
         ensures fault { IfErr result (λ error. R.faults self.new.reader
             ≡ count_read error (R.faults self.old.reader)) }
-        ensures whole { R.honest → size ≡ 2 ^ 64 - 1
-            → IfOk result (λ _. (self.new.from ≡ 0)
-            × (length self.new.window.items
+        ensures whole { R.honest → size ≡ 2 ^ 64 - 1 →
+            IfOk result (λ _. (self.new.from ≡ 0) × (length self.new.window.items
             ≡ length (drop self.old.base (R.bytes self.old.reader)))) }
-        ensures stays { R.honest → offset < length (drop self.old.base (R.bytes self.old.reader))
-            → IfErr result IsNoChange }
+        ensures stays { R.honest → offset < length (drop self.old.base (R.bytes self.old.reader)) →
+            IfErr result IsNoChange }
     {
         let from = window_from(offset, size);
         let len = size.min(self.records_len().saturating_sub(from));
@@ -199,12 +198,11 @@ impl<R: ReadAt + Drop> SortedFile<R> {
         requires { look.sure ≡ false → IsPlain wanted.now }
         ensures below { IfSome result (λ probe. probe.start ≤ offset) }
         ensures beyond { IfSome result (λ probe. offset < probe.next) }
-        ensures probed { R.honest → IfSome result
-            (IsProbeAt kind (drop self.now.base (R.bytes self.now.reader)) wanted.now look.sure
-            offset) }
-        ensures sure { R.honest → self.now.from ≡ 0
-            → length self.now.window.items ≡ length (drop self.now.base (R.bytes self.now.reader))
-            → offset < length self.now.window.items → IsSome result }
+        ensures probed { R.honest → IfSome result (IsProbeAt kind
+            (drop self.now.base (R.bytes self.now.reader)) wanted.now look.sure offset) }
+        ensures sure { R.honest → self.now.from ≡ 0 →
+            length self.now.window.items ≡ length (drop self.now.base (R.bytes self.now.reader)) →
+            offset < length self.now.window.items → IsSome result }
     {
         let len = self.window.len() as u64;
         if offset < self.from || offset - self.from >= len {
@@ -227,9 +225,9 @@ impl<R: ReadAt + Drop> SortedFile<R> {
     fn record_in_window(&self, kind: Kind, start: u64) -> InWindow<Option<Found>>
         ensures front { R.honest → IfHere result
             (FrontIs kind (drop start (drop self.now.base (R.bytes self.now.reader)))) }
-        ensures sure { R.honest → self.now.from ≡ 0
-            → length self.now.window.items ≡ length (drop self.now.base (R.bytes self.now.reader))
-            → start < length self.now.window.items → IsHere result }
+        ensures sure { R.honest → self.now.from ≡ 0 →
+            length self.now.window.items ≡ length (drop self.now.base (R.bytes self.now.reader)) →
+            start < length self.now.window.items → IsHere result }
     {
         let len = self.window.len() as u64;
         if start < self.from || start - self.from >= len {
@@ -250,8 +248,8 @@ impl<R: ReadAt + Drop> SortedFile<R> {
             ≡ count_read error (R.faults self.old.reader)) }
         ensures front { R.honest → IfOk result
             (FrontIs kind (drop start (drop self.old.base (R.bytes self.old.reader)))) }
-        ensures stays { R.honest → start < length (drop self.old.base (R.bytes self.old.reader))
-            → IfErr result IsNoChange }
+        ensures stays { R.honest → start < length (drop self.old.base (R.bytes self.old.reader)) →
+            IfErr result IsNoChange }
     {
         for turn in 0..MAX_WINDOW_DOUBLINGS {
             if let InWindow::Here(found) = self.record_in_window(kind, start) {

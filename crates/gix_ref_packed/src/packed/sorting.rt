@@ -78,8 +78,8 @@ fn read_entries<'a>(
     first: u64,
 ) -> Result<Vec<Entry<'a>>, Error>
     requires { first ≤ 2 }
-    ensures records { IfOk result (λ entries. Records kind text.now
-        (map entry_record entries.items)) }
+    ensures records { IfOk result
+        (λ entries. Records kind text.now (map entry_record entries.items)) }
     ensures pieces { IfOk result (λ entries. All (IsPiece kind) (map entry_piece entries.items)) }
     ensures cut { IfOk result (λ entries. text.now ≡ flat_map entry_bytes entries.items) }
     ensures refused { IfErr result (IsStuck kind first text.now) }
@@ -113,8 +113,8 @@ fn is_below(name: &[u8], other: &[u8]) -> bool
 /// Sorts records by name; those of one name stay in their order.
 fn sort_by_name(entries: &mut Vec<Entry<'_>>) -> Result<(), AllocError>
     ensures moved { IsPermutation entries.old.items entries.new.items }
-    ensures sorted { OnOk result (IsSortedByKey entry_ref_name (slice_cmp nat_cmp)
-        entries.new.items) }
+    ensures sorted { OnOk result
+        (IsSortedByKey entry_ref_name (slice_cmp nat_cmp) entries.new.items) }
     ensures stable { IsStableByKey entry_ref_name
         (slice_cmp nat_cmp) entries.old.items entries.new.items }
 {

@@ -10,7 +10,8 @@ use Rattle.gix_ref_packed_transaction.specs.PackedLosses.{BecomesFile, OthersSet
 
 -- `packed-refs` may hold what it held, or what the rewrite makes of it; its folders stay, and so do all other files
 pub record KeepsSettled (rewrite : Rewrite) (place : Path) (D E : Disk) : Type 0 where
-  pub file : MayHold E (file_of (D.tree place)) (λ f. (f ≡ file_of (D.tree place)) ⊎ BecomesFile rewrite (file_of (D.tree place)) f) place
+  pub file : MayHold E (file_of (D.tree place))
+      (λ f. (f ≡ file_of (D.tree place)) ⊎ BecomesFile rewrite (file_of (D.tree place)) f) place
   pub others : OthersSettled place D E
   pub folders : AllStay E (folders_at place)
 

@@ -13,8 +13,10 @@ abbrev pub IsUnlocked : (place : Path) → (before T : Tree) → Type 0
 IsUnlocked place before T = OnlyLockChanges place before T × (is_file (T (lock_of place)) ≡ false)
 
 -- why a rewrite was not put in place: its rename failed, or a folder is there; or another call of files failed
-abbrev pub IsWhyNotPut : (honest : Type 0) → (place : Path) → (before now : ℕ) → Tree → Error → Type 0
-IsWhyNotPut honest place before now T (Commit error) = (HasRisen before now ⊎ (honest → is_folder (T place) ≡ true)) × (error ≢ no_memory)
+abbrev pub IsWhyNotPut : (honest : Type 0) → (place : Path) → (before now : ℕ) → Tree →
+    Error → Type 0
+IsWhyNotPut honest place before now T (Commit error) =
+    (HasRisen before now ⊎ (honest → is_folder (T place) ≡ true)) × (error ≢ no_memory)
 IsWhyNotPut honest place before now T (Io error) = HasRisen before now × (error ≢ no_memory)
 IsWhyNotPut honest place before now T (Iteration line) = ⊥
 IsWhyNotPut honest place before now T Memory = ⊥

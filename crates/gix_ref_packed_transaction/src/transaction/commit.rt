@@ -43,8 +43,8 @@ pub(crate) fn rewritten(
 
 /// Removes the lock.
 fn unlock<F: Files>(files: &mut F, lock: &LockFile) -> Result<(), Error>
-    ensures done { F.honest → OnOk result (IsUnlocked lock.now (F.means files.old).tree
-        (F.means files.new).tree) }
+    ensures done { F.honest →
+        OnOk result (IsUnlocked lock.now (F.means files.old).tree (F.means files.new).tree) }
     ensures leaves { F.honest → Leaves (F.means files.old) (F.means files.new)
         (OnlyLockGoes lock.now (F.means files.old).tree) }
     ensures passes { F.honest → Passes (F.means files.old) (F.means files.new)
@@ -63,9 +63,8 @@ fn unlock<F: Files>(files: &mut F, lock: &LockFile) -> Result<(), Error>
 fn settle<F: Files>(files: &mut F, lock: &LockFile) -> Result<(), Error>
     ensures leaves { F.honest → Leaves (F.means files.old) (F.means files.new)
         (Unchanged (F.means files.old).tree) }
-    ensures passes { F.honest → Passes (F.means files.old) (F.means files.new)
-        (SyncingOn (is_folder ((F.means files.old).tree (folder_of lock.now)))
-        (disk_of (F.means files.old))
+    ensures passes { F.honest → Passes (F.means files.old) (F.means files.new) (SyncingOn
+        (is_folder ((F.means files.old).tree (folder_of lock.now))) (disk_of (F.means files.old))
         (folder_synced (disk_of (F.means files.old)) (folder_of lock.now))) }
     ensures synced { F.honest → is_folder ((F.means files.old).tree (folder_of lock.now)) ≡ true →
         OnOk result (disk_of (F.means files.new)
@@ -82,8 +81,8 @@ fn settle<F: Files>(files: &mut F, lock: &LockFile) -> Result<(), Error>
 
 /// Removes the file, and then the lock.
 fn remove_both<F: Files>(files: &mut F, lock: &LockFile) -> Result<(), Error>
-    ensures done { F.honest → OnOk result (IsRewritten Rewrite.Removed lock.now
-        (F.means files.old).tree (F.means files.new).tree) }
+    ensures done { F.honest → OnOk result
+        (IsRewritten Rewrite.Removed lock.now (F.means files.old).tree (F.means files.new).tree) }
     ensures leaves { F.honest → Leaves (F.means files.old) (F.means files.new)
         (IsOldOrRewritten Rewrite.Removed lock.now (F.means files.old).tree) }
     ensures passes { F.honest → IsReadyOn lock.now (disk_of (F.means files.old)) →
@@ -132,8 +131,8 @@ fn put_text<F: Files>(
     text: &Vec<u8>,
     renamed: &mut bool,
 ) -> Result<(), Error>
-    ensures done { F.honest → IsLockEmpty lock.now (F.means files.old).tree → OnOk result
-        (IsRewritten (Rewrite.Text text.now) lock.now (F.means files.old).tree
+    ensures done { F.honest → IsLockEmpty lock.now (F.means files.old).tree →
+        OnOk result (IsRewritten (Rewrite.Text text.now) lock.now (F.means files.old).tree
         (F.means files.new).tree) }
     ensures leaves { F.honest → IsLockEmpty lock.now (F.means files.old).tree →
         Leaves (F.means files.old) (F.means files.new)

@@ -24,8 +24,8 @@ fn names_of(alloc: Global, edits: &[RefEdit]) -> Result<Vec<Vec<u8>>, AllocError
 
 /// The names of the references that edits delete, in order.
 pub fn sorted_names(alloc: Global, edits: &[RefEdit]) -> Result<Vec<Vec<u8>>, AllocError>
-    ensures moved { IfOk result (λ names. IsPermutation (deleted_names edits.now)
-        (map vec_items names.items)) }
+    ensures moved { IfOk result
+        (λ names. IsPermutation (deleted_names edits.now) (map vec_items names.items)) }
     ensures sorted { IfOk result
         (λ names. IsSorted (slice_cmp nat_cmp) (map vec_items names.items)) }
 {

@@ -22,9 +22,8 @@ pub fn lower_bound<T: SearchableRecords>(
 
     // Among records whose names do not descend, those before that place are below the wanted one, and those from there on
     // are not.
-    ensures splits { T.honest → (rs : List Record) → Records kind (T.bytes text.old) rs
-        → Rising rs →
-        IfOk result (SplitsAt kind (T.bytes text.old) rs wanted.now) }
+    ensures splits { T.honest → (rs : List Record) → Records kind (T.bytes text.old) rs →
+        Rising rs → IfOk result (SplitsAt kind (T.bytes text.old) rs wanted.now) }
     ensures fails { T.honest → IfErr result T.can_fail }
 
     // A fault is counted where a probe failed by one, and nowhere else.

@@ -48,22 +48,21 @@ pub fn search<T: SearchableRecords, L: Ledger>(
     ensures cost { T.honest → CountsProbes (length (T.bytes text.old)) probes.old probes.new }
 
     // On any text what is found is the wanted name, where a line begins.
-    ensures hit { T.honest → IfOk result (λ found. IfSome found
-        (HitsAt kind (T.bytes text.old) wanted.now)) }
+    ensures hit { T.honest →
+        IfOk result (λ found. IfSome found (HitsAt kind (T.bytes text.old) wanted.now)) }
 
     // Where each line has the form of a record and names ascend: the line of the name, or that no line has it.
-    ensures finds { T.honest → (rs : List Record) → Forms kind (T.bytes text.old) rs
-        → Ascending rs →
-        IfOk result (λ found. MatchOption found (record_named wanted.now rs ≡ None)
+    ensures finds { T.honest → (rs : List Record) → Forms kind (T.bytes text.old) rs →
+        Ascending rs → IfOk result (λ found. MatchOption found (record_named wanted.now rs ≡ None)
         (FindsAt kind (T.bytes text.old) rs wanted.now)) }
 
     // A text of malformed lines alone is never taken for one without the name.
-    ensures none { T.honest → IfOk result
-        (λ found. IfNone found (IsNotMalformed kind (T.bytes text.old))) }
+    ensures none { T.honest →
+        IfOk result (λ found. IfNone found (IsNotMalformed kind (T.bytes text.old))) }
 
     // On any text a probe failed by what the text may fail by, or a line is malformed.
-    ensures fails { T.honest → IfErr result
-        (FailsBy T.can_fail (IsMalformed kind (T.bytes text.old))) }
+    ensures fails { T.honest →
+        IfErr result (FailsBy T.can_fail (IsMalformed kind (T.bytes text.old))) }
 
     // A fault is counted where a probe failed by one, and nowhere else.
     ensures no_fault { IfOk result (λ _. T.faults text.new ≡ T.faults text.old) }

@@ -73,8 +73,8 @@ pub fn record_start_in(window: &[u8], at: usize, at_start: bool) -> Option<usize
 /// Whether a part of a text without a record's line at its front shows that the text has none there either.
 fn lacks_name(part: &[u8], kind: Kind, at_eof: bool) -> bool
     requires { (digits name rest : List ℕ) → RecordLine kind part.now digits name rest → ⊥ }
-    ensures lacks { result ≡ true → (text : List ℕ) → part.now ≡ take (length part.now) text
-        → (at_eof ≡ true → part.now ≡ text) → (n : List ℕ) → NameAt kind text n → ⊥ }
+    ensures lacks { result ≡ true → (text : List ℕ) → part.now ≡ take (length part.now) text →
+        (at_eof ≡ true → part.now ≡ text) → (n : List ℕ) → NameAt kind text n → ⊥ }
     ensures sure { at_eof ≡ true → result ≡ true }
 {
     if at_eof {
@@ -123,8 +123,8 @@ pub fn order_in(
     sure: bool,
 ) -> InWindow<Option<Ordering>>
     requires { sure ≡ false → IsPlain wanted.now }
-    ensures shows { IfHere result (λ order. (text : List ℕ) → part.now ≡ take (length part.now) text
-        → (at_eof ≡ true → part.now ≡ text) → OrdersIfNamed kind text wanted.now sure order) }
+    ensures shows { IfHere result (λ order. (text : List ℕ) → part.now ≡ take (length part.now)
+        text → (at_eof ≡ true → part.now ≡ text) → OrdersIfNamed kind text wanted.now sure order) }
     ensures sure { at_eof ≡ true → IsHere result }
 {
     if !sure {
@@ -166,8 +166,8 @@ pub fn probe_in(
     requires fits { from + length window.now < 2 ^ 64 }
     ensures below { IfSome result (λ probe. probe.start ≤ from + at) }
     ensures beyond { IfSome result (λ probe. from + at < probe.next) }
-    ensures probed { (text : List ℕ) → IsWindow text from window.now
-        → (at_eof ≡ true → from + length window.now ≡ length text) →
+    ensures probed { (text : List ℕ) → IsWindow text from window.now →
+        (at_eof ≡ true → from + length window.now ≡ length text) →
         IfSome result (IsProbeAt kind text wanted.now look.sure (from + at)) }
     ensures sure { from ≡ 0 → at_eof ≡ true → IsSome result }
 {
@@ -196,9 +196,8 @@ pub fn ids_of(reference: Reference<'_>) -> Found
 /// The ids of the record at the front of a text, of which the part may be a beginning; it is the whole text where `at_eof`
 /// holds. `Here(None)` where no record is there.
 fn found_in(part: &[u8], kind: Kind, at_eof: bool) -> InWindow<Option<Found>>
-    ensures front { (text : List ℕ) → part.now ≡ take (length part.now) text
-        → (at_eof ≡ true → part.now ≡ text) →
-        IfHere result (FrontIs kind text) }
+    ensures front { (text : List ℕ) → part.now ≡ take (length part.now) text →
+        (at_eof ≡ true → part.now ≡ text) → IfHere result (FrontIs kind text) }
     ensures sure { at_eof ≡ true → IsHere result }
 {
     let Some((reference, rest)) = take_record(part, kind) else {

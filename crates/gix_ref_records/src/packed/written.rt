@@ -30,8 +30,8 @@ fn push_object(text: &mut Vec<u8>, object: &[u8]) -> Result<(), AllocError>
 
 /// Adds the first line of a record to a text, which only grows.
 fn push_line(text: &mut Vec<u8>, name: &[u8], target: &[u8]) -> Result<(), AllocError>
-    ensures ok { OnOk result (text.new.items
-        ≡ text.old.items ++ (target.now ++ 32 ∷ (name.now ++ 10 ∷ []))) }
+    ensures ok { OnOk result
+        (text.new.items ≡ text.old.items ++ (target.now ++ 32 ∷ (name.now ++ 10 ∷ []))) }
     ensures grows { BeginsWith text.new.items text.old.items }
 {
     text.extend_from_slice(target)?;
@@ -48,8 +48,8 @@ fn push_lines(
     target: &[u8],
     object: Option<&[u8]>,
 ) -> Result<(), AllocError>
-    ensures ok { OnOk result (text.new.items ≡ text.old.items
-        ++ record_text (record_with name.now target.now object.entry)) }
+    ensures ok { OnOk result (text.new.items
+        ≡ text.old.items ++ record_text (record_with name.now target.now object.entry)) }
     ensures grows { BeginsWith text.new.items text.old.items }
 {
     push_line(text, name, target)?;
@@ -68,8 +68,8 @@ pub fn push_record(
     target: &[u8],
     object: Option<&[u8]>,
 ) -> Result<(), AllocError>
-    ensures ok { OnOk result (text.new.items ≡ text.old.items
-        ++ record_text (record_with name.now target.now object.entry)) }
+    ensures ok { OnOk result (text.new.items
+        ≡ text.old.items ++ record_text (record_with name.now target.now object.entry)) }
     ensures err { OnErr result (text.new.items ≡ text.old.items) }
 {
     let len = text.len();

@@ -18,26 +18,32 @@ AddsRecords rs old new = new ≡ old ++ flat_map record_text rs
 
 -- records are passed until so many bytes are left, and added
 abbrev pub CopiesUntil : Kind → ℕ → Ahead → List ℕ → List ℕ → Ahead → Type 0
-CopiesUntil kind left ahead old new next = (p : PassesUntil kind left ahead next) × AddsRecords p.passed old new
+CopiesUntil kind left ahead old new next = (p : PassesUntil kind left ahead next)
+    × AddsRecords p.passed old new
 
 -- the records below the key are passed and added
 abbrev pub Copies : Kind → List ℕ → Ahead → List ℕ → List ℕ → Ahead → Type 0
-Copies kind key ahead old new next = (p : PassesBelow kind key ahead next) × AddsRecords p.passed old new
+Copies kind key ahead old new next = (p : PassesBelow kind key ahead next)
+    × AddsRecords p.passed old new
 
 -- Some records are passed, and some are added. Where the whole is records in the order of their names, those are the
 -- ones of the merge, before what it has of the records that are left.
-pub record Applies (kind : Kind) (e : RecordEdit) (ahead : Ahead) (old new : List ℕ) (applied : Applied) : Type 0 where
+pub record Applies (kind : Kind) (e : RecordEdit) (ahead : Ahead) (old new : List ℕ)
+    (applied : Applied) : Type 0 where
   pub passed : List Record
   pub passes : PassesRecords kind ahead passed applied.ahead
   pub written : List Record
   pub adds : AddsRecords written old new
-  pub merges : (more : List Record → List Record) (rs : List Record) → Records kind applied.ahead.rest.now rs → Ascending (passed ++ rs) →
+  pub merges : (more : List Record → List Record) (rs : List Record) →
+      Records kind applied.ahead.rest.now rs → Ascending (passed ++ rs) →
       merged_one e more (passed ++ rs) ≡ written ++ more rs
-  pub alters : (more : List Record → Bool) (rs : List Record) → Records kind applied.ahead.rest.now rs → Ascending (passed ++ rs) →
+  pub alters : (more : List Record → Bool) (rs : List Record) →
+      Records kind applied.ahead.rest.now rs → Ascending (passed ++ rs) →
       alters_one e more (passed ++ rs) ≡ (applied.alters || more rs)
 
 -- the text is records; where they are in the order of their names, the merged ones are added
-pub record Merges (kind : Kind) (edits : List RecordEdit) (text old new : List ℕ) (alters : Bool) : Type 0 where
+pub record Merges (kind : Kind) (edits : List RecordEdit) (text old new : List ℕ)
+    (alters : Bool) : Type 0 where
   pub read : List Record
   pub records : Records kind text read
   pub adds : Ascending read → AddsRecords (merged edits read) old new
@@ -47,4 +53,5 @@ pub record Merges (kind : Kind) (edits : List RecordEdit) (text old new : List �
 abbrev pub IsOutcome : List ℕ → ℕ → Bool → Rewrite → Type 0
 IsOutcome text header alters Unchanged = alters ≡ false
 IsOutcome text header alters Removed = (alters ≡ true) × (length text ≡ header)
-IsOutcome text header alters (Text new) = (alters ≡ true) × (length text ≢ header) × (new.items ≡ text)
+IsOutcome text header alters (Text new) = (alters ≡ true) × (length text ≢ header)
+    × (new.items ≡ text)

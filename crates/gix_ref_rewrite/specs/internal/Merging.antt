@@ -13,7 +13,8 @@ put_by e = option_to_list (record_put e)
 -- the records below the key, what the edit puts, and `more` of the others but for the record of the key
 abbrev pub merged_one : RecordEdit → (more : List Record → List Record) → List Record → List Record
 merged_one e more [] = put_by e ++ more []
-merged_one e more (r ∷ rs) = match_ordering (slice_cmp nat_cmp r.name e.key.now) (r ∷ merged_one e more rs) (put_by e ++ more rs) (put_by e ++ more (r ∷ rs))
+merged_one e more (r ∷ rs) = match_ordering (slice_cmp nat_cmp r.name e.key.now)
+    (r ∷ merged_one e more rs) (put_by e ++ more rs) (put_by e ++ more (r ∷ rs))
 
 abbrev pub merged : List RecordEdit → List Record → List Record
 merged [] rs = rs
@@ -22,7 +23,8 @@ merged (e ∷ edits) rs = merged_one e (merged edits) rs
 -- the edit puts a record or finds the one of its key, or `more` of the others holds
 abbrev pub alters_one : RecordEdit → (more : List Record → Bool) → List Record → Bool
 alters_one e more [] = is_some e.put || more []
-alters_one e more (r ∷ rs) = match_ordering (slice_cmp nat_cmp r.name e.key.now) (alters_one e more rs) true (is_some e.put || more (r ∷ rs))
+alters_one e more (r ∷ rs) = match_ordering (slice_cmp nat_cmp r.name e.key.now)
+    (alters_one e more rs) true (is_some e.put || more (r ∷ rs))
 
 abbrev pub alters_some : List RecordEdit → List Record → Bool
 alters_some [] rs = false

@@ -8,7 +8,8 @@ use Rattle.gix_ref_records.specs.OpenedText.{Fronts, line_count}
 use Rattle.gix_ref_rewrite.specs.declared.ahead.Ahead.{Ahead}
 
 -- these records are at the front, and that is what follows them
-pub record PassesRecords (kind : Kind) (old : Ahead) (passed : List Record) (new : Ahead) : Type 0 where
+pub record PassesRecords (kind : Kind) (old : Ahead) (passed : List Record)
+    (new : Ahead) : Type 0 where
   pub fronts : Fronts kind old.rest.now passed new.rest.now
   pub number : new.line ≡ old.line + line_count passed
   pub shorter : length new.rest.now ≤ length old.rest.now
@@ -18,7 +19,8 @@ pub record PassesUntil (kind : Kind) (left : ℕ) (old new : Ahead) : Type 0 whe
   pub passed : List Record
   pub passes : PassesRecords kind old passed new
   pub within : length new.rest.now ≤ left
-  pub exact : (rs : List Record) (mid : List ℕ) → Fronts kind old.rest.now rs mid → length mid ≡ left → (rs ≡ passed) × (mid ≡ new.rest.now)
+  pub exact : (rs : List Record) (mid : List ℕ) → Fronts kind old.rest.now rs mid →
+      length mid ≡ left → (rs ≡ passed) × (mid ≡ new.rest.now)
 
 -- the first record is not below the key
 abbrev pub IsNotAhead : List ℕ → List Record → Type 0

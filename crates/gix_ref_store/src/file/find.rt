@@ -49,22 +49,19 @@ impl<F: Files> Store<F> {
         asks_records: bool,
         asked: &mut Records<'_, F::Reader>,
     ) -> Result<Option<Reference>, Error>
-        ensures found { F.honest → (records : List Record) → AreAskedIn F.means self.old asked.old
-            records →
-            IfOk result (FindsBy F.means asks_records self.old records (partial_ref_bytes
-            partial.entry)) }
-        ensures sound { F.honest → (records : List Record) → AreAskedIn F.means self.old asked.old
-            records →
-            IfErr result IsSound }
+        ensures found { F.honest → (records : List Record) →
+            AreAskedIn F.means self.old asked.old records → IfOk result
+            (FindsBy F.means asks_records self.old records (partial_ref_bytes partial.entry)) }
+        ensures sound { F.honest → (records : List Record) →
+            AreAskedIn F.means self.old asked.old records → IfErr result IsSound }
         ensures hit { F.honest → AreHonest asked.old → IfOk result
             (HitsIn F.means asks_records self.old asked.old (partial_ref_bytes partial.entry)) }
         ensures failed { IfErr result (FailsIn F.honest F.means F.faults asks_records self.old
-            self.new asked.old
-            (partial_ref_bytes partial.entry)) }
+            self.new asked.old (partial_ref_bytes partial.entry)) }
         ensures asked { F.honest → OnOk result
             (AreStillAskedIn F.means self.old asked.old asked.new) }
-        ensures no_fault { OnOk result (F.faults (files_of self.new) ≡ F.faults
-            (files_of self.old)) }
+        ensures no_fault { OnOk result (F.faults (files_of self.new)
+            ≡ F.faults (files_of self.old)) }
         ensures unchanged { LooksUp F.honest F.means self.old self.new }
     {
         let composes = self.composes(asks_records);
@@ -81,24 +78,20 @@ impl<F: Files> Store<F> {
         asks_records: bool,
         asked: &mut Records<'_, F::Reader>,
     ) -> Result<Reference, existing::Error>
-        ensures found { F.honest → (records : List Record) → AreAskedIn F.means self.old asked.old
-            records →
-            IfOk result (λ r. FindsBy F.means asks_records self.old records (partial_ref_bytes
-            partial.entry) (Some r)) }
-        ensures sound { F.honest → (records : List Record) → AreAskedIn F.means self.old asked.old
-            records →
-            IfErr result (MissesBy F.means asks_records self.old records (partial_ref_bytes
-            partial.entry)) }
-        ensures hit { F.honest → AreHonest asked.old → IfOk result (λ r. HitsIn F.means
-            asks_records self.old
-            asked.old (partial_ref_bytes partial.entry) (Some r)) }
+        ensures found { F.honest → (records : List Record) →
+            AreAskedIn F.means self.old asked.old records → IfOk result (λ r. FindsBy F.means
+            asks_records self.old records (partial_ref_bytes partial.entry) (Some r)) }
+        ensures sound { F.honest → (records : List Record) →
+            AreAskedIn F.means self.old asked.old records → IfErr result
+            (MissesBy F.means asks_records self.old records (partial_ref_bytes partial.entry)) }
+        ensures hit { F.honest → AreHonest asked.old → IfOk result (λ r. HitsIn F.means asks_records
+            self.old asked.old (partial_ref_bytes partial.entry) (Some r)) }
         ensures failed { IfErr result (MissesIn F.honest F.means F.faults asks_records self.old
-            self.new
-            asked.old (partial_ref_bytes partial.entry)) }
+            self.new asked.old (partial_ref_bytes partial.entry)) }
         ensures asked { F.honest → OnOk result
             (AreStillAskedIn F.means self.old asked.old asked.new) }
-        ensures no_fault { OnOk result (F.faults (files_of self.new) ≡ F.faults
-            (files_of self.old)) }
+        ensures no_fault { OnOk result (F.faults (files_of self.new)
+            ≡ F.faults (files_of self.old)) }
         ensures unchanged { LooksUp F.honest F.means self.old self.new }
     {
         match self.find_among(alloc, partial, asks_records, asked) {
@@ -144,12 +137,11 @@ impl<F: Files> Store<F> {
         ensures sound { F.honest → (records : List Record) → AreRecordsIn F.means self.old records →
             IfErr result IsSound }
         ensures hit { F.honest → IfOk result (HitsIn {G = F.Reader.ReadAt} F.means true self.old
-            Unopened
-            (partial_ref_bytes partial.entry)) }
+            Unopened (partial_ref_bytes partial.entry)) }
         ensures failed { IfErr result (FailsIn {G = F.Reader.ReadAt} F.honest F.means F.faults true
             self.old self.new Unopened (partial_ref_bytes partial.entry)) }
-        ensures no_fault { OnOk result (F.faults (files_of self.new) ≡ F.faults
-            (files_of self.old)) }
+        ensures no_fault { OnOk result (F.faults (files_of self.new)
+            ≡ F.faults (files_of self.old)) }
         ensures unchanged { LooksUp F.honest F.means self.old self.new }
     {
         self.find_among(alloc, partial, true, &mut Records::Unopened)
@@ -170,19 +162,17 @@ impl<F: Files> Store<F> {
         alloc: Global,
         partial: PartialNameRef<'_>,
     ) -> Result<Reference, existing::Error>
-        ensures found { F.honest → (records : List Record) → AreRecordsIn F.means self.old records →
-            IfOk result (λ r. FindsAmong F.means self.old records (partial_ref_bytes
-            partial.entry) (Some r)) }
+        ensures found { F.honest → (records : List Record) →
+            AreRecordsIn F.means self.old records → IfOk result
+            (λ r. FindsAmong F.means self.old records (partial_ref_bytes partial.entry) (Some r)) }
         ensures sound { F.honest → (records : List Record) → AreRecordsIn F.means self.old records →
             IfErr result (MissesAmong F.means self.old records (partial_ref_bytes partial.entry)) }
         ensures hit { F.honest → IfOk result (λ r. HitsIn {G = F.Reader.ReadAt} F.means true
-            self.old
-            Unopened
-            (partial_ref_bytes partial.entry) (Some r)) }
+            self.old Unopened (partial_ref_bytes partial.entry) (Some r)) }
         ensures failed { IfErr result (MissesIn {G = F.Reader.ReadAt} F.honest F.means F.faults true
             self.old self.new Unopened (partial_ref_bytes partial.entry)) }
-        ensures no_fault { OnOk result (F.faults (files_of self.new) ≡ F.faults
-            (files_of self.old)) }
+        ensures no_fault { OnOk result (F.faults (files_of self.new)
+            ≡ F.faults (files_of self.old)) }
         ensures unchanged { LooksUp F.honest F.means self.old self.new }
     {
         match self.try_find(alloc, partial) {
@@ -206,8 +196,8 @@ impl<F: Files> Store<F> {
         ensures sound { F.honest → IfErr result IsSound }
         ensures failed { IfErr result (FailsIn {G = F.Reader.ReadAt} F.honest F.means F.faults false
             self.old self.new Records.None (partial_ref_bytes partial.entry)) }
-        ensures no_fault { OnOk result (F.faults (files_of self.new) ≡ F.faults
-            (files_of self.old)) }
+        ensures no_fault { OnOk result (F.faults (files_of self.new)
+            ≡ F.faults (files_of self.old)) }
         ensures unchanged { LooksUp F.honest F.means self.old self.new }
     {
         match self.find_among(alloc, partial, false, &mut Records::None) {
@@ -234,10 +224,9 @@ impl<F: Files> Store<F> {
         ensures sound { F.honest → IfErr result
             (MissesLoose F.means self.old (partial_ref_bytes partial.entry)) }
         ensures failed { IfErr result (MissesIn {G = F.Reader.ReadAt} F.honest F.means F.faults
-            false
-            self.old self.new Records.None (partial_ref_bytes partial.entry)) }
-        ensures no_fault { OnOk result (F.faults (files_of self.new) ≡ F.faults
-            (files_of self.old)) }
+            false self.old self.new Records.None (partial_ref_bytes partial.entry)) }
+        ensures no_fault { OnOk result (F.faults (files_of self.new)
+            ≡ F.faults (files_of self.old)) }
         ensures unchanged { LooksUp F.honest F.means self.old self.new }
     {
         match self.try_find_loose(alloc, partial) {
@@ -265,19 +254,18 @@ impl<F: Files> Store<F> {
         partial: PartialNameRef<'_>,
         packed: Option<&Buffer>,
     ) -> Result<Option<Reference>, Error>
-        ensures found { F.honest → (records : List Record) → AreHeld packed.entry records →
-            IfOk result (FindsHeld F.means packed.entry self.old records (partial_ref_bytes
-            partial.entry)) }
+        ensures found { F.honest → (records : List Record) →
+            AreHeld packed.entry records → IfOk result
+            (FindsHeld F.means packed.entry self.old records (partial_ref_bytes partial.entry)) }
         ensures sound { F.honest → (records : List Record) → AreHeld packed.entry records →
             IfErr result IsSound }
-        ensures hit { F.honest → IfOk result (HitsIn {G = F.Reader.ReadAt} F.means (is_some
-            packed.entry) self.old
-            (held packed.entry) (partial_ref_bytes partial.entry)) }
+        ensures hit { F.honest → IfOk result (HitsIn {G = F.Reader.ReadAt} F.means
+            (is_some packed.entry) self.old (held packed.entry) (partial_ref_bytes partial.entry)) }
         ensures failed { IfErr result (FailsIn {G = F.Reader.ReadAt} F.honest F.means F.faults
-            (is_some packed.entry)
-            self.old self.new (held packed.entry) (partial_ref_bytes partial.entry)) }
-        ensures no_fault { OnOk result (F.faults (files_of self.new) ≡ F.faults
-            (files_of self.old)) }
+            (is_some packed.entry) self.old self.new (held packed.entry)
+            (partial_ref_bytes partial.entry)) }
+        ensures no_fault { OnOk result (F.faults (files_of self.new)
+            ≡ F.faults (files_of self.old)) }
         ensures unchanged { LooksUp F.honest F.means self.old self.new }
     {
         match packed {
@@ -295,19 +283,19 @@ impl<F: Files> Store<F> {
         packed: Option<&Buffer>,
     ) -> Result<Reference, existing::Error>
         ensures found { F.honest → (records : List Record) → AreHeld packed.entry records →
-            IfOk result (λ r. FindsHeld F.means packed.entry self.old records (partial_ref_bytes
-            partial.entry) (Some r)) }
-        ensures sound { F.honest → (records : List Record) → AreHeld packed.entry records →
-            IfErr result (MissesHeld F.means packed.entry self.old records (partial_ref_bytes
-            partial.entry)) }
-        ensures hit { F.honest → IfOk result (λ r. HitsIn {G = F.Reader.ReadAt} F.means (is_some
-            packed.entry) self.old
+            IfOk result (λ r. FindsHeld F.means packed.entry self.old records
+            (partial_ref_bytes partial.entry) (Some r)) }
+        ensures sound { F.honest → (records : List Record) →
+            AreHeld packed.entry records → IfErr result
+            (MissesHeld F.means packed.entry self.old records (partial_ref_bytes partial.entry)) }
+        ensures hit { F.honest →
+            IfOk result (λ r. HitsIn {G = F.Reader.ReadAt} F.means (is_some packed.entry) self.old
             (held packed.entry) (partial_ref_bytes partial.entry) (Some r)) }
         ensures failed { IfErr result (MissesIn {G = F.Reader.ReadAt} F.honest F.means F.faults
-            (is_some packed.entry)
-            self.old self.new (held packed.entry) (partial_ref_bytes partial.entry)) }
-        ensures no_fault { OnOk result (F.faults (files_of self.new) ≡ F.faults
-            (files_of self.old)) }
+            (is_some packed.entry) self.old self.new (held packed.entry)
+            (partial_ref_bytes partial.entry)) }
+        ensures no_fault { OnOk result (F.faults (files_of self.new)
+            ≡ F.faults (files_of self.old)) }
         ensures unchanged { LooksUp F.honest F.means self.old self.new }
     {
         match self.try_find_packed(alloc, partial, packed) {

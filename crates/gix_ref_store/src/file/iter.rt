@@ -85,8 +85,8 @@ impl<'p, F: Files> LooseThenPacked<'p, F> {
     /// ```
     pub fn next_record(&mut self) -> Option<OwnRecord<'p>>
         ensures lends { IfSome result (LendsNext F.honest F.means F.faults self.old self.new) }
-        ensures none { IfNone result ((listed : List Listed) →
-            AreYetIn self.old listed → IsNoRecord listed) }
+        ensures none { IfNone result ((listed : List Listed) → AreYetIn self.old listed →
+            IsNoRecord listed) }
         ensures same_store { self.new.store ≡ self.old.store }
         ensures stays { IfNone result (self.new ≡ self.old) }
         ensures left { option_len result + items_ahead self.new ≤ items_ahead self.old }
@@ -139,9 +139,8 @@ impl<'s, F: Files> Platform<'s, F> {
         ensures looks_up { IfOk result
             (λ it. LooksUp F.honest F.means (platform_store self.entry.now) it.store.now) }
         ensures lists { F.honest → (records : List Record) → HasRecords self.entry.now records →
-            IfOk result (IteratesListing F.honest F.means F.faults
-            (platform_store self.entry.now) records
-            (prefix_of_all (platform_store self.entry.now).namespace)) }
+            IfOk result (IteratesListing F.honest F.means F.faults (platform_store self.entry.now)
+            records (prefix_of_all (platform_store self.entry.now).namespace)) }
         ensures memory { IfErr result (λ error. error ≡ Memory) }
     {
         let Platform { store, packed } = self;
@@ -250,16 +249,13 @@ impl<F: Files> Store<F> {
         prefix: &[u8],
         packed: Option<&'p Buffer>,
     ) -> Result<LooseThenPacked<'p, F>, Error>
-        ensures* rests { sem 𝓛 (RestsIfErr (the_row F.row) self.entry
-            (λ it. it.store.ghost_name) result
-            (λ n. OnErr result (LooksUp F.honest F.means self.entry.now n))) }
-        ensures same_reference { IfOk result
-            (λ it. it.store.ghost_name ≡ self.entry.ghost_name) }
+        ensures* rests { sem 𝓛 (RestsIfErr (the_row F.row) self.entry (λ it. it.store.ghost_name)
+            result (λ n. OnErr result (LooksUp F.honest F.means self.entry.now n))) }
+        ensures same_reference { IfOk result (λ it. it.store.ghost_name ≡ self.entry.ghost_name) }
         ensures looks_up { IfOk result
             (λ it. LooksUp F.honest F.means self.entry.now it.store.now) }
         ensures lists { F.honest → (records : List Record) →
-            AreHeldFor self.entry.now prefix.now packed.entry records →
-            IfOk result
+            AreHeldFor self.entry.now prefix.now packed.entry records → IfOk result
             (IteratesListing F.honest F.means F.faults self.entry.now records prefix.now) }
         ensures memory { IfErr result (λ error. error ≡ Memory) }
     {
@@ -293,16 +289,13 @@ impl<F: Files> Store<F> {
         alloc: Global,
         packed: Option<&'p Buffer>,
     ) -> Result<LooseThenPacked<'p, F>, Error>
-        ensures* rests { sem 𝓛 (RestsIfErr (the_row F.row) self.entry
-            (λ it. it.store.ghost_name) result
-            (λ n. OnErr result (LooksUp F.honest F.means self.entry.now n))) }
-        ensures same_reference { IfOk result
-            (λ it. it.store.ghost_name ≡ self.entry.ghost_name) }
+        ensures* rests { sem 𝓛 (RestsIfErr (the_row F.row) self.entry (λ it. it.store.ghost_name)
+            result (λ n. OnErr result (LooksUp F.honest F.means self.entry.now n))) }
+        ensures same_reference { IfOk result (λ it. it.store.ghost_name ≡ self.entry.ghost_name) }
         ensures looks_up { IfOk result
             (λ it. LooksUp F.honest F.means self.entry.now it.store.now) }
-        ensures lists { F.honest → (records : List Record) →
-            AreHeldFor self.entry.now (prefix_of_all self.entry.now.namespace) packed.entry
-            records →
+        ensures lists { F.honest → (records : List Record) → AreHeldFor self.entry.now
+            (prefix_of_all self.entry.now.namespace) packed.entry records →
             IfOk result (IteratesListing F.honest F.means F.faults self.entry.now records
             (prefix_of_all self.entry.now.namespace)) }
         ensures memory { IfErr result (λ error. error ≡ Memory) }
@@ -329,16 +322,13 @@ impl<F: Files> Store<F> {
         prefix: &[u8],
         packed: Option<&'p Buffer>,
     ) -> Result<LooseThenPacked<'p, F>, Error>
-        ensures* rests { sem 𝓛 (RestsIfErr (the_row F.row) self.entry
-            (λ it. it.store.ghost_name) result
-            (λ n. OnErr result (LooksUp F.honest F.means self.entry.now n))) }
-        ensures same_reference { IfOk result
-            (λ it. it.store.ghost_name ≡ self.entry.ghost_name) }
+        ensures* rests { sem 𝓛 (RestsIfErr (the_row F.row) self.entry (λ it. it.store.ghost_name)
+            result (λ n. OnErr result (LooksUp F.honest F.means self.entry.now n))) }
+        ensures same_reference { IfOk result (λ it. it.store.ghost_name ≡ self.entry.ghost_name) }
         ensures looks_up { IfOk result
             (λ it. LooksUp F.honest F.means self.entry.now it.store.now) }
         ensures lists { F.honest → (records : List Record) →
-            AreHeldFor self.entry.now prefix.now packed.entry records →
-            IfOk result
+            AreHeldFor self.entry.now prefix.now packed.entry records → IfOk result
             (IteratesListing F.honest F.means F.faults self.entry.now records prefix.now) }
         ensures taken { OnOk result (IsAcceptedPrefix self.entry.now.namespace prefix.now) }
         ensures refused { IfErr result (λ error. (error ≡ Memory)
@@ -352,16 +342,13 @@ impl<F: Files> Store<F> {
 
     /// As `iter_packed`, of the loose references alone; `Memory`. As gix-ref's `file::Store::loose_iter`.
     pub fn loose_iter(&mut self, alloc: Global) -> Result<LooseThenPacked<'_, F>, Error>
-        ensures* rests { sem 𝓛 (RestsIfErr (the_row F.row) self.entry
-            (λ it. it.store.ghost_name) result
-            (λ n. OnErr result (LooksUp F.honest F.means self.entry.now n))) }
-        ensures same_reference { IfOk result
-            (λ it. it.store.ghost_name ≡ self.entry.ghost_name) }
+        ensures* rests { sem 𝓛 (RestsIfErr (the_row F.row) self.entry (λ it. it.store.ghost_name)
+            result (λ n. OnErr result (LooksUp F.honest F.means self.entry.now n))) }
+        ensures same_reference { IfOk result (λ it. it.store.ghost_name ≡ self.entry.ghost_name) }
         ensures looks_up { IfOk result
             (λ it. LooksUp F.honest F.means self.entry.now it.store.now) }
-        ensures lists { F.honest → IfOk result
-            (IteratesListing F.honest F.means F.faults self.entry.now []
-            (prefix_of_all self.entry.now.namespace)) }
+        ensures lists { F.honest → IfOk result (IteratesListing F.honest F.means F.faults
+            self.entry.now [] (prefix_of_all self.entry.now.namespace)) }
         ensures memory { IfErr result (λ error. error ≡ Memory) }
     {
         self.iter_packed(alloc, None)
@@ -374,11 +361,9 @@ impl<F: Files> Store<F> {
         alloc: Global,
         prefix: &[u8],
     ) -> Result<LooseThenPacked<'_, F>, Error>
-        ensures* rests { sem 𝓛 (RestsIfErr (the_row F.row) self.entry
-            (λ it. it.store.ghost_name) result
-            (λ n. OnErr result (LooksUp F.honest F.means self.entry.now n))) }
-        ensures same_reference { IfOk result
-            (λ it. it.store.ghost_name ≡ self.entry.ghost_name) }
+        ensures* rests { sem 𝓛 (RestsIfErr (the_row F.row) self.entry (λ it. it.store.ghost_name)
+            result (λ n. OnErr result (LooksUp F.honest F.means self.entry.now n))) }
+        ensures same_reference { IfOk result (λ it. it.store.ghost_name ≡ self.entry.ghost_name) }
         ensures looks_up { IfOk result
             (λ it. LooksUp F.honest F.means self.entry.now it.store.now) }
         ensures lists { F.honest → IfOk result
@@ -403,8 +388,8 @@ impl<F: Files> Store<F> {
     /// }
     /// ```
     pub fn iter(&mut self, alloc: Global) -> Result<Platform<'_, F>, Error>
-        ensures* rests { sem 𝓛 (RestsIfErr (the_row F.row) self.entry
-            (λ p. p.store.ghost_name) result
+        ensures* rests { sem 𝓛
+            (RestsIfErr (the_row F.row) self.entry (λ p. p.store.ghost_name) result
             (λ n. IfErr result (LeavesUnopened F.honest F.means F.faults self.entry.now n))) }
         ensures same_reference { IfOk result (λ p. p.store.ghost_name ≡ self.entry.ghost_name) }
         ensures looks_up { IfOk result (λ p. LooksUp F.honest F.means self.entry.now p.store.now) }
@@ -438,11 +423,9 @@ impl<F: Files> Store<F> {
     /// }
     /// ```
     pub fn iter_pseudo(&mut self, alloc: Global) -> Result<LooseThenPacked<'_, F>, Error>
-        ensures* rests { sem 𝓛 (RestsIfErr (the_row F.row) self.entry
-            (λ it. it.store.ghost_name) result
-            (λ n. OnErr result (LooksUp F.honest F.means self.entry.now n))) }
-        ensures same_reference { IfOk result
-            (λ it. it.store.ghost_name ≡ self.entry.ghost_name) }
+        ensures* rests { sem 𝓛 (RestsIfErr (the_row F.row) self.entry (λ it. it.store.ghost_name)
+            result (λ n. OnErr result (LooksUp F.honest F.means self.entry.now n))) }
+        ensures same_reference { IfOk result (λ it. it.store.ghost_name ≡ self.entry.ghost_name) }
         ensures looks_up { IfOk result
             (λ it. LooksUp F.honest F.means self.entry.now it.store.now) }
         ensures lists { F.honest → IfOk result

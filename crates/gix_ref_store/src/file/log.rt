@@ -33,13 +33,13 @@ impl<F: Files> Store<F> {
     /// if store.reflog_exists(alloc, FullNameRef::try_from("refs/heads/main")?)? { .. }
     /// ```
     pub fn reflog_exists(&mut self, alloc: Global, name: FullNameRef<'_>) -> Result<bool, Error>
-        ensures exists { F.honest → IfOk result (λ exists.
-            exists ≡ is_file (reflog_at F.means self.old (full_ref_bytes name.entry))) }
-        ensures allowed { OnOk result (is_log_prohibited self.old (full_ref_bytes name.entry) ≡
-            false) }
+        ensures exists { F.honest → IfOk result
+            (λ exists. exists ≡ is_file (reflog_at F.means self.old (full_ref_bytes name.entry))) }
+        ensures allowed { OnOk result
+            (is_log_prohibited self.old (full_ref_bytes name.entry) ≡ false) }
         ensures failed { IfErr result (IsNoReflog self.old (full_ref_bytes name.entry)) }
-        ensures count { F.faults (files_of self.new) ≡ count_log result (F.faults
-            (files_of self.old)) }
+        ensures count { F.faults (files_of self.new)
+            ≡ count_log result (F.faults (files_of self.old)) }
         ensures unchanged { LooksUp F.honest F.means self.old self.new }
     {
         let settings = settings!(self);
@@ -69,11 +69,11 @@ impl<F: Files> Store<F> {
     ) -> Result<Option<Forward<'b>>, Error>
         ensures lines { F.honest → IfOk result
             (ReadsForward (reflog_at F.means self.old (full_ref_bytes name.entry))) }
-        ensures allowed { OnOk result (is_log_prohibited self.old (full_ref_bytes name.entry) ≡
-            false) }
+        ensures allowed { OnOk result
+            (is_log_prohibited self.old (full_ref_bytes name.entry) ≡ false) }
         ensures failed { IfErr result (IsNoReflog self.old (full_ref_bytes name.entry)) }
-        ensures count { F.faults (files_of self.new) ≡ count_log result (F.faults
-            (files_of self.old)) }
+        ensures count { F.faults (files_of self.new)
+            ≡ count_log result (F.faults (files_of self.old)) }
         ensures unchanged { LooksUp F.honest F.means self.old self.new }
     {
         let settings = settings!(self);
@@ -106,18 +106,17 @@ impl<F: Files> Store<F> {
         name: FullNameRef<'_>,
         buf: &'b mut [u8],
     ) -> Result<Option<Reverse<'b, F::Reader>>, Error>
-        ensures lines { F.honest → IfOk result
-            (ReadsBackward F.Reader.ReadAt (reflog_at F.means self.old (full_ref_bytes
-            name.entry)) (length buf.old)) }
+        ensures lines { F.honest → IfOk result (ReadsBackward F.Reader.ReadAt
+            (reflog_at F.means self.old (full_ref_bytes name.entry)) (length buf.old)) }
         ensures ends { IfOk result (EndsAtErrors F.Reader.ReadAt) }
-        ensures same_reference { IfOk result (λ r. IfSome r (λ lines. lines.buf.ghost_name ≡
-            buf.entry.ghost_name)) }
-        ensures allowed { OnOk result (is_log_prohibited self.old (full_ref_bytes name.entry) ≡
-            false) }
+        ensures same_reference { IfOk result
+            (λ r. IfSome r (λ lines. lines.buf.ghost_name ≡ buf.entry.ghost_name)) }
+        ensures allowed { OnOk result
+            (is_log_prohibited self.old (full_ref_bytes name.entry) ≡ false) }
         ensures failed { IfErr result (IsNoReverse F.honest (reflog_at F.means self.old
             (full_ref_bytes name.entry)) (length buf.old) self.old (full_ref_bytes name.entry)) }
-        ensures count { F.faults (files_of self.new) ≡ count_log result (F.faults
-            (files_of self.old)) }
+        ensures count { F.faults (files_of self.new)
+            ≡ count_log result (F.faults (files_of self.old)) }
         ensures unchanged { LooksUp F.honest F.means self.old self.new }
     {
         let settings = settings!(self);
@@ -156,12 +155,12 @@ impl<F: Files> Platform<'_, '_, F> {
     /// if let Some(lines) = platform.all(alloc)? { .. }
     /// ```
     pub fn all(&mut self, alloc: Global) -> Result<Option<Forward<'_>>, Error>
-        ensures lines { F.honest → IfOk result (ReadsForward (reflog_at F.means
-            self.old.store.now (full_ref_bytes self.old.name))) }
-        ensures allowed { OnOk result (is_log_prohibited self.old.store.now (full_ref_bytes
-            self.old.name) ≡ false) }
-        ensures failed { IfErr result (IsNoReflog self.old.store.now (full_ref_bytes
-            self.old.name)) }
+        ensures lines { F.honest → IfOk result
+            (ReadsForward (reflog_at F.means self.old.store.now (full_ref_bytes self.old.name))) }
+        ensures allowed { OnOk result
+            (is_log_prohibited self.old.store.now (full_ref_bytes self.old.name) ≡ false) }
+        ensures failed { IfErr result
+            (IsNoReflog self.old.store.now (full_ref_bytes self.old.name)) }
     {
         let Platform { store, name, buf } = self;
         store.reflog_iter(alloc, *name, buf)
@@ -182,10 +181,10 @@ impl<F: Files> Platform<'_, '_, F> {
         ensures lines { F.honest → IfOk result (ReadsBackward F.Reader.ReadAt
             (reflog_at F.means self.old.store.now (full_ref_bytes self.old.name)) 4096) }
         ensures ends { IfOk result (EndsAtErrors F.Reader.ReadAt) }
-        ensures allowed { OnOk result (is_log_prohibited self.old.store.now (full_ref_bytes
-            self.old.name) ≡ false) }
-        ensures failed { IfErr result (IsNoReflog self.old.store.now (full_ref_bytes
-            self.old.name)) }
+        ensures allowed { OnOk result
+            (is_log_prohibited self.old.store.now (full_ref_bytes self.old.name) ≡ false) }
+        ensures failed { IfErr result
+            (IsNoReflog self.old.store.now (full_ref_bytes self.old.name)) }
     {
         let Platform { store, name, buf } = self;
         buf.clear();

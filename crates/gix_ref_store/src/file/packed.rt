@@ -49,8 +49,8 @@ impl<F: Files> Store<F> {
     pub fn open_packed_buffer(&mut self, alloc: Global) -> Result<Option<Buffer>, Error>
         ensures opened { F.honest → IfOk result (OpensBuffer F.means self.old) }
         ensures refused { F.honest → IfErr result (RefusesBuffer F.means self.old) }
-        ensures count { F.faults (files_of self.new) ≡ count_open result (F.faults
-            (files_of self.old)) }
+        ensures count { F.faults (files_of self.new)
+            ≡ count_open result (F.faults (files_of self.old)) }
         ensures unchanged { LooksUp F.honest F.means self.old self.new }
     {
         let path = match self.packed_refs_path(alloc) {
@@ -71,8 +71,8 @@ impl<F: Files> Store<F> {
     pub fn cached_packed_buffer(&mut self, alloc: Global) -> Result<Option<Buffer>, Error>
         ensures opened { F.honest → IfOk result (OpensBuffer F.means self.old) }
         ensures refused { F.honest → IfErr result (RefusesBuffer F.means self.old) }
-        ensures count { F.faults (files_of self.new) ≡ count_open result (F.faults
-            (files_of self.old)) }
+        ensures count { F.faults (files_of self.new)
+            ≡ count_open result (F.faults (files_of self.old)) }
         ensures unchanged { LooksUp F.honest F.means self.old self.new }
     {
         self.open_packed_buffer(alloc)
@@ -96,11 +96,11 @@ impl<F: Files> Store<F> {
     ) -> Result<Option<Buffer>, Error>
         ensures holds { F.honest → (records : List Record) → AreRecordsIn F.means self.old records →
             IfOk result (λ found. IsReadFor self.old prefix.now found records) }
-        ensures there { F.honest → IfOk result (λ found. is_some found
-            ≡ is_file (packed_refs_at F.means self.old)) }
+        ensures there { F.honest → IfOk result
+            (λ found. is_some found ≡ is_file (packed_refs_at F.means self.old)) }
         ensures refused { F.honest → IfErr result (RefusesBuffer F.means self.old) }
-        ensures no_fault { OnOk result (F.faults (files_of self.new) ≡ F.faults
-            (files_of self.old)) }
+        ensures no_fault { OnOk result (F.faults (files_of self.new)
+            ≡ F.faults (files_of self.old)) }
         ensures failed { F.honest → IfErr result (CountsRefusal F.Reader.faults
             (F.faults (files_of self.old)) (F.faults (files_of self.new))) }
         ensures unchanged { LooksUp F.honest F.means self.old self.new }
@@ -115,8 +115,8 @@ impl<F: Files> Store<F> {
         ensures refused { F.honest → IfErr result (RefusesBuffer F.means self.old) }
         ensures count { IfErr result (λ error. F.faults (files_of self.new)
             ≡ count_open (Err error) (F.faults (files_of self.old))) }
-        ensures no_fault { OnOk result (F.faults (files_of self.new) ≡ F.faults
-            (files_of self.old)) }
+        ensures no_fault { OnOk result (F.faults (files_of self.new)
+            ≡ F.faults (files_of self.old)) }
         ensures unchanged { LooksUp F.honest F.means self.old self.new }
     {
         match self.open_packed_buffer(alloc) {

@@ -35,10 +35,9 @@ impl<F: Files> Store<F> {
         alloc: Global,
         default_ref: FullNameRef<'_>,
     ) -> Result<Option<bool>, AllocError>
-        ensures says { IfOk result (Says
-            (F.honest → IsPristineStore F.means self.old (full_ref_bytes default_ref.entry))
-            (F.honest → IsStoreInUse F.means self.old (full_ref_bytes default_ref.entry))
-            ((F.honest → HasNoHead F.means self.old)
+        ensures says { IfOk result (Says (F.honest → IsPristineStore F.means self.old
+            (full_ref_bytes default_ref.entry)) (F.honest → IsStoreInUse F.means self.old
+            (full_ref_bytes default_ref.entry)) ((F.honest → HasNoHead F.means self.old)
             ⊎ HasRisen (F.faults (files_of self.old)) (F.faults (files_of self.new)))) }
         ensures unchanged { LooksUp F.honest F.means self.old self.new }
     {

@@ -110,8 +110,8 @@ impl<F> Store<F> {
         common_dir: Vec<u8>,
         object_hash: Kind,
     ) -> Result<Store<F>, Error<F>>
-        ensures made { IfOk result (IsMade files git_dir (Some common_dir) object_hash
-            default_options) }
+        ensures made { IfOk result
+            (IsMade files git_dir (Some common_dir) object_hash default_options) }
         ensures found { MatchResult result (λ _. AreDirs git_dir (Some common_dir))
             (HasNoStore files git_dir (Some common_dir)) }
     {
@@ -227,8 +227,8 @@ impl<F> Store<F> {
         alloc: Global,
         name: FullNameRef<'_>,
     ) -> Result<Vec<u8>, AllocError>
-        ensures { IfOk result (λ path. path.items ≡ (meaning_of self.now).place (full_ref_bytes
-            name.entry)) }
+        ensures { IfOk result (λ path. path.items
+            ≡ (meaning_of self.now).place (full_ref_bytes name.entry)) }
     {
         layout_in(&self.dirs, &self.namespace).loose(alloc, name)
     }

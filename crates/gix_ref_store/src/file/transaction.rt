@@ -112,13 +112,11 @@ impl<'s, F: Files, T: Find> Transaction<'s, F, PackedRefs<T>> {
         edits: Vec<RefEdit>,
     ) -> Result<Prepared<'s, F, Plan<T>>, Refused<T>>
         ensures* rests { sem 𝓛 (RestsIfErr (the_row F.row) self.entry.store
-            (λ p. p.store.ghost_name) result
-            (λ n. IfErr result (λ r. RefusesGiven F.honest (HasReadFault F.Reader.faults)
-            F.means F.faults self.entry.store.now n
-            edits.items r.error (paths_of r.locks_left.items)
-            × (r.packed_refs ≡ self.entry.packed_refs)))) }
-        ensures same_reference { IfOk result
-            (λ p. p.store.ghost_name ≡ self.entry.store.ghost_name) }
+            (λ p. p.store.ghost_name) result (λ n. IfErr result (λ r. RefusesGiven F.honest
+            (HasReadFault F.Reader.faults) F.means F.faults self.entry.store.now n edits.items
+            r.error (paths_of r.locks_left.items) × (r.packed_refs ≡ self.entry.packed_refs)))) }
+        ensures same_reference { IfOk result (λ p. p.store.ghost_name
+            ≡ self.entry.store.ghost_name) }
         ensures prepared { IfOk result (λ p. PreparesGiven F.honest F.means F.faults
             self.entry.store.now p.store.now edits.items (held_packed p.plan) (held_edits p.plan)) }
         ensures packed_refs { IfOk result (λ p. prepared_mode p.plan ≡ self.entry.packed_refs) }
@@ -223,15 +221,15 @@ impl<F: Files, T: Find> Prepared<'_, F, Plan<T>> {
         ensures committed { IfOk result (λ done. HasSucceeded F.honest F.means F.faults
             self.entry.store.now self.exit.0.now committer.entry (held_packed self.entry.plan)
             (held_edits self.entry.plan) done.edits.items (paths_of done.locks_left.items)) }
-        ensures failed { IfErr result (λ f. HasEndedEarly F.honest F.means F.faults
-            self.entry.store.now self.exit.0.now committer.entry (held_packed self.entry.plan)
-            (held_edits self.entry.plan) f.error) }
+        ensures failed { IfErr result
+            (λ f. HasEndedEarly F.honest F.means F.faults self.entry.store.now self.exit.0.now
+            committer.entry (held_packed self.entry.plan) (held_edits self.entry.plan) f.error) }
         ensures safe { EveryMomentIsSafe F.honest F.means F.faults self.entry.store.now
             self.exit.0.now committer.entry (held_packed self.entry.plan)
             (held_edits self.entry.plan) (left_of result) }
-        ensures kept { KeepsTheRest F.honest F.means F.faults self.entry.store.now
-            self.exit.0.now committer.entry (held_packed self.entry.plan)
-            (held_edits self.entry.plan) (left_of result) }
+        ensures kept { KeepsTheRest F.honest F.means F.faults self.entry.store.now self.exit.0.now
+            committer.entry (held_packed self.entry.plan) (held_edits self.entry.plan)
+            (left_of result) }
         ensures packed_refs { mode_handed_back result ≡ prepared_mode self.entry.plan }
         ensures same { IsSameStore self.entry.store.now self.exit.0.now }
     {

@@ -23,7 +23,8 @@ use Rattle.gix_ref_theory.specs.OnRealTrees.{view_of}
 
 -- the name that a loose file leads to
 abbrev pub name_by : List ℕ → Loose → Option (List ℕ)
-name_by namespace (loose_files.Holds target) = target_name (stripped_target namespace (target_value target))
+name_by namespace (loose_files.Holds target) =
+    target_name (stripped_target namespace (target_value target))
 name_by namespace other = None
 
 -- the bytes of names that may be missing
@@ -59,7 +60,8 @@ pub record IsRoundBy (edits after kids : List EditValue) : Type 0 where
   pub split : kids ≡ children_by edits led
 
 -- a round over these edits, with this finder
-pub record IsRoundOver (find : List ℕ → Option (List ℕ)) (edits after kids : List EditValue) : Type 0 where
+pub record IsRoundOver (find : List ℕ → Option (List ℕ))
+    (edits after kids : List EditValue) : Type 0 where
   pub changed : after ≡ after_round find edits
   pub split : kids ≡ children find edits
 
@@ -102,7 +104,8 @@ IsValidValue s kind edit = IsWellNamed s edit.name × IsSoundChange kind edit.ch
 
 -- and so it is once it may be looked up
 abbrev pub IsSoundValue : Store → Kind → EditValue → Type 0
-IsSoundValue s kind edit = (edit.deref ≡ false → IsWellNamed s edit.name) × IsSoundChange kind edit.change
+IsSoundValue s kind edit = (edit.deref ≡ false → IsWellNamed s edit.name)
+    × IsSoundChange kind edit.change
 
 -- an edit is an update
 abbrev pub IsUpdateValue : EditValue → Type 0
@@ -110,14 +113,18 @@ IsUpdateValue edit = IsSome (new_in edit.change)
 
 -- One round of these edits, before which there are `first` others: what they are after it, their children, and the places of the parents of
 -- these. Each edit that is looked up may be.
-pub record IsSplitRound (honest : Type 0) (s : Store) (T : Tree) (first : ℕ) (old new : List RefEdit) (kids : SplitEdits) : Type 0 where
-  pub round : honest → IsRoundOver (name_led_to s (view_of T)) (values_of old) (values_of new) (values_of kids.edits.items)
-  pub parents : honest → kids.parents.items ≡ parents_from (name_led_to s (view_of T)) first (values_of old)
+pub record IsSplitRound (honest : Type 0) (s : Store) (T : Tree) (first : ℕ)
+    (old new : List RefEdit) (kids : SplitEdits) : Type 0 where
+  pub round : honest → IsRoundOver (name_led_to s (view_of T)) (values_of old) (values_of new)
+      (values_of kids.edits.items)
+  pub parents : honest → kids.parents.items ≡ parents_from (name_led_to s (view_of T)) first
+      (values_of old)
   pub len : vec_len kids.parents ≡ vec_len kids.edits
   pub by : IsRoundBy (values_of old) (values_of new) (values_of kids.edits.items)
   pub can_follow : All (CanFollow s) (values_of old)
 
 -- Why a round fails: a fault of files or of memory, or the name of an edit that is looked up; and `Io` only where the count of faults rose.
-pub record IsRoundFault (s : Store) (edits : List RefEdit) (before now : ℕ) (error : Error) : Type 0 where
+pub record IsRoundFault (s : Store) (edits : List RefEdit) (before now : ℕ)
+    (error : Error) : Type 0 where
   pub cause : IsIoOrMemory error ⊎ IsFirstMisnamed s (values_of edits) error
   pub counted : IsCounted before now error

@@ -16,20 +16,25 @@ use Rattle.gix_ref_lookup.specs.declared.find.records.Records.{Records}
 
 -- the record of this key cannot be read in a text that is searched
 abbrev pub IsStuckKey : {R : Type 0} {G : Ghosts R} → Kind → Records R G → (key : List ℕ) → Type 0
-IsStuckKey kind records key = OfSearched kind None records (λ of_kind text. CannotRead of_kind text key)
+IsStuckKey kind records key = OfSearched kind None records
+    (λ of_kind text. CannotRead of_kind text key)
 
 -- Why a search among records failed: where they can be read, by a fault of files or of memory; and with an honest reader `Packed` is returned
 -- only for such a fault, and `PackedFind` only where this is bad.
-pub record IsSearchFault {R : Type 0} {G : Ghosts R} (records : Records R G) (Bad : Kind → Type 0) (error : Error) : Type 0 where
+pub record IsSearchFault {R : Type 0} {G : Ghosts R} (records : Records R G) (Bad : Kind → Type 0)
+    (error : Error) : Type 0 where
   pub sound : (kind : Kind) (rs : List Record) → AreAsked kind None records rs → IsIoOrMemory error
-  pub refused : AreHonest records → (kind : Kind) (packed : Option Content) → IsPackedRefusal kind packed error
+  pub refused : AreHonest records → (kind : Kind) (packed : Option Content) →
+      IsPackedRefusal kind packed error
   pub unread : AreHonest records → (kind : Kind) → OfFind (Bad kind) error
 
 -- Why the records of edits are not found, which asks for `packed-refs` at first: where that is well formed, by a fault of files or of memory;
 -- `Packed` is returned for a `packed-refs` that is refused, and `PackedFind` where the record of an edit cannot be read; a fault of files came
 -- with a rise of their count, or a read by a reader failed.
-pub record AreNotFound {F : Type 0} (honest read : Type 0) (means : F → Meaning) (faults : F → ℕ) (s : Store) (kind : Kind) (edits : List RefEdit) (before now : F) (error : Error) : Type 0 where
-  pub sound : honest → (rs : List Record) → ArePackedRecords kind (view_of (means before).tree s.packed_path) rs → IsIoOrMemory error
+pub record AreNotFound {F : Type 0} (honest read : Type 0) (means : F → Meaning) (faults : F → ℕ)
+    (s : Store) (kind : Kind) (edits : List RefEdit) (before now : F) (error : Error) : Type 0 where
+  pub sound : honest → (rs : List Record) → ArePackedRecords kind
+      (view_of (means before).tree s.packed_path) rs → IsIoOrMemory error
   pub refused : honest → IsPackedRefusal kind ((means before).tree s.packed_path) error
   pub unread : honest → IsFindCause s kind (view_of (means before).tree s.packed_path) edits error
   pub counted : IsCountedWith honest read (faults before) (faults now) error

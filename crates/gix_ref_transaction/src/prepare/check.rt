@@ -101,8 +101,8 @@ pub fn check_name(
     settings: &Settings<'_>,
     name: FullNameRef<'_>,
 ) -> Result<(), Error>
-    ensures named { OnOk result (IsWellNamed (setting_of settings.now) (full_ref_bytes
-        name.entry)) }
+    ensures named { OnOk result
+        (IsWellNamed (setting_of settings.now) (full_ref_bytes name.entry)) }
     ensures refused { IfErr result (λ error. (error ≡ Error.Memory)
         ⊎ IsMisnamed (setting_of settings.now) (full_ref_bytes name.entry) error) }
     ensures inside { IfErr result IsNotIo }
@@ -137,8 +137,8 @@ fn check_edit(alloc: Global, settings: &Settings<'_>, edit: &RefEdit) -> Result<
 
 /// Each edit by itself, in order, up to the first that is not sound. Takes memory only where the store prohibits names.
 pub fn check_edits(alloc: Global, settings: &Settings<'_>, edits: &[RefEdit]) -> Result<(), Error>
-    ensures sound { OnOk result (AllValid (setting_of settings.now) settings.now.kind []
-        edits.now) }
+    ensures sound { OnOk result
+        (AllValid (setting_of settings.now) settings.now.kind [] edits.now) }
     ensures refused { IfErr result (λ error. (error ≡ Error.Memory)
         ⊎ IsFirstInvalid (setting_of settings.now) settings.now.kind [] edits.now error) }
     ensures inside { IfErr result IsNotIo }

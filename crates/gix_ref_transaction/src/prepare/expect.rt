@@ -66,8 +66,8 @@ fn standing(edit: &RefEdit, new: &Target, actual: &Target, kind: Kind) -> Result
 fn check_new(edit: &RefEdit, actual: &Target, kind: Kind) -> Result<(), Error>
     requires absent { expected_of edit.now.change ≡ must_not_exist }
     requires possible { IsPossible edit.now.change }
-    ensures { MatchResult result (λ _. Expects must_not_exist (new_of edit.now.change)
-        (Some (target_value actual.now)))
+    ensures { MatchResult result
+        (λ _. Expects must_not_exist (new_of edit.now.change) (Some (target_value actual.now)))
         (IsMismatch kind edit.now (Some (target_value actual.now))) }
 {
     match &edit.change {
@@ -119,8 +119,8 @@ fn check_absent(edit: &RefEdit, kind: Kind) -> Result<(), Error>
 /// What was found against what an edit expects.
 pub fn check_expected(edit: &RefEdit, found: &Option<Target>, kind: Kind) -> Result<(), Error>
     requires { IsPossible edit.now.change }
-    ensures { MatchResult result (λ _. Expects (expected_of edit.now.change)
-        (new_of edit.now.change) (value_of found.now))
+    ensures { MatchResult result
+        (λ _. Expects (expected_of edit.now.change) (new_of edit.now.change) (value_of found.now))
         (IsMismatch kind edit.now (value_of found.now)) }
 {
     match found {

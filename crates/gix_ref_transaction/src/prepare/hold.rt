@@ -56,8 +56,8 @@ pub fn edits_at(
 ) -> Result<Vec<Edit>, AllocError>
     requires { vec_len split.parents ≡ vec_len split.edits }
     ensures asked { IfOk result (λ edits. updates edits.items ≡ split.edits.items) }
-    ensures places { IfOk result (λ edits. place_paths edits.items ≡ places_of
-        (setting_of settings.now) split.edits.items) }
+    ensures places { IfOk result (λ edits. place_paths edits.items
+        ≡ places_of (setting_of settings.now) split.edits.items) }
     ensures parents { IfOk result (λ edits. parents_in edits.items ≡ split.parents.items) }
 {
     let SplitEdits {
@@ -82,26 +82,23 @@ fn lock_all_or_none<F: Files>(
 ) -> Result<HeldEdits, LockFailure>
     requires ready { AreReady (setting_of settings.now) settings.now.kind edits.items }
     requires room { HasRoom edits remains }
-    ensures held { IfOk result (λ held. HoldAllLocks F.honest (ids_in edits.items ≡ packed_ids
-        (setting_of settings.now) (F.means files.old).tree (updates edits.items))
+    ensures held { IfOk result (λ held. HoldAllLocks F.honest (ids_in edits.items
+        ≡ packed_ids (setting_of settings.now) (F.means files.old).tree (updates edits.items))
         (setting_of settings.now) settings.now.kind
         (locks_of (setting_of settings.now) (updates edits.items)) (F.means files.old)
         (F.means files.new) edits.items held.edits.items remains held.remains) }
     ensures given { IfOk result (λ held. all_given held.edits.items ≡ all_given edits.items) }
-    ensures wholes { F.honest → (q : Path) (text : List ℕ) →
-        IsWholeAt (disk_of (F.means files.old)) q text →
-        OnOk result (IsWholeAt (disk_of (F.means files.new)) q text) }
+    ensures wholes { F.honest → (q : Path) (text : List ℕ) → IsWholeAt (disk_of (F.means files.old))
+        q text → OnOk result (IsWholeAt (disk_of (F.means files.new)) q text) }
     ensures refused { IfErr result (λ failure. IsTakingFault F.honest F.means F.faults
-        (setting_of settings.now) settings.now.kind edits.items files.old files.new
-        failure.error) }
+        (setting_of settings.now) settings.now.kind edits.items files.old files.new failure.error) }
     ensures removed { IfErr result (λ failure. AreRemovedAgain F.honest F.means F.faults
-        (locks_of (setting_of settings.now) (updates edits.items))
-        (locks_of (setting_of settings.now) (updates edits.items)) failure.locks_left
-        files.old files.new) }
+        (locks_of (setting_of settings.now) (updates edits.items)) (locks_of
+        (setting_of settings.now) (updates edits.items)) failure.locks_left files.old files.new) }
     ensures room { IfErr result (λ failure. vec_len failure.locks_left
         < vec_capacity failure.locks_left) }
-    ensures takes { OnlyTakes F.honest F.means F.faults (locks_of (setting_of settings.now)
-        (updates edits.items)) files.old files.new }
+    ensures takes { OnlyTakes F.honest F.means F.faults
+        (locks_of (setting_of settings.now) (updates edits.items)) files.old files.new }
 {
     let mut taken = 0;
     match take_locks(alloc, files, settings, &mut edits, &mut taken) {
@@ -127,30 +124,27 @@ fn find_and_lock<F: Files>(
     mut edits: Vec<Edit>,
     remains: Remains,
 ) -> Result<HeldEdits, LockFailure>
-    requires absent { F.honest → is_absent ≡ true → packed_refs_in settings.now (F.means files.old)
-        ≡ None }
+    requires absent { F.honest → is_absent ≡ true →
+        packed_refs_in settings.now (F.means files.old) ≡ None }
     requires ready { AreReady (setting_of settings.now) settings.now.kind edits.items }
     requires room { HasRoom edits remains }
     ensures held { IfOk result (λ held. HoldAllLocks F.honest (IsPackedWell settings.now.kind
         (packed_refs_in settings.now (F.means files.old))) (setting_of settings.now)
         settings.now.kind (locks_of (setting_of settings.now) (updates edits.items))
-        (F.means files.old) (F.means files.new) edits.items held.edits.items remains
-        held.remains) }
-    ensures wholes { F.honest → (q : Path) (text : List ℕ) →
-        IsWholeAt (disk_of (F.means files.old)) q text →
-        OnOk result (IsWholeAt (disk_of (F.means files.new)) q text) }
-    ensures refused { IfErr result (λ failure. IsHeldBack F.honest F.means F.faults (HasReadFault
-        F.Reader.faults) (setting_of settings.now) settings.now.kind (updates edits.items)
-        (IsFirstCause (setting_of settings.now) settings.now.kind (F.means files.old).tree []
-        (updates edits.items)) files.old files.new failure.error) }
+        (F.means files.old) (F.means files.new) edits.items held.edits.items remains held.remains) }
+    ensures wholes { F.honest → (q : Path) (text : List ℕ) → IsWholeAt (disk_of (F.means files.old))
+        q text → OnOk result (IsWholeAt (disk_of (F.means files.new)) q text) }
+    ensures refused { IfErr result (λ failure. IsHeldBack F.honest F.means F.faults
+        (HasReadFault F.Reader.faults) (setting_of settings.now) settings.now.kind
+        (updates edits.items) (IsFirstCause (setting_of settings.now) settings.now.kind
+        (F.means files.old).tree [] (updates edits.items)) files.old files.new failure.error) }
     ensures removed { IfErr result (λ failure. AreRemovedAgain F.honest F.means F.faults
-        (locks_of (setting_of settings.now) (updates edits.items))
-        (locks_of (setting_of settings.now) (updates edits.items)) failure.locks_left
-        files.old files.new) }
+        (locks_of (setting_of settings.now) (updates edits.items)) (locks_of
+        (setting_of settings.now) (updates edits.items)) failure.locks_left files.old files.new) }
     ensures room { IfErr result (λ failure. vec_len failure.locks_left
         < vec_capacity failure.locks_left) }
-    ensures takes { OnlyTakes F.honest F.means F.faults (locks_of (setting_of settings.now)
-        (updates edits.items)) files.old files.new }
+    ensures takes { OnlyTakes F.honest F.means F.faults
+        (locks_of (setting_of settings.now) (updates edits.items)) files.old files.new }
 {
     match find_records(alloc, files, settings, is_absent, &mut edits) {
         Ok(()) => lock_all_or_none(alloc, files, settings, edits, remains),
@@ -172,21 +166,20 @@ pub fn lock_edits<F: Files>(
 ) -> Result<HeldLocks, LockFailure>
     requires ready { AreReady (setting_of settings.now) settings.now.kind edits.items }
     requires room { HasRoom edits remains }
-    ensures held { IfOk result (λ held. HoldAllLocks F.honest (IsPackedWell settings.now.kind
-        (packed_refs_in settings.now (F.means files.old))) (setting_of settings.now)
-        settings.now.kind (own_locks (setting_of settings.now) (F.means files.old).tree
-        (updates edits.items)) (F.means files.old) (F.means files.new) edits.items
-        held.edits.items remains held.remains) }
+    ensures held { IfOk result (λ held. HoldAllLocks F.honest
+        (IsPackedWell settings.now.kind (packed_refs_in settings.now (F.means files.old)))
+        (setting_of settings.now) settings.now.kind
+        (own_locks (setting_of settings.now) (F.means files.old).tree (updates edits.items))
+        (F.means files.old) (F.means files.new) edits.items held.edits.items remains held.remains) }
     ensures packed { IfOk result (λ held. HoldsPackedLock F.honest (setting_of settings.now)
         (F.means files.old).tree (F.means files.new).tree (updates edits.items) held.packed) }
-    ensures refused { IfErr result (λ failure. IsHeldBack F.honest F.means F.faults (HasReadFault
-        F.Reader.faults) (setting_of settings.now) settings.now.kind (updates edits.items)
-        (IsLockCause (setting_of settings.now) settings.now.kind (F.means files.old).tree
-        (updates edits.items)) files.old files.new failure.error) }
-    ensures removed { IfErr result (λ failure. AreRemovedAgain F.honest F.means F.faults
-        (own_locks (setting_of settings.now) (F.means files.old).tree (updates edits.items))
-        (possible_locks (setting_of settings.now) (updates edits.items)) failure.locks_left
-        files.old files.new) }
+    ensures refused { IfErr result (λ failure. IsHeldBack F.honest F.means F.faults
+        (HasReadFault F.Reader.faults) (setting_of settings.now) settings.now.kind
+        (updates edits.items) (IsLockCause (setting_of settings.now) settings.now.kind
+        (F.means files.old).tree (updates edits.items)) files.old files.new failure.error) }
+    ensures removed { IfErr result (λ failure. AreRemovedAgain F.honest F.means F.faults (own_locks
+        (setting_of settings.now) (F.means files.old).tree (updates edits.items)) (possible_locks
+        (setting_of settings.now) (updates edits.items)) failure.locks_left files.old files.new) }
     ensures takes { OnlyTakes F.honest F.means F.faults (own_locks (setting_of settings.now)
         (F.means files.old).tree (updates edits.items)) files.old files.new }
 {

@@ -40,19 +40,19 @@ fn has_key(settings: &Settings<'_>, update: &RefEdit) -> bool
 
 /// Whether one of these edits is of a reference that may have a record in `packed-refs`.
 fn ask(settings: &Settings<'_>, edits: &[Edit]) -> bool
-    ensures { result ≡ list_any (λ edit. may_have_record (setting_of settings.now) edit.update)
-        edits.now }
+    ensures { result
+        ≡ list_any (λ edit. may_have_record (setting_of settings.now) edit.update) edits.now }
 {
     edits.iter().any(|edit| has_key(settings, &edit.update))
 }
 
 /// Takes the lock of `packed-refs`, where that is a file.
 fn take_lock<F: Files>(files: &mut F, lock: LockFile) -> Result<Option<LockFile>, Error>
-    ensures taken { IfOk result (λ packed. IsPackedTaken F.honest lock (F.means files.old)
-        (F.means files.new) packed) }
-    ensures refused { IfErr result (IsPackedFault F.honest F.means F.faults (λ error. IsInTheWay
-        (F.means files.old).tree (lock_of lock) × (error ≡ Error.PackedTransactionAcquire))
-        files.old files.new) }
+    ensures taken { IfOk result
+        (λ packed. IsPackedTaken F.honest lock (F.means files.old) (F.means files.new) packed) }
+    ensures refused { IfErr result (IsPackedFault F.honest F.means F.faults
+        (λ error. IsInTheWay (F.means files.old).tree (lock_of lock)
+        × (error ≡ Error.PackedTransactionAcquire)) files.old files.new) }
     ensures creates { OnlyCreates F.honest F.means F.faults (lock_of lock) files.old files.new }
 {
     match lock.create(files)? {
@@ -65,9 +65,9 @@ fn take_lock<F: Files>(files: &mut F, lock: LockFile) -> Result<Option<LockFile>
 fn pass_lock<F: Files>(files: &mut F, lock: LockFile) -> Result<Option<LockFile>, Error>
     ensures none { IfOk result (λ packed. packed ≡ None) }
     ensures free { F.honest → OnOk result ((F.means files.old).tree (lock_of lock) ≡ None) }
-    ensures refused { IfErr result (IsPackedFault F.honest F.means F.faults (λ error. IsSome
-        ((F.means files.old).tree (lock_of lock)) × (error ≡ Error.PackedTransactionAcquire))
-        files.old files.new) }
+    ensures refused { IfErr result (IsPackedFault F.honest F.means F.faults
+        (λ error. IsSome ((F.means files.old).tree (lock_of lock))
+        × (error ≡ Error.PackedTransactionAcquire)) files.old files.new) }
     ensures reads { OnlyReads F.honest F.means F.faults files.old files.new }
 {
     match files.kind(lock.path())? {
@@ -78,9 +78,9 @@ fn pass_lock<F: Files>(files: &mut F, lock: LockFile) -> Result<Option<LockFile>
 
 /// Whether it is known that `packed-refs` is no file, where one of the edits may have a record in it and its lock was not taken.
 pub fn is_absent(settings: &Settings<'_>, edits: &[Edit], packed: &Option<LockFile>) -> bool
-    ensures { (T : Tree) → packed_places packed.now ≡ packed_taken (setting_of settings.now) T
-        (updates edits.now) → result ≡ true → view_of T (setting_of settings.now).packed_path
-        ≡ None }
+    ensures { (T : Tree) → packed_places packed.now
+        ≡ packed_taken (setting_of settings.now) T (updates edits.now) → result ≡ true →
+        view_of T (setting_of settings.now).packed_path ≡ None }
 {
     packed.is_none() && ask(settings, edits)
 }
@@ -93,12 +93,11 @@ pub fn take_packed<F: Files>(
     settings: &Settings<'_>,
     edits: &[Edit],
 ) -> Result<Option<LockFile>, Error>
-    ensures taken { IfOk result (λ packed. IsPackedTakenWhereDue F.honest
-        (setting_of settings.now) (updates edits.now) (F.means files.old) (F.means files.new)
-        packed) }
-    ensures refused { IfErr result (IsPackedFault F.honest F.means F.faults (IsPackedCause
-        (setting_of settings.now) (F.means files.old).tree (updates edits.now)) files.old
-        files.new) }
+    ensures taken { IfOk result (λ packed. IsPackedTakenWhereDue F.honest (setting_of settings.now)
+        (updates edits.now) (F.means files.old) (F.means files.new) packed) }
+    ensures refused { IfErr result
+        (IsPackedFault F.honest F.means F.faults (IsPackedCause (setting_of settings.now)
+        (F.means files.old).tree (updates edits.now)) files.old files.new) }
     ensures takes { OnlyTakes F.honest F.means F.faults (packed_locks (setting_of settings.now)
         (F.means files.old).tree (updates edits.now)) files.old files.new }
 {

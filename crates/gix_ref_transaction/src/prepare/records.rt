@@ -43,10 +43,10 @@ fn id_at<R: ReadAt + Drop>(
     requires { IsReady records.now }
     ensures found { (kind : Kind) (rs : List Record) → AreAsked kind None records.old rs →
         IfOk result (λ id. id ≡ id_of_record (record_named (full_ref_bytes key.entry) rs)) }
-    ensures failed { IfErr result (IsSearchFault records.old (λ kind. IsStuckKey kind records.old
-        (full_ref_bytes key.entry))) }
-    ensures counted { (before now : ℕ) →
-        IfErr result (IsCountedWith (AreHonest records.old) (HasReadFault R.faults) before now) }
+    ensures failed { IfErr result (IsSearchFault records.old
+        (λ kind. IsStuckKey kind records.old (full_ref_bytes key.entry))) }
+    ensures counted { (before now : ℕ) → IfErr result
+        (IsCountedWith (AreHonest records.old) (HasReadFault R.faults) before now) }
     ensures still { (kind : Kind) → AreStillAsked kind None records.old records.new }
     ensures ready { IsReady records.new }
 {
@@ -65,13 +65,13 @@ fn id_of<R: ReadAt + Drop>(
     records: &mut Records<'_, R>,
 ) -> Result<Option<ObjectId>, Error>
     requires { IsReady records.now }
-    ensures found { (kind : Kind) (rs : List Record) → AreAsked kind None records.old rs →
-        IfOk result (λ id. id ≡ packed_id ((setting_of settings.now).key
-        (full_ref_bytes name.entry)) rs) }
+    ensures found { (kind : Kind) (rs : List Record) →
+        AreAsked kind None records.old rs → IfOk result
+        (λ id. id ≡ packed_id ((setting_of settings.now).key (full_ref_bytes name.entry)) rs) }
     ensures failed { IfErr result (IsSearchFault records.old (λ kind. OfKey
         (setting_of settings.now) (full_ref_bytes name.entry) (IsStuckKey kind records.old))) }
-    ensures counted { (before now : ℕ) →
-        IfErr result (IsCountedWith (AreHonest records.old) (HasReadFault R.faults) before now) }
+    ensures counted { (before now : ℕ) → IfErr result
+        (IsCountedWith (AreHonest records.old) (HasReadFault R.faults) before now) }
     ensures still { (kind : Kind) → AreStillAsked kind None records.old records.new }
     ensures ready { IsReady records.new }
 {
@@ -119,9 +119,9 @@ fn id_unless_hidden<F: Files>(
     records: &mut Records<'_, F::Reader>,
 ) -> Result<Option<ObjectId>, Error>
     requires { IsReady records.now }
-    ensures found { (kind : Kind) (rs : List Record) → AreAsked kind None records.old rs →
-        IfOk result (λ id. id ≡ packed_id ((setting_of settings.now).key
-        (name_of edit.now.update)) rs) }
+    ensures found { (kind : Kind) (rs : List Record) →
+        AreAsked kind None records.old rs → IfOk result
+        (λ id. id ≡ packed_id ((setting_of settings.now).key (name_of edit.now.update)) rs) }
     ensures failed { IfErr result (IsSearchFault records.old (λ kind. OfKey
         (setting_of settings.now) (name_of edit.now.update) (IsStuckKey kind records.old))) }
     ensures counted { IfErr result (IsCountedWith (AreHonest records.old)
@@ -149,9 +149,9 @@ fn find_ids<F: Files>(
 ) -> Result<(), Error>
     requires { IsReady records.old }
     ensures asked { all_asked edits.new ≡ all_asked edits.old }
-    ensures found { (kind : Kind) (rs : List Record) → AreAsked kind None records.old rs →
-        OnOk result (ids_in edits.new ≡ ids_among (setting_of settings.now) rs
-        (updates edits.old)) }
+    ensures found { (kind : Kind) (rs : List Record) →
+        AreAsked kind None records.old rs → OnOk result
+        (ids_in edits.new ≡ ids_among (setting_of settings.now) rs (updates edits.old)) }
     ensures failed { IfErr result (IsSearchFault records.old (λ kind. OfSomeKey
         (IsStuckKey kind records.old) (setting_of settings.now) (updates edits.old))) }
     ensures counted { IfErr result (IsCountedWith (AreHonest records.old)
@@ -166,9 +166,8 @@ fn find_ids<F: Files>(
 
 /// The records of `packed-refs`, which is not open yet; none where it is known that there is no such file.
 fn unopened<'b, R: ReadAt + Drop>(is_absent: bool) -> Records<'b, R>
-    ensures asked { (kind : Kind) (file : Option (List ℕ)) (rs : List Record) →
-        (is_absent ≡ true → file ≡ None) → ArePackedRecords kind file rs →
-        AreAsked kind file result rs }
+    ensures asked { (kind : Kind) (file : Option (List ℕ)) (rs : List Record) → (is_absent ≡ true →
+        file ≡ None) → ArePackedRecords kind file rs → AreAsked kind file result rs }
     ensures searched { (kind of_kind : Kind) (file : Option (List ℕ)) (text : List ℕ) →
         IsSearched kind file result of_kind text → IsOpenedText kind file of_kind text }
     ensures honest { AreHonest result }
@@ -190,16 +189,15 @@ pub fn find_records<F: Files>(
     is_absent: bool,
     edits: &mut [Edit],
 ) -> Result<(), Error>
-    requires { F.honest → is_absent ≡ true → packed_refs_in settings.now (F.means files.old)
-        ≡ None }
+    requires { F.honest → is_absent ≡ true → packed_refs_in settings.now
+        (F.means files.old) ≡ None }
     ensures asked { all_asked edits.new ≡ all_asked edits.old }
-    ensures found { F.honest → (rs : List Record) →
-        ArePackedRecords settings.now.kind (packed_refs_in settings.now (F.means files.old)) rs →
-        OnOk result (ids_in edits.new ≡ ids_among (setting_of settings.now) rs
-        (updates edits.old)) }
-    ensures failed { IfErr result (AreNotFound F.honest (HasReadFault F.Reader.faults) F.means
-        F.faults (setting_of settings.now) settings.now.kind (updates edits.old) files.old
-        files.new) }
+    ensures found { F.honest → (rs : List Record) → ArePackedRecords settings.now.kind
+        (packed_refs_in settings.now (F.means files.old)) rs → OnOk result
+        (ids_in edits.new ≡ ids_among (setting_of settings.now) rs (updates edits.old)) }
+    ensures failed { IfErr result
+        (AreNotFound F.honest (HasReadFault F.Reader.faults) F.means F.faults
+        (setting_of settings.now) settings.now.kind (updates edits.old) files.old files.new) }
     ensures reads { OnlyReads F.honest F.means F.faults files.old files.new }
 {
     let mut records = unopened(is_absent);

@@ -85,13 +85,12 @@ fn follow<F: Files>(
     settings: &Settings<'_>,
     edit: &RefEdit,
 ) -> Result<Option<FullName>, Error>
-    ensures led { F.honest → IfOk result (λ name. option_map full_bytes name ≡ referent
-        (name_led_to (setting_of settings.now) (view_of (F.means files.old).tree)) (name_of
-        edit.now)
-        edit.now.deref) }
+    ensures led { F.honest → IfOk result (λ name. option_map full_bytes name
+        ≡ referent (name_led_to (setting_of settings.now) (view_of (F.means files.old).tree))
+        (name_of edit.now) edit.now.deref) }
     ensures can_follow { OnOk result (CanFollow (setting_of settings.now) (edit_value edit.now)) }
-    ensures refused { IfErr result (λ error. IsIoOrMemory error
-        ⊎ (edit.now.deref ≡ true) × IsMisnamed (setting_of settings.now) (name_of edit.now) error) }
+    ensures refused { IfErr result (λ error. IsIoOrMemory error ⊎ (edit.now.deref ≡ true)
+        × IsMisnamed (setting_of settings.now) (name_of edit.now) error) }
     ensures reads { OnlyReads F.honest F.means F.faults files.old files.new }
     ensures counted { IfErr result (IsCounted (F.faults files.old) (F.faults files.new)) }
 {
@@ -110,11 +109,10 @@ fn follow_all<F: Files>(
     edits: &[RefEdit],
 ) -> Result<Vec<Option<FullName>>, Error>
     ensures len { IfOk result (λ names. vec_len names ≡ length edits.now) }
-    ensures led { F.honest → IfOk result (λ names. led_to names.items ≡ led_by
-        (name_led_to (setting_of settings.now) (view_of (F.means files.old).tree))
-        (values_of edits.now)) }
-    ensures can_follow { OnOk result (All (CanFollow (setting_of settings.now)) (values_of
-        edits.now)) }
+    ensures led { F.honest → IfOk result (λ names. led_to names.items ≡ led_by (name_led_to
+        (setting_of settings.now) (view_of (F.means files.old).tree)) (values_of edits.now)) }
+    ensures can_follow { OnOk result
+        (All (CanFollow (setting_of settings.now)) (values_of edits.now)) }
     ensures refused { IfErr result (λ error. IsIoOrMemory error
         ⊎ IsFirstMisnamed (setting_of settings.now) (values_of edits.now) error) }
     ensures reads { OnlyReads F.honest F.means F.faults files.old files.new }
@@ -130,10 +128,10 @@ fn follow_all<F: Files>(
 
 /// Splits an edit that leads to a name; the child is returned. The edit follows no more.
 fn split_edit(edit: &mut RefEdit, name: Option<FullName>) -> Result<Option<RefEdit>, AllocError>
-    ensures after { OnOk result (edit_value edit.new ≡ looked_up (edit_value edit.old)
-        (option_map full_bytes name)) }
-    ensures child { IfOk result (λ child. child_values child ≡ child_list (edit_value edit.old)
-        (option_map full_bytes name)) }
+    ensures after { OnOk result (edit_value edit.new
+        ≡ looked_up (edit_value edit.old) (option_map full_bytes name)) }
+    ensures child { IfOk result (λ child. child_values child
+        ≡ child_list (edit_value edit.old) (option_map full_bytes name)) }
 {
     match name {
         Some(name) => {
@@ -157,12 +155,12 @@ fn split_all(
 ) -> Result<SplitEdits, AllocError>
     requires names { vec_len names ≡ vec_len edits.old }
     requires fits { first + vec_len edits.old < 2 ^ 64 }
-    ensures after { OnOk result (values_of edits.new.items ≡ after_by (values_of edits.old.items)
-        (led_to names.items)) }
-    ensures children { IfOk result (λ kids. values_of kids.edits.items ≡ children_by
-        (values_of edits.old.items) (led_to names.items)) }
-    ensures parents { IfOk result (λ kids. kids.parents.items ≡ parents_by first
-        (led_to names.items)) }
+    ensures after { OnOk result (values_of edits.new.items
+        ≡ after_by (values_of edits.old.items) (led_to names.items)) }
+    ensures children { IfOk result (λ kids. values_of kids.edits.items
+        ≡ children_by (values_of edits.old.items) (led_to names.items)) }
+    ensures parents { IfOk result (λ kids. kids.parents.items
+        ≡ parents_by first (led_to names.items)) }
     ensures len { IfOk result (λ kids. vec_len kids.parents ≡ vec_len kids.edits) }
 {
     let mut children = Vec::new(alloc);
@@ -207,8 +205,8 @@ fn split_round<F: Files>(
 /// Edits as they are given, of which none was split from another.
 fn unsplit(alloc: Global, edits: Vec<RefEdit>) -> Result<SplitEdits, AllocError>
     ensures edits { IfOk result (λ split. split.edits ≡ edits) }
-    ensures parents { IfOk result (λ split. split.parents.items ≡ parents_given
-        (values_of edits.items)) }
+    ensures parents { IfOk result (λ split. split.parents.items
+        ≡ parents_given (values_of edits.items)) }
     ensures len { IfOk result (λ split. vec_len split.parents ≡ vec_len split.edits) }
 {
     let parents = vec![in alloc; None; edits.len()]?;
@@ -227,8 +225,8 @@ fn split_in_rounds<F: Files>(
 ) -> Result<SplitEdits, Error>
     ensures split { IfOk result (IsSplitOf F.honest (setting_of settings.now) settings.now.kind
         (F.means files.old).tree edits.items) }
-    ensures refused { IfErr result (IsNotSplit F.honest F.means F.faults (setting_of settings.now)
-        edits.items files.old files.new) }
+    ensures refused { IfErr result (IsNotSplit F.honest F.means F.faults
+        (setting_of settings.now) edits.items files.old files.new) }
     ensures reads { OnlyReads F.honest F.means F.faults files.old files.new }
 {
     let mut done = SplitEdits {
@@ -270,11 +268,11 @@ pub fn split_edits<F: Files>(
 ) -> Result<SplitEdits, Error>
     ensures split { IfOk result (IsSplitOf F.honest (setting_of settings.now) settings.now.kind
         (F.means files.old).tree edits.items) }
-    ensures refused { IfErr result (IsNotSplit F.honest F.means F.faults (setting_of settings.now)
-        edits.items files.old files.new) }
+    ensures refused { IfErr result (IsNotSplit F.honest F.means F.faults
+        (setting_of settings.now) edits.items files.old files.new) }
     ensures reads { OnlyReads F.honest F.means F.faults files.old files.new }
-    ensures direct { AreDirect edits.items → IfOk result (λ split. split.edits.items
-        ≡ edits.items) }
+    ensures direct { AreDirect edits.items → IfOk result
+        (λ split. split.edits.items ≡ edits.items) }
 {
     if none_follow(&edits) {
         return Ok(unsplit(alloc, edits)?);

@@ -55,18 +55,16 @@ pub fn take_locks<F: Files>(
     ensures first { FirstAreTaken F.honest (setting_of settings.now) edits.old taken.new
         (F.means files.old).tree (F.means files.new).tree }
     ensures every { OnOk result (taken.new ≡ length edits.old) }
-    ensures taken { F.honest → OnOk result (AreTaken (ids_in edits.old ≡ packed_ids
-        (setting_of settings.now) (F.means files.old).tree (updates edits.old))
-        (setting_of settings.now) settings.now.kind
-        (locks_of (setting_of settings.now) (updates edits.old)) (F.means files.old)
-        (F.means files.new) edits.old edits.new) }
-    ensures wholes { F.honest → (q : Path) (text : List ℕ) →
-        IsWholeAt (disk_of (F.means files.old)) q text →
-        OnOk result (IsWholeAt (disk_of (F.means files.new)) q text) }
+    ensures taken { F.honest → OnOk result (AreTaken (ids_in edits.old
+        ≡ packed_ids (setting_of settings.now) (F.means files.old).tree (updates edits.old))
+        (setting_of settings.now) settings.now.kind (locks_of (setting_of settings.now)
+        (updates edits.old)) (F.means files.old) (F.means files.new) edits.old edits.new) }
+    ensures wholes { F.honest → (q : Path) (text : List ℕ) → IsWholeAt (disk_of (F.means files.old))
+        q text → OnOk result (IsWholeAt (disk_of (F.means files.new)) q text) }
     ensures refused { IfErr result (IsTakingFault F.honest F.means F.faults
         (setting_of settings.now) settings.now.kind edits.old files.old files.new) }
-    ensures takes { OnlyTakes F.honest F.means F.faults (locks_of (setting_of settings.now)
-        (updates edits.old)) files.old files.new }
+    ensures takes { OnlyTakes F.honest F.means F.faults
+        (locks_of (setting_of settings.now) (updates edits.old)) files.old files.new }
 {
     for i in 0..edits.len() {
         let is_ready = is_led_to(edits, i);

@@ -28,8 +28,8 @@ fn names_of_entries<'a, T: EditEntry>(
     alloc: Global,
     entries: &'a [T],
 ) -> Result<Vec<FullNameRef<'a>>, AllocError>
-    ensures { IfOk result
-        (λ names. map full_ref_bytes names.items ≡ entry_names T.edit_of entries.now) }
+    ensures { IfOk result (λ names. map full_ref_bytes names.items
+        ≡ entry_names T.edit_of entries.now) }
 {
     let mut names = Vec::with_capacity(alloc, entries.len())?;
     for entry in entries {

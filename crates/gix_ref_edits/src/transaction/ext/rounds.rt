@@ -29,9 +29,9 @@ where
     requires keeps { KeepsEdits T.edit_of M.step }
     ensures find { F.IsAlwaysCallable find.new }
     ensures make { M.IsAlwaysCallable make_entry.new }
-    ensures round { IfOk result (λ made. HasSplitLevel F.step M.step T.edit_of T.with_edit at
-        (find.old, make_entry.old) (entry.old ∷ []) (entry.new ∷ []) (option_to_list made)
-        (find.new, make_entry.new)) }
+    ensures round { IfOk result
+        (λ made. HasSplitLevel F.step M.step T.edit_of T.with_edit at (find.old, make_entry.old)
+        (entry.old ∷ []) (entry.new ∷ []) (option_to_list made) (find.new, make_entry.new)) }
     ensures fault { IfErr result (IsLookUpFault F.step find.old find.new) }
 {
     match follow_entry(entry, find)? {
@@ -49,9 +49,8 @@ where
     F: FnMut(PartialNameRef<'_>) -> Result<Option<Target>, E>,
     requires { F.IsAlwaysCallable find.old }
     ensures callable { F.IsAlwaysCallable find.new }
-    ensures round { IfOk result (λ child. HasRound F.step find.old
-        (edit_value (T.edit_of entry.old) ∷ []) (edit_value (T.edit_of entry.new) ∷ [])
-        (values_of_option child) find.new) }
+    ensures round { IfOk result (λ child. HasRound F.step find.old (edit_value (T.edit_of entry.old)
+        ∷ []) (edit_value (T.edit_of entry.new) ∷ []) (values_of_option child) find.new) }
     ensures fault { IfErr result (IsLookUpFault F.step find.old find.new) }
     ensures kept { IsSameButEdit T.with_edit entry.old entry.new }
 {
@@ -110,8 +109,8 @@ where
     ensures len { length edits.new.items ≡ length edits.old.items }
     ensures front { take first edits.new.items ≡ take first edits.old.items }
     ensures round { IfOk result (λ kids. HasSplitLevel F.step M.step T.edit_of T.with_edit first
-        (find.old, make_entry.old) (drop first edits.old.items) (drop first edits.new.items)
-        kids.items (find.new, make_entry.new)) }
+        (find.old, make_entry.old) (drop first edits.old.items)
+        (drop first edits.new.items) kids.items (find.new, make_entry.new)) }
     ensures fault { IfErr result (IsLookUpFault F.step find.old find.new) }
 {
     split_level(alloc, &mut edits[first..], first, find, make_entry)
@@ -138,8 +137,7 @@ where
     ensures split { OnOk result (HasSplits F.step M.step T.edit_of T.with_edit
         (find.old, make_entry.old) edits.old.items edits.new.items (find.new, make_entry.new)) }
     ensures fault { IfErr result (IsSplitFault F.step find.old find.new
-        (HasTooManySplits F.step find.old (edits_of T.edit_of edits.old.items) find.new)
-        (λ _. ⊥)) }
+        (HasTooManySplits F.step find.old (edits_of T.edit_of edits.old.items) find.new) (λ _. ⊥)) }
 {
     let mut first = 0;
     for _round in 0..APPENDING_ROUNDS {

@@ -15,8 +15,8 @@ impl Change {
     /// A copy for the reference that a symbolic one leads to; what is left is the change of the symbolic reference,
     /// which is of its log alone. After an error the change is as before.
     fn split_off(&mut self) -> Result<Change, AllocError>
-        ensures parent { OnOk result
-            (change_value self.new ≡ parent_change (change_value self.old)) }
+        ensures parent { OnOk result (change_value self.new
+            ≡ parent_change (change_value self.old)) }
         ensures child { IfOk result (λ child. change_value child ≡ change_value self.old) }
         ensures unchanged { OnErr result (self.new ≡ self.old) }
     {
@@ -37,10 +37,10 @@ impl RefEdit {
     /// alone, and the child, the edit of the reference of that name, is returned, which follows in turn. After an error the
     /// edit is as before.
     pub fn split_to(&mut self, referent: FullName) -> Result<RefEdit, AllocError>
-        ensures parent { OnOk result (edit_value self.new ≡ looked_up (edit_value self.old)
-            (Some (full_bytes referent))) }
-        ensures child { IfOk result (λ child. edit_value child ≡ child_of (edit_value self.old)
-            (full_bytes referent)) }
+        ensures parent { OnOk result (edit_value self.new
+            ≡ looked_up (edit_value self.old) (Some (full_bytes referent))) }
+        ensures child { IfOk result (λ child. edit_value child
+            ≡ child_of (edit_value self.old) (full_bytes referent)) }
         ensures unchanged { OnErr result (self.new ≡ self.old) }
     {
         let change = self.change.split_off()?;

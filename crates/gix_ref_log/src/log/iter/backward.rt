@@ -68,9 +68,8 @@ impl<'a, F: ReadAt> Reverse<'a, F> {
     fn widen(&mut self) -> Result<(), FileError>
         ensures only { OnlyWindowMoves F.bytes self.old self.new }
         ensures counts { CountsReaderFault F.faults result self.old self.new }
-        ensures end { OnOk result
-            (self.new.end ≡ self.old.end
-            + min self.old.pos (length self.old.buf.now - self.old.end)) }
+        ensures end { OnOk result (self.new.end
+            ≡ self.old.end + min self.old.pos (length self.old.buf.now - self.old.end)) }
         ensures pos { OnOk result (self.new.pos + self.new.end ≡ self.old.pos + self.old.end) }
         ensures window { OnOk result (F.honest → KeepsWindow F.bytes self.old self.new) }
     {
@@ -105,8 +104,8 @@ impl<'a, F: ReadAt> Reverse<'a, F> {
         ensures only { OnlyWindowMoves F.bytes self.old self.new }
         ensures counts { CountsReaderFault F.faults result self.old self.new }
         ensures nearer { OnOk result (self.new.pos + self.new.end ≤ self.old.pos + self.old.end) }
-        ensures begins { F.honest → self.old.end ≡ 0
-            → self.old.pos ≡ length (F.bytes self.old.reader) → IfOk result
+        ensures begins { F.honest → self.old.end ≡ 0 →
+            self.old.pos ≡ length (F.bytes self.old.reader) → IfOk result
             (BeginsAtEnd (F.bytes self.old.reader) self.new.buf.now self.new.pos self.new.end) }
     {
         self.widen()?;
@@ -124,8 +123,8 @@ impl<'a, F: ReadAt> Reverse<'a, F> {
         ensures pos { OnOk result (self.new.pos + self.new.end ≡ self.old.pos + self.old.end) }
         ensures window { OnOk result (F.honest → KeepsWindow F.bytes self.old self.new) }
         ensures found { IfOk result (IsLastByte (is_byte 10) (take self.new.end self.new.buf.now)) }
-        ensures full { IfOk result (λ start. start ≡ None
-            → (self.new.pos ≡ 0) ⊎ (self.new.end ≡ length self.new.buf.now)) }
+        ensures full { IfOk result (λ start. start ≡ None → (self.new.pos ≡ 0)
+            ⊎ (self.new.end ≡ length self.new.buf.now)) }
     {
         if let Some(start) = self.last_feed() {
             return Ok(Some(start));
@@ -159,9 +158,8 @@ impl<'a, F: ReadAt> Reverse<'a, F> {
         ensures counts { F.faults self.new.reader
             ≡ count_of (Some result) (F.faults self.old.reader) }
         ensures done { IsDoneAfter (Some result) self.new.stage }
-        ensures step { F.honest → IsOpen F.bytes ends self.old
-            → GivesLine (open_items F.bytes ends self.old) (Some result) (items_left F.bytes
-            self.new)
+        ensures step { F.honest → IsOpen F.bytes ends self.old →
+            GivesLine (open_items F.bytes ends self.old) (Some result) (items_left F.bytes self.new)
             × IsTied F.bytes self.new }
     {
         match self.find_start() {

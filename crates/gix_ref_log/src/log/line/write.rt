@@ -73,8 +73,8 @@ fn push_head(
     line: &mut Vec<u8>,
 ) -> io::Result<()>
     requires { CanWrite (signature_ref_who who) }
-    ensures { OnOk result (line.new.items ≡ line.old.items
-        ++ head_text previous.now new.now (signature_ref_who who.entry)) }
+    ensures { OnOk result (line.new.items ≡ line.old.items ++ head_text previous.now new.now
+        (signature_ref_who who.entry)) }
 {
     previous.push_hex(line)?;
     line.push(b' ')?;
@@ -112,9 +112,8 @@ fn append_parts(
     message: &[u8],
 ) -> io::Result<Vec<u8>>
     requires { CanWrite (signature_ref_who who) }
-    ensures { IfOk result (λ line. line.items
-        ≡ head_text previous.now new.now (signature_ref_who who.entry) ++
-        (message_part message.now ++ 10 ∷ [])) }
+    ensures { IfOk result (λ line. line.items ≡ head_text previous.now new.now
+        (signature_ref_who who.entry) ++ (message_part message.now ++ 10 ∷ [])) }
 {
     let mut line = Vec::with_capacity(alloc, HEAD_LEN.saturating_add(message.len()))?;
     push_head(previous, new, who, &mut line)?;
@@ -142,13 +141,11 @@ pub fn appended_line(
     message: &[u8],
 ) -> Result<Vec<u8>, AppendError>
     ensures made { IfOk result (λ line. CanWriteLine
-        (trimmed_who (signature_ref_who committer.entry)) message.now
-        × (line.items ≡ appended_text previous.now new.now
-        (signature_ref_who committer.entry) message.now)) }
+        (trimmed_who (signature_ref_who committer.entry)) message.now × (line.items
+        ≡ appended_text previous.now new.now (signature_ref_who committer.entry) message.now)) }
     ensures message { IsErrOf result AppendError.MessageWithNewlines ↔ (NoByte 10 message.now → ⊥) }
-    ensures signature { IsErrOf result AppendError.SignatureUnwritable
-        ↔ (NoByte 10 message.now × (CanWrite (trimmed_who (signature_ref_who committer.entry))
-        → ⊥)) }
+    ensures signature { IsErrOf result AppendError.SignatureUnwritable ↔ (NoByte 10 message.now
+        × (CanWrite (trimmed_who (signature_ref_who committer.entry)) → ⊥)) }
 {
     if message.find_byte(b'\n').is_some() {
         return Err(AppendError::MessageWithNewlines);

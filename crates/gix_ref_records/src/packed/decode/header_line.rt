@@ -88,8 +88,8 @@ pub fn take_header(text: &[u8]) -> Option<(Header, &[u8])>
 /// ```
 pub fn header(input: &mut &[u8]) -> Result<Header, ()>
     ensures taken { IfOk result (λ h. TakesHeader input.old.now h input.new.now) }
-    ensures refused { IfErr result (λ _. (h : Header) (rest : List ℕ)
-        → TakesHeader input.old.now h rest → ⊥) }
+    ensures refused { IfErr result (λ _. (h : Header) (rest : List ℕ) →
+        TakesHeader input.old.now h rest → ⊥) }
     ensures left { OnErr result (input.new ≡ input.old) }
 {
     match take_header(input) {

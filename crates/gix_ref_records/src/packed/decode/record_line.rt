@@ -20,9 +20,8 @@ use std::cmp::Ordering;
 
 /// The bytes in the places of id and name, and what follows their line. Neither is checked.
 pub fn split_record_line(text: &[u8], kind: Kind) -> Option<(&[u8], &[u8], &[u8])>
-    ensures { MatchOption result ((digits name rest : List ℕ)
-        → RecordLine kind text.now digits name rest → ⊥)
-        (λ p. RecordLine kind text.now p.0.now p.1.now p.2.now) }
+    ensures { MatchOption result ((digits name rest : List ℕ) → RecordLine kind text.now digits name
+        rest → ⊥) (λ p. RecordLine kind text.now p.0.now p.1.now p.2.now) }
 {
     let len = kind.len_in_hex();
     match text.get(len) {
@@ -37,9 +36,8 @@ pub fn split_record_line(text: &[u8], kind: Kind) -> Option<(&[u8], &[u8], &[u8]
 
 /// The digits of an id at the front of the text, and what follows them.
 fn take_id(text: &[u8], kind: Kind) -> Option<(&[u8], &[u8])>
-    ensures { MatchOption result ((digits rest : List ℕ) → IsHexOf kind digits
-        → text.now ≡ digits ++ rest → ⊥)
-        (λ p. IsHexOf kind p.0.now × (text.now ≡ p.0.now ++ p.1.now)) }
+    ensures { MatchOption result ((digits rest : List ℕ) → IsHexOf kind digits → text.now
+        ≡ digits ++ rest → ⊥) (λ p. IsHexOf kind p.0.now × (text.now ≡ p.0.now ++ p.1.now)) }
 {
     let mut rest = text;
     let Some(digits) = hex_hash(&mut rest, kind) else {
@@ -61,8 +59,8 @@ fn is_id(text: &[u8], kind: Kind) -> bool
 
 /// The object of a line with `^`, if one follows a record, and what follows it.
 fn take_peeled(text: &[u8], kind: Kind) -> Option<(Option<&[u8]>, &[u8])>
-    ensures { MatchOption result ((object : Option (List ℕ)) (rest : List ℕ)
-        → OptionalPeeledLine kind text.now object rest → ⊥)
+    ensures { MatchOption result ((object : Option (List ℕ)) (rest : List ℕ) →
+        OptionalPeeledLine kind text.now object rest → ⊥)
         (λ p. OptionalPeeledLine kind text.now (option_map (λ o. o.now) p.0) p.1.now) }
 {
     let Some(line) = strip_front(text, b"^") else {
@@ -112,8 +110,8 @@ pub fn take_record<'a>(text: &'a [u8], kind: Kind) -> Option<(Reference<'a>, &'a
 /// ```
 pub fn reference<'a>(input: &mut &'a [u8], kind: Kind) -> Result<Reference<'a>, ()>
     ensures taken { IfOk result (λ r. Takes kind input.old.now (record_of r) input.new.now) }
-    ensures refused { IfErr result (λ _. (r : Record) (rest : List ℕ)
-        → Takes kind input.old.now r rest → ⊥) }
+    ensures refused { IfErr result (λ _. (r : Record) (rest : List ℕ) →
+        Takes kind input.old.now r rest → ⊥) }
     ensures left { OnErr result (input.new ≡ input.old) }
 {
     match take_record(input, kind) {
@@ -171,12 +169,11 @@ fn ends_in_line_feed(text: &[u8], name: &[u8]) -> bool
 #[inline(always)]
 pub fn quick_order(part: &[u8], kind: Kind, wanted: &[u8]) -> Option<Ordering>
     requires { IsPlain wanted.now }
-    ensures compares { IfSome result (λ order. (text name : List ℕ)
-        → part.now ≡ take (length part.now) text → NameAt kind text name →
+    ensures compares { IfSome result (λ order. (text name : List ℕ) →
+        part.now ≡ take (length part.now) text → NameAt kind text name →
         order ≡ slice_cmp nat_cmp name wanted.now) }
-    ensures named { IfSome result (λ order. order ≡ Equal → (text : List ℕ)
-        → part.now ≡ take (length part.now) text →
-        (name : List ℕ) × NameAt kind text name × (name ≢ [])) }
+    ensures named { IfSome result (λ order. order ≡ Equal → (text : List ℕ) → part.now
+        ≡ take (length part.now) text → (name : List ℕ) × NameAt kind text name × (name ≢ [])) }
 {
     let len = kind.len_in_hex();
     match part.get(len) {

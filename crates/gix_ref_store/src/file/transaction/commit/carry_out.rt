@@ -43,8 +43,8 @@ impl<F: Files> Store<F> {
             self.new committer.entry packed edits.items r.edits.items (paths_of r.left.items)) }
         ensures failed { IfErr result (λ e. HasEndedEarly F.honest F.means F.faults self.old
             self.new committer.entry packed edits.items e.error) }
-        ensures safe { EveryMomentIsSafe F.honest F.means F.faults self.old self.new
-            committer.entry packed edits.items (left_in result) }
+        ensures safe { EveryMomentIsSafe F.honest F.means F.faults self.old self.new committer.entry
+            packed edits.items (left_in result) }
         ensures kept { KeepsTheRest F.honest F.means F.faults self.old self.new committer.entry
             packed edits.items (left_in result) }
         ensures same { self.new ≡ with_files self.old (files_of self.new) }

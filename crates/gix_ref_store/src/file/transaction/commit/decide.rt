@@ -47,9 +47,9 @@ impl<F: Files> Store<F> {
         packed: &Option<LockFile>,
     ) -> Result<NewPacked, Error>
         ensures alike { all_but_logs edits.new.items ≡ all_but_logs edits.old.items }
-        ensures decided { IfOk result (λ new. TextsAreDecided F.honest F.means F.faults self.old
-            self.new committer.entry packed.now edits.old.items edits.new.items new.rewrite
-            new.path.items) }
+        ensures decided { IfOk result
+            (λ new. TextsAreDecided F.honest F.means F.faults self.old self.new committer.entry
+            packed.now edits.old.items edits.new.items new.rewrite new.path.items) }
         ensures failed { IfErr result (IsUndecided F.honest F.means F.faults self.old self.new
             committer.entry edits.old.items) }
         ensures fills { OnlyFillsPacked F.honest F.means F.faults packed.now (files_of self.old)
@@ -124,9 +124,8 @@ impl<F: Files> Store<F> {
         ensures stopped { IfErr result (StopsEarly F.honest F.means F.faults
             (commit_entries self.old.dirs edits.now packed.now rewrite.now ways.now)
             (files_of self.old) (files_of self.new)) }
-        ensures runs { RunsOnly F.honest F.means F.faults
-            (commit_entries self.old.dirs edits.now packed.now rewrite.now ways.now)
-            (files_of self.old) (files_of self.new) }
+        ensures runs { RunsOnly F.honest F.means F.faults (commit_entries self.old.dirs edits.now
+            packed.now rewrite.now ways.now) (files_of self.old) (files_of self.new) }
         ensures same { self.new ≡ with_files self.old (files_of self.new) }
     {
         let dirs = &self.dirs;

@@ -45,8 +45,8 @@ fn begun(
 ) -> Result<(Vec<Edit>, Remains), AllocError>
     requires { vec_len split.parents ≡ vec_len split.edits }
     ensures asked { IfOk result (λ begun. updates begun.0.items ≡ split.edits.items) }
-    ensures places { IfOk result (λ begun. place_paths begun.0.items ≡ places_of
-        (setting_of settings.now) split.edits.items) }
+    ensures places { IfOk result (λ begun. place_paths begun.0.items
+        ≡ places_of (setting_of settings.now) split.edits.items) }
     ensures parents { IfOk result (λ begun. parents_in begun.0.items ≡ split.parents.items) }
     ensures room { IfOk result (λ begun. HasRoom begun.0 begun.1) }
 {
@@ -61,9 +61,9 @@ impl<F: Files> Store<F> {
     fn lock_split(&mut self, alloc: Global, split: SplitEdits) -> Result<HeldLocks, LockFailure>
         requires valid { AllValid (meaning_of self.old) (kind_of self.old) [] split.edits.items }
         requires len { vec_len split.parents ≡ vec_len split.edits }
-        ensures refused { IfErr result (λ failure. RefusesSplit F.honest (HasReadFault
-            F.Reader.faults) F.means F.faults self.old self.new split.edits.items failure.error
-            (paths_of failure.locks_left.items)) }
+        ensures refused { IfErr result
+            (λ failure. RefusesSplit F.honest (HasReadFault F.Reader.faults) F.means F.faults
+            self.old self.new split.edits.items failure.error (paths_of failure.locks_left.items)) }
         ensures asked { IfOk result (λ held. updates held.edits.items ≡ split.edits.items) }
         ensures held { IfOk result (λ held. HoldsFrom F.honest F.means F.faults self.old self.new
             split.edits.items (targets_of held.edits.items)) }
@@ -71,20 +71,19 @@ impl<F: Files> Store<F> {
             IfOk result (λ held. effects_of held.edits.items ≡ effects_on (meaning_of self.old)
             (view_of (tree_of F.means self.old)) split.edits.items) }
         ensures files { F.honest → HasGoodRecords F.means self.old →
-            IfOk result (λ held. seen_files held.edits.items ≡ files_at (meaning_of self.old)
-            (tree_of F.means self.old) split.edits.items) }
+            IfOk result (λ held. seen_files held.edits.items
+            ≡ files_at (meaning_of self.old) (tree_of F.means self.old) split.edits.items) }
         ensures ids { F.honest → HasGoodRecords F.means self.old →
-            IfOk result (λ held. ids_in held.edits.items ≡ packed_ids (meaning_of self.old)
-            (tree_of F.means self.old) split.edits.items) }
+            IfOk result (λ held. ids_in held.edits.items
+            ≡ packed_ids (meaning_of self.old) (tree_of F.means self.old) split.edits.items) }
         ensures lost { F.honest → LosesNothing F.means self.old self.new split.edits.items }
         ensures whole { F.honest → IfOk result (λ held. AreWholeLocks (disk_in F.means self.new)
             (locks_in F.means self.old split.edits.items)) }
-        ensures places { IfOk result (λ held. place_paths held.edits.items ≡ places_of
-            (meaning_of self.old) split.edits.items) }
-        ensures parents { IfOk result (λ held. parents_in held.edits.items
-            ≡ split.parents.items) }
-        ensures packed { IfOk result (λ held. HoldsPacked F.honest F.means F.faults self.old
-            self.new split.edits.items held.packed) }
+        ensures places { IfOk result (λ held. place_paths held.edits.items
+            ≡ places_of (meaning_of self.old) split.edits.items) }
+        ensures parents { IfOk result (λ held. parents_in held.edits.items ≡ split.parents.items) }
+        ensures packed { IfOk result (λ held.
+            HoldsPacked F.honest F.means F.faults self.old self.new split.edits.items held.packed) }
         ensures room { IfOk result (λ held. HasRoom held.edits held.remains) }
     {
         let settings = settings!(self);
@@ -101,20 +100,20 @@ impl<F: Files> Store<F> {
 
     /// Checks the edits, and splits those that follow symbolic references.
     fn split(&mut self, alloc: Global, edits: Vec<RefEdit>) -> Result<SplitEdits, Error>
-        ensures splits { IfOk result (λ split. SplitsFrom F.honest F.means F.faults self.old
-            edits.items split.edits.items) }
-        ensures valid { IfOk result (λ split. AllValid (meaning_of self.old) (kind_of self.old) []
-            split.edits.items) }
-        ensures parents { F.honest → IfOk result (λ split. split.parents.items ≡ split_parents
-            (name_led_to (meaning_of self.old) (view_of (tree_of F.means self.old)))
+        ensures splits { IfOk result
+            (λ split. SplitsFrom F.honest F.means F.faults self.old edits.items split.edits.items) }
+        ensures valid { IfOk result
+            (λ split. AllValid (meaning_of self.old) (kind_of self.old) [] split.edits.items) }
+        ensures parents { F.honest → IfOk result (λ split. split.parents.items
+            ≡ split_parents (name_led_to (meaning_of self.old) (view_of (tree_of F.means self.old)))
             (values_of edits.items)) }
         ensures len { IfOk result (λ split. vec_len split.parents ≡ vec_len split.edits) }
         ensures refused { F.honest → IfErr result (IsSplitCause (meaning_of self.old)
             (kind_of self.old) (tree_of F.means self.old) edits.items) }
         ensures reads { OnlyReads F.honest F.means F.faults (files_of self.old)
             (files_of self.new) }
-        ensures counted { IfErr result (IsCounted (F.faults (files_of self.old))
-            (F.faults (files_of self.new))) }
+        ensures counted { IfErr result
+            (IsCounted (F.faults (files_of self.old)) (F.faults (files_of self.new))) }
         ensures same { self.new ≡ with_files self.old (files_of self.new) }
     {
         let settings = settings!(self);
@@ -129,11 +128,11 @@ impl<F: Files> Store<F> {
         alloc: Global,
         edits: Vec<RefEdit>,
     ) -> Result<HeldLocks, LockFailure>
-        ensures refused { IfErr result (λ failure. RefusesFrom F.honest (HasReadFault
-            F.Reader.faults) F.means F.faults self.old self.new edits.items failure.error
-            (paths_of failure.locks_left.items)) }
-        ensures splits { IfOk result (λ held. SplitsFrom F.honest F.means F.faults self.old
-            edits.items (updates held.edits.items)) }
+        ensures refused { IfErr result
+            (λ failure. RefusesFrom F.honest (HasReadFault F.Reader.faults) F.means F.faults
+            self.old self.new edits.items failure.error (paths_of failure.locks_left.items)) }
+        ensures splits { IfOk result (λ held.
+            SplitsFrom F.honest F.means F.faults self.old edits.items (updates held.edits.items)) }
         ensures held { IfOk result (λ held. HoldsFrom F.honest F.means F.faults self.old self.new
             (updates held.edits.items) (targets_of held.edits.items)) }
         ensures effects { F.honest → HasGoodRecords F.means self.old →
@@ -145,12 +144,12 @@ impl<F: Files> Store<F> {
         ensures ids { F.honest → HasGoodRecords F.means self.old →
             IfOk result (λ held. ids_in held.edits.items ≡ packed_ids (meaning_of self.old)
             (tree_of F.means self.old) (updates held.edits.items)) }
-        ensures lost { F.honest → IfOk result (λ held. LosesNothing F.means self.old self.new
-            (updates held.edits.items)) }
+        ensures lost { F.honest → IfOk result
+            (λ held. LosesNothing F.means self.old self.new (updates held.edits.items)) }
         ensures whole { F.honest → IfOk result (λ held. AreWholeLocks (disk_in F.means self.new)
             (locks_in F.means self.old (updates held.edits.items))) }
-        ensures places { IfOk result (λ held. place_paths held.edits.items ≡ places_of
-            (meaning_of self.old) (updates held.edits.items)) }
+        ensures places { IfOk result (λ held. place_paths held.edits.items
+            ≡ places_of (meaning_of self.old) (updates held.edits.items)) }
         ensures parents { F.honest → IfOk result (λ held. parents_in held.edits.items
             ≡ split_parents (name_led_to (meaning_of self.old) (view_of (tree_of F.means self.old)))
             (values_of edits.items)) }
@@ -170,9 +169,9 @@ impl<F: Files> Store<F> {
         alloc: Global,
         edits: Vec<RefEdit>,
     ) -> Result<HeldLocks, LockFailure>
-        ensures refused { IfErr result (λ failure. RefusesGiven F.honest (HasReadFault
-            F.Reader.faults) F.means F.faults self.old self.new edits.items failure.error
-            (paths_of failure.locks_left.items)) }
+        ensures refused { IfErr result
+            (λ failure. RefusesGiven F.honest (HasReadFault F.Reader.faults) F.means F.faults
+            self.old self.new edits.items failure.error (paths_of failure.locks_left.items)) }
         ensures held { IfOk result (λ held. HoldsGiven F.honest F.means F.faults self.old self.new
             edits.items held.packed held.edits.items) }
         ensures room { IfOk result (λ held. HasRoom held.edits held.remains) }

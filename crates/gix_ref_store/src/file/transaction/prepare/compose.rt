@@ -10,9 +10,8 @@ use std::alloc::{AllocError, Global};
 
 /// The composed form of a full name; `None` where the name stays as it is.
 fn composed_name(alloc: Global, name: FullNameRef<'_>) -> Result<Option<FullName>, AllocError>
-    ensures { let bytes = full_ref_bytes name.entry in
-        IfOk result (λ r. MatchOption r (composed_full bytes ≡ bytes)
-        (λ n. full_bytes n ≡ composed_full bytes)) }
+    ensures { let bytes = full_ref_bytes name.entry in IfOk result (λ r. MatchOption r
+        (composed_full bytes ≡ bytes) (λ n. full_bytes n ≡ composed_full bytes)) }
 {
     let Some(form) = compose(alloc, name.as_partial_name())? else {
         return Ok(None);
