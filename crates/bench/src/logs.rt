@@ -18,7 +18,7 @@ const LINE: &[u8] =
 
 /// Whether a line has any content: its lengths and its time are not all zero. Each field has a part in the result, so
 /// that the making of none is left out of what is measured.
-fn tells(name: &[u8], email: &[u8], time: Time, message: &[u8]) -> bool {
+fn has_content(name: &[u8], email: &[u8], time: Time, message: &[u8]) -> bool {
     let lengths = name.len() | email.len() | message.len();
     (lengths != 0) | (time.seconds != 0) | (time.offset != 0)
 }
@@ -28,7 +28,7 @@ fn is_read(line: &Result<LineRef<'_>, decode::Error>) -> bool {
     match line {
         Ok(line) => {
             let who = line.signature;
-            tells(who.name, who.email, who.time, line.message)
+            has_content(who.name, who.email, who.time, line.message)
         }
         Err(_) => false,
     }
@@ -39,8 +39,8 @@ fn is_owned(line: &Result<Line, ReverseError>) -> bool {
     match line {
         Ok(line) => {
             let who = &line.signature;
-            let tells = tells(&who.name, &who.email, who.time, &line.message);
-            tells && !(line.previous_oid.is_null() & line.new_oid.is_null())
+            let has_content = has_content(&who.name, &who.email, who.time, &line.message);
+            has_content && !(line.previous_oid.is_null() & line.new_oid.is_null())
         }
         Err(_) => false,
     }

@@ -139,8 +139,8 @@ fn owned_full_names(rt: HostRuntime) {
     assert!(rt; copy(&rt, &name) == name, "a copy");
     let again = FullName::try_from(bytes(&rt, alloc, "refs/heads/main"));
     assert!(rt; again == Ok(name), "made from its bytes");
-    let told = FullName::try_from(bytes(&rt, alloc, "main")).err();
-    assert_eq!(rt; told, Some(Error::SomeLowercase), "made from other bytes");
+    let error = FullName::try_from(bytes(&rt, alloc, "main")).err();
+    assert_eq!(rt; error, Some(Error::SomeLowercase), "made from other bytes");
 }
 
 #[test]

@@ -214,7 +214,7 @@ adds_listed T folder entries old new lists adds = record {
     by : (name : List ℕ) → (k : ℕ) × (x : FolderEntry) × (k < length entries) × (get_or entries k x ≡ x) × (entry_name x ≡ name) →
         (is_folder (T (folder ++ 47 ∷ name)) ≡ true) × Contains (map entry_name entries) name
     by name (k, x, lt, at, is) =
-        let tells : IsEntryOf T folder x = subst (IsEntryOf T folder) at (lists.tells k x lt) in
+        let tells : IsEntryOf T folder x = subst (IsEntryOf T folder) at (lists.there k x lt) in
         let folder_is : x.is_folder ≡ true = subst (λ (e : FolderEntry). e.is_folder ≡ true) at (adds.0 k x lt) in
         (ap (λ (n : List ℕ). is_folder (T (folder ++ 47 ∷ n))) (sym is) ∙ (sym tells.1 ∙ folder_is), there_in entries k x name lt at is)
 

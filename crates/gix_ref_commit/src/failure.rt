@@ -110,8 +110,8 @@ fn folder_in(mut path: Vec<u8>) -> Vec<u8>
 
 /// The error of a log whose folders could not be made: by a fault of files, or without one for a file in its path.
 fn no_folders(source: Option<FileError>, log: Vec<u8>) -> create_or_update::Error
-    ensures fault { (told : FileError) → source ≡ Some told → (at : ℕ) →
-        SaysLogFault (Folders at) log.items told result }
+    ensures fault { (given : FileError) → source ≡ Some given → (at : ℕ) →
+        SaysLogFault (Folders at) log.items given result }
     ensures file { source ≡ None → SaysFile log.items result }
 {
     create_or_update::Error::CreateLeadingDirectories {

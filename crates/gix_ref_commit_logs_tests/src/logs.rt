@@ -380,9 +380,8 @@ fn line_outcome(error: &create_or_update::Error, path: &'static str) -> Outcome 
 fn failure_of(error: &commit::Error, path: &'static str) -> Outcome {
     match error {
         commit::Error::CreateOrUpdateRefLog(error) => line_outcome(error, path),
-        commit::Error::FolderInPlace { path: told } if told.as_slice() == path.as_bytes() => {
-            Outcome::Folder(path)
-        }
+        commit::Error::FolderInPlace { path: reported } if reported.as_slice() == path.as_bytes() =>
+            { Outcome::Folder(path) }
         commit::Error::LockCommit { .. } => Outcome::LockCommit,
         _ => Outcome::Other,
     }

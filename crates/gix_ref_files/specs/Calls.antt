@@ -111,13 +111,14 @@ entry_name entry = entry.name.items
 
 -- an entry says what is at its name: a file or a folder
 abbrev pub IsEntryOf : Tree → Path → Entry → Type 0
-IsEntryOf T p entry = let content =
-    T (p ++ 47 ∷ entry_name entry) in (IsSome content × (entry.is_folder ≡ is_folder content))
+IsEntryOf T p entry =
+    let content = T (p ++ 47 ∷ entry_name entry) in
+    (IsSome content × (entry.is_folder ≡ is_folder content))
 
 -- The entries of the folder p: each name below it that exists, once, and no other.
 pub record ListsFolder (T : Tree) (p : Path) (entries : List Entry) : Type 0 where
   pub names : All (λ entry. IsEntryName (entry_name entry)) entries
-  pub tells : All (IsEntryOf T p) entries
+  pub there : All (IsEntryOf T p) entries
   pub each : (name : List ℕ) → IsEntryName name → IsSome (T (p ++ 47 ∷ name)) →
       Any (λ entry. entry_name entry ≡ name) entries
   pub once : AllPairs (λ entry later. entry_name entry ≢ entry_name later) entries

@@ -76,7 +76,7 @@ path_below front folder path rest is = sym (append_assoc front folder rest) ∙ 
 pub entries_there : (root : Root) (T : Tree) (folder path : List ℕ) (entries : List ListedEntry) → root.path.now ++ folder ≡ path ++ 47 ∷ [] → ListsFolder T path entries → All (IsFileOf root (view_of T) folder) entries
 entries_there root T folder path entries is listing = λ k d below not_folder.
     let entry = slice_index_or entries k d in
-    let tells = listing.tells k d below in
+    let tells = listing.there k d below in
     subst (λ p. IsSome (file_of (T p))) (sym (path_below root.path.now folder path (entry_name entry) is)) (a_file (T (path ++ 47 ∷ entry_name entry)) entry.is_folder tells.0 tells.1 not_folder)
 
 -- a fault of files raises their count
@@ -132,7 +132,7 @@ module _ (root : Root) (T : Tree) (folder path : List ℕ) (shaped : IsShaped T)
     entry_of c named there =
         let any = listing.each c named there in
         let entry = any.1 in
-        let told : IsEntryOf T path entry = subst (IsEntryOf T path) any.3 (listing.tells any.0 entry any.2) in
+        let told : IsEntryOf T path entry = subst (IsEntryOf T path) any.3 (listing.there any.0 entry any.2) in
         (entry, any.4, subst (IsTaken root folder found next) any.3 (taken any.0 entry any.2), told.1 ∙ ap (λ n. is_folder (T (path ++ 47 ∷ n))) any.4)
 
     in_this : NoByte 47 rest → Among (Holds name) found ⊎ IsBelow next name

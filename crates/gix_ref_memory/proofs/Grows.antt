@@ -9,15 +9,15 @@ use Rattle.gix_ref_files.specs.Disk.{Disk, DiskItem, no_disk, nothing, with_tree
 use Rattle.gix_ref_files.specs.Files.{disk_of, Passes, AddsDisks}
 use Rattle.gix_ref_files.specs.DiskCalls.{BeforeOrAfterOn, AppendingOn, SyncingOn}
 use Rattle.gix_ref_files.proofs.Moments.{passes_starts, passes_weaken}
-use Rattle.gix_ref_memory.specs.Changes.{stands, changed, after_changes, changed_on, replayed, disk_is, Begun, Found, meaning_after, content_of, found_content, with_item_as}
+use Rattle.gix_ref_memory.specs.Changes.{contents_after, changed, after_changes, changed_on, replayed, disk_is, Begun, Found, meaning_after, content_of, found_content, with_item_as}
 use Rattle.gix_ref_memory.specs.Laws.{disk_is_found}
 use Rattle.gix_ref_memory.specs.declared.memory.changes.Stored.{Stored}
-use Rattle.gix_ref_memory.specs.declared.memory.changes.Stands.{Stands}
+use Rattle.gix_ref_memory.specs.declared.memory.changes.Present.{Present}
 use Rattle.gix_ref_memory.specs.declared.memory.changes.Change.{Change}
 use Rattle.gix_ref_memory.specs.declared.memory.changes.Change.TheVariants.{Put, Append, Move, SyncFile, SyncFolder}
 
 -- what is at a path in the end
-pub after_is : (changes : List Change) (T : Tree) (q : Path) → after_changes changes T q ≡ stands changes q (T q)
+pub after_is : (changes : List Change) (T : Tree) (q : Path) → after_changes changes T q ≡ contents_after changes q (T q)
 after_is [] T q = refl
 after_is (change ∷ changes) T q = after_is changes (changed change T) q
 
@@ -155,9 +155,9 @@ folder_sync_more old now path p at grown =
     grew old now (SyncFolder path) (SyncingOn true (disk old) (folder_synced (disk old) p)) (folder_synced (disk old) p) grown
     (λ F none. inl none) (ap (folder_synced (disk old)) at) (inr (refl, refl))
 
-pub nothing_found : (found : Option Stands) (what : Option Content) → is_some found ≡ false → found_content found ≡ what → what ≡ None
+pub nothing_found : (found : Option Present) (what : Option Content) → is_some found ≡ false → found_content found ≡ what → what ≡ None
 nothing_found None what none is = sym is
-nothing_found (Some stands) what some is = cc
+nothing_found (Some present) what some is = cc
 
 -- what is found in the newest change is found since any moment
 newest_found : (changes : List Change) (change : Change) (t : ℕ) (D E : Disk) → t ≤ length changes → Begun change (replayed changes D) E → Found (changes ++ change ∷ []) t D E

@@ -15,8 +15,8 @@ use Rattle.gix_ref_memory.specs.Changes.{IsChangedPath, place_of, found_content}
 use Rattle.gix_ref_memory.specs.internal.Listing.{IsListed, ListsSome, AddsEntries}
 use Rattle.gix_ref_files.specs.declared.files.Entry.{Entry}
 use Rattle.gix_ref_memory.specs.declared.memory.changes.Change.{Change}
-use Rattle.gix_ref_memory.specs.declared.memory.changes.Stands.{Stands}
-use Rattle.gix_ref_memory.specs.declared.memory.changes.Stands.TheVariants.{FileOf, FolderOf}
+use Rattle.gix_ref_memory.specs.declared.memory.changes.Present.{Present}
+use Rattle.gix_ref_memory.specs.declared.memory.changes.Present.TheVariants.{FileOf, FolderOf}
 use Rattle.gix_ref_memory.proofs.Placed.{placed_next}
 
 -- the front of a path below a folder
@@ -53,9 +53,9 @@ pub below_slash : (folder path : Path) (rest : List ℕ) → path ≡ folder ++ 
 below_slash folder path rest is = ap (λ (l : Path). get_or l (length folder) 0) is ∙ get_or-append_seam folder 47 rest 0
 
 -- what is found exists
-pub stands_some : (stands : Stands) → IsSome (found_content (Some stands))
-stands_some (FileOf bytes) = refl
-stands_some FolderOf = refl
+pub present_some : (present : Present) → IsSome (found_content (Some present))
+present_some (FileOf bytes) = refl
+present_some FolderOf = refl
 
 -- a slash that a search finds is there
 pub slash_found : (name : List ℕ) → list_any (λ y. y == 47) name ≡ true → Contains name 47
@@ -104,7 +104,7 @@ lists_more T p name old new entry grown named good there folder none =
     subst (λ (l : List Entry). AddsEntries T p name old l) (sym grown) (record {
       good = λ so_far. record {
         names = All-push (λ e. IsEntryName (entry_name e)) old entry so_far.names (subst IsEntryName (sym named) good);
-        tells = All-push (IsEntryOf T p) old entry so_far.tells (subst (λ (n : List ℕ). IsSome (T (p ++ 47 ∷ n)) × (entry.is_folder ≡ is_folder (T (p ++ 47 ∷ n)))) (sym named) (there, folder));
+        there = All-push (IsEntryOf T p) old entry so_far.there (subst (λ (n : List ℕ). IsSome (T (p ++ 47 ∷ n)) × (entry.is_folder ≡ is_folder (T (p ++ 47 ∷ n)))) (sym named) (there, folder));
         once = all_pairs_push (λ e later. entry_name e ≢ entry_name later) old entry so_far.once (λ k d lt is. unlisted old name none k d lt (is ∙ named));
       };
       here = λ some. Any-push (λ e. entry_name e ≡ name) old entry named;
@@ -114,7 +114,7 @@ lists_more T p name old new entry grown named good there folder none =
 pub lists_none : (T : Tree) (p : Path) → ListsSome T p []
 lists_none T p = record {
   names = λ k d lt. absurd (omega arith);
-  tells = λ k d lt. absurd (omega arith);
+  there = λ k d lt. absurd (omega arith);
   once = λ i j d lt short. absurd (omega arith);
 }
 
@@ -143,7 +143,7 @@ remains_else changes i T p entries change lt is none so_far other good there =
 pub all_listed : (changes : List Change) (i : ℕ) (T : Tree) (p : Path) (entries : List Entry) → length changes ≤ i → ListsSome T p entries → Remains changes i T p entries → ListsFolder T p entries
 all_listed changes i T p entries le some so_far = record {
   names = some.names;
-  tells = some.tells;
+  there = some.there;
   each = λ name good there. ⊎_elim (λ here. here) (λ later. absurd (subst (λ (l : List Change). IsChangedPath l (p ++ 47 ∷ name)) (drop_all i changes le) later)) (so_far name good there);
   once = some.once;
 }

@@ -5,7 +5,7 @@ use Rattle.std.proofs.lemmas.Slice.Eq.{bytes_eq-Decides}
 use Rattle.std.proofs.lemmas.List.{drop_more}
 use Rattle.gix_ref_files.specs.Tree.{Tree, Path, Content, no_tree}
 use Rattle.gix_ref_files.specs.Tree.Content.{File}
-use Rattle.gix_ref_memory.specs.Changes.{after_changes, changed, stands_after, content_of, place_of, IsChangedPath}
+use Rattle.gix_ref_memory.specs.Changes.{after_changes, changed, content_after, content_of, place_of, IsChangedPath}
 use Rattle.gix_ref_memory.specs.declared.memory.changes.Change.{Change}
 use Rattle.gix_ref_memory.specs.declared.memory.changes.Change.TheVariants.{Put, Append, Move, SyncFile, SyncFolder}
 
@@ -13,11 +13,11 @@ put_here : (p q : Path) (new content : Option Content) → IsSome (if bytes_eq p
 put_here p q new content some = by_path (bytes_eq p q) refl some
   where
     by_path : (same : Bool) → bytes_eq p q ≡ same → IsSome (if same then new else content) → (p ≡ q) ⊎ IsSome content
-    by_path true eq stands = inl ((bytes_eq-Decides p q).0 eq)
-    by_path false eq stands = inr stands
+    by_path true eq present = inl ((bytes_eq-Decides p q).0 eq)
+    by_path false eq present = inr present
 
 -- what is there after a change was there before, or the change put it there
-put_or_stood : (change : Change) (q : Path) (content : Option Content) → IsSome (stands_after change q content) → (place_of change ≡ q) ⊎ IsSome content
+put_or_stood : (change : Change) (q : Path) (content : Option Content) → IsSome (content_after change q content) → (place_of change ≡ q) ⊎ IsSome content
 put_or_stood (Put path stored synced) q content some = put_here path.items q (content_of stored) content some
 put_or_stood (Append path whole had) q content some = put_here path.items q (Some (File whole.items)) content some
 put_or_stood (Move from to bytes synced) q content some =

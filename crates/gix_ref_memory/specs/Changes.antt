@@ -11,8 +11,8 @@ use Rattle.gix_ref_memory.specs.declared.memory.changes.Change.TheVariants.{Put,
 use Rattle.gix_ref_memory.specs.declared.memory.changes.Stored.{Stored}
 use Rattle.gix_ref_memory.specs.declared.memory.changes.Stored.TheVariants.{Bytes, Folder as StoredFolder}
 use Rattle.gix_ref_memory.specs.declared.memory.changes.Known.{Known}
-use Rattle.gix_ref_memory.specs.declared.memory.changes.Stands.{Stands}
-use Rattle.gix_ref_memory.specs.declared.memory.changes.Stands.TheVariants.{FileOf, FolderOf}
+use Rattle.gix_ref_memory.specs.declared.memory.changes.Present.{Present}
+use Rattle.gix_ref_memory.specs.declared.memory.changes.Present.TheVariants.{FileOf, FolderOf}
 
 -- what a change puts at a path
 abbrev pub content_of : Option Stored → Option Content
@@ -21,14 +21,14 @@ content_of (Some (Bytes bytes)) = Some (File bytes.items)
 content_of (Some StoredFolder) = Some Folder
 
 -- the same of what was found
-abbrev pub found_content : Option Stands → Option Content
+abbrev pub found_content : Option Present → Option Content
 found_content None = None
 found_content (Some (FileOf bytes)) = Some (File bytes.now)
 found_content (Some FolderOf) = Some Folder
 
 -- the same with the number of bytes that are synced
 abbrev pub found_item : Known → DiskItem
-found_item known = record { content = found_content known.stands; synced = known.synced }
+found_item known = record { content = found_content known.content; synced = known.synced }
 
 -- the path at which a change puts something, or that it syncs
 abbrev pub place_of : Change → Path
@@ -39,24 +39,24 @@ place_of (SyncFile path) = path.items
 place_of (SyncFolder path) = path.items
 
 -- what is at q after a change, if this was there before
-abbrev pub stands_after : Change → Path → Option Content → Option Content
-stands_after (Put path stored synced) q content = if bytes_eq path.items q then content_of stored
+abbrev pub content_after : Change → Path → Option Content → Option Content
+content_after (Put path stored synced) q content = if bytes_eq path.items q then content_of stored
     else content
-stands_after (Append path whole had) q content = if bytes_eq path.items q
+content_after (Append path whole had) q content = if bytes_eq path.items q
     then Some (File whole.items) else content
-stands_after (Move from to bytes synced) q content = if bytes_eq to.items q
+content_after (Move from to bytes synced) q content = if bytes_eq to.items q
     then Some (File bytes.items) else if bytes_eq from.items q then None else content
-stands_after (SyncFile path) q content = content
-stands_after (SyncFolder path) q content = content
+content_after (SyncFile path) q content = content
+content_after (SyncFolder path) q content = content
 
 -- the same of several changes
-abbrev pub stands : List Change → Path → Option Content → Option Content
-stands [] q content = content
-stands (change ∷ changes) q content = stands changes q (stands_after change q content)
+abbrev pub contents_after : List Change → Path → Option Content → Option Content
+contents_after [] q content = content
+contents_after (change ∷ changes) q content = contents_after changes q (content_after change q content)
 
 -- the tree after a change
 abbrev pub changed : Change → Tree → Tree
-changed change T q = stands_after change q (T q)
+changed change T q = content_after change q (T q)
 
 -- the tree after all of these
 abbrev pub after_changes : List Change → Tree → Tree

@@ -13,7 +13,7 @@ mod reader;
 mod sure;
 mod turns;
 
-use changes::{Change, Stands, find, is_below_file, is_folder_at};
+use changes::{Change, Present, find, is_below_file, is_folder_at};
 use edits::{
     append_now, append_some, create_now, put_now, remove_file_now, remove_folder_now, rename_now,
     sync_file_now, sync_folder_now,
@@ -114,7 +114,7 @@ impl Memory {
         ensures none { IfNone result (is_file (tree_in self.now path.now) ≡ false) }
     {
         match find(&self.changes, path) {
-            Some(Stands::FileOf(bytes)) => Some(bytes),
+            Some(Present::FileOf(bytes)) => Some(bytes),
             _ => None,
         }
     }
@@ -246,8 +246,8 @@ impl Files for Memory {
             return Err(self.turns.fault(ErrorKind::Other));
         }
         Ok(match find(&self.changes, path) {
-            Some(Stands::FileOf(_)) => Node::File,
-            Some(Stands::FolderOf) => Node::Folder,
+            Some(Present::FileOf(_)) => Node::File,
+            Some(Present::FolderOf) => Node::Folder,
             None if is_below_file(&self.changes, path) => Node::Blocked,
             None => Node::Nothing,
         })
@@ -272,11 +272,11 @@ impl Files for Memory {
             return Err(self.turns.fault(ErrorKind::Other));
         }
         match find(&self.changes, path) {
-            Some(Stands::FileOf(bytes)) => match buf.extend_from_slice(bytes) {
+            Some(Present::FileOf(bytes)) => match buf.extend_from_slice(bytes) {
                 Ok(()) => Ok(Node::File),
                 Err(_) => Err(FileError::Memory),
             },
-            Some(Stands::FolderOf) => Ok(Node::Folder),
+            Some(Present::FolderOf) => Ok(Node::Folder),
             None if is_below_file(&self.changes, path) => Ok(Node::Blocked),
             None => Ok(Node::Nothing),
         }
@@ -304,7 +304,7 @@ impl Files for Memory {
         if self.turns.next() != Turn::Go {
             return Err(self.turns.fault(ErrorKind::Other));
         }
-        let Some(Stands::FileOf(bytes)) = find(&self.changes, path) else {
+        let Some(Present::FileOf(bytes)) = find(&self.changes, path) else {
             return Ok(None);
         };
         let turns = Turns {

@@ -54,7 +54,7 @@ module _ (k : Kind) (t u wanted n : List ℕ) (s : ℕ) (same : u ≡ t) (named 
       record {
         record_there = at.0;
         named = hit_named k t wanted s at.0 at.1 hit at.2 ∙ named;
-        stands = record { start = s; line = hit.line; rest = at.1; takes = at.2 };
+        begins = record { start = s; line = hit.line; rest = at.1; takes = at.2 };
         ids = at.3;
       }
 

@@ -58,7 +58,7 @@ module _ (k : Kind) (t p : List ℕ) (pre post : List (List ℕ)) (n : List ℕ)
   found_for (Some x) r is finds =
       let one : Finds {E = ParseError} k t n (Ok (Some r)) = subst (λ (o : Option Reference). Finds {E = ParseError} k t n (Ok o)) is finds in
       record {
-        hit = record { wanted = subst (λ (names : List (List ℕ)). Contains names (record_of r).name) (sym wanted) (subst (Contains (pre ++ n ∷ post)) (sym one.hit.0) has); stands = one.hit.1 };
+        hit = record { wanted = subst (λ (names : List (List ℕ)). Contains names (record_of r).name) (sym wanted) (subst (Contains (pre ++ n ∷ post)) (sym one.hit.0) has); begins = one.hit.1 };
         none = tt;
         refused = tt;
         records = λ rs h up. first_is rs (forms_of k t rs h) up (record_of r) (one.records rs h up);

@@ -11,7 +11,7 @@ use Rattle.gix_ref_packed.specs.declared.packed.find.existing.Error.{Error as Ex
 use Rattle.gix_ref_packed.specs.declared.packed.find.existing.Error.TheVariants.{Find, NotFound}
 use Rattle.gix_ref_base.specs.PackedRecords.{Record, record_named}
 use Rattle.gix_ref_records.specs.RecordGrammar.{Records, Forms, Ascending}
-use Rattle.gix_ref_records.specs.Positions.{StandsIn, IsNotMalformed, CannotRead, IsUnreadable}
+use Rattle.gix_ref_records.specs.Positions.{RecordBeginsLine, IsNotMalformed, CannotRead, IsUnreadable}
 use Rattle.gix_ref_records.specs.Views.{record_of}
 use Rattle.gix_ref_packed.specs.AskedNames.{asked_keys, first_named}
 use Rattle.gix_ref_name.specs.Candidates.{is_rooted}
@@ -21,7 +21,7 @@ pub record Finds {E : Type 0} (kind : Kind) (text name : List ℕ)
     (result : Result (Option Reference) E) : Type 0 where
   -- on any text a hit is a record of that name at the start of a line
   pub hit : IfOk result (λ found. IfSome found
-      (λ r. (full_ref_bytes r.name ≡ name) × StandsIn kind text (record_of r)))
+      (λ r. (full_ref_bytes r.name ≡ name) × RecordBeginsLine kind text (record_of r)))
   -- a text of malformed lines alone is never taken for one without the name
   pub none : IfOk result (λ found. IfNone found (IsNotMalformed kind text))
   -- on any text an error comes from a malformed line, or from a record of the name that cannot be read
@@ -44,7 +44,7 @@ FindsOne kind text name (Err (RefnameValidation error)) = ⊥
 -- what is found for a partial name on any text: a record of a name that is asked for, at the start of a line
 pub record HitsPartial (kind : Kind) (text p : List ℕ) (r : Record) : Type 0 where
   pub wanted : Contains (asked_keys p) r.name
-  pub stands : StandsIn kind text r
+  pub begins : RecordBeginsLine kind text r
 
 -- why a search for a partial name fails on any text: a name that is asked for meets a malformed line or a record that
 -- cannot be read, or, where names are to be made, there was no memory

@@ -127,7 +127,7 @@ fn committed(
     alloc: Global,
     store: &mut Store<Memory>,
     edits: Vec<RefEdit>,
-    told: &str,
+    path: &str,
 ) -> (Outcome, bool) {
     store.write_reflog = WriteReflog::Disable;
     match store.transaction().prepare(alloc, edits) {
@@ -136,7 +136,7 @@ fn committed(
             Ok(done) => (Outcome::Done, done.locks_left.is_empty()),
             Err(failed) => {
                 let (outcome, name) = failure_of(&failed.error);
-                (outcome, name == told.as_bytes())
+                (outcome, name == path.as_bytes())
             }
         },
     }
@@ -378,14 +378,14 @@ fn a_reference_and_one_below_it(rt: HostRuntime) {
     let lower: Row = ("refs/heads/a/b", Expect::Any, Id::One);
     for (edits, lower_is_done) in [([upper, lower], false), ([lower, upper], true)] {
         let mut store = store(alloc, Memory::new(alloc), "", "").expect(&rt, "a store");
-        let (outcome, told) = committed(
+        let (outcome, is_reported) = committed(
             alloc,
             &mut store,
             updates(&rt, alloc, &edits),
             "/r/refs/heads/a",
         );
         assert_eq!(rt; outcome, Outcome::FolderInPlace);
-        assert!(rt; told, "the place of the upper one");
+        assert!(rt; is_reported, "the place of the upper one");
         let memory = store.into_files();
         assert_eq!(rt; memory.get(b"/r/refs/heads/a/b").is_some(), lower_is_done);
         assert!(rt; memory.get(b"/r/refs/heads/a.lock").is_none());
@@ -420,7 +420,7 @@ enum End {
 }
 
 /// Updates all four to forty digits `2`, and hands back what became of them, whether a failure reported this name, and the files.
-fn run_with(rt: &impl Abort, alloc: Global, end: End, told: &str) -> (Outcome, bool, Memory) {
+fn run_with(rt: &impl Abort, alloc: Global, end: End, path: &str) -> (Outcome, bool, Memory) {
     let mut memory = ones(
         rt,
         alloc,
@@ -436,7 +436,7 @@ fn run_with(rt: &impl Abort, alloc: Global, end: End, told: &str) -> (Outcome, b
     for (row, (name, _, _)) in rows.iter_mut().zip(EDITS) {
         row.0 = name;
     }
-    let (outcome, reported) = committed(alloc, &mut store, updates(rt, alloc, &rows), told);
+    let (outcome, reported) = committed(alloc, &mut store, updates(rt, alloc, &rows), path);
     (outcome, reported, store.into_files())
 }
 

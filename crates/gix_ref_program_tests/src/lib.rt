@@ -4,6 +4,8 @@
 #[cfg(test)]
 mod disk;
 #[cfg(test)]
+mod errors;
+#[cfg(test)]
 mod listings;
 #[cfg(test)]
 mod logs;

@@ -86,7 +86,7 @@ pub record FindsAt (kind : Kind) (text : List ℕ) (rs : List Record) (wanted : 
   pub takes : TakesForm kind (drop start text) found rest
 
 -- the record begins a line of the text
-pub record StandsIn (kind : Kind) (text : List ℕ) (r : Record) : Type 0 where
+pub record RecordBeginsLine (kind : Kind) (text : List ℕ) (r : Record) : Type 0 where
   pub start : ℕ
   pub line : BeginsLine text start
   pub rest : List ℕ

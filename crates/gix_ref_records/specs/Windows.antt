@@ -9,7 +9,7 @@ use Rattle.gix_ref_records.specs.declared.packed.window.InWindow.{InWindow}
 use Rattle.gix_ref_records.specs.Shown.{IfHere}
 use Rattle.gix_ref_base.specs.PackedRecords.{Record}
 use Rattle.gix_ref_records.specs.RecordGrammar.{Takes, NoRecord}
-use Rattle.gix_ref_records.specs.Positions.{LineOf, RecordOf, NameAt, StandsIn}
+use Rattle.gix_ref_records.specs.Positions.{LineOf, RecordOf, NameAt, RecordBeginsLine}
 
 -- the window holds the bytes of the text from a place on
 abbrev pub IsWindow : List ℕ → ℕ → List ℕ → Type 0
@@ -68,5 +68,5 @@ FrontIs kind text (Some found) = (r : Record) × (rest : List ℕ) × Takes kind
 pub record HitsRecord (kind : Kind) (text wanted : List ℕ) (found : Found) : Type 0 where
   pub record_there : Record
   pub named : record_there.name ≡ wanted
-  pub stands : StandsIn kind text record_there
+  pub begins : RecordBeginsLine kind text record_there
   pub ids : IsFound record_there found

@@ -41,7 +41,7 @@ fn begins_with_caret(text: &[u8]) -> bool
     }
 }
 
-/// What follows the record at the front of the text, where that is one line that ends in LF, as most are; `None` for
+/// What follows the record at the front of the text, where that is one line that ends in LF, the common case; `None` for
 /// others. It costs less than to decode the record.
 fn after_one_line(text: &[u8], kind: Kind) -> Option<&[u8]>
     ensures { IfSome result (λ after. (r : Record) × Takes kind text.now r after.now

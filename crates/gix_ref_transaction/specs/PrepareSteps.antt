@@ -115,9 +115,9 @@ TakesPacked before (Some place) T = (before (lock_of place) ≡ None)
 
 -- why a lock is not taken in this tree
 abbrev pub IsRefusedLock : Tree → List ℕ → Path → Error → Type 0
-IsRefusedLock T name lock (PathCollision told) = (full_bytes told ≡ name)
+IsRefusedLock T name lock (PathCollision reported) = (full_bytes reported ≡ name)
     × (is_blocked T lock ≡ true)
-IsRefusedLock T name lock (LockAcquire told) = (full_bytes told ≡ name) × IsSome (T lock)
+IsRefusedLock T name lock (LockAcquire reported) = (full_bytes reported ≡ name) × IsSome (T lock)
 IsRefusedLock T name lock (Io error) = Unit {0}
 IsRefusedLock T name lock Memory = Unit {0}
 IsRefusedLock T name lock other = ⊥

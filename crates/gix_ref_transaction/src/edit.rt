@@ -236,7 +236,7 @@ fn text_of_change(alloc: Global, change: &Change) -> Result<Vec<u8>, AllocError>
 
 /// The refusal of an edit whose lock exists already.
 fn standing(edit: &RefEdit) -> Error
-    ensures told { (T : Tree) (lock : Path) → IsSome (T lock) →
+    ensures reported { (T : Tree) (lock : Path) → IsSome (T lock) →
         IsRefusedLock T (name_of edit.now) lock result }
     ensures inside { IsNotIo result }
 {
@@ -248,7 +248,7 @@ fn standing(edit: &RefEdit) -> Error
 
 /// The refusal of an edit with a file in the path of its lock.
 fn blocked(edit: &RefEdit) -> Error
-    ensures told { (T : Tree) (lock : Path) → is_blocked T lock ≡ true →
+    ensures reported { (T : Tree) (lock : Path) → is_blocked T lock ≡ true →
         IsRefusedLock T (name_of edit.now) lock result }
     ensures inside { IsNotIo result }
 {

@@ -11,7 +11,7 @@ IsListed entries name = Any (λ entry. entry_name entry ≡ name) entries
 -- some entries of the folder p, each once
 pub record ListsSome (T : Tree) (p : Path) (entries : List Entry) : Type 0 where
   pub names : All (λ entry. IsEntryName (entry_name entry)) entries
-  pub tells : All (IsEntryOf T p) entries
+  pub there : All (IsEntryOf T p) entries
   pub once : AllPairs (λ entry later. entry_name entry ≢ entry_name later) entries
 
 -- the entries new are old ones, and perhaps one more with this name, which is listed in the end if something is there

@@ -1,8 +1,8 @@
 //! What was changed, the oldest first, and what is at a path after all of it.
 ghost use Rattle.std.specs.Prelude.{◌≡◌, Some, length};
 ghost use Rattle.gix_ref_files.specs.Tree.{no_tree, bytes_of, has_folders, is_blocked, is_file, is_folder};
-ghost use Rattle.gix_ref_files.specs.Disk.{nothing};
-ghost use Rattle.gix_ref_memory.specs.Changes.{found_content, found_item, content_of, place_of, after_changes, items};
+ghost use Rattle.gix_ref_files.specs.Disk.{DiskItem, nothing};
+ghost use Rattle.gix_ref_memory.specs.Changes.{found_content, found_item, content_after, content_of, item_after, place_of, after_changes, items};
 
 /// What a change puts at a path.
 #[derive(Debug, Drop)]
@@ -45,7 +45,7 @@ pub enum Change {
 
 /// What is at a path.
 #[derive(Clone, Copy, Debug)]
-pub enum Stands<'a> {
+pub enum Present<'a> {
     FileOf(&'a [u8]),
     FolderOf,
 }
@@ -53,83 +53,155 @@ pub enum Stands<'a> {
 /// What is at a path, and how many bytes of it are synced.
 #[derive(Clone, Copy, Debug)]
 pub struct Known<'a> {
-    pub stands: Option<Stands<'a>>,
+    pub content: Option<Present<'a>>,
     pub synced: usize,
 }
 
-impl Stands<'_> {
+impl Present<'_> {
     /// It is a folder.
     pub fn is_folder(self) -> bool
         ensures { result ≡ is_folder (found_content (Some self.entry)) }
     {
         match self {
-            Stands::FileOf(_) => false,
-            Stands::FolderOf => true,
+            Present::FileOf(_) => false,
+            Present::FolderOf => true,
         }
     }
 }
 
-pub fn stored_stands(stored: &Option<Stored>) -> Option<Stands<'_>>
+pub fn present_of(stored: &Option<Stored>) -> Option<Present<'_>>
     ensures { found_content result ≡ content_of stored.now }
 {
     match stored {
         None => None,
-        Some(Stored::Bytes(bytes)) => Some(Stands::FileOf(bytes)),
-        Some(Stored::Folder) => Some(Stands::FolderOf),
+        Some(Stored::Bytes(bytes)) => Some(Present::FileOf(bytes)),
+        Some(Stored::Folder) => Some(Present::FolderOf),
+    }
+}
+
+/// What is at a path after a change, if this was there before.
+fn found_after<'a>(
+    change: &'a Change,
+    path: &[u8],
+    found: Option<Present<'a>>,
+) -> Option<Present<'a>>
+    ensures { found_content result ≡ content_after change.now path.now (found_content found.entry) }
+{
+    match change {
+        Change::Put {
+            path: at,
+            stored,
+            ..
+        } => {
+            if at.as_slice() == path {
+                present_of(stored)
+            } else {
+                found
+            }
+        }
+        Change::Append {
+            path: at,
+            whole,
+            ..
+        } => {
+            if at.as_slice() == path {
+                Some(Present::FileOf(whole))
+            } else {
+                found
+            }
+        }
+        Change::Move {
+            from,
+            to,
+            bytes,
+            ..
+        } => {
+            if to.as_slice() == path {
+                Some(Present::FileOf(bytes))
+            } else if from.as_slice() == path {
+                None
+            } else {
+                found
+            }
+        }
+        Change::SyncFile { .. } | Change::SyncFolder { .. } => found,
     }
 }
 
 /// What is at a path after the changes.
-pub fn find<'a>(changes: &'a [Change], path: &[u8]) -> Option<Stands<'a>>
+pub fn find<'a>(changes: &'a [Change], path: &[u8]) -> Option<Present<'a>>
     ensures { found_content result ≡ after_changes changes.now no_tree path.now }
 {
     let mut found = None;
     for change in changes {
-        match change {
-            Change::Put {
-                path: at,
-                stored,
-                ..
-            } => {
-                if at.as_slice() == path {
-                    found = stored_stands(stored);
-                }
-            }
-            Change::Append {
-                path: at,
-                whole,
-                ..
-            } => {
-                if at.as_slice() == path {
-                    found = Some(Stands::FileOf(whole));
-                }
-            }
-            Change::Move {
-                from,
-                to,
-                bytes,
-                ..
-            } => {
-                if to.as_slice() == path {
-                    found = Some(Stands::FileOf(bytes));
-                } else if from.as_slice() == path {
-                    found = None;
-                }
-            }
-            Change::SyncFile { .. } => {}
-            Change::SyncFolder { .. } => {}
-        }
+        found = found_after(change, path, found);
     }
     found
 }
 
 /// How many bytes there are.
-pub fn len_of(stands: Option<Stands<'_>>) -> usize
-    ensures { result ≡ length (bytes_of (found_content stands.entry)) }
+pub fn len_of(content: Option<Present<'_>>) -> usize
+    ensures { result ≡ length (bytes_of (found_content content.entry)) }
 {
-    match stands {
-        Some(Stands::FileOf(bytes)) => bytes.len(),
+    match content {
+        Some(Present::FileOf(bytes)) => bytes.len(),
         _ => 0,
+    }
+}
+
+/// How many bytes are synced of what is at a path after a change, if so many were before.
+fn synced_after(change: &Change, path: &[u8], content: Option<Present<'_>>, synced: usize) -> usize
+    ensures { (known : DiskItem) → known.synced ≡ synced → found_content content.entry
+        ≡ content_after change.now path.now known.content →
+        result ≡ (item_after change.now path.now known).synced }
+{
+    match change {
+        Change::Put {
+            path: at,
+            synced: whole,
+            ..
+        } => {
+            if at.as_slice() != path {
+                synced
+            } else if *whole {
+                len_of(content)
+            } else {
+                0
+            }
+        }
+        Change::Move {
+            from,
+            to,
+            synced: moved,
+            ..
+        } => {
+            if to.as_slice() == path {
+                *moved
+            } else if from.as_slice() == path {
+                0
+            } else {
+                synced
+            }
+        }
+        Change::SyncFile { path: at } => {
+            if at.as_slice() == path {
+                len_of(content)
+            } else {
+                synced
+            }
+        }
+        Change::Append { .. } | Change::SyncFolder { .. } => synced,
+    }
+}
+
+/// What is at a path after a change, and how many bytes of it are synced, if this was known before.
+pub fn known_after<'a>(change: &'a Change, path: &[u8], known: Known<'a>) -> Known<'a>
+    ensures { found_item result ≡ item_after change.now path.now (found_item known.entry) }
+{
+    let content = found_after(change, path, known.content);
+    Known {
+        content,
+        synced: synced_after(change, path, content, known.synced),
     }
 }
 
@@ -137,55 +209,14 @@ pub fn len_of(stands: Option<Stands<'_>>) -> usize
 pub fn item_at<'a>(changes: &'a [Change], path: &[u8]) -> Known<'a>
     ensures { found_item result ≡ items changes.now path.now nothing }
 {
-    let mut found = None;
-    let mut synced = 0;
+    let mut known = Known {
+        content: None,
+        synced: 0,
+    };
     for change in changes {
-        match change {
-            Change::Put {
-                path: at,
-                stored,
-                synced: whole,
-            } => {
-                if at.as_slice() == path {
-                    found = stored_stands(stored);
-                    synced = if *whole { len_of(found) } else { 0 };
-                }
-            }
-            Change::Append {
-                path: at,
-                whole,
-                ..
-            } => {
-                if at.as_slice() == path {
-                    found = Some(Stands::FileOf(whole));
-                }
-            }
-            Change::Move {
-                from,
-                to,
-                bytes,
-                synced: moved,
-            } => {
-                if to.as_slice() == path {
-                    found = Some(Stands::FileOf(bytes));
-                    synced = *moved;
-                } else if from.as_slice() == path {
-                    found = None;
-                    synced = 0;
-                }
-            }
-            Change::SyncFile { path: at } => {
-                if at.as_slice() == path {
-                    synced = len_of(found);
-                }
-            }
-            Change::SyncFolder { .. } => {}
-        }
+        known = known_after(change, path, known);
     }
-    Known {
-        stands: found,
-        synced,
-    }
+    known
 }
 
 /// The path at which a change puts something, or that it syncs.
@@ -206,7 +237,7 @@ pub fn is_file_at(changes: &[Change], path: &[u8]) -> bool
     ensures { result ≡ is_file (after_changes changes.now no_tree path.now) }
 {
     match find(changes, path) {
-        Some(Stands::FileOf(_)) => true,
+        Some(Present::FileOf(_)) => true,
         _ => false,
     }
 }
@@ -216,7 +247,7 @@ pub fn is_folder_at(changes: &[Change], path: &[u8]) -> bool
     ensures { result ≡ is_folder (after_changes changes.now no_tree path.now) }
 {
     match find(changes, path) {
-        Some(stands) => stands.is_folder(),
+        Some(present) => present.is_folder(),
         None => false,
     }
 }
@@ -234,7 +265,7 @@ pub fn is_below_file(changes: &[Change], path: &[u8]) -> bool
 }
 
 /// Whether folders are at all proper fronts of a path.
-pub fn stands_in_folders(changes: &[Change], path: &[u8]) -> bool
+pub fn is_in_folders(changes: &[Change], path: &[u8]) -> bool
     ensures { result ≡ has_folders (after_changes changes.now no_tree) path.now }
 {
     for i in 1..path.len() {

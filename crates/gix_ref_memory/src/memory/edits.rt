@@ -10,8 +10,7 @@ ghost use Rattle.gix_ref_memory.specs.Changes.{after_changes, meaning_after, Put
 ghost use Rattle.gix_ref_memory.specs.Turns.{HasNoWay};
 
 use super::changes::{
-    Change, Stands, Stored, find, is_below_file, is_file_at, is_folder_at, item_at,
-    stands_in_folders,
+    Change, Present, Stored, find, is_below_file, is_file_at, is_folder_at, is_in_folders, item_at,
 };
 use super::folders::make_fronts;
 use super::listing::has_below;
@@ -37,7 +36,7 @@ pub fn append_now(
         changes.new.items) (AppendingOn (disk_after changes.old) path.now bytes.now)) }
 {
     match find(changes, path) {
-        Some(Stands::FileOf(old)) => {
+        Some(Present::FileOf(old)) => {
             let had = old.len();
             let mut whole = old.to_vec(alloc)?;
             whole.extend_from_slice(bytes)?;
@@ -89,11 +88,11 @@ pub fn rename_now(
         (RenamingOn (disk_after changes.old) from.now to.now) }
 {
     match find(changes, from) {
-        Some(Stands::FileOf(old)) => {
+        Some(Present::FileOf(old)) => {
             if is_folder_at(changes, to) {
                 return Ok(Some(Rename::FolderStands));
             }
-            if !stands_in_folders(changes, to) {
+            if !is_in_folders(changes, to) {
                 return Ok(None);
             }
             let bytes = old.to_vec(alloc)?;
@@ -163,7 +162,7 @@ pub fn create_now(
     if is_below_file(changes, path) {
         return Ok(Some(Create::Blocked));
     }
-    if !stands_in_folders(changes, path) {
+    if !is_in_folders(changes, path) {
         return Ok(None);
     }
     let path = path.to_vec(alloc)?;

@@ -79,7 +79,7 @@ pub fn make_fronts(
 }
 
 /// Whether a file is at a path or in it.
-fn stands_in_the_way(changes: &[Change], path: &[u8]) -> bool
+fn is_file_in_the_way(changes: &[Change], path: &[u8]) -> bool
     ensures { result ≡ is_in_the_way (after_changes changes.now no_tree) path.now }
 {
     is_file_at(changes, path) || is_below_file(changes, path)
@@ -110,7 +110,7 @@ pub fn make_folders_now(
     ensures adds { OnOk result (AddsDisks (meaning_after changes.old.items)
         (meaning_after changes.new.items) (MakingFoldersOn (disk_after changes.old) path.now)) }
 {
-    if stands_in_the_way(changes, path) {
+    if is_file_in_the_way(changes, path) {
         return Ok(false);
     }
     let folders = slashed(alloc, path)?;
@@ -132,7 +132,7 @@ pub fn make_some_folders(
     ensures passes { Passes (meaning_after changes.old.items) (meaning_after changes.new.items)
         (MakingFoldersOn (disk_after changes.old) path.now) }
 {
-    if stands_in_the_way(changes, path) {
+    if is_file_in_the_way(changes, path) {
         return Ok(());
     }
     let folders = slashed(alloc, path)?;

@@ -74,10 +74,10 @@ fn add_entry(
     if is_listed(entries, name) {
         return Ok(());
     }
-    let Some(stands) = find(changes, path) else {
+    let Some(present) = find(changes, path) else {
         return Ok(());
     };
-    let is_folder = stands.is_folder();
+    let is_folder = present.is_folder();
     let name = name.to_vec(alloc)?;
     entries.push(Entry { name, is_folder })?;
     Ok(())

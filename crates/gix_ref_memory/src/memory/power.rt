@@ -8,7 +8,7 @@ ghost use Rattle.gix_ref_memory.specs.Changes.{after_changes, content_of, found_
 ghost use Rattle.gix_ref_memory.specs.internal.Power.{IsChoice, IsReachable, Names, Fills, AreSynced};
 
 use super::births::{Birth, all_births, births_of, keeps};
-use super::changes::{Change, Known, Stands, Stored, find, place, stands_in_folders};
+use super::changes::{Change, Known, Present, Stored, find, is_in_folders, place};
 use super::sure::sure_at;
 use std::alloc::{AllocError, Global};
 
@@ -29,10 +29,10 @@ fn lost_bytes(alloc: Global, bytes: &[u8], synced: usize) -> Result<Vec<u8>, All
 fn kept(alloc: Global, known: Known<'_>, end: bool) -> Result<Option<Stored>, AllocError>
     ensures { IfOk result (λ stored. content_of stored ≡ kept end (found_item known.entry)) }
 {
-    match known.stands {
+    match known.content {
         None => Ok(None),
-        Some(Stands::FolderOf) => Ok(Some(Stored::Folder)),
-        Some(Stands::FileOf(bytes)) => {
+        Some(Present::FolderOf) => Ok(Some(Stored::Folder)),
+        Some(Present::FileOf(bytes)) => {
             let left = if end {
                 bytes.to_vec(alloc)?
             } else {
@@ -147,9 +147,9 @@ fn reach(
     ensures { OnOk result (Fills (IsReachable (after_changes entries.now no_tree))
         (λ q. path.now ≡ q) left.old.items left.new.items) }
 {
-    let stored = if stands_in_folders(entries, path) {
-        let stands = find(entries, path);
-        kept(alloc, Known { stands, synced: 0 }, true)?
+    let stored = if is_in_folders(entries, path) {
+        let content = find(entries, path);
+        kept(alloc, Known { content, synced: 0 }, true)?
     } else {
         None
     };

@@ -4,7 +4,7 @@ ghost use Rattle.gix_ref_files.specs.Disk.{folder_of};
 ghost use Rattle.gix_ref_memory.specs.Changes.{found_item};
 ghost use Rattle.gix_ref_memory.specs.internal.Power.{disk_entry, entry_after, entered, settled, no_entry, sure_entry};
 
-use super::changes::{Change, Known, Stands, len_of, stored_stands};
+use super::changes::{Change, Known, known_after};
 use gix_ref_files::paths;
 
 /// What is known of an entry: what it is now, what it was when its folder was last synced, and whether it is unsynced.
@@ -20,7 +20,7 @@ fn known_nothing<'a>() -> Known<'a>
     ensures { found_item result ≡ no_entry.now }
 {
     Known {
-        stands: None,
+        content: None,
         synced: 0,
     }
 }
@@ -53,74 +53,43 @@ fn entry_after<'a>(change: &'a Change, path: &[u8], folder: &[u8], sure: Sure<'a
     requires { folder.now ≡ folder_of path.now }
     ensures { sure_entry result ≡ entry_after change.now path.now (sure_entry sure.entry) }
 {
+    let now = known_after(change, path, sure.now);
     match change {
         Change::Put {
             path: at,
-            stored,
             synced,
-        } => {
-            if at.as_slice() != path {
-                return sure;
-            }
-            let stands = stored_stands(stored);
-            if *synced {
-                settled(Known {
-                    stands,
-                    synced: len_of(stands),
-                })
-            } else {
-                entered(sure, Known { stands, synced: 0 })
-            }
-        }
-        Change::Append {
-            path: at,
-            whole,
             ..
         } => {
             if at.as_slice() != path {
-                return sure;
+                sure
+            } else if *synced {
+                settled(now)
+            } else {
+                entered(sure, now)
             }
-            let stands = Some(Stands::FileOf(whole));
-            let synced = sure.now.synced;
-            let now = Known { stands, synced };
-            Sure { now, ..sure }
         }
-        Change::Move {
-            from,
-            to,
-            bytes,
-            synced,
-        } => {
+        Change::Move { from, to, .. } => {
             let gone = if from.as_slice() == path {
                 entered(sure, known_nothing())
             } else {
                 sure
             };
             if to.as_slice() == path {
-                let stands = Some(Stands::FileOf(bytes));
-                entered(
-                    gone,
-                    Known {
-                        stands,
-                        synced: *synced,
-                    },
-                )
+                entered(gone, now)
             } else {
                 gone
             }
         }
-        Change::SyncFile { path: at } => {
-            if at.as_slice() != path {
-                return sure;
-            }
-            let stands = sure.now.stands;
-            let synced = len_of(stands);
-            let now = Known { stands, synced };
-            Sure { now, ..sure }
-        }
         Change::SyncFolder { path: at } => {
             if at.as_slice() == folder {
                 settled(sure.now)
+            } else {
+                sure
+            }
+        }
+        Change::Append { path: at, .. } | Change::SyncFile { path: at } => {
+            if at.as_slice() == path {
+                Sure { now, ..sure }
             } else {
                 sure
             }

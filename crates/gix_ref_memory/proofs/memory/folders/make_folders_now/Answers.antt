@@ -9,8 +9,8 @@ use Rattle.gix_ref_memory.proofs.Grows.{disk}
 use Rattle.gix_ref_memory.proofs.MakingLemmas.{all_fronts, all_fronts_on, making_passes, making_adds, way_adds}
 use Rattle.gix_ref_memory.proofs.memory.folders.make_folders_now.Goals as goal
 
-pub returns-then-stands_in_the_way-clause-adds : goal.returns-then-stands_in_the_way-clause-adds
-returns-then-stands_in_the_way-clause-adds c =
+pub returns-then-is_file_in_the_way-clause-adds : goal.returns-then-is_file_in_the_way-clause-adds
+returns-then-is_file_in_the_way-clause-adds c =
     let old = c.args.changes.now.items in
     let way : is_in_the_way (after_changes old no_tree) c.args.path.now ≡ true = search rules in
     way_adds (meaning_after old) (meaning_after old) c.args.path.now way (λ t le. disk_is_found old t)

@@ -32,7 +32,7 @@ returns-in-Ok-Standing-clause-refused g c =
     let old = (F.means c.args.files.now).tree in
     let new = (F.means c.take_lock.new.files).tree in
     record {
-      cause = λ h. c.standing.ensures.told old (lock_of place) (standing_there old place (lock_of place) refl new (subst (λ (create : Create). MakesLock old place new create) c.in-Ok-Standing.field-0-is (c.in-Ok-Standing.ensures.answer h))).0;
+      cause = λ h. c.standing.ensures.reported old (lock_of place) (standing_there old place (lock_of place) refl new (subst (λ (create : Create). MakesLock old place new create) c.in-Ok-Standing.field-0-is (c.in-Ok-Standing.ensures.answer h))).0;
       kept = λ h. (standing_there old place (lock_of place) refl new (subst (λ (create : Create). MakesLock old place new create) c.in-Ok-Standing.field-0-is (c.in-Ok-Standing.ensures.answer h))).1;
       counted = search rules;
     }
@@ -53,7 +53,7 @@ returns-in-Ok-Blocked-clause-refused g c =
     let old = (F.means c.args.files.now).tree in
     let new = (F.means c.take_lock.new.files).tree in
     record {
-      cause = λ h. c.blocked.ensures.told old (lock_of place) (blocked_there old place (lock_of place) refl new (subst (λ (create : Create). MakesLock old place new create) c.in-Ok-Blocked.field-0-is (c.in-Ok-Blocked.ensures.answer h))).0;
+      cause = λ h. c.blocked.ensures.reported old (lock_of place) (blocked_there old place (lock_of place) refl new (subst (λ (create : Create). MakesLock old place new create) c.in-Ok-Blocked.field-0-is (c.in-Ok-Blocked.ensures.answer h))).0;
       kept = λ h. (blocked_there old place (lock_of place) refl new (subst (λ (create : Create). MakesLock old place new create) c.in-Ok-Blocked.field-0-is (c.in-Ok-Blocked.ensures.answer h))).1;
       counted = search rules;
     }
