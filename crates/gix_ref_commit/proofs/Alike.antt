@@ -35,14 +35,6 @@ planned_one e f found is =
     ∙ (ap (λ (c : plan.Change). record { name = name_of e; change = c; and_reference = is_of_reference (mode_of f.change); line = None; peeled = None }) is.change
     ∙ ap (λ (m : RefLog). record { name = name_of e; change = change_of e.change; and_reference = is_of_reference m; line = None; peeled = None }) is.mode)
 
--- edit by edit
-abbrev pub AllCarried : List RefEdit → List (Option TargetValue) → List RefEdit → Type 0
-AllCarried before found after = (k : ℕ) (d : RefEdit) → k < length before → IsCarried (slice_index_or before k d) (slice_index_or found k None) (slice_index_or after k d)
-
-rest_carried : (e : RefEdit) (before : List RefEdit) (found : List (Option TargetValue)) (f : RefEdit) (after : List RefEdit) → AllCarried (e ∷ before) found (f ∷ after) →
-    (k : ℕ) (d : RefEdit) → k < length before → IsCarried (slice_index_or before k d) (slice_index_or found (suc k) None) (slice_index_or after k d)
-rest_carried e before found f after each k d lt = each (suc k) d (omega (arith, lt))
-
 -- by what was found of each, whatever that is
 abbrev pub AreSame : List RefEdit → List RefEdit → Type 0
 AreSame [] [] = Unit {0}
@@ -148,6 +140,3 @@ module _ (ran held : List Edit) (alike : all_but_logs ran ≡ all_but_logs held)
 
   pub effects_alike : effects_of ran ≡ effects_of held
   effects_alike = effects_by ran ∙ (ap (map (λ (r : Rest). effect_value r.0.change r.5)) alike ∙ sym (effects_by held))
-
-  pub flags_alike : written_flags ran ≡ written_flags held
-  flags_alike = flags_by ran ∙ (ap (map (λ (r : Rest). is_write r.5)) alike ∙ sym (flags_by held))

@@ -18,7 +18,7 @@ use Rattle.gix_ref_lines.specs.DueLines.LogOutcome.{Stays, Gains, Goes}
 use Rattle.gix_ref_lines.specs.declared.ids.LineIds.{LineIds}
 use Rattle.gix_ref_lines.proofs.LineSteps.{no_ids, no_line}
 use Rattle.gix_ref_commit.specs.LogEffects.{IsLogOf, AreLogsOf, line_in, lines_in}
-use Rattle.gix_ref_commit.proofs.Held.{heads}
+use Rattle.gix_ref_transaction.proofs.EditsApart.{heads}
 
 -- the line of an outcome
 abbrev gained : LogOutcome → Option (List ℕ)

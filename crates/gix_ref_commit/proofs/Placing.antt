@@ -39,7 +39,7 @@ use Rattle.gix_ref_commit.specs.LogEffects.{IsLogOf, AreLogsOf}
 use Rattle.gix_ref_commit.proofs.Carries.{AreIn, Carries}
 use Rattle.gix_ref_commit.proofs.Carrying as carrying
 use Rattle.gix_ref_commit.proofs.Carrying.{IsPlain, IsLogPlain, ArePlaced, IsElsewhere, AreApart, IsPackedPlaced}
-use Rattle.gix_ref_commit.proofs.Held.{heads}
+use Rattle.gix_ref_transaction.proofs.EditsApart.{heads}
 use Rattle.gix_ref_commit.proofs.OwnPlan.{own_plan}
 
 -- What is known of the paths of a transaction as its commit begins to write, on the disk D; `before` is the tree from before it.

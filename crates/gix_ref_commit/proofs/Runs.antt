@@ -59,7 +59,8 @@ use Rattle.gix_ref_commit.proofs.Carries as carries
 use Rattle.gix_ref_commit.proofs.Carries.{Carries}
 use Rattle.gix_ref_commit.proofs.Cleared as cleared
 use Rattle.gix_ref_commit.proofs.Cleared.{EachOutside}
-use Rattle.gix_ref_commit.proofs.Held.{IsReady, IsHeld, AreHeld, held, held_at, edits_apart}
+use Rattle.gix_ref_commit.proofs.Held.{IsReady, IsHeld, AreHeld, held, held_at}
+use Rattle.gix_ref_transaction.proofs.EditsApart.{edits_apart}
 use Rattle.gix_ref_commit.proofs.Lined.{alters_lined, apart_lined, repack_lined}
 use Rattle.gix_ref_commit.proofs.OwnPlan.{line_written, log_removed, file_put, file_removed, packed_written, own_plan, IsAsPlanned, AreAsPlanned, plan_is}
 use Rattle.gix_ref_commit.proofs.Placing as placing
@@ -148,7 +149,7 @@ module _ (dirs : Dirs) (namespace : Option Namespace) (kind : Kind) (prohibits :
   hold = held s kind before D.tree given ran ready
 
   pub edits_are : AreEdits s edits
-  edits_are = apart_lined s given (lines_in ran) (edits_apart s kind before D.tree [] given ready.accepted.no_cause laid.references)
+  edits_are = apart_lined s given (lines_in ran) (edits_apart s kind before [] given ready.accepted.no_cause laid.references)
 
   no_lock_there : (q p : Path) → ((r : Path) → p ≢ lock_of r) → is_in mine p ≡ false
   no_lock_there q p plain = is_false (is_in mine p) (λ within. let l = own_is_lock locked p (own_all s before given p within) in plain l.0 l.1)

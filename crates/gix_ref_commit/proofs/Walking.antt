@@ -4,16 +4,14 @@ use Rattle.std.specs.Prelude.{◌==◌}
 use Rattle.std.specs.List.{All}
 use Rattle.std.specs.declared.alloc.Global.{Global}
 use Rattle.std.proofs.lemmas.Bool.{eqb-true}
-use Rattle.std.proofs.lemmas.List.{append-nil, length-map, map-append, reverse-append, take_more}
+use Rattle.std.proofs.lemmas.List.{length-map, map-append, reverse-append, take_more}
 use Rattle.std.proofs.lemmas.List.Elements.{All-append, All-cons, All-nil, All-push, All-head, All-tail}
 use Rattle.gix_ref_hash.specs.Bytes.{Cuts, NoByte}
 use Rattle.gix_ref_files.specs.Calls.{IsEntryOf, entry_name}
 use Rattle.gix_ref_files.specs.Settled.{IsIn}
-use Rattle.gix_ref_files.specs.Tree.{Tree, Path, Content, fronts, is_blocked, is_file, is_folder, node_at, node_of}
+use Rattle.gix_ref_files.specs.Tree.{Tree, Path, Content, fronts, is_file, is_folder}
 use Rattle.gix_ref_files.specs.Tree.Content.{File, Folder}
 use Rattle.gix_ref_files.specs.declared.files.Entry.{Entry as FolderEntry}
-use Rattle.gix_ref_files.specs.declared.files.Node.{Node}
-use Rattle.gix_ref_files.specs.declared.files.Node.TheVariants.{Folder as a_folder}
 use Rattle.gix_ref_files.proofs.Settling.{front_splits}
 use Rattle.gix_ref_base.specs.Layout.{LiesIn}
 use Rattle.gix_ref_lookup.specs.CleanPaths.{common_of}
@@ -78,10 +76,6 @@ file_holds dirs T folder entry is file =
 pub store_holds : (dirs : Dirs) (T : Tree) (folder path : Path) (name : List ℕ) → path ≡ folder ++ 47 ∷ name → (root : Path) × IsOfStore dirs root × IsAtOrBelow path root → HoldsMore dirs T folder
 store_holds dirs T folder path name is (root, store, at) = (root, inside_then folder path root (inr (name, is)) at, inr store)
 
--- Folders that are added.
-pub no_more : (dirs : Dirs) (path : Path) (found : List Path) → OnlyMore dirs path found found
-no_more dirs path found = ([], sym (append-nil found), record { inside = All-nil (IsAtOrBelow path); outside = All-nil (λ f. IsIn f (roots_of dirs) → ⊥) })
-
 pub one_more_folder : (dirs : Dirs) (path new : Path) (found all : List Path) → all ≡ found ++ new ∷ [] → IsAtOrBelow path new → (IsIn new (roots_of dirs) → ⊥) → OnlyMore dirs path found all
 one_more_folder dirs path new found all is inside outside = (
   new ∷ [],
@@ -114,16 +108,6 @@ walked_more dirs top folder a b inside (rest, is, are) (ys, next, more) = (
     within [] all = All-nil (IsAtOrBelow top)
     within (x ∷ l) all = All-cons (IsAtOrBelow top) x l (inside_then top folder x inside (All-head (IsAtOrBelow folder) x l all)) (within l (All-tail (IsAtOrBelow folder) x l all))
 
-pub walk_starts : (dirs : Dirs) (top : Path) (found : List Path) → found ≡ top ∷ [] → (IsIn top (roots_of dirs) → ⊥) → IsWalked dirs top found
-walk_starts dirs top found is outside = (
-  [],
-  is,
-  subst (AreFolders dirs top) (sym is) (record {
-    inside = All-cons (IsAtOrBelow top) top [] (inl refl) (All-nil (IsAtOrBelow top));
-    outside = All-cons (λ f. IsIn f (roots_of dirs) → ⊥) top [] outside (All-nil (λ f. IsIn f (roots_of dirs) → ⊥));
-  }),
-)
-
 pub all_reverse : (P : Path → Type 0) (xs : List Path) → All P xs → All P (reverse xs)
 all_reverse P [] all = all
 all_reverse P (x ∷ xs) all = subst (All P) (sym (reverse-append (x ∷ []) xs)) (All-push P (reverse xs) x (all_reverse P xs (All-tail P x xs all)) (All-head P x xs all))
@@ -135,29 +119,6 @@ in_way_of dirs T top found folders (rest, is, are) backwards all = record {
   outside = subst (All (λ f. IsIn f (roots_of dirs) → ⊥)) (sym backwards) (all_reverse (λ f. IsIn f (roots_of dirs) → ⊥) found are.outside);
   none_or_all = inr all;
 }
-
--- none, where more is there
-pub none_in_way : (dirs : Dirs) (T : Tree) (top : Path) (folders : List Path) → folders ≡ [] → (is_folder (T top) ≡ true → HoldsMore dirs T top) → AreInWay dirs T false top folders
-none_in_way dirs T top folders none more = record {
-  inside = subst (All (IsAtOrBelow top)) (sym none) (All-nil (IsAtOrBelow top));
-  outside = subst (All (λ f. IsIn f (roots_of dirs) → ⊥)) (sym none) (All-nil (λ f. IsIn f (roots_of dirs) → ⊥));
-  none_or_all = inl (none, λ seen folder. more folder);
-}
-
--- none is sought where a file was seen
-pub none_sought : (dirs : Dirs) (T : Tree) (seen : Bool) (at : Option Path) (folders : List Path) → seen ≡ true → folders ≡ [] → AreInWayOf dirs T seen at folders
-none_sought dirs T seen None folders is none = none
-none_sought dirs T seen (Some top) folders is none = record {
-  inside = subst (All (IsAtOrBelow top)) (sym none) (All-nil (IsAtOrBelow top));
-  outside = subst (All (λ f. IsIn f (roots_of dirs) → ⊥)) (sym none) (All-nil (λ f. IsIn f (roots_of dirs) → ⊥));
-  none_or_all = inl (none, λ other folder. absurd (differ (sym is ∙ other)));
-}
-  where
-    differ : true ≡ false → ⊥
-    differ e = cc
-
-pub top_holds : (dirs : Dirs) (T : Tree) (top : Path) → (root : Path) × IsOfStore dirs root × IsAtOrBelow top root → HoldsMore dirs T top
-top_holds dirs T top (root, store, at) = (root, at, inr store)
 
 -- the first component of a path
 pub component_cut : (text before after : List ℕ) → Cuts 47 text before after → length before ≡ first_component text
@@ -263,12 +224,3 @@ walked_at dirs top found i d lt (rest, is, are) =
     item [] k lt = absurd (omega (arith, lt))
     item (x ∷ l) zero lt = refl
     item (x ∷ l) (suc k) lt = item l k (omega (arith, lt))
-
--- no folder is there
-pub no_folder : (T : Tree) (p : Path) (node : Node) → node ≡ node_at T p → (node ≡ a_folder → ⊥) → is_folder (T p) ≡ false
-no_folder T p node is other = by (T p) refl
-  where
-    by : (c : Option Content) → T p ≡ c → is_folder (T p) ≡ false
-    by (Some Folder) at = absurd (other (is ∙ ap (λ (c : Option Content). node_of c (is_blocked T p)) at))
-    by (Some (File bytes)) at = ap is_folder at
-    by None at = ap is_folder at

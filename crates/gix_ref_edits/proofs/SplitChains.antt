@@ -1,7 +1,7 @@
 -- The split lists of chains, level by level.
 use Rattle.std.proofs.Common.{◌≡◌, ℕ, suc, refl, sym, ap, ◌∙◌, List, [], ◌∷◌, ◌++◌, true, false, Option, Some, None, append-nil}
 use Rattle.gix_ref_edits.specs.EditValues.{ChangeValue, EditValue}
-use Rattle.gix_ref_edits.specs.SplitLists.{level, first_levels, children, after_round, looked_up, child_list}
+use Rattle.gix_ref_edits.specs.SplitLists.{level, first_levels, children, after_round, child_list}
 use Rattle.gix_ref_edits.specs.SplitChains.{edit_at, parent_at, ChainOfFourSplits, ChainOfFiveIsTooLong, EditThatStaysIsKept}
 
 module _ (find : List ℕ → Option (List ℕ)) (change : ChangeValue) where
@@ -11,14 +11,6 @@ module _ (find : List ℕ → Option (List ℕ)) (change : ChangeValue) where
   children_of : (name : List ℕ) (answer : Option (List ℕ)) → find name ≡ answer → children find (follows name ∷ []) ≡ child_list (follows name) answer
   unfolding children
   children_of name answer is = ap (λ r. child_list (follows name) r ++ []) is ∙ append-nil (child_list (follows name) answer)
-
-  none_of_none : children find [] ≡ []
-  unfolding children
-  none_of_none = refl
-
-  round_of : (name : List ℕ) (answer : Option (List ℕ)) → find name ≡ answer → after_round find (follows name ∷ []) ≡ looked_up (follows name) answer ∷ []
-  unfolding after_round
-  round_of name answer is = ap (λ r. looked_up (follows name) r ∷ []) is
 
   level_more : (edits : List EditValue) (n : ℕ) (now next : List EditValue) → level find edits n ≡ now → children find now ≡ next → level find edits (suc n) ≡ next
   unfolding level

@@ -1,9 +1,9 @@
 -- What stops among steps leave.
-use Rattle.std.proofs.Common.{◌≡◌, inl, inr, ⊎_elim, ℕ, zero, suc, List, [], ◌∷◌, length, refl, sym, ◌∙◌, ap, subst}
+use Rattle.std.proofs.Common.{inl, inr, ⊎_elim, ℕ, zero, suc, List, [], ◌∷◌, length, refl, sym, ◌∙◌, ap, subst}
 use Rattle.std.proofs.Math.Seq.{take-length}
 use Rattle.gix_ref_files.specs.Tree.{Tree, Path, appended, folders_to, with_folders}
 use Rattle.gix_ref_files.specs.Calls.{created, Creating}
-use Rattle.gix_ref_files.specs.Steps.{Step, Create, Append, Line, Rename, RemoveFile, MakeFolders, RemoveFolder, End, Does, Begins, IsAfter, IsLeftBy, EndsBy, EndsAt, HasMemory, MayBeSynced, cause_once_done}
+use Rattle.gix_ref_files.specs.Steps.{Step, Create, Append, Line, Rename, RemoveFile, MakeFolders, RemoveFolder, End, Does, Begins, IsAfter, IsLeftBy, EndsBy, EndsAt, HasMemory, cause_once_done}
 use Rattle.gix_ref_files.specs.declared.steps.Cause.{Cause}
 use Rattle.gix_ref_files.specs.declared.steps.Cause.TheVariants.{File, Sync, Unexpected, Asked}
 use Rattle.gix_ref_files.proofs.Puts.{appended_none}
@@ -61,13 +61,6 @@ pub ended_is_left : (steps : List Step) (at : ℕ) (cause : Cause) (before T : T
 ended_is_left [] at cause before T ends = absurd ends
 ended_is_left (step ∷ steps) zero cause before T ends = inl (ended_is_begun step cause before T ends)
 ended_is_left (step ∷ steps) (suc at) cause before T ends = inr (ends.0, ends.1, ended_is_left steps at cause ends.0 T ends.2)
-
--- a fault of a sync ends the step, which is done
-pub ends_in_sync : (step : Step) (cause : Cause) (before T : Tree) → MayBeSynced step → Does step before T → (cause ≡ Unexpected → ⊥) → (cause ≡ Asked → ⊥) → EndsBy step (cause_once_done cause) before T
-ends_in_sync step (File error) before T may does not_unexpected not_asked = (may, does)
-ends_in_sync step (Sync error) before T may does not_unexpected not_asked = (may, does)
-ends_in_sync step Unexpected before T may does not_unexpected not_asked = absurd (not_unexpected refl)
-ends_in_sync step Asked before T may does not_unexpected not_asked = absurd (not_asked refl)
 
 -- a run that did not want memory in a sync did not want it in the step
 pub memory_once_done : (cause : Cause) → HasMemory cause → HasMemory (cause_once_done cause)

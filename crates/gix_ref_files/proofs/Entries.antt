@@ -36,15 +36,6 @@ entered_may D p q h c = by (bytes_eq p q) refl
     by true e (inr old) = inl (subst (λ (x : Path). MayBe D x c) ((bytes_eq-Decides p q).0 e) old)
     by false e may = inl may
 
--- nothing that may be is taken away
-pub entered_grows : (D : Disk) (p q : Path) (h : DiskItem) (c : Option Content) → MayBe D q c → MayBe (with_item D p h) q c
-entered_grows D p q h c = by (bytes_eq p q) refl
-  where
-    by : (b : Bool) → bytes_eq p q ≡ b → MayBe D q c →
-        OneRemains (record { content = if b then h.content else D.tree q; synced = if b then h.synced else D.unsynced.synced q } ∷ (if b then item_at D p ∷ D.unsynced.past p else D.unsynced.past q)) c
-    by true e may = inr (subst (λ (x : Path). MayBe D x c) (sym ((bytes_eq-Decides p q).0 e)) may)
-    by false e may = may
-
 none_left : (any : List ℕ) (n : ℕ) → length any ≤ n - n → any ≡ []
 none_left [] n le = refl
 none_left (x ∷ any) n le = absurd (omega (arith, le))

@@ -65,7 +65,3 @@ pub folder_next : (p : Path) (i : ℕ) (slash : Bool) → 1 ≤ i → i < length
 folder_next p i slash some lt is =
     ap folder_of (take_more p i 0 lt) ∙ folder_snoc (take i p) (get_or p i 0) (let le : i ≤ length p = omega arith in omega (arith, length-take-le i p le))
     ∙ ap (λ (b : Bool). if b then take i p else folder_of (take i p)) is
-
-pub folder_first : (p : Path) → folder_of (take 1 p) ≡ []
-folder_first [] = refl
-folder_first (b ∷ p) = refl

@@ -14,4 +14,3 @@ pub mod Ready
 pub mod Runs
 pub mod Settling
 pub mod Shaped
-pub mod Writing

@@ -7,12 +7,12 @@ use Rattle.gix_ref_files.specs.Tree.{Tree, Path, put, is_file, is_blocked, front
 use Rattle.gix_ref_files.specs.Tree.Content.{Folder}
 use Rattle.gix_ref_files.specs.Disk.{Disk, created_on, with_folders_on}
 use Rattle.gix_ref_files.specs.DiskCalls.{MakingFoldersOn, CreatingOn, after_create}
-use Rattle.gix_ref_files.specs.Files.{Meaning, disk_of, Leaves, Passes}
-use Rattle.gix_ref_files.specs.Calls.{MakesFolders, MakingFolders, is_in_the_way, Creates, Creating}
-use Rattle.gix_ref_files.specs.Lock.{Readies, Readying, ReadyingOn, MakesLock, Acquiring, LockingOn, after_locking, readied, readied_on, folders_up_to, lock_of}
+use Rattle.gix_ref_files.specs.Files.{Meaning, disk_of, Passes}
+use Rattle.gix_ref_files.specs.Calls.{MakesFolders, MakingFolders, is_in_the_way, Creates}
+use Rattle.gix_ref_files.specs.Lock.{Readies, Readying, ReadyingOn, MakesLock, LockingOn, after_locking, readied, readied_on, folders_up_to, lock_of}
 use Rattle.gix_ref_files.specs.declared.files.Create.{Create}
 use Rattle.gix_ref_files.specs.declared.files.Create.TheVariants.{Made, Standing, Blocked}
-use Rattle.gix_ref_files.proofs.Moments.{weaken, joins, passes_weaken, passes_joins}
+use Rattle.gix_ref_files.proofs.Moments.{passes_weaken, passes_joins}
 use Rattle.gix_ref_files.proofs.PathFronts.{fronts_snoc, fronts_next}
 
 any_snoc : (P : Path → Bool) (fs : List Path) (f : Path) → list_any P (fs ++ f ∷ []) ≡ (P f || list_any P fs)
@@ -56,10 +56,6 @@ end_next p (suc i) end true some lt is so_far =
     fronts_next p (suc i) true some lt is
     ∙ sym (fronts_snoc (take (suc i) p) 47 (let le : suc i ≤ length p = omega arith in omega (arith, length-take-le (suc i) p le)))
 end_next p (suc i) end false some lt is so_far = fronts_next p (suc i) false some lt is ∙ so_far
-
-pub end_first : (p : Path) → fronts (take 1 p) ≡ []
-end_first [] = refl
-end_first (b ∷ p) = refl
 
 -- the folders up to a slash that is there
 pub up_to_slash : (p : Path) (end : ℕ) → (end ≡ 0 → ⊥) → folders_up_to p end ≡ folders_to (take end p)
@@ -114,12 +110,6 @@ lock_free before path free blocked =
   where
     clash : false ≡ true → ⊥
     clash e = cc
-
--- what the two calls leave
-pub make_lock_leaves : (old mid new : Meaning) (path lock : Path) → lock ≡ lock_of path → Leaves old mid (Readying old.tree path) → (is_blocked old.tree path ≡ false) × (mid.tree ≡ readied old.tree path) → Leaves mid new (Creating mid.tree lock) → Leaves old new (Acquiring old.tree path)
-make_lock_leaves old mid new path lock is first readied_now second =
-    joins (weaken first (λ T some. inl some))
-    (weaken second (λ T some. inr (readied_now.0, subst (λ (S : Tree). Creating S (lock_of path) T) readied_now.1 (subst (λ (p : Path). Creating mid.tree p T) is some))))
 
 pub makes_lock : (before mid T : Tree) (path lock : Path) (create : Create) → lock ≡ lock_of path → (is_blocked before path ≡ false) × (mid ≡ readied before path) → Creates mid lock T create → MakesLock before path T create
 makes_lock before mid T path lock Made is ready creates = (ready.0, subst (λ (S : Tree). Creates S (lock_of path) T Made) ready.1 (subst (λ (p : Path). Creates mid p T Made) is creates))

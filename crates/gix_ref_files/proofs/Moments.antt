@@ -1,8 +1,8 @@
 -- How a run of calls goes on.
-use Rattle.std.proofs.Common.{◌≡◌, inl, inr, ⊎_elim, ℕ, subst, sym, refl, arith}
+use Rattle.std.proofs.Common.{◌≡◌, inl, inr, ⊎_elim, ℕ, subst, sym, arith}
 use Rattle.gix_ref_files.specs.Tree.{Tree}
 use Rattle.gix_ref_files.specs.Disk.{Disk, Lost}
-use Rattle.gix_ref_files.specs.Files.{Meaning, disk_of, left_since, lost_since, Leaves, Passes, Loses, Adds, AddsDisks, StopsLeave, LossesLeave}
+use Rattle.gix_ref_files.specs.Files.{Meaning, disk_of, left_since, lost_since, Leaves, Passes, Loses, Adds, AddsDisks, StopsLeave}
 
 -- before the first call
 pub starts : (now : Meaning) (P : Tree → Type 0) → P now.tree → Leaves now now P
@@ -51,6 +51,24 @@ passes_joins first second = record {
   keeps = λ t D le found. second.keeps t D (omega (arith, le, first.later)) (first.keeps t D le found);
 }
 
+-- The same of what losses of power leave.
+
+pub loses_weaken : {old new : Meaning} {P Q : Tree → Type 0} → Loses old new P → ((T : Tree) → P T → Q T) → Loses old new Q
+loses_weaken run wider = record {
+  now = λ T lost. wider T (run.now T lost);
+  later = run.later;
+  since = λ t T le lost. ⊎_elim (λ past. inl past) (λ p. inr (wider T p)) (run.since t T le lost);
+  keeps = run.keeps;
+}
+
+pub loses_joins : {old mid new : Meaning} {P : Tree → Type 0} → Loses old mid P → Loses mid new P → Loses old new P
+loses_joins first second = record {
+  now = second.now;
+  later = omega (arith, first.later, second.later);
+  since = λ t T le lost. ⊎_elim (first.since t T le) (λ p. inr p) (second.since t T (omega (arith, le, first.later)) lost);
+  keeps = λ t T le lost. second.keeps t T (omega (arith, le, first.later)) (first.keeps t T le lost);
+}
+
 -- what stops then leave
 pub stops : {old new : Meaning} {P : Disk → Type 0} (Q : Tree → Type 0) → ((D : Disk) → P D → Q D.tree) → Passes old new P → Leaves old new Q
 unfolding left_since
@@ -70,25 +88,6 @@ losses {old = old} {new = new} Q wider run = record {
   since = λ t T le left. ⊎_elim (λ past. inl (left.0, past, left.2)) (λ p. inr (wider left.0 p T left.2)) (run.since t left.0 le left.1);
   keeps = λ t T le left. (left.0, run.keeps t left.0 le left.1, left.2);
 }
-
--- what a loss of power since old could have left, where since old nothing else was found than what old is now
-pub losses_leave : {old new : Meaning} {P : Tree → Type 0} → Loses old new P → ((T : Tree) → Lost (disk_of old) T → P T) → ((D : Disk) → old.found_since old.moment D → D ≡ disk_of old) → LossesLeave old new P
-unfolding lost_since
-losses_leave {P = P} run here only T left =
-    ⊎_elim (λ past. here T (subst (λ (D : Disk). Lost D T) (only past.0 past.1) past.2)) (λ p. p) (run.since _ T (omega arith) left)
-
--- what a stop could have left is the tree of a disk that it could have found
-pub found_is_left : (m : Meaning) (t : ℕ) (D : Disk) → m.found_since t D → left_since m t D.tree
-unfolding left_since
-found_is_left m t D found = (D, found, refl)
-
-pub left_is_found : (m : Meaning) (t : ℕ) (T : Tree) → left_since m t T → (D : Disk) × m.found_since t D × (D.tree ≡ T)
-unfolding left_since
-left_is_found m t T left = left
-
-pub lost_is_found : (m : Meaning) (t : ℕ) (T : Tree) → lost_since m t T → (D : Disk) × m.found_since t D × Lost D T
-unfolding lost_since
-lost_is_found m t T lost = lost
 
 -- each tree that has Q is that of a disk that is added
 pub adds_trees : (old new : Meaning) (P : Disk → Type 0) (Q : Tree → Type 0) → ((T : Tree) → Q T → (D : Disk) × P D × (D.tree ≡ T)) → AddsDisks old new P → Adds old new Q

@@ -1,16 +1,15 @@
 -- After a step folders lead to its path, and a file is there where its bytes grew: so its syncs find what they name.
 use Rattle.std.proofs.Common.{◌≡◌, inl, inr, ℕ, zero, suc, ◌<◌, ◌≤◌, List, [], ◌∷◌, ◌++◌, length, take, get_or, Bool, true, false, Option, Some, None, refl, sym, ◌∙◌, ap, subst, arith, append_assoc, append-nil}
-use Rattle.std.specs.Prelude.{bytes_eq, if◌then◌else◌, ◌==◌, is_some}
+use Rattle.std.specs.Prelude.{if◌then◌else◌, ◌==◌, is_some}
 use Rattle.std.specs.List.{list_all}
 use Rattle.std.proofs.lemmas.Bool.{false≢true, true≢false}
-use Rattle.gix_ref_files.specs.Tree.{Tree, Path, Content, put, appended, more, is_file, is_folder, has_folders, fronts_after, IsShaped}
+use Rattle.gix_ref_files.specs.Tree.{Tree, Path, Content, appended, more, is_file, is_folder, has_folders, fronts_after, IsShaped}
 use Rattle.gix_ref_files.specs.Tree.Content.{File, Folder}
-use Rattle.gix_ref_files.specs.Calls.{created, Creates, Appends, Renames, RemovesFile}
+use Rattle.gix_ref_files.specs.Calls.{created, Creates, Appends, RemovesFile}
 use Rattle.gix_ref_files.specs.Steps.{Does}
 use Rattle.gix_ref_files.specs.Steps.Step.{Line}
 use Rattle.gix_ref_files.specs.DiskSteps.{CanSync}
 use Rattle.gix_ref_files.specs.declared.files.Create.TheVariants.{Made}
-use Rattle.gix_ref_files.specs.declared.files.Rename.TheVariants.{Moved}
 use Rattle.gix_ref_files.proofs.Changes.{file_no_folder}
 use Rattle.gix_ref_files.proofs.Puts.{put_at, folders_kept}
 use Rattle.gix_ref_files.proofs.Settling.{both_true}
@@ -46,10 +45,6 @@ folder_missing T p k some lt slash none = by (has_folders T p) refl
 no_file : false ≡ true → (T : Tree) (p : Path) → is_file (T p) ≡ true
 no_file e T p = absurd (false≢true e)
 
-pub ready_created : (before T : Tree) (p : Path) → Creates before p T Made → CanSync false T p
-ready_created before T p made =
-    (subst (λ (S : Tree). has_folders S p ≡ true) (sym made.1) (folders_kept before p (Some (File [])) (ap is_folder made.0.0) p made.0.1), λ e. no_file e T p)
-
 pub file_grown : (content : Option Content) (bytes : List ℕ) → is_file content ≡ true → is_file (more content bytes) ≡ true
 file_grown (Some (File old)) bytes h = refl
 file_grown (Some Folder) bytes h = h
@@ -72,17 +67,6 @@ pub ready_line : (before T : Tree) (p : Path) (bytes : List ℕ) → IsShaped be
 ready_line before T p bytes shaped (inl done) = ready_appended before T p bytes shaped done
 ready_line before T p bytes shaped (inr (free, is)) =
     grown (created before p) T p bytes (ap is_file (put_at before p (Some (File [])))) (folders_kept before p (Some (File [])) (ap is_folder free.0) p free.1) is
-
-pub ready_moved : (before T : Tree) (from to : Path) → Renames before from to T Moved → CanSync false T to
-ready_moved before T from to ((file, no_folder, below), is) = (
-  subst (λ (S : Tree). has_folders S to ≡ true) (sym is)
-      (folders_kept (put before from None) to (before from) (by (bytes_eq from to) no_folder) to (folders_kept before from None (file_no_folder (before from) file) to below)),
-  λ e. no_file e T to,
-)
-  where
-    by : (b : Bool) → is_folder (before to) ≡ false → is_folder (if b then None else before to) ≡ false
-    by true h = refl
-    by false h = h
 
 pub ready_removed : (before T : Tree) (p : Path) → IsShaped before → RemovesFile before p T true → CanSync false T p
 ready_removed before T p shaped done = (

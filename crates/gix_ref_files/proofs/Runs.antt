@@ -11,14 +11,10 @@ use Rattle.gix_ref_files.specs.Settled.{Sync, synced, synced_by, folders_up}
 use Rattle.gix_ref_files.specs.Settled.Sync.{OfFile, OfFolder}
 use Rattle.gix_ref_files.specs.Steps.{Step}
 use Rattle.gix_ref_files.specs.Steps.Step.{Create, Append, Line, Rename, RemoveFile, MakeFolders, RemoveFolder, End}
-use Rattle.gix_ref_files.specs.DiskSteps.{Synced, needed, BeginsOn, DoesOn, IsReachedBy, IsSyncedAfter, IsEndedAt, IsSomeSynced, Settling, synced_step, synced_steps}
+use Rattle.gix_ref_files.specs.DiskSteps.{Synced, needed, BeginsOn, IsReachedBy, IsSyncedAfter, IsEndedAt, IsSomeSynced, Settling, synced_step, synced_steps}
 use Rattle.gix_ref_files.specs.DiskSteps.Synced.{With}
 use Rattle.gix_ref_files.specs.declared.steps.Planned.{Planned}
 use Rattle.gix_ref_files.proofs.Moments.{passes_weaken, passes_joins}
-
--- none is synced yet
-pub none_synced : (ss : List Sync) (D : Disk) → IsSomeSynced ss D D
-none_synced ss D = (0, refl)
 
 -- the first sync is done, or not
 pub first_synced : (s : Sync) (ss : List Sync) (D E : Disk) → Settling s D E → IsSomeSynced (s ∷ ss) D E
@@ -128,10 +124,3 @@ pub line_synced : (p : Path) (ss : List Sync) (old mid new : Meaning) → Passes
 line_synced p ss old mid new first done rest =
     passes_joins (passes_weaken first (λ E settling. first_synced (OfFile p) ss (disk_of old) E settling))
     (passes_weaken rest (λ E some. then_synced (OfFile p) ss (disk_of old) E (subst (λ (X : Disk). IsSomeSynced ss X E) done some)))
-
--- a step whose syncs are not needed, or are begun
-pub reached_begun : (step : Step) (ss : List Sync) (D E : Disk) → BeginsOn step D E → IsReachedBy (With step ss ∷ []) D E
-reached_begun step ss D E begun = inl begun
-
-pub reached_synced : (step : Step) (ss : List Sync) (D mid E : Disk) → DoesOn step D mid → needed step D ss ≡ ss → IsSomeSynced ss mid E → IsReachedBy (With step ss ∷ []) D E
-reached_synced step ss D mid E does all some = inr (mid, does, inl (some.0, some.1 ∙ ap (λ (l : List Sync). synced_by (take some.0 l) mid) (sym all)))

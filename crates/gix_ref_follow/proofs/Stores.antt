@@ -24,6 +24,7 @@ use Rattle.gix_ref_follow.specs.Followed.{finds_in, HitsNext, IsNotFollowed}
 use Rattle.gix_ref_follow.specs.declared.peel.to_object.Error.{Error}
 use Rattle.gix_ref_follow.specs.declared.peel.to_object.Error.TheVariants.{Follow, Cycle, DepthLimitExceeded, Memory}
 use Rattle.gix_ref_listing.specs.PlainSettings.{lent}
+use Rattle.gix_ref_store.proofs.SameStores.{same_on}
 
 pub fails_wider : (Passed Passed' Fails Fails' : List ℕ → Type 0) (names : List (List ℕ)) → ((n : List ℕ) → Passed n → Passed' n) → ((n : List ℕ) → Fails n → Fails' n) →
     FailsAt Passed Fails names → FailsAt Passed' Fails' names
@@ -53,23 +54,12 @@ same_settings old new same =
 pub same_place : {F : Type 0} (old new : Store F) (name : List ℕ) → stores.IsSameStore old new → (stores.meaning_of new).place name ≡ (stores.meaning_of old).place name
 same_place old new name same = ap (λ s. (meaning_in s).place name) (same_settings old new same)
 
-pub same_store : {F : Type 0} (first mid last : Store F) → stores.IsSameStore first mid → stores.IsSameStore mid last → stores.IsSameStore first last
-same_store first mid last a b = record {
-  dirs = b.dirs ∙ a.dirs;
-  namespace = b.namespace ∙ a.namespace;
-  of_kind = b.of_kind ∙ a.of_kind;
-  reflogs = b.reflogs ∙ a.reflogs;
-  composes = b.composes ∙ a.composes;
-  prohibits = b.prohibits ∙ a.prohibits;
-  threshold = b.threshold ∙ a.threshold;
-}
-
 module _ {F : Type 0} (honest : Type 0) (means : F → Meaning) where
   -- lookups in a row
   pub looks_up : (first mid last : Store F) → LooksUp honest means first mid → LooksUp honest means mid last → LooksUp honest means first last
   looks_up first mid last a b = record {
     leaves = λ h. joins (a.leaves h) (weaken (b.leaves h) (λ T is. is ∙ (a.leaves h).tree));
-    same = same_store first mid last a.same b.same;
+    same = same_on first mid last a.same b.same;
   }
 
   -- what lookups find stays

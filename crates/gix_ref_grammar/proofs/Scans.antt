@@ -77,10 +77,6 @@ pub find_step : (p : ℕ → Bool) (n : List ℕ) (i : ℕ) (all : Option ℕ) �
 find_step p n i all within other was =
     sym (ap (find p) (drop_more n i 0 within) ∙ ap (λ v. cond v (Some (get_or n i 0)) (find p (drop (i + 1) n))) other) ∙ was
 
-pub find_here : (p : ℕ → Bool) (n : List ℕ) (i : ℕ) (all : Option ℕ) → i < length n → p (get_or n i 0) ≡ true → find p (drop i n) ≡ all → all ≡ Some (get_or n i 0)
-find_here p n i all within here was =
-    sym was ∙ ap (find p) (drop_more n i 0 within) ∙ ap (λ v. cond v (Some (get_or n i 0)) (find p (drop (i + 1) n))) here
-
 -- a byte that is not the second of a pair makes no pair
 pub pair_none : (a b p : ℕ) (n : List ℕ) (i : ℕ) (seen all : Bool) → i < length n → eqb b (get_or n i 0) ≡ false → (seen || occurs (a ∷ b ∷ []) (p ∷ drop i n)) ≡ all → (seen || occurs (a ∷ b ∷ []) (get_or n i 0 ∷ drop (i + 1) n)) ≡ all
 pair_none a b p n i seen all within other was =

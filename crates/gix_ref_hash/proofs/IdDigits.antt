@@ -40,13 +40,6 @@ pub id_text : (id : List ℕ) → (length id ≡ 40) ⊎ (length id ≡ 64) → 
 id_text id (inl len) digits = both_and _ _ (either_or_left (length id == 40) (length id == 64) (eq-eqb _ _ len)) digits
 id_text id (inr len) digits = both_and _ _ (either_or_right (length id == 40) (length id == 64) (eq-eqb _ _ len)) digits
 
--- the test passes exactly the digits of an id of some kind
-pub id_hex : (id : List ℕ) → IsIdText id → IsHex id
-id_hex id h = ⊎_elim
-    (λ (len : length id ≡ 40). inl (record { len = len; digits = AllPass-from_list_all is_hex_digit id (id_digits id h) }))
-    (λ (len : length id ≡ 64). inr (record { len = len; digits = AllPass-from_list_all is_hex_digit id (id_digits id h) }))
-    (id_length id h)
-
 pub hex_id : (id : List ℕ) → IsHex id → IsIdText id
 hex_id id (inl h) = id_text id (inl h.len) (list_all-from_AllPass is_hex_digit id h.digits)
 hex_id id (inr h) = id_text id (inr h.len) (list_all-from_AllPass is_hex_digit id h.digits)

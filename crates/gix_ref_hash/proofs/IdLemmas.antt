@@ -68,11 +68,6 @@ run_is_hex text n is some =
     sized (inl forty) len passes = inl (record { len = len ∙ forty; digits = passes })
     sized (inr sixty_four) len passes = inr (record { len = len ∙ sixty_four; digits = passes })
 
--- a run of another length is not
-pub run_not_hex : (text : List ℕ) (n : ℕ) → n ≡ length (take_while is_hex_digit (take 64 text)) → (n ≡ 40 → ⊥) → (n ≡ 64 → ⊥) → (digits rest : List ℕ) → HexRun text digits rest → IsHex digits → ⊥
-run_not_hex text n is not_forty not_sixty_four digits rest h (inl f) = not_forty (is ∙ ap length (sym h.run) ∙ f.len)
-run_not_hex text n is not_forty not_sixty_four digits rest h (inr f) = not_sixty_four (is ∙ ap length (sym h.run) ∙ f.len)
-
 -- a front that is not all digits is not those of an id
 pub front_not_hex : (kind : Kind) (text front : List ℕ) (n : ℕ) → n ≡ 2 * kind_len kind → front ≡ take n text → list_all is_hex_digit front ≡ false → (digits rest : List ℕ) → IsHexOf kind digits → text ≡ digits ++ rest → ⊥
 front_not_hex kind text front n sized is bad digits rest h whole =

@@ -77,15 +77,6 @@ module _ (edits : List Edit) (leaves : List Leaf) (i j : ℕ) (e : Edit) (one : 
       ap (λ (b : Bool). if b then leaf_from j (j + 1) (Below (expected_id e.update.change)) (drop (j + 1) edits) else leaf_from q (j + 1) Itself (drop (j + 1) edits)) (sym child)
       ∙ ap (leaf_from q j Itself) (sym (from_place edits j e lt is))
 
-  -- no earlier edit is its parent
-  pub leaves_kept : ((q : ℕ) → q < j → is_child q e.parent ≡ false) → AreLeaves edits j leaves
-  leaves_kept none = record {
-    len = known.len;
-    within = omega (arith, lt);
-    before = λ q less. before q (omega (arith, less)) ∙ sooner q false (none q less);
-    done = done;
-  }
-
   -- an earlier edit is
   pub leaves_handed : (parent : ℕ) → parent < j → e.parent ≡ Some parent → AreLeaves edits j (set leaves parent (handed e (get_or leaves j Itself)))
   leaves_handed parent less child = record {

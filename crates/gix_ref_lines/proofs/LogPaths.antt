@@ -1,43 +1,14 @@
--- The folders in a path, one byte after the other, and sets of paths.
-use Rattle.std.proofs.Common.{◌≡◌, ℕ, ◌+◌, ◌<◌, suc, List, [], ◌∷◌, ◌++◌, length, take, drop, get_or, map, Bool, true, false, not, refl, sym, subst, ◌∙◌, ap, arith}
-use Rattle.std.specs.Prelude.{if◌then◌else◌, ◌==◌, ◌||◌, bytes_eq, Vec}
+-- Sets of paths.
+use Rattle.std.proofs.Common.{◌≡◌, ℕ, List, [], ◌∷◌, map, Bool, true, false, not, refl, sym, subst, ◌∙◌, ap}
+use Rattle.std.specs.Prelude.{if◌then◌else◌, ◌||◌, bytes_eq, Vec}
 use Rattle.std.specs.List.{list_any}
 use Rattle.std.specs.Prelude.{MatchBool}
 use Rattle.std.specs.List.Sorted.{IsPermutation}
 use Rattle.std.proofs.lemmas.List.Sorted.{list_any-IsPermutation}
 use Rattle.std.specs.declared.alloc.Global.{Global}
-use Rattle.std.proofs.lemmas.List.{take_more}
 use Rattle.std.proofs.lemmas.Slice.Eq.{bytes_eq-Decides}
-use Rattle.std.proofs.Math.Seq.{drop-cons}
-use Rattle.gix_ref_files.specs.Tree.{Path, fronts, fronts_after}
+use Rattle.gix_ref_files.specs.Tree.{Path}
 use Rattle.gix_ref_transaction.specs.OwnLocks.{is_in}
-
--- the fronts of a path that are still to come, past the first byte and past the next one
-pub fronts_first : (p : Path) → fronts p ≡ fronts_after (take 1 p) (drop 1 p)
-fronts_first [] = refl
-fronts_first (b ∷ p) = refl
-
-pub fronts_next : (p : Path) (i : ℕ) (slash : Bool) → i < length p → (get_or p i 0 == 47) ≡ slash → fronts_after (take i p) (drop i p) ≡ (if slash then take i p ∷ fronts_after (take (i + 1) p) (drop (i + 1) p) else fronts_after (take (i + 1) p) (drop (i + 1) p))
-fronts_next p i slash lt is =
-    ap (fronts_after (take i p)) (drop-cons p i 0 lt)
-    ∙ (ap (λ (b : Bool). if b then take i p ∷ fronts_after (take i p ++ get_or p i 0 ∷ []) (drop (suc i) p) else fronts_after (take i p ++ get_or p i 0 ∷ []) (drop (suc i) p)) is
-    ∙ (ap (λ (l : Path). if slash then take i p ∷ fronts_after l (drop (suc i) p) else fronts_after l (drop (suc i) p)) (sym (take_more p i 0 lt))
-    ∙ ap (λ (n : ℕ). if slash then take i p ∷ fronts_after (take (i + 1) p) (drop n p) else fronts_after (take (i + 1) p) (drop n p)) (let e : suc i ≡ i + 1 = omega arith in e)))
-
--- a front that passes is found
-pub found_at : (P : Path → Bool) (p : Path) (i : ℕ) → i < length p → (get_or p i 0 == 47) ≡ true → P (take i p) ≡ true → list_any P (fronts_after (take i p) (drop i p)) ≡ true
-found_at P p i lt is passes =
-    ap (list_any P) (fronts_next p i true lt is)
-    ∙ ap (λ (b : Bool). b || list_any P (fronts_after (take (i + 1) p) (drop (i + 1) p))) passes
-
--- and one that does not pass is passed over, as is a byte that ends no front
-pub passed_over : (P : Path → Bool) (p : Path) (i : ℕ) → i < length p → (get_or p i 0 == 47) ≡ true → P (take i p) ≡ false → list_any P (fronts_after (take i p) (drop i p)) ≡ list_any P (fronts_after (take (i + 1) p) (drop (i + 1) p))
-passed_over P p i lt is fails =
-    ap (list_any P) (fronts_next p i true lt is)
-    ∙ ap (λ (b : Bool). b || list_any P (fronts_after (take (i + 1) p) (drop (i + 1) p))) fails
-
-pub no_front : (P : Path → Bool) (p : Path) (i : ℕ) → i < length p → (get_or p i 0 == 47) ≡ false → list_any P (fronts_after (take i p) (drop i p)) ≡ list_any P (fronts_after (take (i + 1) p) (drop (i + 1) p))
-no_front P p i lt is = ap (list_any P) (fronts_next p i false lt is)
 
 -- tests that decide the same
 same_test : (a b : Bool) → (a ≡ true → b ≡ true) → (b ≡ true → a ≡ true) → a ≡ b

@@ -1,14 +1,13 @@
 -- A log whose first line has a tab and ends with LF: where the line ends, and its parts.
-use Rattle.std.proofs.Common.{◌≡◌, ℕ, suc, ◌+◌, ◌-◌, ◌<◌, ◌≤◌, Bool, true, false, cond, ◌&&◌, ◌==◌, nat_lt, List, [], ◌∷◌, ◌++◌, length, slice_index, get_or, take, drop, inl, inr, refl, sym, ◌∙◌, ap, subst, arith}
+use Rattle.std.proofs.Common.{◌≡◌, ℕ, suc, ◌+◌, ◌-◌, ◌≤◌, Bool, true, false, cond, ◌&&◌, ◌==◌, nat_lt, List, [], ◌∷◌, ◌++◌, length, slice_index, get_or, take, drop, inl, inr, refl, sym, ◌∙◌, ap, subst, arith}
 use Rattle.std.proofs.lemmas.Bool.{lt-ltb}
-use Rattle.std.proofs.lemmas.List.{append_assoc, take-append-drop, drop_more, drop-drop, get_or-take, length-take-le, length-drop}
+use Rattle.std.proofs.lemmas.List.{append_assoc, take-append-drop, drop_more, drop-drop, length-take-le, length-drop}
 use Rattle.std.specs.List.{list_all}
 use Rattle.bstr.specs.Text.{no_cr}
 use Rattle.hex.specs.Hex.{is_hex_digit}
-use Rattle.gix_ref_hash.specs.Bytes.{NoByte, Cuts, is_break}
+use Rattle.gix_ref_hash.specs.Bytes.{NoByte, Cuts}
 use Rattle.gix_ref_log.specs.Signatures.{Who, IsSignature}
 use Rattle.gix_ref_log.proofs.SignaturesAgain.{none_append, none_cons}
-use Rattle.memchr.specs.Find.{NoneBefore, Passes}
 use Rattle.gix_ref_log.specs.LogCuts.{log_lines}
 use Rattle.gix_ref_log.specs.LogIds.{IdFront}
 use Rattle.gix_ref_log.specs.LogLines.{LogLine, IsLine}
@@ -35,18 +34,6 @@ two_ids text room first second previous new =
 pub both_hold : (a b : Bool) → (a && b) ≡ true → (a ≡ true) × (b ≡ true)
 both_hold true b h = (refl, h)
 both_hold false b h = absurd (cc)
-
--- cut at the first byte that is LF or less, which is a tab
-pub cut_at_break : (text : List ℕ) (i : ℕ) → NoneBefore (Passes is_break text) 0 (length text) i → get_or text i 0 ≡ 9 → Cuts 9 text (take i text) (drop (i + 1) text) × NoByte 10 (take i text)
-cut_at_break text i none tab =
-    let within = none.high in
-    let clear : (b : ℕ) → b < 11 → NoByte b (take i text) =
-    λ b small k l is.
-    let here : k < i = omega (arith, length-take-le i text (omega arith)) in
-    none.before k (omega arith) here (lt-ltb (get_or text k 0) 11 (subst (λ (c : ℕ). c < 11) (sym is ∙ get_or-take i text k 0 here) small)) in (
-      record { whole = sym (take-append-drop i text) ∙ ap (λ (t : List ℕ). take i text ++ t) (drop_more text i 0 within ∙ ap (λ (c : ℕ). c ∷ drop (i + 1) text) tab); none = clear 9 (omega arith) },
-      clear 10 (omega arith),
-    )
 
 cond_cons : (c : ℕ) (t : Bool) (a b : List ℕ) → cond t (c ∷ a) (c ∷ b) ≡ c ∷ cond t a b
 cond_cons c true a b = refl

@@ -1,7 +1,6 @@
 -- What a loose file and a record say as a result of a lookup.
-use Rattle.std.proofs.Common.{◌≡◌, ◌≢◌, ℕ, ◌*◌, ◌==◌, ◌&&◌, List, [], ◌∷◌, ◌++◌, append_assoc, Option, Some, None, Bool, true, false, if◌then◌else◌, length, refl, sym, ◌∙◌, ap, arith}
+use Rattle.std.proofs.Common.{◌≡◌, ◌≢◌, ℕ, ◌==◌, ◌&&◌, List, [], ◌∷◌, ◌++◌, append_assoc, Option, Some, None, Bool, true, false, if◌then◌else◌, length, refl, sym, ◌∙◌, ap, arith}
 use Rattle.std.specs.List.{list_any}
-use Rattle.hex.specs.Hex.{decode_of}
 use Rattle.hex.proofs.HexLemmas.{decode_of-ok}
 use Rattle.gix_ref_hash.specs.Ids.{ReadsId, id_bytes, id_kind, kind_len}
 use Rattle.gix_ref_hash.specs.declared.hash.ObjectId.{ObjectId}
@@ -10,9 +9,9 @@ use Rattle.gix_ref_hash.specs.declared.hash.Kind.{Kind}
 use Rattle.gix_ref_base.specs.PackedRecords.{Record, id_read, id_in, id_with}
 use Rattle.gix_ref_base.specs.Targets.{TargetValue, stripped_target, target_value}
 use Rattle.gix_ref_base.specs.Targets.TargetValue.{object_id, symbolic_name}
-use Rattle.gix_ref_theory.specs.Readings.{Store, as_read, reading_among, reading_by, reading_of_loose, reading_of_record, reading_of_id}
+use Rattle.gix_ref_theory.specs.Readings.{Store, as_read, reading_among, reading_by, reading_of_loose}
 use Rattle.gix_ref_theory.specs.Readings.Reading.{Is, Fault}
-use Rattle.gix_ref_theory.specs.Lookups.{peeled_of, peeled_in, hit_name, hit_peeled}
+use Rattle.gix_ref_theory.specs.Lookups.{hit_name, hit_peeled}
 use Rattle.gix_ref_theory.specs.Views.{View}
 use Rattle.gix_ref_records.specs.declared.raw.Reference.{Reference}
 use Rattle.gix_ref_name.specs.Names.{full_bytes}
@@ -20,8 +19,6 @@ use Rattle.gix_ref_name.specs.declared.name.FullName.{FullName}
 use Rattle.gix_ref_base.specs.declared.target.Target.{Target}
 use Rattle.gix_ref_grammar.specs.DeviceNames.{is_device}
 use Rattle.gix_ref_lookup.specs.Lookups.{IsLooseTarget, IsCandidate, IsByRecord}
-use Rattle.gix_ref_records.specs.Windows.{AreFound, ReadsOption}
-use Rattle.gix_ref_records.specs.declared.packed.window.Found.{Found}
 use Rattle.gix_ref_base.specs.Layout.{Layout, LiesIn, below}
 use Rattle.gix_ref_lookup.specs.StoreLayout.{git_options}
 use Rattle.gix_ref_lookup.specs.LooseText.{HoldsTarget}
@@ -48,25 +45,6 @@ digits_read digits id reads =
     whole : (id : ObjectId) → length (id_bytes id) ≡ kind_len (id_kind id) → id_with (id_bytes id) ≡ Some id
     whole (ids.Sha1 bytes) len = ap (λ n. if n == 20 then Some (ids.Sha1 bytes) else if n == 32 then Some (ids.Sha256 bytes) else None) len
     whole (ids.Sha256 bytes) len = ap (λ n. if n == 20 then Some (ids.Sha1 bytes) else if n == 32 then Some (ids.Sha256 bytes) else None) len
-
--- the ids that are found of a record are its reading and its peeled id
-pub found_reading : (record_there : Option Record) (found : Found) → AreFound record_there (Some found) → reading_of_record record_there ≡ Is (object_id found.target)
-found_reading (Some r) found is = ap reading_of_id (digits_read r.target found.target is.target)
-found_reading None found is = absurd is
-
-pub found_peeled : (record_there : Option Record) (found : Found) → AreFound record_there (Some found) → peeled_of record_there ≡ found.object
-found_peeled (Some r) found is = by r.object found.object is.object
-  where
-    by : (digits : Option (List ℕ)) (id : Option ObjectId) → ReadsOption digits id → peeled_in digits ≡ id
-    by None None reads = refl
-    by (Some digits) (Some id) reads = digits_read digits id reads
-    by None (Some id) reads = absurd reads
-    by (Some digits) None reads = absurd reads
-found_peeled None found is = absurd is
-
-pub found_none : (record_there : Option Record) → AreFound record_there None → record_there ≡ None
-found_none None is = refl
-found_none (Some r) is = absurd is
 
 -- a candidate by its loose file
 pub loose_candidate : (s : Store) (view : View) (rs : List Record) (name : List ℕ) (n : FullName) (target : Target) →

@@ -1,5 +1,5 @@
 -- A lookup of a composed name, as it is given.
-use Rattle.std.proofs.Common.{◌≡◌, ◌≢◌, ℕ, List, Option, Some, None, Bool, true, false, if◌then◌else◌, nat_eq, Result, Ok, Err, IfOk, IfErr, IfSome, OnOk, refl, sym, ◌∙◌, ap, subst}
+use Rattle.std.proofs.Common.{◌≡◌, ◌≢◌, ℕ, List, Option, Some, None, Bool, true, false, if◌then◌else◌, nat_eq, Result, Ok, Err, IfOk, IfErr, IfSome, refl, sym, ◌∙◌, ap, subst}
 use Rattle.std.specs.Option.{option_map}
 use Rattle.std.specs.Cmp.Lexicographic.{pointwise, same_text, other_text}
 use Rattle.gix_ref_name.specs.Names.{full_bytes}
@@ -86,10 +86,3 @@ given_err P memory (Ok (Some r)) (Err e) no_memory is = subst P (sym no_memory) 
 given_err P memory (Ok (Some r)) (Ok None) none is = absurd none
 given_err P memory (Ok None) given none is = subst (λ g. IfErr g P) (sym none) tt
 given_err P memory (Err e) given failed is = subst (λ g. IfErr g P) (sym failed) is
-
-pub given_ok : (P : Type 0) (found given : Result (Option Reference) Error) → IsGivenOf found given → OnOk found P → OnOk given P
-given_ok P (Ok (Some r)) (Ok (Some g)) named is = is
-given_ok P (Ok (Some r)) (Err e) no_memory is = tt
-given_ok P (Ok (Some r)) (Ok None) none is = absurd none
-given_ok P (Ok None) given none is = subst (λ g. OnOk g P) (sym none) is
-given_ok P (Err e) given failed is = subst (λ g. OnOk g P) (sym failed) tt

@@ -135,18 +135,6 @@ laid_below git common rest worktree differ is named = (to, from)
     from (inr (inl r)) = named.1 (r.0, r.1, cancel_below common rest (codes "worktrees/" ++ r.0) (sym is ∙ r.2))
     from (inr (inr a)) = absurd (a.left_outside (rest, is))
 
--- and one that is not
-pub laid_apart : (git common : Path) (outside : Bool) → git ≢ common → (LiesIn git common → ⊥) → (IsTrue outside ↔ (LiesIn common git → ⊥)) → IsTrue outside ↔ AreCompatible git common
-laid_apart git common outside differ not_below apart = (to, from)
-  where
-    to : IsTrue outside → AreCompatible git common
-    to holds = inr (inr (record { differ = differ; left_outside = not_below; right_outside = apart.0 holds }))
-
-    from : AreCompatible git common → IsTrue outside
-    from (inl same) = absurd (differ same)
-    from (inr (inl r)) = absurd (not_below (codes "worktrees/" ++ r.0, r.2))
-    from (inr (inr a)) = apart.1 a.right_outside
-
 -- the rest behind the folder begins with a slash, or the path does not lie in the folder
 pub rest_in : (path folder rest : Path) (o : Option (Bor Path)) → path ≡ folder ++ rest →
     MatchOption o ((tail : Path) → rest ≢ codes "/" ++ tail) (λ tail. rest ≡ codes "/" ++ tail.now) →
@@ -163,11 +151,6 @@ parts_more rest part after none is = ap components is ∙ slice_split_at is_slas
 pub all_more : (passes : List ℕ → Bool) (rest part after : List ℕ) (all : Bool) → NoByte 47 part → rest ≡ part ++ 47 ∷ after → passes part ≡ true →
     list_all passes (components rest) ≡ all → list_all passes (components after) ≡ all
 all_more passes rest part after all none is ok so_far = sym (ap (list_all passes) (parts_more rest part after none is) ∙ ap (λ b. b && list_all passes (components after)) ok) ∙ so_far
-
--- the next one does not
-pub all_fail : (passes : List ℕ → Bool) (rest part after : List ℕ) (all : Bool) → NoByte 47 part → rest ≡ part ++ 47 ∷ after → passes part ≡ false →
-    list_all passes (components rest) ≡ all → false ≡ all
-all_fail passes rest part after all none is bad so_far = sym (ap (list_all passes) (parts_more rest part after none is) ∙ ap (λ b. b && list_all passes (components after)) bad) ∙ so_far
 
 -- the last one decides
 pub all_last : (passes : List ℕ → Bool) (rest : List ℕ) (all : Bool) → NoByte 47 rest → list_all passes (components rest) ≡ all → passes rest ≡ all

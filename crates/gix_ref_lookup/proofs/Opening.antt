@@ -16,7 +16,7 @@ use Rattle.gix_ref_packed.specs.declared.packed.sorted_file.FindError.TheVariant
 use Rattle.gix_ref_packed.specs.declared.packed.sorted_file.ReadError.TheVariants as reading
 use Rattle.std.proofs.lemmas.Bool.{ltb-false}
 use Rattle.gix_ref_packed.proofs.WellFormedLemmas.{opened_file_holds}
-use Rattle.gix_ref_lookup.specs.Lookups.{ArePackedRecords, AreAsked, IsSearched, IsReady, OfSearched, IsHitOfKey, IsRecordIn, IsNotPacked, IsFaultOrMemory, of_opening, as_found}
+use Rattle.gix_ref_lookup.specs.Lookups.{ArePackedRecords, IsSearched, OfSearched, IsHitOfKey, IsRecordIn, IsNotPacked, IsFaultOrMemory, of_opening, as_found}
 use Rattle.gix_ref_lookup.specs.declared.find.records.Records.{Records as Asked}
 use Rattle.gix_ref_lookup.specs.declared.find.records.Records.TheVariants as sources
 use Rattle.gix_ref_records.specs.declared.raw.Reference.{Reference}
@@ -135,16 +135,3 @@ if_err (Err e) wider holds = wider e holds
 pub if_some : {X : Type 0} {P Q : X → Type 0} (r : Option X) → ((x : X) → P x → Q x) → IfSome r P → IfSome r Q
 if_some None wider holds = holds
 if_some (Some x) wider holds = wider x holds
-
--- an open source holds its records whatever the file of `packed-refs` is
-pub ready_asked : {R : Type 0} {G : Ghosts R} (kind : Kind) (f f' : Option (List ℕ)) (r : Asked R G) (rs : List Record) → IsReady r → AreAsked kind f r rs → AreAsked kind f' r rs
-ready_asked kind f f' sources.None rs ready are = are
-ready_asked kind f f' (sources.Held buffer) rs ready are = are
-ready_asked kind f f' sources.Unopened rs ready are = absurd ready
-ready_asked kind f f' (sources.Open file) rs ready are = are
-
-pub ready_searched : {R : Type 0} {G : Ghosts R} (kind : Kind) (f f' : Option (List ℕ)) (r : Asked R G) (k : Kind) (text : List ℕ) → IsReady r → IsSearched kind f r k text → IsSearched kind f' r k text
-ready_searched kind f f' sources.None k text ready are = are
-ready_searched kind f f' (sources.Held buffer) k text ready are = are
-ready_searched kind f f' sources.Unopened k text ready are = absurd ready
-ready_searched kind f f' (sources.Open file) k text ready are = are

@@ -8,7 +8,7 @@ use Rattle.gix_ref_files.specs.Tree.Content.{File}
 use Rattle.gix_ref_files.specs.Disk.{DiskItem, Disk, no_disk, item_at, nothing, with_item, folder_of, reachable, Lost}
 use Rattle.gix_ref_files.specs.Losing.{last_synced, kept, chosen, lost_by, all_synced}
 use Rattle.gix_ref_files.proofs.Losing.{choices}
-use Rattle.gix_ref_files.proofs.Puts.{same_tree, put_at, put_other}
+use Rattle.gix_ref_files.proofs.Puts.{same_tree}
 use Rattle.gix_ref_memory.specs.Changes.{after_changes, changed_on, replayed, disk_is, put_item, with_item_as, content_of, IsChangedPath, place_of}
 use Rattle.gix_ref_memory.specs.internal.Power.{DiskEntry, no_entry, entered, settled, with_now, entry_after, disk_entry, choice, IsChoice, Names, IsNamedByChange, AreSynced, Fills, IsReachable}
 use Rattle.gix_ref_memory.specs.declared.memory.changes.Change.{Change}
@@ -127,9 +127,6 @@ none_kept changes pick T left zero all is =
 
 -- Paths that no change names.
 
-quiet : DiskEntry → Type 0
-quiet e = (e.now ≡ nothing) × (e.is_new ≡ false)
-
 abbrev QuietOr : Type 0 → DiskEntry → Type 0
 QuietOr Named e = Named ⊎ ((e.now ≡ nothing) × (e.is_new ≡ false))
 
@@ -174,29 +171,12 @@ nothing_left e calm =
 
 -- Filling.
 
-pub fills_none : (Good : Path → Option Content → Type 0) (Named : Path → Type 0) (now : List Change) → ((q : Path) → Named q → ⊥) → Fills Good Named now now
-fills_none Good Named now never = record { choice = λ q n. absurd (never q n); other = λ q. inl refl; synced = λ s. s }
-
 pub fills_more : (Good : Path → Option Content → Type 0) (A B C : Path → Type 0) (old mid new : List Change) → Fills Good A old mid → Fills Good B mid new → ((q : Path) → C q → A q ⊎ B q) → Fills Good C old new
 fills_more Good A B C old mid new first second wider = record {
   choice = λ q c. ⊎_elim (λ a. ⊎_elim (λ same. subst (Good q) (sym same) (first.choice q a)) (λ good. good) (second.other q)) (λ b. second.choice q b) (wider q c);
   other = λ q. ⊎_elim (λ same. ⊎_elim (λ before. inl (same ∙ before)) (λ good. inr (subst (Good q) (sym same) good)) (first.other q)) (λ good. inr good) (second.other q);
   synced = λ s. second.synced (first.synced s);
 }
-
-pub fills_one : (Good : Path → Option Content → Type 0) (old new : List Change) (p : Path) (content : Option Content) → after_changes new no_tree ≡ put (after_changes old no_tree) p content → (AreSynced old → AreSynced new) → Good p content → Fills Good (λ q. p ≡ q) old new
-fills_one Good old new p content is synced good = record {
-  choice = λ q same. subst (λ (x : Path). Good x (after_changes new no_tree x)) same here;
-  other = λ q. by q (bytes_eq p q) refl;
-  synced = synced;
-}
-  where
-    here : Good p (after_changes new no_tree p)
-    here = subst (Good p) (sym (ap (λ (T : Tree). T p) is ∙ put_at (after_changes old no_tree) p content)) good
-
-    by : (q : Path) (b : Bool) → bytes_eq p q ≡ b → (after_changes new no_tree q ≡ after_changes old no_tree q) ⊎ Good q (after_changes new no_tree q)
-    by q true eq = inr (subst (λ (x : Path). Good x (after_changes new no_tree x)) ((bytes_eq-Decides p q).0 eq) here)
-    by q false ne = inl (ap (λ (T : Tree). T q) is ∙ put_other (after_changes old no_tree) p q content (λ same. true≢false (sym ((bytes_eq-Decides p q).1 same) ∙ ne)))
 
 -- one change behind others
 pub named_snoc : (changes : List Change) (change : Change) (q : Path) → IsNamedByChange (changes ++ change ∷ []) q → IsNamedByChange changes q ⊎ Names change q

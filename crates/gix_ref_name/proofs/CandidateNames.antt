@@ -161,17 +161,6 @@ behind_path (suc k) (x ∷ c) n short path valid = go (first_slash (x ∷ c)) (�
         let less : length e ≤ k = omega (arith, ap length whole, length-append d (47 ∷ e)) in
         subst IsPartialName (sym (ap (λ t. t ++ 47 ∷ n) whole ∙ append_assoc d (47 ∷ e) (47 ∷ n))) (behind_component d (e ++ 47 ∷ n) parts.0 (more e less parts.1))
 
-head_component : IsComponent (codes "HEAD")
-head_component = record {
-  some = refl;
-  valid = refl;
-  no_slash = no_byte 47 (codes "HEAD") refl;
-  dotted = refl;
-  dots = refl;
-  locked = refl;
-  portion = refl;
-}
-
 head_valid : IsPartialName (codes "HEAD")
 unfolding partial_error
 head_valid = refl

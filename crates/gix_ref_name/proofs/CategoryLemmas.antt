@@ -9,9 +9,6 @@ use Rattle.gix_ref_hash.proofs.ByteLemmas.{no_split, same_split}
 pub no_main_front : (n : List ℕ) → ((rest : List ℕ) → n ≢ codes "main-worktree/" ++ rest) → NoMain n
 no_main_front n never = record { main = λ s h. never s h.0; pseudo = λ s h. never s h.0 }
 
-pub no_linked_front : (n : List ℕ) → ((rest : List ℕ) → n ≢ codes "worktrees/" ++ rest) → NoLinked n
-no_linked_front n never = record { linked = λ w s h. never _ h.0; pseudo = λ w s h. never _ h.0 }
-
 pub no_linked_slash : (n rest : List ℕ) → n ≡ codes "worktrees/" ++ rest → NoByte 47 rest → NoLinked n
 no_linked_slash n rest e none =
     let at = λ (w s : List ℕ) (f : n ≡ codes "worktrees/" ++ (w ++ 47 ∷ s)).

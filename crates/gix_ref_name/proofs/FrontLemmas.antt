@@ -65,10 +65,6 @@ stripped-none p s never = ap (λ v. cond (is_none (partial_error v)) v s) (witho
     go true = refl
     go false = refl
 
--- the namespace is put in front and taken off again
-pub stripped-with : (p s : List ℕ) → IsPartialName s → starts_with nat_eq s p ≡ false → stripped p (with_front p s) ≡ s
-stripped-with p s valid new = stripped-append p (with_front p s) s (with-new p s new) valid
-
 -- what is behind a front, moved to the start
 pub moved_front : (p s r : List ℕ) → s ≡ p ++ r → take (length r) (drop (length p) s ++ take (length p) s) ≡ r
 moved_front p s r e =

@@ -1,4 +1,3 @@
-pub mod Appending
 pub mod CandidateNames
 pub mod CandidateRows
 pub mod CategoryLemmas

@@ -1,57 +1,14 @@
 -- One step over a chain of tags, and what each report of it says of the whole chain.
-use Rattle.std.proofs.Common.{ℕ, suc, ◌≡◌, ◌≢◌, ◌+◌, ◌-◌, ◌<◌, ◌≤◌, Option, Result, Some, None, Ok, Err, refl, sym, ◌∙◌, ap, subst, arith}
+use Rattle.std.proofs.Common.{ℕ, suc, ◌≡◌, ◌+◌, ◌-◌, ◌<◌, ◌≤◌, Option, Result, Some, None, Ok, Err, refl, sym, ◌∙◌, ap, subst, arith}
 use Rattle.gix_ref_hash.specs.declared.hash.ObjectId.{ObjectId}
-use Rattle.gix_ref_hash.specs.Ids.{id_kind}
 use Rattle.gix_ref_object.specs.declared.object.Kind.TheVariants.{Commit, Tree, Blob, Tag}
-use Rattle.gix_ref_object.specs.declared.object.Data.{Data}
 use Rattle.gix_ref_object.specs.declared.object.FindError.TheVariants as finding
 use Rattle.gix_ref_object.specs.declared.peel.PeelError.{PeelError}
 use Rattle.gix_ref_object.specs.declared.peel.PeelError.TheVariants as peeling
-use Rattle.gix_ref_object.specs.Objects.{Stored, Reports}
+use Rattle.gix_ref_object.specs.Objects.{Stored}
 use Rattle.gix_ref_object.specs.Objects.Stored.{Object, Absent, Faulty}
-use Rattle.gix_ref_object.specs.Peeling.{Peeled, onward, step, walk, tag_target, PeelsTo, Continues, TagTo, Chain, IsNoTag}
+use Rattle.gix_ref_object.specs.Peeling.{Peeled, onward, step, walk, PeelsTo, Continues, TagTo, Chain, IsNoTag}
 use Rattle.gix_ref_object.specs.Peeling.Peeled.{End, TooLong}
-
--- ---- one object
-pub missing : (id : ObjectId) (s : Stored) (more : ObjectId → Peeled) → Reports s (Ok None) → PeelsTo (step id more s) (Err (peeling.NotFound id))
-missing id (Object kind bytes) more h = absurd h
-missing id Absent more h = refl
-missing id Faulty more h = absurd h
-
-pub failed : (id : ObjectId) (s : Stored) (more : ObjectId → Peeled) → Reports s (Err finding.Failed) → PeelsTo (step id more s) (Err peeling.Find)
-failed id (Object kind bytes) more h = absurd h
-failed id Absent more h = absurd h
-failed id Faulty more h = tt
-
-pub ended : (d : Data) → d.kind ≢ Tag → (id : ObjectId) (s : Stored) (more : ObjectId → Peeled) → Reports s (Ok (Some d)) → step id more s ≡ End id
-ended d other id (Object Commit bytes) more h = refl
-ended d other id (Object Tree bytes) more h = refl
-ended d other id (Object Blob bytes) more h = refl
-ended d other id (Object Tag bytes) more h = absurd (other h.0)
-ended d other id Absent more h = absurd h
-ended d other id Faulty more h = absurd h
-
-onward_bad : (id : ObjectId) (more : ObjectId → Peeled) (o : Option ObjectId) → o ≡ None → PeelsTo (onward id more o) (Err (peeling.NotFound id))
-onward_bad id more None e = refl
-onward_bad id more (Some x) e = absurd (cc)
-
-pub pointless : (d : Data) → d.kind ≡ Tag → (id : ObjectId) → tag_target (id_kind id) d.bytes.now ≡ None → (s : Stored) (more : ObjectId → Peeled) → Reports s (Ok (Some d)) → PeelsTo (step id more s) (Err (peeling.NotFound id))
-pointless d tag id bad (Object Commit bytes) more h = absurd (cc (tag, h.0))
-pointless d tag id bad (Object Tree bytes) more h = absurd (cc (tag, h.0))
-pointless d tag id bad (Object Blob bytes) more h = absurd (cc (tag, h.0))
-pointless d tag id bad (Object Tag bytes) more h =
-    onward_bad id more (tag_target (id_kind id) bytes) (ap (tag_target (id_kind id)) (sym h.1) ∙ bad)
-pointless d tag id bad Absent more h = absurd h
-pointless d tag id bad Faulty more h = absurd h
-
-pub goes_on : (d : Data) (next : ObjectId) → d.kind ≡ Tag → (id : ObjectId) → tag_target (id_kind id) d.bytes.now ≡ Some next → (s : Stored) (more : ObjectId → Peeled) → Reports s (Ok (Some d)) → step id more s ≡ more next
-goes_on d next tag id e (Object Commit bytes) more h = absurd (cc (tag, h.0))
-goes_on d next tag id e (Object Tree bytes) more h = absurd (cc (tag, h.0))
-goes_on d next tag id e (Object Blob bytes) more h = absurd (cc (tag, h.0))
-goes_on d next tag id e (Object Tag bytes) more h =
-    ap (onward id more) (ap (tag_target (id_kind id)) (sym h.1) ∙ e)
-goes_on d next tag id e Absent more h = absurd h
-goes_on d next tag id e Faulty more h = absurd h
 
 -- ---- the whole chain
 walk_at : (m : ObjectId → Stored) (k : ℕ) (at : ObjectId) → k < 1001 → walk m (1001 - k) at ≡ step at (walk m (1001 - (k + 1))) (m at)

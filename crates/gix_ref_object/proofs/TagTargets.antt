@@ -46,10 +46,6 @@ id_read kind digits None len h = sym (of_length kind digits len ∙ go (decode_o
     go (Ok bytes) read = absurd (h (reads_hex kind digits bytes len read))
     go (Err e) read = none_with kind e
 
-pub id_of_others : (kind : Kind) (digits : List ℕ) → length digits ≢ 2 * kind_len kind → None ≡ id_of_hex kind digits
-id_of_others kind digits other =
-    sym (ap (λ (b : Bool). if b then id_decoded kind (decode_of digits) else None) (ne_eqb (length digits) (2 * kind_len kind) other))
-
 -- ---- the front of a tag
 front_is : (bytes : List ℕ) (b : Bool) → starts_with nat_eq bytes (codes "object ") ≡ b → ((rest : List ℕ) → bytes ≢ codes "object " ++ rest) → b ≡ false
 front_is bytes true begins never =

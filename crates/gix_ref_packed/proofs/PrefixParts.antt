@@ -183,14 +183,6 @@ module _ (k : Kind) (text prefix : List ℕ) (line : ℕ) (b : Buffer) (kind_is 
     numbered = inl (end - start, is ∙ ap (λ i. take (end - start) (drop i text)) first ∙ ap (take (end - start)) (drop_zero text), number);
   }
 
-  -- a part of the text that is records
-  pub holds_records : (start end : ℕ) → Encloses k text prefix start end → buffer_text b ≡ take (end - start) (drop start text) → (rs : List Record) × Records k (buffer_text b) rs → HoldsPrefix k text line prefix b
-  holds_records start end encloses is records = record {
-    kind_is = kind_is;
-    part = record { start = start; end = end; encloses = encloses; is = is };
-    numbered = inr records;
-  }
-
   -- the whole text
   pub holds_all : (end : ℕ) → end ≡ length text → buffer_text b ≡ take (end - 0) (drop 0 text) → buffer_line b ≡ line → HoldsPrefix k text line prefix b
   holds_all end whole is number = holds_first 0 end (encloses_all k text prefix end whole) is refl number

@@ -113,10 +113,6 @@ risen_later before mid now later (inr most) = inr (omega (arith, later, most))
 pub lock_moved : (place : Path) (T : Tree) → is_file (moved T (lock_of place) place (lock_of place)) ≡ false
 lock_moved place T = ap is_file (put_other (put T (lock_of place) None) place (lock_of place) (T (lock_of place)) (lock_elsewhere place) ∙ put_at T (lock_of place) None)
 
--- where nothing has changed, no more than the lock is gone
-pub none_goes : (place : Path) (T : Tree) → OnlyLockGoes place T T
-none_goes place T = ((λ q other. refl), inl refl)
-
 -- why it has failed, once the lock is gone
 pub why_after : (honest : Type 0) (kind : Kind) (records : Option Buffer) (place : Path) (before mid now : ℕ) (S T : Tree) (error : Error) →
     mid ≤ now → (honest → OnlyLockGoes place S T) → IsWhyNotPut honest place before mid S error → SaysWhyPacked honest kind records place before now T error

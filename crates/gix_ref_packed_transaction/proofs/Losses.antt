@@ -153,10 +153,6 @@ module _ (place : Path) (D : Disk) (ready : IsReadyOn place D) where
       holds_fewer E (folder_synced E (folder_of place)) (synced_may (OfFolder (folder_of place)) E) None (λ f. f ≡ None) place
       (subst (λ (X : Disk). IsSettledAt X None place) (sym is) (subst (λ (f : Option (List ℕ)). IsSettledAt D f place) (no_file (D.tree place) (none refl)) ready.file))
 
-  -- the removal, the sync of its folder, and the removal of the lock
-  pub keeps_removed : (E F : Disk) (there : Bool) → RemovingFileOn D place E → SyncingOn there E (folder_synced E (folder_of place)) F → KeepsSettled Removed place D F
-  keeps_removed E F there removing settling = keeps_settling Removed place D E F there settling (keeps_removal E removing)
-
   pub settles_removed : (removed : Bool) → (removed ≡ false → is_file (D.tree place) ≡ false) → (E F G : Disk) → E ≡ after_removal D place removed → RemovingFileOn D place E → F ≡ folder_synced E (folder_of place) →
       RemovingFileOn F (lock_of place) G → SettlesPackedRefs place D G
   settles_removed removed none E F G is removing settled unlocking =
@@ -187,10 +183,6 @@ module _ (place : Path) (D E : Disk) (t : Vec ℕ Global) (whole : IsWholeAt E (
   pub keeps_renaming : (F : Disk) → RenamingOn E (lock_of place) place F → KeepsSettled (Text t) place D F
   keeps_renaming F (inl same) = subst (KeepsSettled (Text t) place D) (sym same) keeps
   keeps_renaming F (inr is) = subst (KeepsSettled (Text t) place D) (sym is.1) (keeps_moved is.0)
-
-  -- and its folder is synced
-  pub keeps_renamed : (F G : Disk) (there : Bool) → RenamingOn E (lock_of place) place F → SyncingOn there F (folder_synced F (folder_of place)) G → KeepsSettled (Text t) place D G
-  keeps_renamed F G there renaming settling = keeps_settling (Text t) place D F G there settling (keeps_renaming F renaming)
 
   text_settled : IsMovable E.tree (lock_of place) place → IsSettledAt (folder_synced (moved_on E (lock_of place) place) (folder_of place)) (Some t.items) place
   text_settled movable =

@@ -1,32 +1,26 @@
 -- What is printed of a listing, put together.
-use Rattle.std.proofs.Common.{◌≡◌, ◌⊎◌, inl, inr, ⊎_elim, arith, ℕ, List, [], ◌∷◌, true, false, Option, Some, None, Result, Ok, Err, refl, sym, ◌∙◌, ap, subst}
+use Rattle.std.proofs.Common.{◌≡◌, ◌⊎◌, inl, inr, ⊎_elim, arith, ℕ, List, [], true, false, Option, Some, None, Result, Ok, Err, refl, sym, ◌∙◌, ap, subst}
 use Rattle.std.specs.Prelude.{◌≤◌, IfOk}
 use denote.Ref.{Bor}
 use Rattle.std.specs.Option.{option_copied}
 use Rattle.gix_ref_base.specs.PackedRecords.{Record}
-use Rattle.gix_ref_files.specs.Files.{Meaning, HasRisen}
+use Rattle.gix_ref_files.specs.Files.{Meaning}
 use Rattle.gix_ref_files.specs.declared.files.ReadAt.{Ghosts}
 use Rattle.gix_ref_theory.specs.OnRealTrees.{view_of}
 use Rattle.gix_ref_theory.specs.Views.{View}
 use Rattle.gix_ref_packed.specs.Buffers.{buffer_kind, buffer_text}
 use Rattle.gix_ref_packed.specs.declared.packed.buffer.Buffer.{Buffer}
-use Rattle.gix_ref_records.specs.declared.raw.Reference.{Reference}
 use Rattle.gix_ref_lookup.specs.declared.settings.Settings.{Settings}
-use Rattle.gix_ref_lookup.specs.declared.find.error.ReadError.TheVariants.{File as file_error, DeviceName}
 use Rattle.gix_ref_listing.specs.CleanPrefixes.{IsAcceptedPrefix, IsRefusedPrefix}
-use Rattle.gix_ref_listing.specs.Items.{IsItem}
-use Rattle.gix_ref_listing.specs.Listings.{Listed as ListedName}
-use Rattle.gix_ref_listing.specs.Listings.Listed.{Walked, InPacked}
 use Rattle.gix_ref_listing.specs.WholeListings.{HoldsFor, key_in}
-use Rattle.gix_ref_listing.specs.declared.found.Found.TheVariants.{File, Unlisted}
-use Rattle.gix_ref_listing.specs.declared.error.Error.{Error}
-use Rattle.gix_ref_listing.specs.declared.error.Error.TheVariants.{Traversal, ReadFileContents, ReferenceCreation, PackedReference, Memory}
+use Rattle.gix_ref_listing.specs.declared.error.Error.TheVariants.{Memory}
 use Rattle.gix_ref_listing.specs.declared.prefix.Error.{Error as PrefixError}
 use Rattle.gix_ref_listing.specs.declared.prefix.Error.TheVariants as no_list
-use Rattle.gix_ref_listing.proofs.FolderWalks.{unchanged_on}
+use Rattle.gix_ref_listing.proofs.FolderWalks.{risen_on, unchanged_on}
 use Rattle.gix_ref_store.specs.Store.{files_of}
 use Rattle.gix_ref_store.specs.Lookup.{LooksUp, AreRecordsIn, settings_of, view_in}
-use Rattle.gix_ref_store.specs.Listings.{IteratesListing, AreFirst, AreHeldFor, IsNoListing, IsReadFor, count_in, store_listed}
+use Rattle.gix_ref_store.specs.Listings.{IteratesListing, AreHeldFor, IsNoListing, IsReadFor, count_in, store_listed}
+use Rattle.gix_ref_store.proofs.FirstItems.{first_from, first_to}
 use Rattle.gix_ref_store.proofs.ListingRuns.{same_settings}
 use Rattle.gix_ref_store.specs.declared.file.store.Store.{Store}
 use Rattle.gix_ref_store.specs.declared.file.iter.LooseThenPacked.{LooseThenPacked}
@@ -37,41 +31,7 @@ use Rattle.gix_ref_program.specs.Runs.Ran.{Said, Listed, Logged}
 use Rattle.gix_ref_program.specs.declared.outcome.Outcome.TheVariants as outcomes
 use Rattle.gix_ref_program.specs.declared.refusal.Refusal.TheVariants as refusals
 
--- a count that rose from a greater one
-risen_from : (before mid now : ℕ) → before ≤ mid → HasRisen mid now → HasRisen before now
-risen_from before mid now le (inl below) = inl (omega (arith, le, below))
-risen_from before mid now le (inr top) = inr top
-
--- and to a greater one
-risen_to : (before mid now : ℕ) → mid ≤ now → HasRisen before mid → HasRisen before now
-risen_to before mid now le (inl below) = inl (omega (arith, le, below))
-risen_to before mid now le (inr top) = inr (omega (arith, le, top))
-
-module _ (honest : Type 0) (settings : Settings) (view : View) where
-  item_from : (before mid now : ℕ) (one : ListedName) (item : Result Reference Error) → before ≤ mid → IsItem honest settings view mid now one item → IsItem honest settings view before now one item
-  item_from before mid now (InPacked own) item le is = is
-  item_from before mid now (Walked (key, File name path)) (Ok r) le is = is
-  item_from before mid now (Walked (key, File name path)) (Err (ReadFileContents (file_error source) at)) le is = ⊎_elim (λ risen. inl (risen_from before mid now le risen.0, risen.1, risen.2)) (λ gone. inr gone) is
-  item_from before mid now (Walked (key, File name path)) (Err (ReadFileContents DeviceName at)) le is = is
-  item_from before mid now (Walked (key, File name path)) (Err (ReferenceCreation source at)) le is = is
-  item_from before mid now (Walked (key, File name path)) (Err Memory) le is = is
-  item_from before mid now (Walked (key, File name path)) (Err (Traversal source at)) le is = is
-  item_from before mid now (Walked (key, File name path)) (Err (PackedReference line number)) le is = is
-  item_from before mid now (Walked (key, Unlisted path source)) (Ok r) le is = is
-  item_from before mid now (Walked (key, Unlisted path source)) (Err error) le is = is
-
 module _ {F : Type 0} (honest : Type 0) (means : F → Meaning) (faults : F → ℕ) where
-  -- the same items between counts that are farther apart
-  first_to : (settings : Settings) (view : View) (before mid now : ℕ) (listed rest : List ListedName) (items : List (Result Reference Error)) → mid ≤ now →
-      AreFirst honest means faults settings view before mid listed rest items → AreFirst honest means faults settings view before now listed rest items
-  first_to settings view before mid now listed rest [] le are = (omega (arith, are.0, le), are.1)
-  first_to settings view before mid now listed rest (item ∷ items) le (m, one, more, same, up, is, later) = (m, one, more, same, up, is, first_to settings view m mid now more rest items le later)
-
-  first_from : (settings : Settings) (view : View) (before mid now : ℕ) (listed rest : List ListedName) (items : List (Result Reference Error)) → before ≤ mid →
-      AreFirst honest means faults settings view mid now listed rest items → AreFirst honest means faults settings view before now listed rest items
-  first_from settings view before mid now listed rest [] le are = (omega (arith, are.0, le), are.1)
-  first_from settings view before mid now listed rest (item ∷ items) le (m, one, more, same, up, is, later) = (m, one, more, same, omega (arith, le, up), item_from honest settings view before mid m one item le is, later)
-
   -- the items of a listing are printed
   pub printed_all : {E : Type 0} (old new : Store F) (prefix : List ℕ) (Are : List Record → Type 0) (it t : LooseThenPacked F Remaining) (out now : Option (List ℕ)) (status : Result ℕ E) →
       IsAcceptedPrefix old.namespace prefix → (honest → (records : List Record) → Are records → IteratesListing honest means faults old records prefix it) →
@@ -89,10 +49,10 @@ module _ {F : Type 0} (honest : Type 0) (means : F → Meaning) (faults : F → 
           record {
             listed = l.listed;
             is = l.is;
-            names = ⊎_elim (λ names. inl names) (λ risen. inr (risen_to (faults (files_of old)) (count_in honest means faults it) (faults (files_of new)) after risen)) l.names;
+            names = ⊎_elim (λ names. inl names) (λ risen. inr (risen_on (faults (files_of old)) (count_in honest means faults it) (faults (files_of new)) risen after)) l.names;
             rest = first.rest;
-            first = first_from (settings_of old) (view_in means old) (faults (files_of old)) (count_in honest means faults it) (faults (files_of new)) l.listed first.rest all.items l.counts
-                (first_to (settings_of old) (view_in means old) (count_in honest means faults it) (count_in honest means faults all.last) (faults (files_of new)) l.listed first.rest all.items last first.first);
+            first = first_from honest means faults (settings_of old) (view_in means old) (faults (files_of old)) (count_in honest means faults it) (faults (files_of new)) l.listed first.rest all.items l.counts
+                (first_to honest means faults (settings_of old) (view_in means old) (count_in honest means faults it) (count_in honest means faults all.last) (faults (files_of new)) l.listed first.rest all.items last first.first);
             ends = λ whole. first.ends t all.ends;
           },
     );
@@ -108,7 +68,7 @@ module _ {F : Type 0} (honest : Type 0) (means : F → Meaning) (faults : F → 
           record {
             listed = l.listed;
             is = l.is;
-            names = ⊎_elim (λ names. inl names) (λ risen. inr (risen_to (faults (files_of old)) (count_in honest means faults it) (faults (files_of new)) after risen)) l.names;
+            names = ⊎_elim (λ names. inl names) (λ risen. inr (risen_on (faults (files_of old)) (count_in honest means faults it) (faults (files_of new)) risen after)) l.names;
             rest = l.listed;
             first = (omega (arith, l.counts, after), refl);
             ends = λ whole. absurd (cc);

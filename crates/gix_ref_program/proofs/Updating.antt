@@ -1,9 +1,9 @@
 -- An update whose preparation succeeded: what its commit returns, seen from before the preparation.
 use Rattle.gix_ref_transaction.proofs.Faults.{risen_by_before}
-use Rattle.std.proofs.Common.{◌≡◌, inl, inr, ⊎_elim, ℕ, List, Option, Some, None, Result, Ok, Err, IfOk, IfErr, IfSome, sym, ◌∙◌, subst, arith, length}
+use Rattle.std.proofs.Common.{◌≡◌, inl, inr, ⊎_elim, ℕ, List, Option, Some, None, Result, Ok, Err, IfOk, IfErr, IfSome, sym, ◌∙◌, subst, length}
 use Rattle.gix_ref_files.specs.Tree.{Tree, Path}
 use Rattle.gix_ref_files.specs.Files.{Meaning, Leaves, Loses, HasRisenBy}
-use Rattle.gix_ref_files.proofs.Moments.{weaken, joins}
+use Rattle.gix_ref_files.proofs.Moments.{weaken, joins, loses_joins, loses_weaken}
 use Rattle.gix_ref_theory.specs.Roots.{roots}
 use Rattle.gix_ref_log.specs.declared.actor.SignatureRef.{SignatureRef}
 use Rattle.gix_ref_edits.specs.declared.transaction.RefEdit.{RefEdit}
@@ -23,27 +23,6 @@ use Rattle.gix_ref_store.specs.declared.file.transaction.outcome.Failed.{Failed}
 use Rattle.gix_ref_program.specs.Updates.{AreTried, UpdateFailed, IsBegun, UpdateMade, IsStopOf, IsLossOf, IsUpdateError, error_of}
 use Rattle.gix_ref_program.specs.declared.update.UpdateError.{UpdateError}
 use Rattle.gix_ref_program.specs.declared.update.UpdateError.TheVariants.{Commit}
-
--- what holds of one value holds of the same
-pub at_same : {A : Type 0} (P : A → Type 0) {x y : A} → x ≡ y → P y → P x
-at_same P same holds = subst P (sym same) holds
-
--- what losses of power leave in one run, and then in another
-loses_weaken : {old new : Meaning} {P Q : Tree → Type 0} → Loses old new P → ((T : Tree) → P T → Q T) → Loses old new Q
-loses_weaken run wider = record {
-  now = λ T lost. wider T (run.now T lost);
-  later = run.later;
-  since = λ t T le lost. ⊎_elim (λ past. inl past) (λ p. inr (wider T p)) (run.since t T le lost);
-  keeps = run.keeps;
-}
-
-loses_joins : {old mid new : Meaning} {P : Tree → Type 0} → Loses old mid P → Loses mid new P → Loses old new P
-loses_joins first second = record {
-  now = second.now;
-  later = omega (arith, first.later, second.later);
-  since = λ t T le lost. ⊎_elim (first.since t T le) (λ p. inr p) (second.since t T (omega (arith, le, first.later)) lost);
-  keeps = λ t T le lost. second.keeps t T (omega (arith, le, first.later)) (first.keeps t T le lost);
-}
 
 -- a preparation that was refused
 module _ {F : Type 0} (honest : Type 0) (means : F → Meaning) (faults : F → ℕ) (old new : Store F) (committer : Option SignatureRef) (edits : List RefEdit) (error : Cause) (left : List Path) (read : Type 0) (from : RefusesGiven honest read means faults old new edits error left) where

@@ -1,6 +1,5 @@
 -- A text is read in one way.
-use Rattle.std.proofs.Common.{◌≡◌, ◌≢◌, inl, inr, ⊎_elim, ℕ, ◌*◌, ◌+◌, ◌<◌, get_or, Bool, true, false, List, [], ◌∷◌, ◌++◌, length, take, drop, refl, sym, ◌∙◌, ap, subst, Option, Some, None, ◌==◌, ne_eqb}
-use Rattle.std.proofs.lemmas.Bool.{cases_eq}
+use Rattle.std.proofs.Common.{◌≡◌, ◌≢◌, inl, inr, ⊎_elim, ℕ, ◌*◌, ◌+◌, ◌<◌, get_or, Bool, true, false, List, [], ◌∷◌, ◌++◌, length, take, drop, refl, sym, ◌∙◌, ap, subst, Option, Some, None, ◌==◌}
 use Rattle.std.proofs.lemmas.List.{drop_at, take_at, take-append-drop, drop_more}
 use Rattle.gix_ref_hash.specs.declared.hash.Kind.{Kind}
 use Rattle.gix_ref_hash.specs.Ids.{kind_len, IsHexOf}
@@ -103,10 +102,6 @@ no_end k t line object after whole id cut none (Some x) r f =
 pub no_id : (k : Kind) (t line : List ℕ) → t ≡ 94 ∷ line → ((digits rest : List ℕ) → IsHexOf k digits → line ≡ digits ++ rest → ⊥) → (o : Option (List ℕ)) (r : List ℕ) → OptionalPeeledLine k t o r → ⊥
 no_id k t line whole none None r f = let stop : true ≡ false = subst (StopsAt is_caret) (sym f.0 ∙ whole) f.1 in cc
 no_id k t line whole none (Some x) r f = let both : line ≡ x ++ f.after = cc (f.whole, whole) in none x f.after f.id both
-
-pub no_caret : (t : List ℕ) → ((rest : List ℕ) → t ≢ 94 ∷ rest) → StopsAt is_caret t
-no_caret [] none = tt
-no_caret (b ∷ t) none = ⊎_elim (λ (same : b ≡ 94). absurd (none t (ap (λ x. x ∷ t) same))) (λ (other : b ≡ 94 → ⊥). ne_eqb b 94 other) (cases_eq b 94)
 
 pub no_record : (k : Kind) (t d n after : List ℕ) → RecordLine k t d n after → (IsHexOf k d → IsFullName n → (o : Option (List ℕ)) (rest : List ℕ) → OptionalPeeledLine k after o rest → ⊥) → (r : Record) (rest : List ℕ) → Takes k t r rest → ⊥
 no_record k t d n after shape none r rest f =

@@ -2,7 +2,7 @@
 use Rattle.std.proofs.Common.{◌≡◌, ◌≢◌, ◌==◌, ◌||◌, ⊎_elim, ℕ, ◌*◌, ◌+◌, ◌-◌, ◌<◌, ◌≤◌, true, not, get_or, List, [], ◌∷◌, ◌++◌, length, take, drop, refl, sym, ◌∙◌, ap, subst, arith, append_assoc, length-append, length-drop, suc, eq-eqb, eqb-true, Option, Some, None}
 use Rattle.std.proofs.lemmas.Bool.{cases_lt}
 use Rattle.std.proofs.lemmas.List.{get_or-take, get_or-drop, take-append-drop, get_or-append-add, get_or_append_left, take_all, drop-take, drop-drop}
-use Rattle.std.proofs.Math.Seq.{get_or-append_seam, take-append-add}
+use Rattle.std.proofs.Math.Seq.{take-append-add}
 use Rattle.gix_ref_hash.specs.declared.hash.Kind.{Kind}
 use Rattle.gix_ref_hash.specs.Ids.{kind_len}
 use Rattle.gix_ref_hash.specs.Bytes.{StopsAt}
@@ -91,13 +91,6 @@ newline_far k t part d n r len end f is sized within newline = ⊎_elim
       where
         one_more : 1 + end ≡ suc end
         one_more = omega arith
-
--- no space where it has to be
-pub no_space : (k : Kind) (t part d n r : List ℕ) (len : ℕ) → RecordLine k t d n r → part ≡ take (length part) t → len ≡ 2 * kind_len k → len < length part → get_or part len 0 ≡ 32
-no_space k t part d n r len f is sized within =
-    let all : t ≡ d ++ 32 ∷ f.after = f.whole in
-    let at : length d ≡ len = f.len ∙ sym sized in
-    ap (λ p. get_or p len 0) is ∙ get_or-take (length part) t len 0 within ∙ ap (λ u. get_or u len 0) all ∙ ap (λ i. get_or (d ++ 32 ∷ f.after) i 0) (sym at) ∙ get_or-append_seam d 32 f.after 0
 
 -- a name in a part is in the text
 pub name_wider : (k : Kind) (t part d n r : List ℕ) → RecordLine k part d n r → part ≡ take (length part) t → NameAt k t n

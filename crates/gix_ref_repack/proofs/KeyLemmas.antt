@@ -41,7 +41,7 @@ use Rattle.gix_ref_transaction.specs.CommittedEdits.{planned}
 use Rattle.gix_ref_transaction.specs.PackedCauses.{ids_among}
 use Rattle.gix_ref_transaction.specs.PrepareSteps.{ids_in, updates}
 use Rattle.gix_ref_transaction.specs.declared.edit.Edit.{Edit}
-use Rattle.gix_ref_transaction.proofs.Held.{heads}
+use Rattle.gix_ref_transaction.proofs.EditsApart.{heads}
 use Rattle.gix_ref_transaction.specs.PackedCauses.{deletes_reference}
 use Rattle.gix_ref_repack.specs.Repacks.{removes_record}
 use Rattle.gix_ref_repack.specs.internal.RemovedKeys.{removed_key, keys_to_remove}

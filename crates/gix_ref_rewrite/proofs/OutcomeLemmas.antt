@@ -48,7 +48,7 @@ object_read : (k : Kind) (t : List ℕ) (o : Option (List ℕ)) (rest : List ℕ
 object_read k t None rest f = tt
 object_read k t (Some object) rest f = f.id
 
-records_read : (k : Kind) (t : List ℕ) (rs : List Record) → Records k t rs → All (IsReadable k) rs
+pub records_read : (k : Kind) (t : List ℕ) (rs : List Record) → Records k t rs → All (IsReadable k) rs
 records_read k t [] h = All-nil (IsReadable k)
 records_read k t (r ∷ rs) h =
     All-cons (IsReadable k) r rs (record { name = h.1.valid; target = h.1.id; object = object_read k h.1.after r.object h.0 h.1.peeled }) (records_read k h.0 rs h.2)

@@ -76,7 +76,8 @@ use Rattle.gix_ref_commit.proofs.Carrying.{locks_apart}
 use Rattle.gix_ref_commit.proofs.Cleared.{Any, EachOutside, IsCutOf, all_outside, any_ways, cleared_rename, cut_of}
 use Rattle.gix_ref_commit.proofs.Ends as ends
 use Rattle.gix_ref_commit.proofs.Endings.{lock_is}
-use Rattle.gix_ref_commit.proofs.Held.{IsReady, edits_apart}
+use Rattle.gix_ref_commit.proofs.Held.{IsReady}
+use Rattle.gix_ref_transaction.proofs.EditsApart.{edits_apart}
 use Rattle.gix_ref_commit.proofs.Lined.{apart_lined}
 use Rattle.gix_ref_commit.proofs.LostFolders.{lost_well_alike}
 use Rattle.gix_ref_commit.proofs.Nothing as nothing
@@ -161,7 +162,7 @@ module _ {F : Type 0} (honest : Type 0) (means : F → Meaning) (faults : F → 
   are_references = references (folders old) (git_options (kind_of old) old.prohibit_windows_device_names) (folders_laid old.dirs old.namespace) (kind_of old) [] given from.held.valid
 
   pub edits_are : honest → HasGoodRecords means old → AreEdits s (planned given)
-  edits_are h good = edits_apart s (kind_of old) before first.tree [] given (from.held.accepted h good).no_cause are_references
+  edits_are h good = edits_apart s (kind_of old) before [] given (from.held.accepted h good).no_cause are_references
 
   lined_are : honest → HasGoodRecords means old → AreEdits s (with_lines given lines)
   lined_are h good = apart_lined s given lines (edits_are h good)
@@ -219,11 +220,6 @@ module _ {F : Type 0} (honest : Type 0) (means : F → Meaning) (faults : F → 
           differ : None ≡ Some path → ⊥
           differ e = cc
       place (inr same) = inner (sym some ∙ same)
-
-  -- all locks that are held are those of the transaction
-  pub held_are : honest → held_locks packed held ≡ mine
-  held_are h =
-      ap (λ ps. map lock_of ps ++ lock_paths held) (from.packed.due h) ∙ ap (λ ls. packed_locks s before given ++ ls) (locks_by_places s given held from.places)
 
   -- some text is in it
   fills_alike : honest → (T : Tree) → FillsPacked packed first.tree T → IsSameButLocks locked (view_of T) (view_of first.tree)

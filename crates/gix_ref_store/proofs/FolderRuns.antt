@@ -32,7 +32,7 @@ use Rattle.gix_ref_commit.proofs.LogFolders.{folders_either}
 use Rattle.gix_ref_commit.specs.Entries.{Entry, bare, bare_steps, each, folders_entry, folders_for, line_for, log_removal_entry, log_removal_for, packed_entries, planned_entries, removal_entry, removal_for, rename_for, update_entries}
 use Rattle.gix_ref_commit.specs.LogEffects.{AreLogsOf, IsLogOf}
 use Rattle.gix_ref_commit.specs.declared.plan.About.{About}
-use Rattle.gix_ref_commit.proofs.Held.{heads}
+use Rattle.gix_ref_transaction.proofs.EditsApart.{heads}
 use Rattle.gix_ref_store.specs.CommittedFolders.{FoldersStay, IsInOneOf, deleted_by, lined_by, log_of_deletion, written_by, written_file}
 
 -- A folder is there after a step, unless that removes it.

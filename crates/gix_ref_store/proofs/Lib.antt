@@ -2,6 +2,7 @@ pub mod CommitFailures
 pub mod Commits
 pub mod ComposedLists
 pub mod ListingRuns
+pub mod FirstItems
 pub mod FolderRuns
 pub mod LentRecords
 pub mod LooseAnswers
@@ -10,4 +11,5 @@ pub mod PreparedLosses
 pub mod Preparing
 pub mod Refusals
 pub mod Releasing
+pub mod SameStores
 pub mod SplitRuns

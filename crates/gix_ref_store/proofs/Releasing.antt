@@ -1,20 +1,13 @@
 -- Locks that are released, where none was named before.
 use Rattle.gix_ref_transaction.proofs.Faults.{risen_by_paths}
 use Rattle.gix_ref_files.specs.Files.{HasRisenBy}
-use Rattle.std.proofs.Common.{◌≡◌, ◌<◌, ◌⊎◌, inl, inr, ⊎_elim, ℕ, List, [], true, false, refl, sym, ◌∙◌, ap, subst, length, arith, Vec, Global, vec_len}
+use Rattle.std.proofs.Common.{◌≡◌, ◌<◌, inl, inr, ⊎_elim, ℕ, List, [], true, false, sym, subst, length, arith, Vec, Global, vec_len}
 use Rattle.gix_ref_files.specs.Tree.{Tree, Path, is_file}
 use Rattle.gix_ref_transaction.specs.OwnLocks.{is_in, paths_of}
 use Rattle.gix_ref_transaction.specs.CommitRenames.{lock_at, stays_at}
 use Rattle.gix_ref_transaction.specs.PrepareSteps.{lock_paths}
 use Rattle.gix_ref_transaction.specs.declared.edit.Edit.{Edit}
-use Rattle.gix_ref_transaction.proofs.Adds.{clash}
 use Rattle.gix_ref_transaction.proofs.Renames.{lock_found, none_renamed}
-
--- those that are named are of the edits
-pub ours_alone : (before : List (Vec ℕ Global)) (left locks : List Path) → before ≡ [] →
-    ((q : Path) → is_in left q ≡ true → (is_in (paths_of before) q ≡ true) ⊎ (is_in locks q ≡ true)) → (q : Path) → is_in left q ≡ true → is_in locks q ≡ true
-ours_alone before left locks none ours q named =
-    ⊎_elim (λ other. clash (ap (λ (l : List (Vec ℕ Global)). is_in (paths_of l) q) (sym none) ∙ other) refl) (λ own. own) (ours q named)
 
 -- each that is named has a fault
 pub paths_risen : (left : Vec (Vec ℕ Global) Global) (a b : ℕ) → HasRisenBy (vec_len left) a b → HasRisenBy (length (paths_of left.items)) a b

@@ -7,7 +7,7 @@ use Rattle.std.proofs.lemmas.Slice.Eq.{bytes_eq-Decides}
 use Rattle.std.proofs.Math.Seq.{take-length}
 use Rattle.gix_ref_files.specs.Tree.{Path, Content, bytes_of, put, more, is_file, is_blocked, fronts}
 use Rattle.gix_ref_files.specs.Tree.Content.{File}
-use Rattle.gix_ref_files.specs.Disk.{Disk, empty_file, created_on, appended_on, removed_on, with_folders_on, file_synced}
+use Rattle.gix_ref_files.specs.Disk.{Disk, empty_file, appended_on, removed_on, with_folders_on, file_synced}
 use Rattle.gix_ref_files.specs.Calls.{Appends}
 use Rattle.gix_ref_files.specs.DiskCalls.{after_synced_append, RemovingFileOn, WritingOn}
 use Rattle.gix_ref_files.specs.Lock.{lock_of, readied_on, ReadyingOn, LockingOn}
@@ -53,10 +53,6 @@ module _ (Counts : Path → Type 0) (staying : List Path) where
       subst (Rests Counts staying (changed_at p None texts) view) (sym e)
       (rests_synced Counts staying (changed_at p None texts) view (OfFile p ∷ []) (appended_on D p text)
       (rests_append Counts staying texts view D (appended_on D p text) p text none rests (inr (file, (length text, ap (appended_on D p) (sym (take-length text)))))))
-
--- a lock that is made is whole
-pub made_whole : (D : Disk) (p : Path) → IsWholeAt (created_on D p) p []
-made_whole D p = (put_at D.tree p (Some (File [])), cond-true (bytes_eq p p) 0 (D.unsynced.synced p) ((bytes_eq-Decides p p).1 refl))
 
 -- and so is one that gets its text
 pub written_whole : (D : Disk) (p : Path) (text : List ℕ) → IsWholeAt D p [] → IsWholeAt (file_synced (appended_on D p text) p) p text

@@ -1,7 +1,7 @@
 -- A commit of updates for which no log line is due, in the mode that packs none: its plan, and the renames that carry it out.
 use Rattle.std.proofs.Common.{◌≡◌, ◌≢◌, inl, inr, ℕ, List, [], ◌∷◌, ◌++◌, Option, Some, None, Bool, true, false, ◌||◌, ◌&&◌, if◌then◌else◌, refl, sym, ap, ◌∙◌, codes, bytes_eq}
 use Rattle.std.proofs.lemmas.Bool.{true≢false, cond-false}
-use Rattle.std.proofs.lemmas.List.{append-nil, append_cancel_right}
+use Rattle.std.proofs.lemmas.List.{append_cancel_right}
 use Rattle.gix_ref_hash.specs.declared.hash.ObjectId.{ObjectId}
 use Rattle.gix_ref_base.specs.PackedRecords.{Record, id_read, written_id}
 use Rattle.gix_ref_base.specs.Targets.{TargetValue}
@@ -14,14 +14,14 @@ use Rattle.gix_ref_files.specs.Steps.Step.{Rename}
 use Rattle.gix_ref_files.specs.DiskSteps.{Synced}
 use Rattle.gix_ref_files.specs.DiskSteps.Synced.{With}
 use Rattle.gix_ref_theory.specs.Between.{AreEdits, IsEdit, IsPrepared}
-use Rattle.gix_ref_theory.specs.Edits.{Edit, Effect, effect, effect_of_change, has_already, alters_change, alters_packed, file_of_records}
+use Rattle.gix_ref_theory.specs.Edits.{Edit, Effect, effect, effect_of_change, has_already, alters_change, alters_packed}
 use Rattle.gix_ref_theory.specs.Edits.Change.{Update}
 use Rattle.gix_ref_theory.specs.Edits.Effect.{Writes, Removes, Keeps}
 use Rattle.gix_ref_theory.specs.Edits.Mode.{DeletionsOnly}
 use Rattle.gix_ref_theory.specs.OnDisks as disk
 use Rattle.gix_ref_theory.specs.OnRealTrees as tree
 use Rattle.gix_ref_theory.specs.OnRealTrees.{after_step}
-use Rattle.gix_ref_theory.specs.Plan.{plan, writes_of_updates, line_writes, place_writes, log_removal, log_removals, packed_writes, file_writes, place_removal, loose_removals}
+use Rattle.gix_ref_theory.specs.Plan.{plan, writes_of_updates, line_writes, place_writes, log_removal, log_removals, place_removal, loose_removals}
 use Rattle.gix_ref_theory.specs.Readings.{HasLaws, Store, reading, records_of_file}
 use Rattle.gix_ref_theory.specs.Views.{View, Write, changed_at, file_bytes, IsOwnLock}
 use Rattle.gix_ref_theory.specs.Views.Write.{Put}
@@ -116,16 +116,6 @@ module _ (s : Store) (view : View) where
       ap (λ ws. ws ++ loose_removals s DeletionsOnly view edits)
       (ap (place_removal (s.place e.name)) (lone_does e one) ∙ kept_or_written (s.place e.name) e.and_reference (has_already (reading s view e.name) one.0) (s.text_of one.0))
       ∙ no_loose_removals edits (λ f h. lone f (inr h))
-
-  no_packed_writes : (edits : List Edit) (merged : List Record) → AreLone edits → packed_writes s DeletionsOnly view edits merged ≡ []
-  no_packed_writes edits merged lone = ap (λ b. if b then file_writes s.packed_path (file_of_records s merged) else []) (alters_no (records_of_file s (view s.packed_path)) edits lone)
-
-  pub plan_is : (edits : List Edit) (merged : List Record) → AreLone edits → plan s DeletionsOnly view edits merged ≡ puts_for edits
-  plan_is edits merged lone =
-      ap (λ ws. ws ++ (log_removals s edits ++ (packed_writes s DeletionsOnly view edits merged ++ loose_removals s DeletionsOnly view edits))) (updates_are edits lone)
-      ∙ (ap (λ ws. puts_for edits ++ (ws ++ (packed_writes s DeletionsOnly view edits merged ++ loose_removals s DeletionsOnly view edits))) (no_log_removals edits lone)
-      ∙ (ap (λ ws. puts_for edits ++ (ws ++ loose_removals s DeletionsOnly view edits)) (no_packed_writes edits merged lone)
-      ∙ (ap (λ ws. puts_for edits ++ ws) (no_loose_removals edits lone) ∙ append-nil (puts_for edits))))
 
   -- what is prepared, where its texts read back
   pub prepared : (edits : List Edit) → AreLone edits → AreEdits s edits → ((e : Edit) → IsEdit e edits → s.is_prohibited (s.place e.name) ≡ false) →

@@ -38,11 +38,6 @@ DoesNotWrite (Writes bytes) = ⊥
 DoesNotWrite Removes = Unit {0}
 DoesNotWrite Keeps = Unit {0}
 
-abbrev pub DoesNotRemove : Effect → Type 0
-DoesNotRemove (Writes bytes) = Unit {0}
-DoesNotRemove Removes = ⊥
-DoesNotRemove Keeps = Unit {0}
-
 -- no log of these edits is this path, and each edit whose place it is leaves this file there
 abbrev pub AllLead : Store → Mode → View → List ℕ → Option (List ℕ) → List Edit → Type 0
 AllLead s mode view path file edits =

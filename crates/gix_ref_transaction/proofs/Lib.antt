@@ -3,9 +3,9 @@ pub mod Apart
 pub mod CommitLosses
 pub mod Committing
 pub mod EditRounds
+pub mod EditsApart
 pub mod Faults
 pub mod Firsts
-pub mod Held
 pub mod Led
 pub mod LockRounds
 pub mod Locking

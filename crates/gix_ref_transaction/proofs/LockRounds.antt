@@ -62,9 +62,6 @@ module _ (s : Store) (T : Tree) (edits : List RefEdit) where
   pub edit_lock : (q : Path) → is_in (locks_of s edits) q ≡ true → is_in (own_locks s T edits) q ≡ true
   edit_lock q within = any_right (λ r. bytes_eq r q) (packed_locks s T edits) (locks_of s edits) within
 
-  pub edit_place : (q : Path) → is_in (places_of s edits) q ≡ true → is_in (own_places s T edits) q ≡ true
-  edit_place q within = any_right (λ r. bytes_eq r q) (packed_taken s T edits) (places_of s edits) within
-
   pub edit_own : (q : Path) → is_in (locks_of s edits) q ≡ true → IsOwnLock (own_places s T edits) q
   edit_own q within = own_all q (edit_lock q within)
 

@@ -31,7 +31,6 @@ use Rattle.gix_ref_transaction.specs.CarriedEdits.{change_of}
 use Rattle.gix_ref_transaction.specs.Causes.{found, found_by, decoded, id_of_record, packed_id}
 use Rattle.gix_ref_files.specs.Tree.{Tree, Path, put}
 use Rattle.gix_ref_files.specs.Tree.Content.{File}
-use Rattle.gix_ref_files.proofs.Puts.{put_same}
 use Rattle.gix_ref_transaction.specs.PrepareSteps.{decision, decision_of, effect_on, effect_value, is_damaged, is_found, is_loose_file, is_undecodable, lock_text, target_by, text_of_new}
 use Rattle.gix_ref_transaction.specs.declared.edit.Effect.{Effect as Decision}
 use Rattle.gix_ref_transaction.specs.declared.edit.Effect.TheVariants.{Write, Remove, Keep}
@@ -159,7 +158,3 @@ filled_with T T' W lock lock' what what' same at is empty fills =
     ∙ (ap (λ (R : Tree). put R lock' (Some (File (lock_text what')))) same
     ∙ (ap (λ (l : Path). put T l (Some (File (lock_text what')))) at
     ∙ ap (λ e. put T lock (Some (File (lock_text e)))) is))
-
--- where no text is given
-pub filled_none : (T : Tree) (lock : Path) → T lock ≡ Some (File []) → T ≡ put T lock (Some (File []))
-filled_none T lock empty = sym (put_same T lock (Some (File [])) (sym empty))

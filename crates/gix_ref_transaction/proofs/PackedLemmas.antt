@@ -146,10 +146,6 @@ rise_before : (a b d : ℕ) → a ≤ b → HasRisen b d → HasRisen a d
 rise_before a b d le (inl more) = inl (omega (arith, le, more))
 rise_before a b d le (inr full) = inr full
 
-pub rises_on : {A : Type 0} (a b d : ℕ) → a ≤ b → A ⊎ HasRisen b d → A ⊎ HasRisen a d
-rises_on a b d le (inl none) = inl none
-rises_on a b d le (inr risen) = inr (rise_before a b d le risen)
-
 pub counted_later : (honest read : Type 0) (a b d : ℕ) (error : Error) → a ≤ b → IsCounted b d error → IsCountedWith honest read a d error
 counted_later honest read a b d (Packed error) le told = absurd told
 counted_later honest read a b d (PackedFind error) le told = absurd told

@@ -18,14 +18,11 @@ use Rattle.gix_ref_edits.specs.RefEdits.{name_of}
 use Rattle.gix_ref_files.specs.Lock.{lock_of}
 use Rattle.gix_ref_edits.specs.declared.transaction.RefEdit.{RefEdit}
 use Rattle.gix_ref_transaction.specs.declared.edit.Edit.{Edit as Own}
-use Rattle.gix_ref_transaction.proofs.Adds.{clash, is_false, either_way, any_left, any_right, any_cases, in_one, in_here, same_path, is_same_path, adds_less, adds_left, adds_wider}
+use Rattle.gix_ref_transaction.proofs.Adds.{any_left, any_right, any_cases, in_one, in_here, adds_less, adds_left, adds_wider}
 
 -- some paths and one more
 pub path_left : (paths : List (Vec ℕ Global)) (path : Vec ℕ Global) (q : Path) → is_in (paths_of paths) q ≡ true → is_in (paths_of (paths ++ path ∷ [])) q ≡ true
 path_left paths path q h = rw map-append (any_left (λ p. bytes_eq p q) (paths_of paths) (paths_of (path ∷ [])) h)
-
-pub path_here : (paths : List (Vec ℕ Global)) (path : Vec ℕ Global) (q : Path) → path.items ≡ q → is_in (paths_of (paths ++ path ∷ [])) q ≡ true
-path_here paths path q h = rw map-append (any_right (λ p. bytes_eq p q) (paths_of paths) (paths_of (path ∷ [])) (in_here path.items q [] h))
 
 pub path_cases : (paths : List (Vec ℕ Global)) (path : Vec ℕ Global) (q : Path) → is_in (paths_of (paths ++ path ∷ [])) q ≡ true → (is_in (paths_of paths) q ≡ true) ⊎ (path.items ≡ q)
 path_cases paths path q h =
@@ -65,18 +62,6 @@ named_once q names before all rest lock true held =
 named_once q names before all rest lock false held =
     omega (arith, held, times_append q rest (lock ∷ []), times_append q names (lock ∷ []))
 
--- and so the locks of some paths and one more
-pub lock_left : (paths : List Own) (path : Own) (q : Path) → is_in (lock_paths paths) q ≡ true → is_in (lock_paths (paths ++ path ∷ [])) q ≡ true
-lock_left paths path q h = rw map-append (any_left (λ p. bytes_eq p q) (lock_paths paths) (lock_paths (path ∷ [])) h)
-
-pub lock_here : (paths : List Own) (path : Own) (q : Path) → (lock_of path.lock) ≡ q → is_in (lock_paths (paths ++ path ∷ [])) q ≡ true
-lock_here paths path q h = rw map-append (any_right (λ p. bytes_eq p q) (lock_paths paths) (lock_paths (path ∷ [])) (in_here (lock_of path.lock) q [] h))
-
-pub lock_cases : (paths : List Own) (path : Own) (q : Path) → is_in (lock_paths (paths ++ path ∷ [])) q ≡ true → (is_in (lock_paths paths) q ≡ true) ⊎ ((lock_of path.lock) ≡ q)
-lock_cases paths path q h =
-    let parts = any_cases (λ p. bytes_eq p q) (lock_paths paths) (lock_paths (path ∷ [])) (rw map-append at h) in
-    ⊎_elim (λ left. inl left) (λ right. inr (in_one (lock_of path.lock) q right)) parts
-
 pub removes_then : (locks : List Path) (lock : Path) (S T U : Tree) → is_in locks lock ≡ true → RemovesLocks locks S T → RemovesLocks (lock ∷ []) T U → RemovesLocks locks S U
 removes_then locks lock S T U within first second q =
     ⊎_elim
@@ -93,15 +78,6 @@ no_file_then lock T U q removes no_file = ⊎_elim (λ same. ap is_file same ∙
 
 -- one lock of those that are left to do is done: it is gone, or it is named
 module _ (all : List Path) (rest : List Own) (path : Own) (T U : Tree) (removes : RemovesLocks ((lock_of path.lock) ∷ []) T U) where
-  pub gone_then : (left left' : List (Vec ℕ Global)) → ((q : Path) → is_in (paths_of left) q ≡ true → is_in (paths_of left') q ≡ true) → (is_in (paths_of left') (lock_of path.lock) ≡ false → is_file (U (lock_of path.lock)) ≡ false) → ((q : Path) → is_in all q ≡ true → is_in (lock_paths (rest ++ path ∷ [])) q ≡ false → is_in (paths_of left) q ≡ false → is_file (T q) ≡ false) → (q : Path) → is_in all q ≡ true → is_in (lock_paths rest) q ≡ false → is_in (paths_of left') q ≡ false → is_file (U q) ≡ false
-  gone_then left left' wider done before q within not_rest not_left =
-      either_way (bytes_eq (lock_of path.lock) q)
-      (λ here. let e : (lock_of path.lock) ≡ q = same_path (lock_of path.lock) q here in
-      subst (λ (p : Path). is_file (U p) ≡ false) e (done (subst (λ (p : Path). is_in (paths_of left') p ≡ false) (sym e) not_left)))
-      (λ elsewhere. no_file_then (lock_of path.lock) T U q removes
-      (before q within
-      (is_false (is_in (lock_paths (rest ++ path ∷ [])) q) (λ h. ⊎_elim (λ old. clash old not_rest) (λ e. clash (is_same_path (lock_of path.lock) q e) elsewhere) (lock_cases rest path q h)))
-      (is_false (is_in (paths_of left) q) (λ h. clash (wider q h) not_left))))
 
 pub leaves_then : (locks : List Path) (lock : Path) (first mid now : Meaning) → is_in locks lock ≡ true → Leaves first mid (RemovesLocks locks first.tree) → Leaves mid now (RemovesLocks (lock ∷ []) mid.tree) → Leaves first now (RemovesLocks locks first.tree)
 leaves_then locks lock first mid now within run next = joins run (weaken next (λ T removes. removes_then locks lock first.tree mid.tree T within run.tree removes))

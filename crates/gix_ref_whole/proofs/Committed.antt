@@ -1,14 +1,14 @@
 -- What a store reads after a commit, and what a lookup finds then.
-use Rattle.std.proofs.Common.{◌≡◌, ◌≢◌, inl, inr, ⊎_elim, ℕ, Bool, true, false, List, [], ◌∷◌, refl, sym, ◌∙◌, ap, subst, Option, Some, None, Result, IfOk, IfErr, ◌&&◌, bytes_eq, if◌then◌else◌, arith}
+use Rattle.std.proofs.Common.{◌≡◌, ◌≢◌, inl, inr, ⊎_elim, ℕ, Bool, true, false, List, [], ◌∷◌, refl, sym, ◌∙◌, ap, subst, Option, Some, None, Result, IfOk, IfErr, ◌&&◌, bytes_eq, if◌then◌else◌}
 use Rattle.gix_ref_hash.specs.declared.hash.Kind.{Kind}
 use Rattle.gix_ref_base.specs.PackedRecords.{Record}
 use Rattle.gix_ref_files.specs.Disk.{Disk, Lost}
-use Rattle.gix_ref_files.specs.Files.{Meaning, Loses}
+use Rattle.gix_ref_files.specs.Files.{Meaning}
 use Rattle.gix_ref_files.specs.Lock.{lock_of}
 use Rattle.gix_ref_files.specs.Settled.{IsAllSettled}
 use Rattle.gix_ref_files.specs.Tree.{Path, Tree, file_of}
 use Rattle.gix_ref_files.specs.declared.files.ReadAt.{Ghosts}
-use Rattle.gix_ref_files.proofs.Moments.{joins, weaken}
+use Rattle.gix_ref_files.proofs.Moments.{joins, loses_joins, loses_weaken, weaken}
 use Rattle.gix_ref_files.proofs.Settling.{lost_holds}
 use Rattle.gix_ref_theory.specs.Between.{IsCommitted}
 use Rattle.gix_ref_theory.specs.Edits.{edited_reading, new_reading}
@@ -64,6 +64,7 @@ use Rattle.gix_ref_whole.proofs.DueLemmas.{all_count, lines_same}
 use Rattle.gix_ref_whole.proofs.FoundNames.{fails_as, found_as}
 use Rattle.gix_ref_whole.proofs.OutsideLemmas.{committed_outside, locking_outside, losses_outside, stops_outside, unlocked, unlost_outside}
 use Rattle.gix_ref_whole.proofs.PackedAgain.{computed, has_again}
+use Rattle.gix_ref_store.proofs.SameStores.{same_on}
 
 -- log lines change no reading
 without_lines : (s : Places) (edits : List RefEdit) (lines : List (Option (List ℕ))) (name : List ℕ) (old : Reading) →
@@ -82,45 +83,12 @@ own_possible s edits q within =
     (λ later. inr (own_lock s edits q later))
     (any_cases (λ p. bytes_eq p q) (lock_of s.packed_path ∷ []) (locks_of s edits) within)
 
--- what holds of one value holds of the same
-pub at_same : {A : Type 0} (P : A → Type 0) {x y : A} → x ≡ y → P y → P x
-at_same P same holds = subst P (sym same) holds
-
-pub same_on : {F : Type 0} (first mid last : Store F) → IsSameStore first mid → IsSameStore mid last → IsSameStore first last
-same_on first mid last a b = record {
-  dirs = b.dirs ∙ a.dirs;
-  namespace = b.namespace ∙ a.namespace;
-  of_kind = b.of_kind ∙ a.of_kind;
-  reflogs = b.reflogs ∙ a.reflogs;
-  composes = b.composes ∙ a.composes;
-  prohibits = b.prohibits ∙ a.prohibits;
-  threshold = b.threshold ∙ a.threshold;
-}
-
 -- lines depend on the same
 rules_same : {F : Type 0} (old new : Store F) (committer : Option SignatureRef) → IsSameStore old new → line_rules new committer ≡ line_rules old committer
 rules_same old new committer same =
     ap (λ (s : Places). record { store = s; namespace = namespace_text new.namespace; mode = new.write_reflog; committer = option_map signature_ref_who committer }) (same_meaning old new same)
     ∙ (ap (λ (n : Option Namespace). record { store = meaning_of old; namespace = namespace_text n; mode = new.write_reflog; committer = option_map signature_ref_who committer }) same.namespace
     ∙ ap (λ (m : WriteReflog). record { store = meaning_of old; namespace = namespace_text old.namespace; mode = m; committer = option_map signature_ref_who committer }) same.reflogs)
-
--- what losses of power leave has a weaker property
-loses_weaken : {old new : Meaning} {P Q : Tree → Type 0} → Loses old new P → ((T : Tree) → P T → Q T) → Loses old new Q
-loses_weaken run wider = record {
-  now = λ T lost. wider T (run.now T lost);
-  later = run.later;
-  since = λ t T le lost. ⊎_elim (λ past. inl past) (λ p. inr (wider T p)) (run.since t T le lost);
-  keeps = run.keeps;
-}
-
--- one run, and then another
-loses_joins : {old mid new : Meaning} {P : Tree → Type 0} → Loses old mid P → Loses mid new P → Loses old new P
-loses_joins first second = record {
-  now = second.now;
-  later = omega (arith, first.later, second.later);
-  since = λ t T le lost. ⊎_elim (first.since t T le) (λ p. inr p) (second.since t T (omega (arith, le, first.later)) lost);
-  keeps = λ t T le lost. second.keeps t T (omega (arith, le, first.later)) (first.keeps t T le lost);
-}
 
 -- after a loss of power on a settled disk each reference reads as on the disk
 lost_reading : (s : Places) → HasLaws s → (D : Disk) (T : Tree) → IsAllSettled D → Lost D T → (name : List ℕ) → s.is_reference name ≡ true → reading s (view_of T) name ≡ reading s (view_of D.tree) name

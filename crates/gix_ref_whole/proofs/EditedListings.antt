@@ -32,12 +32,11 @@ use Rattle.gix_ref_listing.specs.Listings.Listed.{Walked, InPacked}
 use Rattle.gix_ref_listing.specs.WholeListings.{HoldsFor, IsInStore, IsListing, IsNameItem, key_in, listed_key}
 use Rattle.gix_ref_listing.specs.CleanPrefixes.{IsAcceptedPrefix, IsRefusedPrefix}
 use Rattle.gix_ref_listing.specs.declared.error.Error.{Error}
-use Rattle.gix_ref_listing.specs.declared.error.Error.TheVariants.{Traversal, ReadFileContents, ReferenceCreation, PackedReference, Memory}
+use Rattle.gix_ref_listing.specs.declared.error.Error.TheVariants.{Memory}
 use Rattle.gix_ref_listing.specs.declared.prefix.Error.{Error as PrefixError}
 use Rattle.gix_ref_listing.specs.declared.prefix.Error.TheVariants as no_list
-use Rattle.gix_ref_lookup.specs.declared.find.error.ReadError.TheVariants.{File as file_error, DeviceName}
 use Rattle.gix_ref_listing.specs.declared.found.Found.TheVariants.{File, Unlisted}
-use Rattle.gix_ref_listing.proofs.FolderWalks.{unchanged_on}
+use Rattle.gix_ref_listing.proofs.FolderWalks.{risen_on, unchanged_on}
 use Rattle.gix_ref_store.specs.Listings.{AreFirst, AreHeldFor, IsNoListing, IsReadFor, IteratesListing, NextItem, count_in, store_listed}
 use Rattle.gix_ref_store.specs.Lookup.{AreRecordsIn, LooksUp, settings_of, view_in}
 use Rattle.gix_ref_store.specs.Store.{files_of, folders, kind_of, meaning_of, IsSameStore}
@@ -45,11 +44,13 @@ use Rattle.gix_ref_store.specs.declared.file.iter.LooseThenPacked.{LooseThenPack
 use Rattle.gix_ref_store.specs.declared.file.iter.Remaining.{Remaining}
 use Rattle.gix_ref_store.specs.declared.file.store.Store.{Store}
 use Rattle.gix_ref_store.proofs.Commits.{same_meaning}
+use Rattle.gix_ref_store.proofs.FirstItems.{first_from, first_to}
 use Rattle.gix_ref_store.proofs.ListingRuns.{same_settings}
+use Rattle.gix_ref_store.proofs.SameStores.{same_on}
 use Rattle.gix_ref_whole.specs.ListedItems.{AreItemsIn, GivesAll, ListsAmong, ListsIn, TakesNext}
 use Rattle.gix_ref_whole.specs.ListedReadings.{AreComposed, AreItemsOf, IsReadingFault, IsItemOf, IsNoFolder, ListsReadings}
 use Rattle.gix_ref_whole.specs.WholeRuns.{ListsEdited, ListsNames, ReadsEdited, reads_after}
-use Rattle.gix_ref_whole.proofs.Committed.{packed_back, same_on, still_made, still_split}
+use Rattle.gix_ref_whole.proofs.Committed.{packed_back, still_made, still_split}
 use Rattle.gix_ref_whole.proofs.ListedNames.{all_given, one_target, only_given}
 use Rattle.gix_ref_whole.proofs.PackedAgain.{computed}
 
@@ -104,43 +105,6 @@ module _ (settings : Settings) (view : View) (composed : AreComposed settings vi
         only = all_read listed names is.only (only_given settings view composed records prefix listed is names);
         targets = all_items items before listed names is.only (λ l w. w) first;
       }
-
--- ---- counts of faults
-
--- a count that rose from a greater one
-risen_from : (before mid now : ℕ) → before ≤ mid → HasRisen mid now → HasRisen before now
-risen_from before mid now le (inl below) = inl (omega (arith, le, below))
-risen_from before mid now le (inr top) = inr top
-
--- and to a greater one
-risen_to : (before mid now : ℕ) → mid ≤ now → HasRisen before mid → HasRisen before now
-risen_to before mid now le (inl below) = inl (omega (arith, le, below))
-risen_to before mid now le (inr top) = inr (omega (arith, le, top))
-
-module _ (honest : Type 0) (settings : Settings) (view : View) where
-  item_from : (before mid now : ℕ) (one : Listed) (item : Result Reference Error) → before ≤ mid → IsItem honest settings view mid now one item → IsItem honest settings view before now one item
-  item_from before mid now (InPacked own) item le is = is
-  item_from before mid now (Walked (key, File name path)) (Ok r) le is = is
-  item_from before mid now (Walked (key, File name path)) (Err (ReadFileContents (file_error source) at)) le is = ⊎_elim (λ risen. inl (risen_from before mid now le risen.0, risen.1, risen.2)) (λ gone. inr gone) is
-  item_from before mid now (Walked (key, File name path)) (Err (ReadFileContents DeviceName at)) le is = is
-  item_from before mid now (Walked (key, File name path)) (Err (ReferenceCreation source at)) le is = is
-  item_from before mid now (Walked (key, File name path)) (Err Memory) le is = is
-  item_from before mid now (Walked (key, File name path)) (Err (Traversal source at)) le is = is
-  item_from before mid now (Walked (key, File name path)) (Err (PackedReference line number)) le is = is
-  item_from before mid now (Walked (key, Unlisted path source)) (Ok r) le is = is
-  item_from before mid now (Walked (key, Unlisted path source)) (Err error) le is = is
-
-module _ {F : Type 0} (honest : Type 0) (means : F → Meaning) (faults : F → ℕ) where
-  -- the same items between counts that are farther apart
-  first_to : (settings : Settings) (view : View) (before mid now : ℕ) (listed rest : List Listed) (items : List (Result Reference Error)) → mid ≤ now →
-      AreFirst honest means faults settings view before mid listed rest items → AreFirst honest means faults settings view before now listed rest items
-  first_to settings view before mid now listed rest [] le are = (omega (arith, are.0, le), are.1)
-  first_to settings view before mid now listed rest (item ∷ items) le (m, one, more, same, up, is, later) = (m, one, more, same, up, is, first_to settings view m mid now more rest items le later)
-
-  first_from : (settings : Settings) (view : View) (before mid now : ℕ) (listed rest : List Listed) (items : List (Result Reference Error)) → before ≤ mid →
-      AreFirst honest means faults settings view mid now listed rest items → AreFirst honest means faults settings view before now listed rest items
-  first_from settings view before mid now listed rest [] le are = (omega (arith, are.0, le), are.1)
-  first_from settings view before mid now listed rest (item ∷ items) le (m, one, more, same, up, is, later) = (m, one, more, same, omega (arith, le, up), item_from honest settings view before mid m one item le is, later)
 
 -- ---- items that are taken one after the other
 
@@ -215,7 +179,7 @@ module _ {F : Type 0} (honest : Type 0) (means : F → Meaning) (faults : F → 
       record {
         listed = l.listed;
         is = l.is;
-        names = ⊎_elim (λ names. inl names) (λ risen. inr (risen_to (faults (files_of start)) (count_in honest means faults it) (faults (files_of new)) (omega (arith, last, given)) risen)) l.names;
+        names = ⊎_elim (λ names. inl names) (λ risen. inr (risen_on (faults (files_of start)) (count_in honest means faults it) (faults (files_of new)) risen (omega (arith, last, given)))) l.names;
         first = subst (λ rest. AreFirst honest means faults (settings_of start) (view_in means start) (faults (files_of start)) (faults (files_of new)) l.listed rest items) (first.ends t all.ends)
             (first_from honest means faults (settings_of start) (view_in means start) (faults (files_of start)) (count_in honest means faults it) (faults (files_of new)) l.listed first.rest items l.counts
             (first_to honest means faults (settings_of start) (view_in means start) (count_in honest means faults it) (count_in honest means faults all.last) (faults (files_of new)) l.listed first.rest items last first.first));

@@ -91,9 +91,6 @@ loose_is_there s (Some t) = refl
 none_there : IsSome {T = List ℕ} None → ⊥
 none_there h = cc
 
-no_file : (bytes : List ℕ) → None ≡ Some bytes → ⊥
-no_file bytes is = cc
-
 absent_there : is_there Absent ≡ true → ⊥
 absent_there h = cc
 

@@ -14,8 +14,8 @@ use Rattle.gix_ref_hash.specs.declared.hash.Kind.{Kind}
 use Rattle.gix_ref_base.specs.Layout.{Layout}
 use Rattle.gix_ref_base.specs.PackedRecords.{Record, record_named}
 use Rattle.gix_ref_base.specs.Targets.TargetValue.{object_id, symbolic_name}
-use Rattle.gix_ref_records.specs.Positions.{IsObject, IsReadable}
-use Rattle.gix_ref_records.specs.RecordGrammar.{OptionalPeeledLine, Records, Below, Ascending}
+use Rattle.gix_ref_records.specs.Positions.{IsReadable}
+use Rattle.gix_ref_records.specs.RecordGrammar.{Below, Ascending}
 use Rattle.gix_ref_records.specs.WrittenText.{written_header}
 use Rattle.gix_ref_packed.proofs.RecordsOfText.{records_computed}
 use Rattle.gix_ref_rewrite.proofs.OutcomeLemmas.{well_formed}
@@ -27,6 +27,7 @@ use Rattle.gix_ref_theory.specs.Edits.{Edit, Change, merged_record, edited_recor
 use Rattle.gix_ref_theory.specs.Edits.Change.{Update, Delete}
 use Rattle.gix_ref_theory.specs.Edits.Mode.{DeletionsOnly}
 use Rattle.gix_ref_theory.specs.Readings.{Store, records_of_file}
+use Rattle.gix_ref_rewrite.proofs.OutcomeLemmas.{records_read}
 
 -- ---- the records that are left
 
@@ -91,17 +92,6 @@ all_found P (r ∷ rs) up has = All-cons P r rs (has r.name r (first_named r rs)
 pairs_ascend : (rs : List Record) → AllPairs (λ (r later : Record). slice_cmp nat_cmp r.name later.name ≡ Less) rs → Ascending rs
 pairs_ascend [] up = tt
 pairs_ascend (r ∷ rs) up = (λ k d lt. up 0 (suc k) d (omega arith) (omega arith), pairs_ascend rs (λ i j d lt le. up (suc i) (suc j) d (omega arith) (omega arith)))
-
--- ---- records that can be read
-
-object_read : (k : Kind) (t : List ℕ) (o : Option (List ℕ)) (rest : List ℕ) → OptionalPeeledLine k t o rest → IsObject k o
-object_read k t None rest f = tt
-object_read k t (Some object) rest f = f.id
-
-records_read : (k : Kind) (t : List ℕ) (rs : List Record) → Records k t rs → All (IsReadable k) rs
-records_read k t [] h = All-nil (IsReadable k)
-records_read k t (r ∷ rs) h =
-    All-cons (IsReadable k) r rs (record { name = h.1.valid; target = h.1.id; object = object_read k h.1.after r.object h.0 h.1.peeled }) (records_read k h.0 rs h.2)
 
 -- ---- the file
 

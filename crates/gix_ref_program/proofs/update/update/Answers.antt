@@ -6,7 +6,8 @@ use Rattle.gix_ref_packed.specs.OpenFiles.{HasReadFault}
 use Rattle.gix_ref_store.specs.Prepared.{PreparesGiven, HasGoodRecords, RefusesGiven, IsAtRest}
 use Rattle.gix_ref_store.specs.Store.{files_of}
 use Rattle.gix_ref_program.specs.Updates.{UpdateMade, IsStopOf, IsLossOf, IsUpdateError}
-use Rattle.gix_ref_program.proofs.Updating.{at_same, refused_stops, refused_loses, done, told, stops, loses, settles}
+use Rattle.gix_ref_store.proofs.SameStores.{at_same}
+use Rattle.gix_ref_program.proofs.Updating.{refused_stops, refused_loses, done, told, stops, loses, settles}
 use Rattle.gix_ref_program.proofs.update.update.Goals as goal
 
 pub returns-in-Ok-clause-done : goal.returns-in-Ok-clause-done

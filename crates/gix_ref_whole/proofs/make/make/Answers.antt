@@ -6,7 +6,8 @@ use Rattle.gix_ref_store.specs.CommitResult.{left_of, mode_handed_back, EverySto
 use Rattle.gix_ref_store.specs.Prepared.{PreparesGiven}
 use Rattle.gix_ref_store.specs.Store.{files_of}
 use Rattle.gix_ref_whole.specs.WholeRuns.{HasFailed, MakesEdited}
-use Rattle.gix_ref_whole.proofs.Committed.{at_same, carried_before, committed_before, keeps, keeps_split, losses_same, same_on, stops_same}
+use Rattle.gix_ref_whole.proofs.Committed.{carried_before, committed_before, keeps, keeps_split, losses_same, stops_same}
+use Rattle.gix_ref_store.proofs.SameStores.{at_same, same_on}
 use Rattle.gix_ref_whole.proofs.make.make.Goals as goal
 
 pub returns-in-Err-commit-clause-not_made : goal.returns-in-Err-commit-clause-not_made

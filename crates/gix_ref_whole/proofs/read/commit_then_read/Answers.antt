@@ -1,6 +1,7 @@
 use Rattle.gix_ref_name.specs.Names.{partial_ref_bytes}
 use Rattle.gix_ref_transaction.specs.OwnLocks.{paths_of}
-use Rattle.gix_ref_whole.proofs.Committed.{found_edited, same_on, still_made}
+use Rattle.gix_ref_whole.proofs.Committed.{found_edited, still_made}
+use Rattle.gix_ref_store.proofs.SameStores.{same_on}
 use Rattle.gix_ref_whole.proofs.EditedListings.{listed_edited}
 use Rattle.gix_ref_whole.proofs.read.commit_then_read.Goals as goal
 

@@ -1,0 +1,41 @@
+-- The first items of a listing between counts of faults that are farther apart.
+use Rattle.std.proofs.Common.{inl, inr, ⊎_elim, arith, ℕ, List, [], ◌∷◌, Result, Ok, Err}
+use Rattle.std.specs.Prelude.{◌≤◌}
+use Rattle.gix_ref_files.specs.Files.{Meaning}
+use Rattle.gix_ref_theory.specs.Views.{View}
+use Rattle.gix_ref_records.specs.declared.raw.Reference.{Reference}
+use Rattle.gix_ref_lookup.specs.declared.settings.Settings.{Settings}
+use Rattle.gix_ref_lookup.specs.declared.find.error.ReadError.TheVariants.{File as file_error, DeviceName}
+use Rattle.gix_ref_listing.specs.Items.{IsItem}
+use Rattle.gix_ref_listing.specs.Listings.{Listed}
+use Rattle.gix_ref_listing.specs.Listings.Listed.{Walked, InPacked}
+use Rattle.gix_ref_listing.specs.declared.found.Found.TheVariants.{File, Unlisted}
+use Rattle.gix_ref_listing.specs.declared.error.Error.{Error}
+use Rattle.gix_ref_listing.specs.declared.error.Error.TheVariants.{Traversal, ReadFileContents, ReferenceCreation, PackedReference, Memory}
+use Rattle.gix_ref_listing.proofs.FolderWalks.{risen_from}
+use Rattle.gix_ref_store.specs.Listings.{AreFirst}
+
+module _ (honest : Type 0) (settings : Settings) (view : View) where
+  item_from : (before mid now : ℕ) (one : Listed) (item : Result Reference Error) → before ≤ mid → IsItem honest settings view mid now one item → IsItem honest settings view before now one item
+  item_from before mid now (InPacked own) item le is = is
+  item_from before mid now (Walked (key, File name path)) (Ok r) le is = is
+  item_from before mid now (Walked (key, File name path)) (Err (ReadFileContents (file_error source) at)) le is = ⊎_elim (λ risen. inl (risen_from before mid now le risen.0, risen.1, risen.2)) (λ gone. inr gone) is
+  item_from before mid now (Walked (key, File name path)) (Err (ReadFileContents DeviceName at)) le is = is
+  item_from before mid now (Walked (key, File name path)) (Err (ReferenceCreation source at)) le is = is
+  item_from before mid now (Walked (key, File name path)) (Err Memory) le is = is
+  item_from before mid now (Walked (key, File name path)) (Err (Traversal source at)) le is = is
+  item_from before mid now (Walked (key, File name path)) (Err (PackedReference line number)) le is = is
+  item_from before mid now (Walked (key, Unlisted path source)) (Ok r) le is = is
+  item_from before mid now (Walked (key, Unlisted path source)) (Err error) le is = is
+
+module _ {F : Type 0} (honest : Type 0) (means : F → Meaning) (faults : F → ℕ) where
+  -- the same items between counts that are farther apart
+  pub first_to : (settings : Settings) (view : View) (before mid now : ℕ) (listed rest : List Listed) (items : List (Result Reference Error)) → mid ≤ now →
+      AreFirst honest means faults settings view before mid listed rest items → AreFirst honest means faults settings view before now listed rest items
+  first_to settings view before mid now listed rest [] le are = (omega (arith, are.0, le), are.1)
+  first_to settings view before mid now listed rest (item ∷ items) le (m, one, more, same, up, is, later) = (m, one, more, same, up, is, first_to settings view m mid now more rest items le later)
+
+  pub first_from : (settings : Settings) (view : View) (before mid now : ℕ) (listed rest : List Listed) (items : List (Result Reference Error)) → before ≤ mid →
+      AreFirst honest means faults settings view mid now listed rest items → AreFirst honest means faults settings view before now listed rest items
+  first_from settings view before mid now listed rest [] le are = (omega (arith, are.0, le), are.1)
+  first_from settings view before mid now listed rest (item ∷ items) le (m, one, more, same, up, is, later) = (m, one, more, same, omega (arith, le, up), item_from honest settings view before mid m one item le is, later)
