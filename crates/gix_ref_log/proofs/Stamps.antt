@@ -1,6 +1,6 @@
 -- Signatures that end with `> `, seconds of ten digits, a space and a zone.
 use Rattle.std.proofs.Common.{◌≡◌, ◌≢◌, ℕ, ◌+◌, ◌<◌, ⊎_elim, List, [], ◌∷◌, ◌++◌, length, get_or, take, drop, refl, sym, ◌∙◌, ap, subst, arith, ℤ, pos}
-use Rattle.std.proofs.lemmas.List.{take-append-drop, drop_more, drop-drop, take_all, length-drop}
+use Rattle.std.proofs.lemmas.List.{take-append-drop, drop_more, drop-drop, take_all, length-drop, append_assoc}
 use Rattle.gix_ref_hash.specs.Bytes.{NoByte, Cuts}
 use Rattle.gix_ref_hash.specs.Digits.{IsNumber}
 use Rattle.gix_ref_log.specs.Signatures.{IsSignature, IsSeconds, IsStamp, IsZone, without_space}
@@ -54,6 +54,7 @@ stamped_signature text front end name email seconds offset whole cut stamp = rec
   time = stamp.digits ++ 32 ∷ stamp.zone;
   digits = stamp.digits;
   zone = stamp.zone;
+  name_cut = record { whole = whole ∙ ap (λ (t : List ℕ). t ++ end) cut.whole ∙ append_assoc name (60 ∷ email) end; none = cut.none };
   name = refl;
   email = record { whole = ap (λ (t : List ℕ). email ++ t) stamp.whole; none = stamp.no_bracket };
   time_cut = record { whole = refl; none = stamp.no_space };
