@@ -1,6 +1,6 @@
 //! Empty folders above the files that a commit removed, which are removed once its locks are gone.
 ghost use Rattle.std.specs.Prelude.{◌≡◌, ◌≤◌, ◌<◌, ◌∷◌, ◌++◌, [], IfOk, OnOk, get_or, length};
-ghost use Rattle.gix_ref_files.specs.Files.{disk_of, Leaves, Passes};
+ghost use Rattle.gix_ref_files.specs.Files.{disk_of, Leaves, AtEveryStop, Passes, OnEveryDisk};
 ghost use Rattle.gix_ref_transaction.specs.OwnLocks.{paths_of};
 ghost use Rattle.gix_ref_commit.specs.Cleared.{FoldersGo, LosesNoMore, OnlyFolders, all_removed, first_component, kept_of, removed_by};
 
@@ -78,11 +78,9 @@ fn remove_folder<F: Files>(files: &mut F, dirs: &Dirs, path: &[u8], end: usize) 
     requires slash { get_or path.now end 0 ≡ 47 }
     requires kept { kept_of dirs.now path.now < end }
     requires inside { end < length path.now }
-    ensures leaves { F.honest → Leaves (F.means files.old) (F.means files.new)
-        (FoldersGo dirs.now (path.now ∷ []) (F.means files.old).tree) }
+    ensures leaves { F.honest → AtEveryStop F.means files.old files.new (FoldersGo dirs.now (path.now ∷ [])) }
     ensures passes { F.honest → OnlyFolders dirs.now (F.means files.old) (F.means files.new) }
-    ensures loses { F.honest → Passes (F.means files.old) (F.means files.new)
-        (LosesNoMore (disk_of (F.means files.old))) }
+    ensures loses { F.honest → OnEveryDisk F.means files.old files.new LosesNoMore }
     ensures no_fewer { F.faults files.old ≤ F.faults files.new }
 {
     let folder = &path[..end];
@@ -99,11 +97,9 @@ fn remove_folder<F: Files>(files: &mut F, dirs: &Dirs, path: &[u8], end: usize) 
 fn remove_at<F: Files>(files: &mut F, dirs: &Dirs, path: &[u8], end: usize) -> bool
     requires kept { kept_of dirs.now path.now < end }
     requires inside { end < length path.now }
-    ensures leaves { F.honest → Leaves (F.means files.old) (F.means files.new)
-        (FoldersGo dirs.now (path.now ∷ []) (F.means files.old).tree) }
+    ensures leaves { F.honest → AtEveryStop F.means files.old files.new (FoldersGo dirs.now (path.now ∷ [])) }
     ensures passes { F.honest → OnlyFolders dirs.now (F.means files.old) (F.means files.new) }
-    ensures loses { F.honest → Passes (F.means files.old) (F.means files.new)
-        (LosesNoMore (disk_of (F.means files.old))) }
+    ensures loses { F.honest → OnEveryDisk F.means files.old files.new LosesNoMore }
     ensures no_fewer { F.faults files.old ≤ F.faults files.new }
 {
     if path[end] != b'/' {
@@ -114,11 +110,9 @@ fn remove_at<F: Files>(files: &mut F, dirs: &Dirs, path: &[u8], end: usize) -> b
 
 /// Removes the empty folders above a path, from its own up.
 fn remove_above<F: Files>(files: &mut F, dirs: &Dirs, path: &[u8])
-    ensures leaves { F.honest → Leaves (F.means files.old) (F.means files.new)
-        (FoldersGo dirs.now (path.now ∷ []) (F.means files.old).tree) }
+    ensures leaves { F.honest → AtEveryStop F.means files.old files.new (FoldersGo dirs.now (path.now ∷ [])) }
     ensures passes { F.honest → OnlyFolders dirs.now (F.means files.old) (F.means files.new) }
-    ensures loses { F.honest → Passes (F.means files.old) (F.means files.new)
-        (LosesNoMore (disk_of (F.means files.old))) }
+    ensures loses { F.honest → OnEveryDisk F.means files.old files.new LosesNoMore }
     ensures no_fewer { F.faults files.old ≤ F.faults files.new }
 {
     let top = kept_len(dirs, path).saturating_add(1);
@@ -134,11 +128,9 @@ fn remove_above<F: Files>(files: &mut F, dirs: &Dirs, path: &[u8])
 /// Removes the empty folders above these paths, up to `logs`, or to `refs` and one component more. A fault is not reported. Takes no
 /// memory. One call of files for each folder that is tried. (`git update-ref -d`)
 pub fn remove_empty_folders<F: Files>(files: &mut F, dirs: &Dirs, paths: &[Vec<u8>])
-    ensures leaves { F.honest → Leaves (F.means files.old) (F.means files.new)
-        (FoldersGo dirs.now (paths_of paths.now) (F.means files.old).tree) }
+    ensures leaves { F.honest → AtEveryStop F.means files.old files.new (FoldersGo dirs.now (paths_of paths.now)) }
     ensures passes { F.honest → OnlyFolders dirs.now (F.means files.old) (F.means files.new) }
-    ensures loses { F.honest → Passes (F.means files.old) (F.means files.new)
-        (LosesNoMore (disk_of (F.means files.old))) }
+    ensures loses { F.honest → OnEveryDisk F.means files.old files.new LosesNoMore }
     ensures no_fewer { F.faults files.old ≤ F.faults files.new }
 {
     for path in paths {

@@ -82,6 +82,16 @@ pub record Loses (old new : Meaning) (P : Tree → Type 0) : Type 0 where
   -- and none is taken away
   pub keeps : (t : ℕ) (T : Tree) → t ≤ old.moment → lost_since old t T → lost_since new t T
 
+module _ {F : Type 0} (means : F → Meaning) where
+  -- The tree of the files new is related in this way to that of old, and so is each tree that a stop could have left since the
+  -- first change.
+  abbrev pub AtEveryStop : (old new : F) → (Tree → Tree → Type 0) → Type 0
+  AtEveryStop old new P = Leaves (means old) (means new) (P (means old).tree)
+
+  -- the same of their disks, and of each disk that a stop or a loss of power could have found
+  abbrev pub OnEveryDisk : (old new : F) → (Disk → Disk → Type 0) → Type 0
+  OnEveryDisk old new P = Passes (means old) (means new) (P (disk_of (means old)))
+
 -- Each tree that has P is among those that a stop since any moment up to old could have left.
 abbrev pub Adds : Meaning → Meaning → (Tree → Type 0) → Type 0
 Adds old new P = (t : ℕ) (T : Tree) → t ≤ old.moment → P T → left_since new t T

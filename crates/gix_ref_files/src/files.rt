@@ -120,7 +120,7 @@ pub trait Files {
     ghost use Rattle.gix_ref_files.specs.Tree.{Tree, IsShaped, node_at, bytes_of, is_file, is_folder};
     ghost use Rattle.gix_ref_files.specs.Disk.{Disk, file_synced, folder_synced};
     ghost use Rattle.gix_ref_files.specs.DiskCalls.{Untouched, after_create, CreatingOn, after_folders, MakingFoldersOn, after_append, AppendingOn, after_rename, RenamingOn, after_removal, RemovingFileOn, RemovingFolderOn, Syncs, SyncingOn};
-    ghost use Rattle.gix_ref_files.specs.Files.{Meaning, disk_of, left_since, Leaves, Adds, Passes, AddsDisks, count_after};
+    ghost use Rattle.gix_ref_files.specs.Files.{Meaning, disk_of, left_since, Leaves, AtEveryStop, Adds, Passes, OnEveryDisk, AddsDisks, count_after};
     ghost use Rattle.gix_ref_files.specs.Calls.{Unchanged, emptied, Opens, Creates, Creating, MakesFolders, MakingFolders, Appends, Appending, Renames, Renaming, RemovesFile, RemovingFile, RemovesFolder, RemovingFolder, Lists};
 
     /// A file of these, open for reading.
@@ -143,10 +143,8 @@ pub trait Files {
     fn kind(&mut self, path: &[u8]) -> Result<Node, FileError>
         ensures answer { honest → IfOk result
             (λ node. node ≡ node_at (means self.old).tree path.now) }
-        ensures leaves { honest → Leaves (means self.old) (means self.new)
-            (Unchanged (means self.old).tree) }
-        ensures passes { honest → Passes (means self.old) (means self.new)
-            (Untouched (disk_of (means self.old))) }
+        ensures leaves { honest → AtEveryStop means self.old self.new Unchanged }
+        ensures passes { honest → OnEveryDisk means self.old self.new Untouched }
         ensures count { faults self.new ≡ count_after result (faults self.old) }
         ensures memory { IsErrOf result FileError.Memory → ⊥ };
 
@@ -158,30 +156,24 @@ pub trait Files {
         ensures bytes { honest → IfOk result (λ node. node ≡ Node.File →
             buf.new.items ≡ bytes_of ((means self.old).tree path.now)) }
         ensures emptied { emptied result buf.new.items }
-        ensures leaves { honest → Leaves (means self.old) (means self.new)
-            (Unchanged (means self.old).tree) }
-        ensures passes { honest → Passes (means self.old) (means self.new)
-            (Untouched (disk_of (means self.old))) }
+        ensures leaves { honest → AtEveryStop means self.old self.new Unchanged }
+        ensures passes { honest → OnEveryDisk means self.old self.new Untouched }
         ensures count { faults self.new ≡ count_after result (faults self.old) };
 
     /// Opens a file for reading (`File::open`); `None` where there is no file.
     fn open(&mut self, alloc: Global, path: &[u8]) -> Result<Option<Self::Reader>, FileError>
         ensures answer { honest → IfOk result (λ reader. Opens Self.Reader.honest Self.Reader.bytes
             (means self.old).tree path.now reader) }
-        ensures leaves { honest → Leaves (means self.old) (means self.new)
-            (Unchanged (means self.old).tree) }
-        ensures passes { honest → Passes (means self.old) (means self.new)
-            (Untouched (disk_of (means self.old))) }
+        ensures leaves { honest → AtEveryStop means self.old self.new Unchanged }
+        ensures passes { honest → OnEveryDisk means self.old self.new Untouched }
         ensures count { faults self.new ≡ count_after result (faults self.old) };
 
     /// Lists the files and folders in a folder, each once, in an unspecified order (`fs::read_dir`); `None` where there
     /// is no folder.
     fn list(&mut self, alloc: Global, path: &[u8]) -> Result<Option<Vec<Entry>>, FileError>
         ensures answer { honest → IfOk result (Lists (means self.old).tree path.now) }
-        ensures leaves { honest → Leaves (means self.old) (means self.new)
-            (Unchanged (means self.old).tree) }
-        ensures passes { honest → Passes (means self.old) (means self.new)
-            (Untouched (disk_of (means self.old))) }
+        ensures leaves { honest → AtEveryStop means self.old self.new Unchanged }
+        ensures passes { honest → OnEveryDisk means self.old self.new Untouched }
         ensures count { faults self.new ≡ count_after result (faults self.old) };
 
     /// Makes an empty file where there is nothing and folders lead there (`File::create_new`). A fault leaves all as
@@ -190,12 +182,10 @@ pub trait Files {
         ensures answer { honest → IfOk result
             (Creates (means self.old).tree path.now (means self.new).tree) }
         ensures failed { honest → OnErr result ((means self.new).tree ≡ (means self.old).tree) }
-        ensures leaves { honest → Leaves (means self.old) (means self.new)
-            (Creating (means self.old).tree path.now) }
+        ensures leaves { honest → AtEveryStop means self.old self.new (λ before. Creating before path.now) }
         ensures disk { honest → IfOk result (λ create. disk_of (means self.new)
             ≡ after_create (disk_of (means self.old)) path.now create) }
-        ensures passes { honest → Passes (means self.old) (means self.new)
-            (CreatingOn (disk_of (means self.old)) path.now) }
+        ensures passes { honest → OnEveryDisk means self.old self.new (λ before. CreatingOn before path.now) }
         ensures count { faults self.new ≡ count_after result (faults self.old) }
         ensures memory { IsErrOf result FileError.Memory → ⊥ };
 
@@ -204,14 +194,12 @@ pub trait Files {
     fn make_folders(&mut self, path: &[u8]) -> Result<bool, FileError>
         ensures answer { honest → IfOk result
             (MakesFolders (means self.old).tree path.now (means self.new).tree) }
-        ensures leaves { honest → Leaves (means self.old) (means self.new)
-            (MakingFolders (means self.old).tree path.now) }
+        ensures leaves { honest → AtEveryStop means self.old self.new (λ before. MakingFolders before path.now) }
         ensures adds { honest → OnOk result (Adds (means self.old) (means self.new)
             (MakingFolders (means self.old).tree path.now)) }
         ensures disk { honest → IfOk result (λ made. disk_of (means self.new)
             ≡ after_folders (disk_of (means self.old)) path.now made) }
-        ensures passes { honest → Passes (means self.old) (means self.new)
-            (MakingFoldersOn (disk_of (means self.old)) path.now) }
+        ensures passes { honest → OnEveryDisk means self.old self.new (λ before. MakingFoldersOn before path.now) }
         ensures adds_disks { honest → OnOk result (AddsDisks (means self.old) (means self.new)
             (MakingFoldersOn (disk_of (means self.old)) path.now)) }
         ensures count { faults self.new ≡ count_after result (faults self.old) }
@@ -222,14 +210,12 @@ pub trait Files {
     fn append(&mut self, path: &[u8], bytes: &[u8]) -> Result<bool, FileError>
         ensures answer { honest → IfOk result
             (Appends (means self.old).tree path.now bytes.now (means self.new).tree) }
-        ensures leaves { honest → Leaves (means self.old) (means self.new)
-            (Appending (means self.old).tree path.now bytes.now) }
+        ensures leaves { honest → AtEveryStop means self.old self.new (λ before. Appending before path.now bytes.now) }
         ensures adds { honest → OnOk result (Adds (means self.old) (means self.new)
             (Appending (means self.old).tree path.now bytes.now)) }
         ensures disk { honest → IfOk result (λ there. disk_of (means self.new)
             ≡ after_append (disk_of (means self.old)) path.now bytes.now there) }
-        ensures passes { honest → Passes (means self.old) (means self.new)
-            (AppendingOn (disk_of (means self.old)) path.now bytes.now) }
+        ensures passes { honest → OnEveryDisk means self.old self.new (λ before. AppendingOn before path.now bytes.now) }
         ensures adds_disks { honest → OnOk result (AddsDisks (means self.old) (means self.new)
             (AppendingOn (disk_of (means self.old)) path.now bytes.now)) }
         ensures count { faults self.new ≡ count_after result (faults self.old) }
@@ -239,12 +225,10 @@ pub trait Files {
     fn rename(&mut self, from: &[u8], to: &[u8]) -> Result<Rename, FileError>
         ensures answer { honest → IfOk result
             (Renames (means self.old).tree from.now to.now (means self.new).tree) }
-        ensures leaves { honest → Leaves (means self.old) (means self.new)
-            (Renaming (means self.old).tree from.now to.now) }
+        ensures leaves { honest → AtEveryStop means self.old self.new (λ before. Renaming before from.now to.now) }
         ensures disk { honest → IfOk result (λ rename. disk_of (means self.new)
             ≡ after_rename (disk_of (means self.old)) from.now to.now rename) }
-        ensures passes { honest → Passes (means self.old) (means self.new)
-            (RenamingOn (disk_of (means self.old)) from.now to.now) }
+        ensures passes { honest → OnEveryDisk means self.old self.new (λ before. RenamingOn before from.now to.now) }
         ensures count { faults self.new ≡ count_after result (faults self.old) }
         ensures memory { IsErrOf result FileError.Memory → ⊥ };
 
@@ -253,12 +237,10 @@ pub trait Files {
     fn remove_file(&mut self, path: &[u8]) -> Result<bool, FileError>
         ensures answer { honest → IfOk result
             (RemovesFile (means self.old).tree path.now (means self.new).tree) }
-        ensures leaves { honest → Leaves (means self.old) (means self.new)
-            (RemovingFile (means self.old).tree path.now) }
+        ensures leaves { honest → AtEveryStop means self.old self.new (λ before. RemovingFile before path.now) }
         ensures disk { honest → IfOk result (λ removed. disk_of (means self.new)
             ≡ after_removal (disk_of (means self.old)) path.now removed) }
-        ensures passes { honest → Passes (means self.old) (means self.new)
-            (RemovingFileOn (disk_of (means self.old)) path.now) }
+        ensures passes { honest → OnEveryDisk means self.old self.new (λ before. RemovingFileOn before path.now) }
         ensures count { faults self.new ≡ count_after result (faults self.old) }
         ensures memory { IsErrOf result FileError.Memory → ⊥ };
 
@@ -267,12 +249,10 @@ pub trait Files {
     fn remove_folder(&mut self, path: &[u8]) -> Result<bool, FileError>
         ensures answer { honest → IfOk result
             (RemovesFolder (means self.old).tree path.now (means self.new).tree) }
-        ensures leaves { honest → Leaves (means self.old) (means self.new)
-            (RemovingFolder (means self.old).tree path.now) }
+        ensures leaves { honest → AtEveryStop means self.old self.new (λ before. RemovingFolder before path.now) }
         ensures disk { honest → IfOk result (λ removed. disk_of (means self.new)
             ≡ after_removal (disk_of (means self.old)) path.now removed) }
-        ensures passes { honest → Passes (means self.old) (means self.new)
-            (RemovingFolderOn (disk_of (means self.old)) path.now) }
+        ensures passes { honest → OnEveryDisk means self.old self.new (λ before. RemovingFolderOn before path.now) }
         ensures count { faults self.new ≡ count_after result (faults self.old) }
         ensures memory { IsErrOf result FileError.Memory → ⊥ };
 
@@ -282,11 +262,8 @@ pub trait Files {
         ensures answer { honest → Syncs (is_file ((means self.old).tree path.now))
             (disk_of (means self.old)) (file_synced (disk_of (means self.old)) path.now)
             (disk_of (means self.new)) result }
-        ensures leaves { honest → Leaves (means self.old) (means self.new)
-            (Unchanged (means self.old).tree) }
-        ensures passes { honest → Passes (means self.old) (means self.new)
-            (SyncingOn (is_file ((means self.old).tree path.now)) (disk_of (means self.old))
-            (file_synced (disk_of (means self.old)) path.now)) }
+        ensures leaves { honest → AtEveryStop means self.old self.new Unchanged }
+        ensures passes { honest → OnEveryDisk means self.old self.new (λ before. SyncingOn (is_file ((means self.old).tree path.now)) before (file_synced before path.now)) }
         ensures count { faults self.new ≡ count_after result (faults self.old) }
         ensures memory { IsErrOf result FileError.Memory → ⊥ };
 
@@ -296,11 +273,8 @@ pub trait Files {
         ensures answer { honest → Syncs (is_folder ((means self.old).tree path.now))
             (disk_of (means self.old)) (folder_synced (disk_of (means self.old)) path.now)
             (disk_of (means self.new)) result }
-        ensures leaves { honest → Leaves (means self.old) (means self.new)
-            (Unchanged (means self.old).tree) }
-        ensures passes { honest → Passes (means self.old) (means self.new)
-            (SyncingOn (is_folder ((means self.old).tree path.now)) (disk_of (means self.old))
-            (folder_synced (disk_of (means self.old)) path.now)) }
+        ensures leaves { honest → AtEveryStop means self.old self.new Unchanged }
+        ensures passes { honest → OnEveryDisk means self.old self.new (λ before. SyncingOn (is_folder ((means self.old).tree path.now)) before (folder_synced before path.now)) }
         ensures count { faults self.new ≡ count_after result (faults self.old) }
         ensures memory { IsErrOf result FileError.Memory → ⊥ };
 

@@ -1,7 +1,7 @@
 //! The records of a prefix, read from `packed-refs`.
 ghost use Rattle.std.specs.Prelude.{◌≡◌, ℕ, List, IfOk, IfErr, OnOk, is_some};
 ghost use Rattle.gix_ref_base.specs.PackedRecords.{Record};
-ghost use Rattle.gix_ref_files.specs.Files.{Leaves};
+ghost use Rattle.gix_ref_files.specs.Files.{Leaves, AtEveryStop};
 ghost use Rattle.gix_ref_files.specs.Calls.{Unchanged};
 ghost use Rattle.gix_ref_files.specs.Tree.{is_file};
 ghost use Rattle.gix_ref_hash.specs.declared.hash.Kind.{Kind};
@@ -70,8 +70,7 @@ pub fn open_prefixed<F: Files>(
     ensures no_fault { OnOk result (F.faults files.new ≡ F.faults files.old) }
     ensures failed { F.honest →
         IfErr result (CountsRefusal F.Reader.faults (F.faults files.old) (F.faults files.new)) }
-    ensures leaves { F.honest → Leaves (F.means files.old) (F.means files.new)
-        (Unchanged (F.means files.old).tree) }
+    ensures leaves { F.honest → AtEveryStop F.means files.old files.new Unchanged }
 {
     let path = settings.packed_refs_path(alloc)?;
     let key = joined(alloc, text_of(settings.namespace), prefix)?;

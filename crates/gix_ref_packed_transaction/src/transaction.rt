@@ -5,7 +5,7 @@ ghost use Rattle.std.specs.Cmp.Lexicographic.{slice_cmp};
 ghost use Rattle.std.specs.List.Sorted.{IsPermutation, IsSorted};
 ghost use Rattle.std.specs.Ordering.{nat_cmp};
 ghost use Rattle.gix_ref_files.specs.DiskCalls.{RemovingFileOn};
-ghost use Rattle.gix_ref_files.specs.Files.{Leaves, Loses, Passes, HasRisen, disk_of};
+ghost use Rattle.gix_ref_files.specs.Files.{Leaves, AtEveryStop, Loses, Passes, OnEveryDisk, HasRisen, disk_of};
 ghost use Rattle.gix_ref_files.specs.Lock.{lock_of};
 ghost use Rattle.gix_ref_files.specs.Tree.{is_file};
 ghost use Rattle.gix_ref_packed_transaction.specs.PackedTransactions.{OnlyLockGoes};
@@ -35,10 +35,8 @@ pub struct Transaction {
 
 /// Removes a lock: its path, where it could not be removed.
 fn remove<F: Files>(files: &mut F, lock: LockFile) -> Option<Vec<u8>>
-    ensures leaves { F.honest → Leaves (F.means files.old) (F.means files.new)
-        (OnlyLockGoes lock (F.means files.old).tree) }
-    ensures passes { F.honest → Passes (F.means files.old) (F.means files.new)
-        (RemovingFileOn (disk_of (F.means files.old)) (lock_of lock)) }
+    ensures leaves { F.honest → AtEveryStop F.means files.old files.new (OnlyLockGoes lock) }
+    ensures passes { F.honest → OnEveryDisk F.means files.old files.new (λ before. RemovingFileOn before (lock_of lock)) }
     ensures named { MatchOption result (F.honest →
         is_file ((F.means files.new).tree (lock_of lock)) ≡ false)
         (λ path. (path.items ≡ lock_of lock) × HasRisen (F.faults files.old) (F.faults files.new)) }
@@ -53,10 +51,8 @@ fn remove<F: Files>(files: &mut F, lock: LockFile) -> Option<Vec<u8>>
 /// Removes the lock after a failure.
 fn release<F: Files>(files: &mut F, lock: LockFile, error: commit::Error) -> Failed
     ensures error { result.error ≡ error }
-    ensures leaves { F.honest → Leaves (F.means files.old) (F.means files.new)
-        (OnlyLockGoes lock (F.means files.old).tree) }
-    ensures passes { F.honest → Passes (F.means files.old) (F.means files.new)
-        (RemovingFileOn (disk_of (F.means files.old)) (lock_of lock)) }
+    ensures leaves { F.honest → AtEveryStop F.means files.old files.new (OnlyLockGoes lock) }
+    ensures passes { F.honest → OnEveryDisk F.means files.old files.new (λ before. RemovingFileOn before (lock_of lock)) }
     ensures named { MatchOption result.lock_left
         (F.honest → is_file ((F.means files.new).tree (lock_of lock)) ≡ false)
         (λ path. (path.items ≡ lock_of lock) × HasRisen (F.faults files.old) (F.faults files.new)) }
@@ -149,10 +145,7 @@ impl Transaction {
             (CommitsRewrite (transaction_kind self) (records_of self) (removed_keys self)
             (transaction_place self) (F.means files.old).tree (F.means files.new).tree) }
         ensures read { OnOk result (IsReadBuffer (transaction_kind self) (records_of self)) }
-        ensures leaves { F.honest → IsLockEmpty (transaction_place self) (F.means files.old).tree →
-            Leaves (F.means files.old) (F.means files.new)
-            (IsBeforeOrRewritten (transaction_kind self) (records_of self) (removed_keys self)
-            (transaction_place self) (F.means files.old).tree) }
+        ensures leaves { F.honest → IsLockEmpty (transaction_place self) (F.means files.old).tree → AtEveryStop F.means files.old files.new (IsBeforeOrRewritten (transaction_kind self) (records_of self) (removed_keys self) (transaction_place self)) }
         ensures lost { F.honest → IsReadyOn (transaction_place self) (disk_of (F.means files.old)) →
             Loses (F.means files.old) (F.means files.new)
             (IsLostOf (transaction_kind self) (records_of self) (removed_keys self)
@@ -195,8 +188,7 @@ impl Transaction {
     /// Gives the transaction up, and removes the lock: the path of the lock, where it could not be removed. As the drop of gix-ref's
     /// `packed::Transaction`.
     pub fn rollback<F: Files>(self, files: &mut F) -> Option<Vec<u8>>
-        ensures leaves { F.honest → Leaves (F.means files.old) (F.means files.new)
-            (OnlyLockGoes (transaction_place self) (F.means files.old).tree) }
+        ensures leaves { F.honest → AtEveryStop F.means files.old files.new (OnlyLockGoes (transaction_place self)) }
         ensures lost { F.honest → Loses (F.means files.old) (F.means files.new)
             (OnlyLockIsLost (transaction_place self) (disk_of (F.means files.old))) }
         ensures named { MatchOption result (F.honest →

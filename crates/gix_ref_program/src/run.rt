@@ -13,7 +13,7 @@ ghost use Rattle.gix_ref_store.specs.Listings.{AreHeldFor};
 ghost use Rattle.gix_ref_store.specs.Lookup.{LooksUp};
 ghost use Rattle.gix_ref_store.specs.Prepared.{tree_of};
 ghost use Rattle.gix_ref_files.specs.Calls.{Unchanged};
-ghost use Rattle.gix_ref_files.specs.Files.{Leaves};
+ghost use Rattle.gix_ref_files.specs.Files.{Leaves, AtEveryStop};
 ghost use Rattle.gix_ref_packed.specs.OpenFiles.{HasReadFault};
 ghost use Rattle.gix_ref_program.specs.Runs.{IsExpected, IsLogChange, IsEditOf, IsDeletionEdit, IsAskedFor, NoNamespace, IsNoName, NoEdit, UpdateRan, IsUpdateStop, IsBadFolder, IsAt, namespace_of, write_reflog_of, IsOpened, EditOutcome, ShowOutcome, Prints, CommandRan, LogRan, ListRan, ListRanAmong, prefix_asked, IsStop, IsUnopened, LineRan, IsStopIn, RunsWrong, RunsLine};
 ghost use Rattle.gix_ref_program.specs.Updates.{IsStopOf};
@@ -306,8 +306,7 @@ fn make_update<F: Files>(
 fn show<F: Files>(alloc: Global, store: &mut Store<F>, name: &[u8]) -> Outcome
     ensures outcome { ShowOutcome F.honest F.means F.faults F.Reader.ReadAt store.old store.new
         name.now result }
-    ensures leaves { F.honest → Leaves (F.means (files_of store.old)) (F.means (files_of store.new))
-        (Unchanged (F.means (files_of store.old)).tree) }
+    ensures leaves { F.honest → AtEveryStop F.means (files_of store.old) (files_of store.new) Unchanged }
 {
     let name = match PartialNameRef::try_from(name) {
         Ok(name) => name,
@@ -329,8 +328,7 @@ fn print_log<F: Files, W: Write>(
 ) -> io::Result<u8>
     ensures prints { Prints (LogRan F.honest F.means store.old store.new name.now)
         (W.contents out.old) (W.contents out.new) result }
-    ensures leaves { F.honest → Leaves (F.means (files_of store.old)) (F.means (files_of store.new))
-        (Unchanged (F.means (files_of store.old)).tree) }
+    ensures leaves { F.honest → AtEveryStop F.means (files_of store.old) (files_of store.new) Unchanged }
 {
     let name = match FullNameRef::try_from(name) {
         Ok(name) => name,

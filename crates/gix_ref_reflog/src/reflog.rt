@@ -1,7 +1,7 @@
 //! The reflog of a name: one call of files for each of these.
 ghost use Rattle.std.specs.Prelude.{◌≡◌, ℕ, List, true, false, IfOk, IfErr, OnOk};
 ghost use Rattle.gix_ref_name.specs.Names.{full_ref_bytes};
-ghost use Rattle.gix_ref_files.specs.Files.{Leaves};
+ghost use Rattle.gix_ref_files.specs.Files.{Leaves, AtEveryStop};
 ghost use Rattle.gix_ref_files.specs.Calls.{Unchanged, Opens};
 ghost use Rattle.gix_ref_files.specs.Tree.{is_file, bytes_of};
 ghost use Rattle.gix_ref_reflog.specs.Reflogs.{log_path, is_prohibited, log_content, count_log, IsNoPath, IsNoLog, HoldsLog};
@@ -44,8 +44,7 @@ pub fn log_exists<F: Files>(
         (is_prohibited settings.entry (full_ref_bytes name.entry) ≡ false) }
     ensures failed { IfErr result (IsNoLog settings.entry (full_ref_bytes name.entry)) }
     ensures count { F.faults files.new ≡ count_log result (F.faults files.old) }
-    ensures leaves { F.honest → Leaves (F.means files.old) (F.means files.new)
-        (Unchanged (F.means files.old).tree) }
+    ensures leaves { F.honest → AtEveryStop F.means files.old files.new Unchanged }
 {
     let path = allowed_path(alloc, settings, name)?;
     match files.kind(&path) {
@@ -69,8 +68,7 @@ pub fn read_log<F: Files>(
         (is_prohibited settings.entry (full_ref_bytes name.entry) ≡ false) }
     ensures failed { IfErr result (IsNoLog settings.entry (full_ref_bytes name.entry)) }
     ensures count { F.faults files.new ≡ count_log result (F.faults files.old) }
-    ensures leaves { F.honest → Leaves (F.means files.old) (F.means files.new)
-        (Unchanged (F.means files.old).tree) }
+    ensures leaves { F.honest → AtEveryStop F.means files.old files.new Unchanged }
 {
     let path = allowed_path(alloc, settings, name)?;
     match files.read(alloc, &path, buf) {
@@ -92,8 +90,7 @@ pub fn open_log<F: Files>(
         (is_prohibited settings.entry (full_ref_bytes name.entry) ≡ false) }
     ensures failed { IfErr result (IsNoLog settings.entry (full_ref_bytes name.entry)) }
     ensures count { F.faults files.new ≡ count_log result (F.faults files.old) }
-    ensures leaves { F.honest → Leaves (F.means files.old) (F.means files.new)
-        (Unchanged (F.means files.old).tree) }
+    ensures leaves { F.honest → AtEveryStop F.means files.old files.new Unchanged }
 {
     let path = allowed_path(alloc, settings, name)?;
     match files.open(alloc, &path) {

@@ -1,7 +1,7 @@
 //! The new text of `packed-refs`, put into its lock before anything else of a commit is written.
 ghost use Rattle.std.specs.Prelude.{◌≡◌, ◌≤◌, [], Some, OnOk, IfErr};
 ghost use Rattle.gix_ref_files.specs.DiskCalls.{Untouched};
-ghost use Rattle.gix_ref_files.specs.Files.{disk_of, Leaves, Passes, HasRisen};
+ghost use Rattle.gix_ref_files.specs.Files.{disk_of, Leaves, AtEveryStop, Passes, OnEveryDisk, HasRisen};
 ghost use Rattle.gix_ref_files.specs.Lock.{lock_of};
 ghost use Rattle.gix_ref_files.specs.Settled.{IsWholeAt};
 ghost use Rattle.gix_ref_files.specs.Tree.{put};
@@ -16,13 +16,10 @@ pub fn write_text<F: Files>(files: &mut F, lock: &LockFile, text: &[u8]) -> Resu
     ensures filled { F.honest → (F.means files.old).tree (lock_of lock.now) ≡ Some (File []) →
         OnOk result ((F.means files.new).tree
         ≡ put (F.means files.old).tree (lock_of lock.now) (Some (File text.now))) }
-    ensures leaves { F.honest → (F.means files.old).tree (lock_of lock.now) ≡ Some (File []) →
-        Leaves (F.means files.old) (F.means files.new)
-        (FillsLock (F.means files.old).tree (lock_of lock.now)) }
+    ensures leaves { F.honest → (F.means files.old).tree (lock_of lock.now) ≡ Some (File []) → AtEveryStop F.means files.old files.new (λ before. FillsLock before (lock_of lock.now)) }
     ensures whole { F.honest → IsWholeAt (disk_of (F.means files.old)) (lock_of lock.now) [] →
         OnOk result (IsWholeAt (disk_of (F.means files.new)) (lock_of lock.now) text.now) }
-    ensures passes { F.honest → Passes (F.means files.old) (F.means files.new)
-        (FillingOn (disk_of (F.means files.old)) (lock_of lock.now)) }
+    ensures passes { F.honest → OnEveryDisk F.means files.old files.new (λ before. FillingOn before (lock_of lock.now)) }
     ensures no_fewer { F.faults files.old ≤ F.faults files.new }
     ensures counted { IfErr result (λ error. HasRisen (F.faults files.old) (F.faults files.new)) }
     ensures memory { IfErr result (λ error. error ≡ FileError.Memory → ⊥) }

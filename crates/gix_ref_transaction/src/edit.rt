@@ -4,7 +4,7 @@ ghost use Rattle.std.specs.Option.{option_map};
 ghost use Rattle.gix_ref_base.specs.Targets.{target_value};
 ghost use Rattle.gix_ref_base.specs.Targets.TargetValue.{object_id};
 ghost use Rattle.gix_ref_files.specs.ReadOnly.{OnlyReads};
-ghost use Rattle.gix_ref_files.specs.Files.{disk_of, Leaves, Passes, count_after};
+ghost use Rattle.gix_ref_files.specs.Files.{disk_of, Leaves, AtEveryStop, Passes, OnEveryDisk, count_after};
 ghost use Rattle.gix_ref_files.specs.Lock.{lock_of, MakesLock, Readying, Acquiring, after_locking, LockingOn};
 ghost use Rattle.gix_ref_files.specs.Settled.{IsWholeAt};
 ghost use Rattle.gix_ref_files.specs.Tree.{Tree, Path, has_folders, is_blocked, put};
@@ -266,12 +266,10 @@ fn take_lock<F: Files>(files: &mut F, lock: &LockFile, is_ready: bool) -> Result
         IfOk result (MakesLock (F.means files.old).tree lock.now (F.means files.new).tree) }
     ensures failed { F.honest →
         OnErr result (Readying (F.means files.old).tree lock.now (F.means files.new).tree) }
-    ensures leaves { F.honest → Leaves (F.means files.old) (F.means files.new)
-        (Acquiring (F.means files.old).tree lock.now) }
+    ensures leaves { F.honest → AtEveryStop F.means files.old files.new (λ before. Acquiring before lock.now) }
     ensures disk { F.honest → IfOk result (λ create. disk_of (F.means files.new)
         ≡ after_locking (disk_of (F.means files.old)) lock.now create) }
-    ensures passes { F.honest → Passes (F.means files.old) (F.means files.new)
-        (LockingOn (disk_of (F.means files.old)) lock.now) }
+    ensures passes { F.honest → OnEveryDisk F.means files.old files.new (λ before. LockingOn before lock.now) }
     ensures count { F.faults files.new ≡ count_after result (F.faults files.old) }
     ensures memory { IsErrOf result FileError.Memory → ⊥ }
 {

@@ -4,7 +4,7 @@ ghost use Rattle.std.specs.Vec.{vec_capacity};
 ghost use Rattle.std.specs.Bool.{OnFalse};
 ghost use Rattle.gix_ref_files.specs.Lock.{lock_of};
 ghost use Rattle.gix_ref_files.specs.Tree.{Path, is_file};
-ghost use Rattle.gix_ref_files.specs.Files.{disk_of, Leaves, Passes, HasRisen};
+ghost use Rattle.gix_ref_files.specs.Files.{disk_of, Leaves, AtEveryStop, Passes, OnEveryDisk, HasRisen};
 ghost use Rattle.gix_ref_files.specs.DiskCalls.{RemovingFileOn};
 ghost use Rattle.gix_ref_transaction.specs.OwnLocks.{paths_of, RemovesLocks, is_in};
 ghost use Rattle.gix_ref_transaction.specs.CommitRenames.{lock_at, path_in, stays_at};
@@ -96,10 +96,8 @@ impl Remains {
 /// Removes one lock; false where it could not.
 fn remove_lock<F: Files>(files: &mut F, lock: &[u8]) -> bool
     ensures gone { F.honest → IsTrue result → is_file ((F.means files.new).tree lock.now) ≡ false }
-    ensures leaves { F.honest → Leaves (F.means files.old) (F.means files.new)
-        (RemovesLocks (lock.now ∷ []) (F.means files.old).tree) }
-    ensures passes { F.honest → Passes (F.means files.old) (F.means files.new)
-        (RemovingFileOn (disk_of (F.means files.old)) lock.now) }
+    ensures leaves { F.honest → AtEveryStop F.means files.old files.new (RemovesLocks (lock.now ∷ [])) }
+    ensures passes { F.honest → OnEveryDisk F.means files.old files.new (λ before. RemovingFileOn before lock.now) }
     ensures no_fewer { F.faults files.old ≤ F.faults files.new }
     ensures counted { OnFalse result (HasRisen (F.faults files.old) (F.faults files.new)) }
 {
@@ -134,10 +132,8 @@ fn release<F: Files>(files: &mut F, done: usize, at: usize, edit: &Edit) -> bool
         files.new ≡ files.old }
     ensures gone { F.honest → not (nat_lt at done && is_write edit.now.effect) ≡ true →
         IsTrue result → is_file ((F.means files.new).tree (lock_of edit.now.lock)) ≡ false }
-    ensures leaves { F.honest → Leaves (F.means files.old) (F.means files.new)
-        (RemovesLocks (lock_of edit.now.lock ∷ []) (F.means files.old).tree) }
-    ensures passes { F.honest → Passes (F.means files.old) (F.means files.new)
-        (RemovingFileOn (disk_of (F.means files.old)) (lock_of edit.now.lock)) }
+    ensures leaves { F.honest → AtEveryStop F.means files.old files.new (RemovesLocks (lock_of edit.now.lock ∷ [])) }
+    ensures passes { F.honest → OnEveryDisk F.means files.old files.new (λ before. RemovingFileOn before (lock_of edit.now.lock)) }
     ensures no_fewer { F.faults files.old ≤ F.faults files.new }
     ensures counted { OnFalse result (HasRisen (F.faults files.old) (F.faults files.new)) }
 {

@@ -6,7 +6,7 @@ ghost use Rattle.gix_ref_name.specs.Namespaces.{stripped};
 ghost use Rattle.gix_ref_base.specs.PackedRecords.{Record};
 ghost use Rattle.gix_ref_base.specs.Targets.{target_value};
 ghost use Rattle.gix_ref_base.specs.Targets.TargetValue.{object_id};
-ghost use Rattle.gix_ref_files.specs.Files.{Leaves, HasRisen};
+ghost use Rattle.gix_ref_files.specs.Files.{Leaves, AtEveryStop, HasRisen};
 ghost use Rattle.gix_ref_files.specs.Calls.{Unchanged};
 ghost use Rattle.gix_ref_theory.specs.OnRealTrees.{view_of};
 ghost use Rattle.gix_ref_lookup.specs.StoreLayout.{namespace_text};
@@ -86,8 +86,7 @@ fn read_loose<F: Files>(
         (meaning_in settings.entry) (view_of (F.means files.old).tree) (F.faults files.old)
         (F.faults files.new) (full_ref_bytes name.entry)) }
     ensures no_fault { OnOk result (F.faults files.new ≡ F.faults files.old) }
-    ensures leaves { F.honest → Leaves (F.means files.old) (F.means files.new)
-        (Unchanged (F.means files.old).tree) }
+    ensures leaves { F.honest → AtEveryStop F.means files.old files.new Unchanged }
 {
     let place = settings.place(alloc, name)?;
     read_at(alloc, files, settings, name, place)
@@ -187,8 +186,7 @@ fn find_at_key<F: Files>(
         IsSearched settings.entry.kind
         (packed_refs_in settings.entry (F.means files.old)) records.old kind text }
     ensures no_fault { OnOk result (F.faults files.new ≡ F.faults files.old) }
-    ensures leaves { F.honest → Leaves (F.means files.old) (F.means files.new)
-        (Unchanged (F.means files.old).tree) }
+    ensures leaves { F.honest → AtEveryStop F.means files.old files.new Unchanged }
 {
     match records.open(alloc, files, settings) {
         Ok(()) => find_key(alloc, settings.namespace, records, key),
@@ -230,8 +228,7 @@ fn find_packed<F: Files>(
         IsSearched settings.entry.kind
         (packed_refs_in settings.entry (F.means files.old)) records.old kind text }
     ensures no_fault { OnOk result (F.faults files.new ≡ F.faults files.old) }
-    ensures leaves { F.honest → Leaves (F.means files.old) (F.means files.new)
-        (Unchanged (F.means files.old).tree) }
+    ensures leaves { F.honest → AtEveryStop F.means files.old files.new Unchanged }
 {
     if settings.is_own_key(name) {
         return find_at_key(alloc, files, settings, name, records);
@@ -273,8 +270,7 @@ pub fn find_candidate<F: Files>(
         IsSearched settings.entry.kind
         (packed_refs_in settings.entry (F.means files.old)) records.old kind text }
     ensures no_fault { OnOk result (F.faults files.new ≡ F.faults files.old) }
-    ensures leaves { F.honest → Leaves (F.means files.old) (F.means files.new)
-        (Unchanged (F.means files.old).tree) }
+    ensures leaves { F.honest → AtEveryStop F.means files.old files.new Unchanged }
 {
     match read_loose(alloc, files, settings, name) {
         Ok(Some(target)) => Ok(Some(Reference {

@@ -3,7 +3,7 @@ ghost use Rattle.std.specs.Prelude.{◌≡◌, ◌≢◌, ◌⊎◌, List, IfOk,
 ghost use Rattle.gix_ref_name.specs.ComposedNames.{decomposed};
 ghost use Rattle.gix_ref_name.specs.Names.{full_bytes, partial_bytes, partial_ref_bytes};
 ghost use Rattle.gix_ref_base.specs.PackedRecords.{Record};
-ghost use Rattle.gix_ref_files.specs.Files.{Leaves};
+ghost use Rattle.gix_ref_files.specs.Files.{Leaves, AtEveryStop};
 ghost use Rattle.gix_ref_files.specs.Calls.{Unchanged};
 ghost use Rattle.gix_ref_theory.specs.OnRealTrees.{view_of};
 ghost use Rattle.gix_ref_lookup.specs.Lookups.{meaning_in, packed_refs_in, AreAsked, AreHonest, ReturnsHit, IsSound, IsHitOf, IsGivenOf, FailsAmong, lookup_of, asked_names, name_asked, AreStillAsked};
@@ -87,8 +87,7 @@ pub fn find_reference<F: Files>(
     ensures asked { F.honest → OnOk result (AreStillAsked settings.entry.kind
         (packed_refs_in settings.entry (F.means files.old)) records.old records.new) }
     ensures no_fault { OnOk result (F.faults files.new ≡ F.faults files.old) }
-    ensures leaves { F.honest → Leaves (F.means files.old) (F.means files.new)
-        (Unchanged (F.means files.old).tree) }
+    ensures leaves { F.honest → AtEveryStop F.means files.old files.new Unchanged }
 {
     match composed_name(alloc, composes, name) {
         Ok(None) => find_asked(alloc, files, settings, name, records),

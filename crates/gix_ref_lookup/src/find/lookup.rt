@@ -3,7 +3,7 @@ ghost use Rattle.std.specs.Prelude.{◌≡◌, ◌⊎◌, None, List, IfOk, IfEr
 ghost use Rattle.gix_ref_name.specs.Candidates.{candidates, remote_head};
 ghost use Rattle.gix_ref_name.specs.Names.{partial_ref_bytes};
 ghost use Rattle.gix_ref_base.specs.PackedRecords.{Record};
-ghost use Rattle.gix_ref_files.specs.Files.{Leaves};
+ghost use Rattle.gix_ref_files.specs.Files.{Leaves, AtEveryStop};
 ghost use Rattle.gix_ref_files.specs.Calls.{Unchanged};
 ghost use Rattle.gix_ref_theory.specs.Lookups.{first_hit, hit_or_head, lookup};
 ghost use Rattle.gix_ref_theory.specs.OnRealTrees.{view_of};
@@ -42,8 +42,7 @@ fn find_first<F: Files>(
     ensures asked { F.honest → OnOk result (AreStillAsked settings.entry.kind
         (packed_refs_in settings.entry (F.means files.old)) records.old records.new) }
     ensures no_fault { OnOk result (F.faults files.new ≡ F.faults files.old) }
-    ensures leaves { F.honest → Leaves (F.means files.old) (F.means files.new)
-        (Unchanged (F.means files.old).tree) }
+    ensures leaves { F.honest → AtEveryStop F.means files.old files.new Unchanged }
 {
     let fronts = fronts_of(name);
     for front in fronts {
@@ -77,8 +76,7 @@ fn find_head<F: Files>(
         (λ n. IsHit {G = F.Reader.ReadAt} settings.entry (view_of (F.means files.old).tree)
         Records.None n r) (option_to_list (remote_head (partial_ref_bytes name.entry))))) }
     ensures no_fault { OnOk result (F.faults files.new ≡ F.faults files.old) }
-    ensures leaves { F.honest → Leaves (F.means files.old) (F.means files.new)
-        (Unchanged (F.means files.old).tree) }
+    ensures leaves { F.honest → AtEveryStop F.means files.old files.new Unchanged }
 {
     match remote_head(alloc, name) {
         Ok(Some(head)) => {
@@ -113,8 +111,7 @@ pub fn find_asked<F: Files>(
     ensures asked { F.honest → OnOk result (AreStillAsked settings.entry.kind
         (packed_refs_in settings.entry (F.means files.old)) records.old records.new) }
     ensures no_fault { OnOk result (F.faults files.new ≡ F.faults files.old) }
-    ensures leaves { F.honest → Leaves (F.means files.old) (F.means files.new)
-        (Unchanged (F.means files.old).tree) }
+    ensures leaves { F.honest → AtEveryStop F.means files.old files.new Unchanged }
 {
     match find_first(alloc, files, settings, name, records) {
         Ok(None) => find_head(alloc, files, settings, name),

@@ -1,6 +1,6 @@
 //! The loose file at a place, decoded.
 ghost use Rattle.std.specs.Prelude.{◌≡◌, IfOk, IfErr, Some};
-ghost use Rattle.gix_ref_files.specs.Files.{disk_of, Leaves, Passes, count_after};
+ghost use Rattle.gix_ref_files.specs.Files.{disk_of, Leaves, AtEveryStop, Passes, OnEveryDisk, count_after};
 ghost use Rattle.gix_ref_files.specs.Calls.{Unchanged};
 ghost use Rattle.gix_ref_files.specs.DiskCalls.{Untouched};
 ghost use Rattle.gix_ref_theory.specs.OnRealTrees.{view_of};
@@ -44,10 +44,8 @@ pub fn loose_at<F: Files>(
 ) -> Result<Loose, FileError>
     ensures decoded { F.honest →
         IfOk result (IsDecoded kind (view_of (F.means files.old).tree place.now)) }
-    ensures leaves { F.honest → Leaves (F.means files.old) (F.means files.new)
-        (Unchanged (F.means files.old).tree) }
-    ensures passes { F.honest → Passes (F.means files.old) (F.means files.new)
-        (Untouched (disk_of (F.means files.old))) }
+    ensures leaves { F.honest → AtEveryStop F.means files.old files.new Unchanged }
+    ensures passes { F.honest → OnEveryDisk F.means files.old files.new Untouched }
     ensures count { F.faults files.new ≡ count_after result (F.faults files.old) }
 {
     let mut text = Vec::new(alloc);

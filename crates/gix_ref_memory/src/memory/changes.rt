@@ -151,8 +151,8 @@ pub fn len_of(content: Option<Present<'_>>) -> usize
 
 /// How many bytes are synced of what is at a path after a change, if so many were before.
 fn synced_after(change: &Change, path: &[u8], content: Option<Present<'_>>, synced: usize) -> usize
-    ensures { (known : DiskItem) → known.synced ≡ synced → found_content content.entry
-        ≡ content_after change.now path.now known.content →
+    ensures { (known : DiskItem) → known.synced ≡ synced →
+        found_content content.entry ≡ content_after change.now path.now known.content →
         result ≡ (item_after change.now path.now known).synced }
 {
     match change {

@@ -28,7 +28,7 @@ pub struct Buffer {
 impl Buffer {
     ghost use Rattle.std.specs.Prelude.{◌≡◌, ◌≤◌, ◌<◌, IfOk, IfErr, IsErrOf, MatchOption, true, false, vec_len, drop};
     ghost use Rattle.gix_ref_files.specs.Tree.{is_file, bytes_of};
-    ghost use Rattle.gix_ref_files.specs.Files.{disk_of, Leaves, Passes};
+    ghost use Rattle.gix_ref_files.specs.Files.{disk_of, Leaves, AtEveryStop, Passes, OnEveryDisk};
     ghost use Rattle.gix_ref_files.specs.Calls.{Unchanged};
     ghost use Rattle.gix_ref_files.specs.DiskCalls.{Untouched};
     ghost use Rattle.gix_ref_records.specs.OpenedText.{Keeps};
@@ -56,10 +56,8 @@ impl Buffer {
             × Opened kind (bytes_of ((F.means files.old).tree path.now)) b)) }
         ensures refused { F.honest → IfErr result
             (IsRefusedFile kind ((F.means files.old).tree path.now)) }
-        ensures leaves { F.honest → Leaves (F.means files.old) (F.means files.new)
-            (Unchanged (F.means files.old).tree) }
-        ensures passes { F.honest → Passes (F.means files.old) (F.means files.new)
-            (Untouched (disk_of (F.means files.old))) }
+        ensures leaves { F.honest → AtEveryStop F.means files.old files.new Unchanged }
+        ensures passes { F.honest → OnEveryDisk F.means files.old files.new Untouched }
         ensures count { F.faults files.new ≡ count_open result (F.faults files.old) }
         ensures memory { IsErrOf result (Error.Io FileError.Memory) → ⊥ }
     {

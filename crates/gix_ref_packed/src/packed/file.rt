@@ -77,7 +77,7 @@ impl<R: ReadAt + Drop> PackedFile<R> {
     ghost use Rattle.std.specs.Prelude.{◌≡◌, IfOk, IfErr, MatchOption, true, false};
     ghost use Rattle.gix_ref_name.specs.Names.{full_ref_bytes};
     ghost use Rattle.gix_ref_files.specs.Tree.{is_file, bytes_of};
-    ghost use Rattle.gix_ref_files.specs.Files.{disk_of, Leaves, Passes};
+    ghost use Rattle.gix_ref_files.specs.Files.{disk_of, Leaves, AtEveryStop, Passes, OnEveryDisk};
     ghost use Rattle.gix_ref_files.specs.Calls.{Unchanged};
     ghost use Rattle.gix_ref_files.specs.DiskCalls.{Untouched};
     ghost use Rattle.gix_ref_packed.specs.Buffers.{IsRefusedFile};
@@ -110,10 +110,8 @@ impl<R: ReadAt + Drop> PackedFile<R> {
             × OpenedFile kind (bytes_of ((F.means files.old).tree path.now)) p)) }
         ensures refused { F.honest → IfErr result
             (IsRefusedFile kind ((F.means files.old).tree path.now)) }
-        ensures leaves { F.honest → Leaves (F.means files.old) (F.means files.new)
-            (Unchanged (F.means files.old).tree) }
-        ensures passes { F.honest → Passes (F.means files.old) (F.means files.new)
-            (Untouched (disk_of (F.means files.old))) }
+        ensures leaves { F.honest → AtEveryStop F.means files.old files.new Unchanged }
+        ensures passes { F.honest → OnEveryDisk F.means files.old files.new Untouched }
         ensures no_fault { IfOk result (λ _. F.faults files.new ≡ F.faults files.old) }
         ensures failed { IfErr result
             (CountsRefusal R.faults (F.faults files.old) (F.faults files.new)) }
