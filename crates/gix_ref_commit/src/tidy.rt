@@ -78,7 +78,8 @@ fn remove_folder<F: Files>(files: &mut F, dirs: &Dirs, path: &[u8], end: usize) 
     requires slash { get_or path.now end 0 ≡ 47 }
     requires kept { kept_of dirs.now path.now < end }
     requires inside { end < length path.now }
-    ensures leaves { F.honest → AtEveryStop F.means files.old files.new (FoldersGo dirs.now (path.now ∷ [])) }
+    ensures leaves { F.honest → AtEveryStop F.means files.old files.new
+        (FoldersGo dirs.now (path.now ∷ [])) }
     ensures passes { F.honest → OnlyFolders dirs.now (F.means files.old) (F.means files.new) }
     ensures loses { F.honest → OnEveryDisk F.means files.old files.new LosesNoMore }
     ensures no_fewer { F.faults files.old ≤ F.faults files.new }
@@ -97,7 +98,8 @@ fn remove_folder<F: Files>(files: &mut F, dirs: &Dirs, path: &[u8], end: usize) 
 fn remove_at<F: Files>(files: &mut F, dirs: &Dirs, path: &[u8], end: usize) -> bool
     requires kept { kept_of dirs.now path.now < end }
     requires inside { end < length path.now }
-    ensures leaves { F.honest → AtEveryStop F.means files.old files.new (FoldersGo dirs.now (path.now ∷ [])) }
+    ensures leaves { F.honest → AtEveryStop F.means files.old files.new
+        (FoldersGo dirs.now (path.now ∷ [])) }
     ensures passes { F.honest → OnlyFolders dirs.now (F.means files.old) (F.means files.new) }
     ensures loses { F.honest → OnEveryDisk F.means files.old files.new LosesNoMore }
     ensures no_fewer { F.faults files.old ≤ F.faults files.new }
@@ -110,7 +112,8 @@ fn remove_at<F: Files>(files: &mut F, dirs: &Dirs, path: &[u8], end: usize) -> b
 
 /// Removes the empty folders above a path, from its own up.
 fn remove_above<F: Files>(files: &mut F, dirs: &Dirs, path: &[u8])
-    ensures leaves { F.honest → AtEveryStop F.means files.old files.new (FoldersGo dirs.now (path.now ∷ [])) }
+    ensures leaves { F.honest → AtEveryStop F.means files.old files.new
+        (FoldersGo dirs.now (path.now ∷ [])) }
     ensures passes { F.honest → OnlyFolders dirs.now (F.means files.old) (F.means files.new) }
     ensures loses { F.honest → OnEveryDisk F.means files.old files.new LosesNoMore }
     ensures no_fewer { F.faults files.old ≤ F.faults files.new }
@@ -128,7 +131,8 @@ fn remove_above<F: Files>(files: &mut F, dirs: &Dirs, path: &[u8])
 /// Removes the empty folders above these paths, up to `logs`, or to `refs` and one component more. A fault is not reported. Takes no
 /// memory. One call of files for each folder that is tried. (`git update-ref -d`)
 pub fn remove_empty_folders<F: Files>(files: &mut F, dirs: &Dirs, paths: &[Vec<u8>])
-    ensures leaves { F.honest → AtEveryStop F.means files.old files.new (FoldersGo dirs.now (paths_of paths.now)) }
+    ensures leaves { F.honest → AtEveryStop F.means files.old files.new
+        (FoldersGo dirs.now (paths_of paths.now)) }
     ensures passes { F.honest → OnlyFolders dirs.now (F.means files.old) (F.means files.new) }
     ensures loses { F.honest → OnEveryDisk F.means files.old files.new LosesNoMore }
     ensures no_fewer { F.faults files.old ≤ F.faults files.new }

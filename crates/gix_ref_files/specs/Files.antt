@@ -92,6 +92,10 @@ module _ {F : Type 0} (means : F → Meaning) where
   abbrev pub OnEveryDisk : (old new : F) → (Disk → Disk → Type 0) → Type 0
   OnEveryDisk old new P = Passes (means old) (means new) (P (disk_of (means old)))
 
+  -- the disk of the files new is made of that of old in this way
+  abbrev pub DiskBecomes : (old new : F) → (Disk → Disk) → Type 0
+  DiskBecomes old new made = disk_of (means new) ≡ made (disk_of (means old))
+
 -- Each tree that has P is among those that a stop since any moment up to old could have left.
 abbrev pub Adds : Meaning → Meaning → (Tree → Type 0) → Type 0
 Adds old new P = (t : ℕ) (T : Tree) → t ≤ old.moment → P T → left_since new t T

@@ -120,7 +120,7 @@ pub trait Files {
     ghost use Rattle.gix_ref_files.specs.Tree.{Tree, IsShaped, node_at, bytes_of, is_file, is_folder};
     ghost use Rattle.gix_ref_files.specs.Disk.{Disk, file_synced, folder_synced};
     ghost use Rattle.gix_ref_files.specs.DiskCalls.{Untouched, after_create, CreatingOn, after_folders, MakingFoldersOn, after_append, AppendingOn, after_rename, RenamingOn, after_removal, RemovingFileOn, RemovingFolderOn, Syncs, SyncingOn};
-    ghost use Rattle.gix_ref_files.specs.Files.{Meaning, disk_of, left_since, Leaves, AtEveryStop, Adds, Passes, OnEveryDisk, AddsDisks, count_after};
+    ghost use Rattle.gix_ref_files.specs.Files.{Meaning, disk_of, left_since, Leaves, AtEveryStop, Adds, Passes, OnEveryDisk, AddsDisks, count_after, DiskBecomes};
     ghost use Rattle.gix_ref_files.specs.Calls.{Unchanged, emptied, Opens, Creates, Creating, MakesFolders, MakingFolders, Appends, Appending, Renames, Renaming, RemovesFile, RemovingFile, RemovesFolder, RemovingFolder, Lists};
 
     /// A file of these, open for reading.
@@ -182,10 +182,10 @@ pub trait Files {
         ensures answer { honest → IfOk result
             (Creates (means self.old).tree path.now (means self.new).tree) }
         ensures failed { honest → OnErr result ((means self.new).tree ≡ (means self.old).tree) }
-        ensures leaves { honest → AtEveryStop means self.old self.new (λ before. Creating before path.now) }
-        ensures disk { honest → IfOk result (λ create. disk_of (means self.new)
-            ≡ after_create (disk_of (means self.old)) path.now create) }
-        ensures passes { honest → OnEveryDisk means self.old self.new (λ before. CreatingOn before path.now) }
+        ensures leaves { honest → AtEveryStop means self.old self.new (λ T. Creating T path.now) }
+        ensures disk { honest → IfOk result
+            (λ create. DiskBecomes means self.old self.new (λ D. after_create D path.now create)) }
+        ensures passes { honest → OnEveryDisk means self.old self.new (λ D. CreatingOn D path.now) }
         ensures count { faults self.new ≡ count_after result (faults self.old) }
         ensures memory { IsErrOf result FileError.Memory → ⊥ };
 
@@ -194,12 +194,14 @@ pub trait Files {
     fn make_folders(&mut self, path: &[u8]) -> Result<bool, FileError>
         ensures answer { honest → IfOk result
             (MakesFolders (means self.old).tree path.now (means self.new).tree) }
-        ensures leaves { honest → AtEveryStop means self.old self.new (λ before. MakingFolders before path.now) }
+        ensures leaves { honest → AtEveryStop means self.old self.new
+            (λ T. MakingFolders T path.now) }
         ensures adds { honest → OnOk result (Adds (means self.old) (means self.new)
             (MakingFolders (means self.old).tree path.now)) }
-        ensures disk { honest → IfOk result (λ made. disk_of (means self.new)
-            ≡ after_folders (disk_of (means self.old)) path.now made) }
-        ensures passes { honest → OnEveryDisk means self.old self.new (λ before. MakingFoldersOn before path.now) }
+        ensures disk { honest → IfOk result
+            (λ made. DiskBecomes means self.old self.new (λ D. after_folders D path.now made)) }
+        ensures passes { honest → OnEveryDisk means self.old self.new
+            (λ D. MakingFoldersOn D path.now) }
         ensures adds_disks { honest → OnOk result (AddsDisks (means self.old) (means self.new)
             (MakingFoldersOn (disk_of (means self.old)) path.now)) }
         ensures count { faults self.new ≡ count_after result (faults self.old) }
@@ -210,12 +212,14 @@ pub trait Files {
     fn append(&mut self, path: &[u8], bytes: &[u8]) -> Result<bool, FileError>
         ensures answer { honest → IfOk result
             (Appends (means self.old).tree path.now bytes.now (means self.new).tree) }
-        ensures leaves { honest → AtEveryStop means self.old self.new (λ before. Appending before path.now bytes.now) }
+        ensures leaves { honest → AtEveryStop means self.old self.new
+            (λ T. Appending T path.now bytes.now) }
         ensures adds { honest → OnOk result (Adds (means self.old) (means self.new)
             (Appending (means self.old).tree path.now bytes.now)) }
-        ensures disk { honest → IfOk result (λ there. disk_of (means self.new)
-            ≡ after_append (disk_of (means self.old)) path.now bytes.now there) }
-        ensures passes { honest → OnEveryDisk means self.old self.new (λ before. AppendingOn before path.now bytes.now) }
+        ensures disk { honest → IfOk result (λ there. DiskBecomes means self.old self.new
+            (λ D. after_append D path.now bytes.now there)) }
+        ensures passes { honest → OnEveryDisk means self.old self.new
+            (λ D. AppendingOn D path.now bytes.now) }
         ensures adds_disks { honest → OnOk result (AddsDisks (means self.old) (means self.new)
             (AppendingOn (disk_of (means self.old)) path.now bytes.now)) }
         ensures count { faults self.new ≡ count_after result (faults self.old) }
@@ -225,10 +229,12 @@ pub trait Files {
     fn rename(&mut self, from: &[u8], to: &[u8]) -> Result<Rename, FileError>
         ensures answer { honest → IfOk result
             (Renames (means self.old).tree from.now to.now (means self.new).tree) }
-        ensures leaves { honest → AtEveryStop means self.old self.new (λ before. Renaming before from.now to.now) }
-        ensures disk { honest → IfOk result (λ rename. disk_of (means self.new)
-            ≡ after_rename (disk_of (means self.old)) from.now to.now rename) }
-        ensures passes { honest → OnEveryDisk means self.old self.new (λ before. RenamingOn before from.now to.now) }
+        ensures leaves { honest → AtEveryStop means self.old self.new
+            (λ T. Renaming T from.now to.now) }
+        ensures disk { honest → IfOk result (λ rename. DiskBecomes means self.old self.new
+            (λ D. after_rename D from.now to.now rename)) }
+        ensures passes { honest → OnEveryDisk means self.old self.new
+            (λ D. RenamingOn D from.now to.now) }
         ensures count { faults self.new ≡ count_after result (faults self.old) }
         ensures memory { IsErrOf result FileError.Memory → ⊥ };
 
@@ -237,10 +243,12 @@ pub trait Files {
     fn remove_file(&mut self, path: &[u8]) -> Result<bool, FileError>
         ensures answer { honest → IfOk result
             (RemovesFile (means self.old).tree path.now (means self.new).tree) }
-        ensures leaves { honest → AtEveryStop means self.old self.new (λ before. RemovingFile before path.now) }
-        ensures disk { honest → IfOk result (λ removed. disk_of (means self.new)
-            ≡ after_removal (disk_of (means self.old)) path.now removed) }
-        ensures passes { honest → OnEveryDisk means self.old self.new (λ before. RemovingFileOn before path.now) }
+        ensures leaves { honest → AtEveryStop means self.old self.new
+            (λ T. RemovingFile T path.now) }
+        ensures disk { honest → IfOk result (λ removed. DiskBecomes means self.old self.new
+            (λ D. after_removal D path.now removed)) }
+        ensures passes { honest → OnEveryDisk means self.old self.new
+            (λ D. RemovingFileOn D path.now) }
         ensures count { faults self.new ≡ count_after result (faults self.old) }
         ensures memory { IsErrOf result FileError.Memory → ⊥ };
 
@@ -249,10 +257,12 @@ pub trait Files {
     fn remove_folder(&mut self, path: &[u8]) -> Result<bool, FileError>
         ensures answer { honest → IfOk result
             (RemovesFolder (means self.old).tree path.now (means self.new).tree) }
-        ensures leaves { honest → AtEveryStop means self.old self.new (λ before. RemovingFolder before path.now) }
-        ensures disk { honest → IfOk result (λ removed. disk_of (means self.new)
-            ≡ after_removal (disk_of (means self.old)) path.now removed) }
-        ensures passes { honest → OnEveryDisk means self.old self.new (λ before. RemovingFolderOn before path.now) }
+        ensures leaves { honest → AtEveryStop means self.old self.new
+            (λ T. RemovingFolder T path.now) }
+        ensures disk { honest → IfOk result (λ removed. DiskBecomes means self.old self.new
+            (λ D. after_removal D path.now removed)) }
+        ensures passes { honest → OnEveryDisk means self.old self.new
+            (λ D. RemovingFolderOn D path.now) }
         ensures count { faults self.new ≡ count_after result (faults self.old) }
         ensures memory { IsErrOf result FileError.Memory → ⊥ };
 
@@ -263,7 +273,8 @@ pub trait Files {
             (disk_of (means self.old)) (file_synced (disk_of (means self.old)) path.now)
             (disk_of (means self.new)) result }
         ensures leaves { honest → AtEveryStop means self.old self.new Unchanged }
-        ensures passes { honest → OnEveryDisk means self.old self.new (λ before. SyncingOn (is_file ((means self.old).tree path.now)) before (file_synced before path.now)) }
+        ensures passes { honest → OnEveryDisk means self.old self.new
+            (λ D. SyncingOn (is_file ((means self.old).tree path.now)) D (file_synced D path.now)) }
         ensures count { faults self.new ≡ count_after result (faults self.old) }
         ensures memory { IsErrOf result FileError.Memory → ⊥ };
 
@@ -274,7 +285,8 @@ pub trait Files {
             (disk_of (means self.old)) (folder_synced (disk_of (means self.old)) path.now)
             (disk_of (means self.new)) result }
         ensures leaves { honest → AtEveryStop means self.old self.new Unchanged }
-        ensures passes { honest → OnEveryDisk means self.old self.new (λ before. SyncingOn (is_folder ((means self.old).tree path.now)) before (folder_synced before path.now)) }
+        ensures passes { honest → OnEveryDisk means self.old self.new (λ D. SyncingOn
+            (is_folder ((means self.old).tree path.now)) D (folder_synced D path.now)) }
         ensures count { faults self.new ≡ count_after result (faults self.old) }
         ensures memory { IsErrOf result FileError.Memory → ⊥ };
 

@@ -2,7 +2,7 @@
 //! text or the whole new one at every moment.
 ghost use Rattle.std.specs.Prelude.{◌≡◌, ◌≤◌, IfOk, IfErr, OnOk, OnErr, IsErrOf, length};
 ghost use Rattle.gix_ref_files.specs.Tree.{fronts};
-ghost use Rattle.gix_ref_files.specs.Files.{disk_of, Leaves, AtEveryStop, Adds, Passes, OnEveryDisk, count_after};
+ghost use Rattle.gix_ref_files.specs.Files.{Leaves, AtEveryStop, Adds, Passes, OnEveryDisk, count_after, DiskBecomes};
 ghost use Rattle.gix_ref_files.specs.DiskCalls.{after_create, CreatingOn, after_synced_append, WritingOn, RenamingOn, after_removal, RemovingFileOn};
 ghost use Rattle.gix_ref_files.specs.Calls.{Creates, Creating, Appends, Appending, Renaming, RemovesFile, RemovingFile};
 ghost use Rattle.gix_ref_files.specs.Lock.{lock_of, Readies, Readying, after_readying, ReadyingOn, MakesLock, after_locking, LockingOn, Acquires, Acquiring, after_acquire, Commits, after_commit, count_unspent, folders_up_to};
@@ -79,10 +79,11 @@ pub struct Unspent {
 fn ready<F: Files>(files: &mut F, path: &[u8]) -> Result<bool, FileError>
     ensures answer { F.honest →
         IfOk result (Readies (F.means files.old).tree path.now (F.means files.new).tree) }
-    ensures leaves { F.honest → AtEveryStop F.means files.old files.new (λ before. Readying before path.now) }
-    ensures disk { F.honest → IfOk result (λ made. disk_of (F.means files.new)
-        ≡ after_readying (disk_of (F.means files.old)) path.now made) }
-    ensures passes { F.honest → OnEveryDisk F.means files.old files.new (λ before. ReadyingOn before path.now) }
+    ensures leaves { F.honest → AtEveryStop F.means files.old files.new (λ T. Readying T path.now) }
+    ensures disk { F.honest → IfOk result
+        (λ made. DiskBecomes F.means files.old files.new (λ D. after_readying D path.now made)) }
+    ensures passes { F.honest → OnEveryDisk F.means files.old files.new
+        (λ D. ReadyingOn D path.now) }
     ensures count { F.faults files.new ≡ count_after result (F.faults files.old) }
     ensures memory { IsErrOf result FileError.Memory → ⊥ }
 {
@@ -132,10 +133,12 @@ impl LockFile {
             (MakesLock (F.means files.old).tree self.now (F.means files.new).tree) }
         ensures failed { F.honest → OnErr result
             (Readying (F.means files.old).tree self.now (F.means files.new).tree) }
-        ensures leaves { F.honest → AtEveryStop F.means files.old files.new (λ before. Acquiring before self.now) }
-        ensures disk { F.honest → IfOk result (λ create. disk_of (F.means files.new)
-            ≡ after_locking (disk_of (F.means files.old)) self.now create) }
-        ensures passes { F.honest → OnEveryDisk F.means files.old files.new (λ before. LockingOn before self.now) }
+        ensures leaves { F.honest → AtEveryStop F.means files.old files.new
+            (λ T. Acquiring T self.now) }
+        ensures disk { F.honest → IfOk result (λ create. DiskBecomes F.means files.old files.new
+            (λ D. after_locking D self.now create)) }
+        ensures passes { F.honest → OnEveryDisk F.means files.old files.new
+            (λ D. LockingOn D self.now) }
         ensures count { F.faults files.new ≡ count_after result (F.faults files.old) }
         ensures memory { IsErrOf result FileError.Memory → ⊥ }
     {
@@ -148,10 +151,12 @@ impl LockFile {
             (Creates (F.means files.old).tree (lock_of self.now) (F.means files.new).tree) }
         ensures failed { F.honest → OnErr result
             ((F.means files.new).tree ≡ (F.means files.old).tree) }
-        ensures leaves { F.honest → AtEveryStop F.means files.old files.new (λ before. Creating before (lock_of self.now)) }
-        ensures disk { F.honest → IfOk result (λ create. disk_of (F.means files.new)
-            ≡ after_create (disk_of (F.means files.old)) (lock_of self.now) create) }
-        ensures passes { F.honest → OnEveryDisk F.means files.old files.new (λ before. CreatingOn before (lock_of self.now)) }
+        ensures leaves { F.honest → AtEveryStop F.means files.old files.new
+            (λ T. Creating T (lock_of self.now)) }
+        ensures disk { F.honest → IfOk result (λ create. DiskBecomes F.means files.old files.new
+            (λ D. after_create D (lock_of self.now) create)) }
+        ensures passes { F.honest → OnEveryDisk F.means files.old files.new
+            (λ D. CreatingOn D (lock_of self.now)) }
         ensures count { F.faults files.new ≡ count_after result (F.faults files.old) }
         ensures memory { IsErrOf result FileError.Memory → ⊥ }
     {
@@ -163,13 +168,14 @@ impl LockFile {
     pub fn write<F: Files>(&self, files: &mut F, bytes: &[u8]) -> Result<bool, FileError>
         ensures answer { F.honest → IfOk result (Appends (F.means files.old).tree
             (lock_of self.now) bytes.now (F.means files.new).tree) }
-        ensures leaves { F.honest → AtEveryStop F.means files.old files.new (λ before. Appending before (lock_of self.now) bytes.now) }
+        ensures leaves { F.honest → AtEveryStop F.means files.old files.new
+            (λ T. Appending T (lock_of self.now) bytes.now) }
         ensures adds { F.honest → OnOk result (Adds (F.means files.old) (F.means files.new)
             (Appending (F.means files.old).tree (lock_of self.now) bytes.now)) }
-        ensures disk { F.honest → IfOk result (λ there. disk_of (F.means files.new)
-            ≡ after_synced_append (disk_of (F.means files.old))
-            (lock_of self.now) bytes.now there) }
-        ensures passes { F.honest → OnEveryDisk F.means files.old files.new (λ before. WritingOn before (lock_of self.now) bytes.now) }
+        ensures disk { F.honest → IfOk result (λ there. DiskBecomes F.means files.old files.new
+            (λ D. after_synced_append D (lock_of self.now) bytes.now there)) }
+        ensures passes { F.honest → OnEveryDisk F.means files.old files.new
+            (λ D. WritingOn D (lock_of self.now) bytes.now) }
         ensures count { F.faults files.new ≡ count_after result (F.faults files.old) }
         ensures memory { IsErrOf result FileError.Memory → ⊥ }
     {
@@ -187,10 +193,12 @@ fn make_lock<F: Files>(files: &mut F, path: &[u8], lock: &[u8]) -> Result<Create
         IfOk result (MakesLock (F.means files.old).tree path.now (F.means files.new).tree) }
     ensures failed { F.honest →
         OnErr result (Readying (F.means files.old).tree path.now (F.means files.new).tree) }
-    ensures leaves { F.honest → AtEveryStop F.means files.old files.new (λ before. Acquiring before path.now) }
-    ensures disk { F.honest → IfOk result (λ create. disk_of (F.means files.new)
-        ≡ after_locking (disk_of (F.means files.old)) path.now create) }
-    ensures passes { F.honest → OnEveryDisk F.means files.old files.new (λ before. LockingOn before path.now) }
+    ensures leaves { F.honest → AtEveryStop F.means files.old files.new
+        (λ T. Acquiring T path.now) }
+    ensures disk { F.honest → IfOk result
+        (λ create. DiskBecomes F.means files.old files.new (λ D. after_locking D path.now create)) }
+    ensures passes { F.honest → OnEveryDisk F.means files.old files.new
+        (λ D. LockingOn D path.now) }
     ensures count { F.faults files.new ≡ count_after result (F.faults files.old) }
     ensures memory { IsErrOf result FileError.Memory → ⊥ }
 {
@@ -234,10 +242,12 @@ impl Lock {
         ensures failed { F.honest → OnErr result
             (Readying (F.means files.old).tree path.now (F.means files.new).tree) }
 
-        ensures leaves { F.honest → AtEveryStop F.means files.old files.new (λ before. Acquiring before path.now) }
-        ensures disk { F.honest → IfOk result (λ acquire. disk_of (F.means files.new)
-            ≡ after_acquire (disk_of (F.means files.old)) path.now acquire) }
-        ensures passes { F.honest → OnEveryDisk F.means files.old files.new (λ before. LockingOn before path.now) }
+        ensures leaves { F.honest → AtEveryStop F.means files.old files.new
+            (λ T. Acquiring T path.now) }
+        ensures disk { F.honest → IfOk result (λ acquire. DiskBecomes F.means files.old files.new
+            (λ D. after_acquire D path.now acquire)) }
+        ensures passes { F.honest → OnEveryDisk F.means files.old files.new
+            (λ D. LockingOn D path.now) }
         ensures count { F.faults files.new ≡ count_after result (F.faults files.old) }
         ensures memory { IsErrOf result FileError.Memory → files.new ≡ files.old }
     {
@@ -256,13 +266,14 @@ impl Lock {
     pub fn write<F: Files>(&self, files: &mut F, bytes: &[u8]) -> Result<bool, FileError>
         ensures answer { F.honest → IfOk result (Appends (F.means files.old).tree
             (lock_of self.now) bytes.now (F.means files.new).tree) }
-        ensures leaves { F.honest → AtEveryStop F.means files.old files.new (λ before. Appending before (lock_of self.now) bytes.now) }
+        ensures leaves { F.honest → AtEveryStop F.means files.old files.new
+            (λ T. Appending T (lock_of self.now) bytes.now) }
         ensures adds { F.honest → OnOk result (Adds (F.means files.old) (F.means files.new)
             (Appending (F.means files.old).tree (lock_of self.now) bytes.now)) }
-        ensures disk { F.honest → IfOk result (λ there. disk_of (F.means files.new)
-            ≡ after_synced_append (disk_of (F.means files.old))
-            (lock_of self.now) bytes.now there) }
-        ensures passes { F.honest → OnEveryDisk F.means files.old files.new (λ before. WritingOn before (lock_of self.now) bytes.now) }
+        ensures disk { F.honest → IfOk result (λ there. DiskBecomes F.means files.old files.new
+            (λ D. after_synced_append D (lock_of self.now) bytes.now there)) }
+        ensures passes { F.honest → OnEveryDisk F.means files.old files.new
+            (λ D. WritingOn D (lock_of self.now) bytes.now) }
         ensures count { F.faults files.new ≡ count_after result (F.faults files.old) }
         ensures memory { IsErrOf result FileError.Memory → ⊥ }
     {
@@ -274,10 +285,12 @@ impl Lock {
     pub fn commit<F: Files>(self, files: &mut F) -> Result<Commit, Unspent>
         ensures answer { F.honest → IfOk result
             (Commits (F.means files.old).tree self (F.means files.new).tree) }
-        ensures leaves { F.honest → AtEveryStop F.means files.old files.new (λ before. Renaming before (lock_of self) self) }
-        ensures disk { F.honest → IfOk result (λ commit. disk_of (F.means files.new)
-            ≡ after_commit (disk_of (F.means files.old)) self commit) }
-        ensures passes { F.honest → OnEveryDisk F.means files.old files.new (λ before. RenamingOn before (lock_of self) self) }
+        ensures leaves { F.honest → AtEveryStop F.means files.old files.new
+            (λ T. Renaming T (lock_of self) self) }
+        ensures disk { F.honest → IfOk result
+            (λ commit. DiskBecomes F.means files.old files.new (λ D. after_commit D self commit)) }
+        ensures passes { F.honest → OnEveryDisk F.means files.old files.new
+            (λ D. RenamingOn D (lock_of self) self) }
         ensures back { IfErr result (λ unspent. unspent.lock ≡ self) }
         ensures count { F.faults files.new ≡ count_unspent result (F.faults files.old) }
         ensures memory { IfErr result (λ unspent. unspent.error ≡ FileError.Memory → ⊥) }
@@ -297,10 +310,12 @@ impl Lock {
     pub fn remove<F: Files>(self, files: &mut F) -> Result<bool, Unspent>
         ensures answer { F.honest → IfOk result
             (RemovesFile (F.means files.old).tree (lock_of self) (F.means files.new).tree) }
-        ensures leaves { F.honest → AtEveryStop F.means files.old files.new (λ before. RemovingFile before (lock_of self)) }
-        ensures disk { F.honest → IfOk result (λ removed. disk_of (F.means files.new)
-            ≡ after_removal (disk_of (F.means files.old)) (lock_of self) removed) }
-        ensures passes { F.honest → OnEveryDisk F.means files.old files.new (λ before. RemovingFileOn before (lock_of self)) }
+        ensures leaves { F.honest → AtEveryStop F.means files.old files.new
+            (λ T. RemovingFile T (lock_of self)) }
+        ensures disk { F.honest → IfOk result (λ removed. DiskBecomes F.means files.old files.new
+            (λ D. after_removal D (lock_of self) removed)) }
+        ensures passes { F.honest → OnEveryDisk F.means files.old files.new
+            (λ D. RemovingFileOn D (lock_of self)) }
         ensures back { IfErr result (λ unspent. unspent.lock ≡ self) }
         ensures count { F.faults files.new ≡ count_unspent result (F.faults files.old) }
         ensures memory { IfErr result (λ unspent. unspent.error ≡ FileError.Memory → ⊥) }

@@ -2,7 +2,7 @@
 //! result.
 ghost use Rattle.std.specs.Prelude.{◌≡◌, ◌<◌, ◌≤◌, ◌-◌, IsTrue, OnOk, OnErr, IfOk, IfErr, IsErrOf, MatchResult, [], ◌∷◌, length, true, false};
 ghost use Rattle.gix_ref_files.specs.Tree.{is_folder, is_file, has_folders};
-ghost use Rattle.gix_ref_files.specs.Files.{Leaves, AtEveryStop, Passes, OnEveryDisk, disk_of, count_after};
+ghost use Rattle.gix_ref_files.specs.Files.{Leaves, AtEveryStop, Passes, OnEveryDisk, disk_of, count_after, DiskBecomes};
 ghost use Rattle.gix_ref_files.specs.Calls.{Unchanged};
 ghost use Rattle.gix_ref_files.specs.Settled.{synced, synced_by, folders_up, climb, from_one};
 ghost use Rattle.gix_ref_files.specs.Settled.Sync.{OfFile, OfFolder};
@@ -115,8 +115,10 @@ fn append_line<F: Files>(files: &mut F, path: &[u8], bytes: &[u8]) -> Result<boo
         (disk_of (F.means files.old)) (disk_of (F.means files.new))) }
     ensures refused { F.honest → IfOk result (λ done. done ≡ false → EndsBy (Line path.now
         bytes.now) Cause.Unexpected (F.means files.old).tree (F.means files.new).tree) }
-    ensures leaves { F.honest → AtEveryStop F.means files.old files.new (Begins (Line path.now bytes.now)) }
-    ensures passes { F.honest → OnEveryDisk F.means files.old files.new (BeginsOn (Line path.now bytes.now)) }
+    ensures leaves { F.honest → AtEveryStop F.means files.old files.new
+        (Begins (Line path.now bytes.now)) }
+    ensures passes { F.honest → OnEveryDisk F.means files.old files.new
+        (BeginsOn (Line path.now bytes.now)) }
     ensures count { F.faults files.new ≡ count_after result (F.faults files.old) }
     ensures memory { IsErrOf result FileError.Memory → ⊥ }
 {
@@ -137,8 +139,10 @@ fn make_line<F: Files>(files: &mut F, path: &[u8], bytes: &[u8]) -> Result<bool,
         (disk_of (F.means files.old)) (disk_of (F.means files.new))) }
     ensures refused { F.honest → IfOk result (λ done. done ≡ false → EndsBy (Line path.now
         bytes.now) Cause.Unexpected (F.means files.old).tree (F.means files.new).tree) }
-    ensures leaves { F.honest → AtEveryStop F.means files.old files.new (Begins (Line path.now bytes.now)) }
-    ensures passes { F.honest → OnEveryDisk F.means files.old files.new (BeginsOn (Line path.now bytes.now)) }
+    ensures leaves { F.honest → AtEveryStop F.means files.old files.new
+        (Begins (Line path.now bytes.now)) }
+    ensures passes { F.honest → OnEveryDisk F.means files.old files.new
+        (BeginsOn (Line path.now bytes.now)) }
     ensures count { F.faults files.new ≡ count_after result (F.faults files.old) }
     ensures memory { IsErrOf result FileError.Memory → ⊥ }
 {
@@ -161,8 +165,10 @@ fn add_line<F: Files>(
         (disk_of (F.means files.old)) (disk_of (F.means files.new))) }
     ensures refused { F.honest → IfOk result (λ done. done ≡ false → EndsBy (Line path.now
         bytes.now) Cause.Unexpected (F.means files.old).tree (F.means files.new).tree) }
-    ensures leaves { F.honest → AtEveryStop F.means files.old files.new (Begins (Line path.now bytes.now)) }
-    ensures passes { F.honest → OnEveryDisk F.means files.old files.new (BeginsOn (Line path.now bytes.now)) }
+    ensures leaves { F.honest → AtEveryStop F.means files.old files.new
+        (Begins (Line path.now bytes.now)) }
+    ensures passes { F.honest → OnEveryDisk F.means files.old files.new
+        (BeginsOn (Line path.now bytes.now)) }
     ensures count { F.faults files.new ≡ count_after result (F.faults files.old) }
     ensures memory { IsErrOf result FileError.Memory → ⊥ }
 {
@@ -199,8 +205,10 @@ fn change<F: Files>(files: &mut F, action: &Action<'_>) -> Result<bool, Cause>
         IfOk result (λ more. IsTrue more → CanSettle action.now (F.means files.new).tree) }
     ensures ended { F.honest → IfErr result (λ cause. EndsBy (step_of action.now) cause
         (F.means files.old).tree (F.means files.new).tree) }
-    ensures leaves { F.honest → AtEveryStop F.means files.old files.new (Begins (step_of action.now)) }
-    ensures passes { F.honest → OnEveryDisk F.means files.old files.new (BeginsOn (step_of action.now)) }
+    ensures leaves { F.honest → AtEveryStop F.means files.old files.new
+        (Begins (step_of action.now)) }
+    ensures passes { F.honest → OnEveryDisk F.means files.old files.new
+        (BeginsOn (step_of action.now)) }
     ensures count { MatchResult result (λ _. F.faults files.new ≡ F.faults files.old)
         (λ cause. F.faults files.new ≡ count_ended cause (F.faults files.old)) }
     ensures asked { IsErrOf result Cause.Asked → action.now ≡ Action.End }
@@ -223,12 +231,13 @@ fn change<F: Files>(files: &mut F, action: &Action<'_>) -> Result<bool, Cause>
 
 /// Syncs the bytes of a file.
 fn sync_bytes<F: Files>(files: &mut F, path: &[u8]) -> Result<(), Cause>
-    ensures done { F.honest → OnOk result (disk_of (F.means files.new)
-        ≡ synced (OfFile path.now) (disk_of (F.means files.old))) }
+    ensures done { F.honest →
+        OnOk result (DiskBecomes F.means files.old files.new (synced (OfFile path.now))) }
     ensures missing { F.honest → IsErrOf result Cause.Unexpected →
         is_file ((F.means files.old).tree path.now) ≡ false }
     ensures leaves { F.honest → AtEveryStop F.means files.old files.new Unchanged }
-    ensures passes { F.honest → OnEveryDisk F.means files.old files.new (Settling (OfFile path.now)) }
+    ensures passes { F.honest → OnEveryDisk F.means files.old files.new
+        (Settling (OfFile path.now)) }
     ensures count { MatchResult result (λ _. F.faults files.new ≡ F.faults files.old)
         (λ cause. F.faults files.new ≡ count_ended cause (F.faults files.old)) }
     ensures asked { IsErrOf result Cause.Asked → ⊥ }
@@ -243,12 +252,13 @@ fn sync_bytes<F: Files>(files: &mut F, path: &[u8]) -> Result<(), Cause>
 
 /// Syncs the entries of a folder.
 fn sync_entries<F: Files>(files: &mut F, path: &[u8]) -> Result<(), Cause>
-    ensures done { F.honest → OnOk result (disk_of (F.means files.new)
-        ≡ synced (OfFolder path.now) (disk_of (F.means files.old))) }
+    ensures done { F.honest →
+        OnOk result (DiskBecomes F.means files.old files.new (synced (OfFolder path.now))) }
     ensures missing { F.honest → IsErrOf result Cause.Unexpected →
         is_folder ((F.means files.old).tree path.now) ≡ false }
     ensures leaves { F.honest → AtEveryStop F.means files.old files.new Unchanged }
-    ensures passes { F.honest → OnEveryDisk F.means files.old files.new (Settling (OfFolder path.now)) }
+    ensures passes { F.honest → OnEveryDisk F.means files.old files.new
+        (Settling (OfFolder path.now)) }
     ensures count { MatchResult result (λ _. F.faults files.new ≡ F.faults files.old)
         (λ cause. F.faults files.new ≡ count_ended cause (F.faults files.old)) }
     ensures asked { IsErrOf result Cause.Asked → ⊥ }
@@ -272,12 +282,13 @@ fn root_of(root: usize) -> usize
 /// Syncs the folders of a path, from its own up to the front of this length, which has a byte.
 fn sync_up<F: Files>(files: &mut F, path: &[u8], top: usize) -> Result<(), Cause>
     requires { 1 ≤ top }
-    ensures done { F.honest → OnOk result (disk_of (F.means files.new) ≡ synced_by
-        (folders_up path.now top (length path.now - top)) (disk_of (F.means files.old))) }
+    ensures done { F.honest → OnOk result (DiskBecomes F.means files.old files.new
+        (synced_by (folders_up path.now top (length path.now - top)))) }
     ensures missing { F.honest → IsErrOf result Cause.Unexpected →
         has_folders (F.means files.old).tree path.now ≡ false }
     ensures leaves { F.honest → AtEveryStop F.means files.old files.new Unchanged }
-    ensures passes { F.honest → OnEveryDisk F.means files.old files.new (IsSomeSynced (folders_up path.now top (length path.now - top))) }
+    ensures passes { F.honest → OnEveryDisk F.means files.old files.new
+        (IsSomeSynced (folders_up path.now top (length path.now - top))) }
     ensures count { MatchResult result (λ _. F.faults files.new ≡ F.faults files.old)
         (λ cause. F.faults files.new ≡ count_ended cause (F.faults files.old)) }
     ensures asked { IsErrOf result Cause.Asked → ⊥ }
@@ -295,12 +306,13 @@ fn sync_up<F: Files>(files: &mut F, path: &[u8], top: usize) -> Result<(), Cause
 
 /// Syncs the folders of a path, from its own up to the front of this length.
 fn sync_folders<F: Files>(files: &mut F, path: &[u8], root: usize) -> Result<(), Cause>
-    ensures done { F.honest → OnOk result (disk_of (F.means files.new)
-        ≡ synced_by (climb path.now root) (disk_of (F.means files.old))) }
+    ensures done { F.honest →
+        OnOk result (DiskBecomes F.means files.old files.new (synced_by (climb path.now root))) }
     ensures missing { F.honest → IsErrOf result Cause.Unexpected →
         has_folders (F.means files.old).tree path.now ≡ false }
     ensures leaves { F.honest → AtEveryStop F.means files.old files.new Unchanged }
-    ensures passes { F.honest → OnEveryDisk F.means files.old files.new (IsSomeSynced (climb path.now root)) }
+    ensures passes { F.honest → OnEveryDisk F.means files.old files.new
+        (IsSomeSynced (climb path.now root)) }
     ensures count { MatchResult result (λ _. F.faults files.new ≡ F.faults files.old)
         (λ cause. F.faults files.new ≡ count_ended cause (F.faults files.old)) }
     ensures asked { IsErrOf result Cause.Asked → ⊥ }
@@ -312,12 +324,13 @@ fn sync_folders<F: Files>(files: &mut F, path: &[u8], root: usize) -> Result<(),
 
 /// Syncs the bytes of a file, and then the folders of its path.
 fn sync_line<F: Files>(files: &mut F, path: &[u8], root: usize) -> Result<(), Cause>
-    ensures done { F.honest → OnOk result (disk_of (F.means files.new)
-        ≡ synced_by (OfFile path.now ∷ climb path.now root) (disk_of (F.means files.old))) }
+    ensures done { F.honest → OnOk result (DiskBecomes F.means files.old files.new
+        (synced_by (OfFile path.now ∷ climb path.now root))) }
     ensures ready { F.honest → IsErrOf result Cause.Unexpected →
         CanSync true (F.means files.old).tree path.now → ⊥ }
     ensures leaves { F.honest → AtEveryStop F.means files.old files.new Unchanged }
-    ensures passes { F.honest → OnEveryDisk F.means files.old files.new (IsSomeSynced (OfFile path.now ∷ climb path.now root)) }
+    ensures passes { F.honest → OnEveryDisk F.means files.old files.new
+        (IsSomeSynced (OfFile path.now ∷ climb path.now root)) }
     ensures count { MatchResult result (λ _. F.faults files.new ≡ F.faults files.old)
         (λ cause. F.faults files.new ≡ count_ended cause (F.faults files.old)) }
     ensures asked { IsErrOf result Cause.Asked → ⊥ }
@@ -329,12 +342,13 @@ fn sync_line<F: Files>(files: &mut F, path: &[u8], root: usize) -> Result<(), Ca
 
 /// Syncs what settles a path, and first the bytes of its file, where these grew.
 fn sync_path<F: Files>(files: &mut F, grows: bool, path: &[u8], settle: Settle) -> Result<(), Cause>
-    ensures done { F.honest → OnOk result (disk_of (F.means files.new)
-        ≡ synced_by (path_syncs grows path.now settle) (disk_of (F.means files.old))) }
+    ensures done { F.honest → OnOk result
+        (DiskBecomes F.means files.old files.new (synced_by (path_syncs grows path.now settle))) }
     ensures ready { F.honest → IsErrOf result Cause.Unexpected →
         CanSync grows (F.means files.old).tree path.now → ⊥ }
     ensures leaves { F.honest → AtEveryStop F.means files.old files.new Unchanged }
-    ensures passes { F.honest → OnEveryDisk F.means files.old files.new (IsSomeSynced (path_syncs grows path.now settle)) }
+    ensures passes { F.honest → OnEveryDisk F.means files.old files.new
+        (IsSomeSynced (path_syncs grows path.now settle)) }
     ensures count { MatchResult result (λ _. F.faults files.new ≡ F.faults files.old)
         (λ cause. F.faults files.new ≡ count_ended cause (F.faults files.old)) }
     ensures asked { IsErrOf result Cause.Asked → ⊥ }
@@ -361,12 +375,13 @@ fn sync_path<F: Files>(files: &mut F, grows: bool, path: &[u8], settle: Settle) 
 
 /// Does the syncs of a step.
 fn sync_after<F: Files>(files: &mut F, action: &Action<'_>, settle: Settle) -> Result<(), Cause>
-    ensures done { F.honest → OnOk result (disk_of (F.means files.new)
-        ≡ synced_by (syncs_of action.now settle) (disk_of (F.means files.old))) }
+    ensures done { F.honest → OnOk result
+        (DiskBecomes F.means files.old files.new (synced_by (syncs_of action.now settle))) }
     ensures ready { F.honest → IsErrOf result Cause.Unexpected →
         CanSettle action.now (F.means files.old).tree → ⊥ }
     ensures leaves { F.honest → AtEveryStop F.means files.old files.new Unchanged }
-    ensures passes { F.honest → OnEveryDisk F.means files.old files.new (IsSomeSynced (syncs_of action.now settle)) }
+    ensures passes { F.honest → OnEveryDisk F.means files.old files.new
+        (IsSomeSynced (syncs_of action.now settle)) }
     ensures count { MatchResult result (λ _. F.faults files.new ≡ F.faults files.old)
         (λ cause. F.faults files.new ≡ count_ended cause (F.faults files.old)) }
     ensures synced { OnErr result (MayBeSynced (step_of action.now)) }
@@ -404,8 +419,10 @@ fn run_step<F: Files>(files: &mut F, action: &Action<'_>, settle: Settle) -> Res
         (disk_of (F.means files.old)) (disk_of (F.means files.new))) }
     ensures ended { F.honest → IfErr result (λ cause. EndsBy (step_of action.now) cause
         (F.means files.old).tree (F.means files.new).tree) }
-    ensures leaves { F.honest → AtEveryStop F.means files.old files.new (Begins (step_of action.now)) }
-    ensures passes { F.honest → OnEveryDisk F.means files.old files.new (IsReachedBy (With (step_of action.now) (syncs_of action.now settle) ∷ [])) }
+    ensures leaves { F.honest → AtEveryStop F.means files.old files.new
+        (Begins (step_of action.now)) }
+    ensures passes { F.honest → OnEveryDisk F.means files.old files.new
+        (IsReachedBy (With (step_of action.now) (syncs_of action.now settle) ∷ [])) }
     ensures count { MatchResult result (λ _. F.faults files.new ≡ F.faults files.old)
         (λ cause. F.faults files.new ≡ count_ended cause (F.faults files.old)) }
     ensures asked { IsErrOf result Cause.Asked → action.now ≡ Action.End }
@@ -435,11 +452,13 @@ pub fn run_steps<F: Files, E>(files: &mut F, plan: &[Planned<'_, E>]) -> Result<
         (disk_of (F.means files.old)) (disk_of (F.means files.new))) }
 
     // A stop at any moment leaves the tree after some of the steps, with perhaps a beginning of the next.
-    ensures leaves { F.honest → AtEveryStop F.means files.old files.new (IsLeftBy (steps_of plan.now)) }
+    ensures leaves { F.honest → AtEveryStop F.means files.old files.new
+        (IsLeftBy (steps_of plan.now)) }
 
     // A loss of power at any moment finds the disk after some of the steps with their syncs, with perhaps a beginning of the
     // next or of its syncs.
-    ensures passes { F.honest → OnEveryDisk F.means files.old files.new (IsReachedBy (synced_steps plan.now)) }
+    ensures passes { F.honest → OnEveryDisk F.means files.old files.new
+        (IsReachedBy (synced_steps plan.now)) }
 
     ensures count { MatchResult result (λ _. F.faults files.new ≡ F.faults files.old)
         (λ end. F.faults files.new ≡ count_ended end.cause (F.faults files.old)) }

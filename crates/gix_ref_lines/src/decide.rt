@@ -3,7 +3,7 @@ ghost use Rattle.std.specs.Prelude.{◌≡◌, OnOk, IfOk, IfErr, IsSome, Some, 
 ghost use Rattle.std.specs.Option.{option_map};
 ghost use Rattle.gix_ref_files.specs.ReadOnly.{OnlyReads};
 ghost use Rattle.gix_ref_files.specs.Tree.{node_at};
-ghost use Rattle.gix_ref_theory.specs.OnRealTrees.{view_of};
+ghost use Rattle.gix_ref_theory.specs.OnRealTrees.{contents};
 ghost use Rattle.gix_ref_theory.specs.Views.{View};
 ghost use Rattle.gix_ref_transaction.specs.CommitRenames.{SeesItsLog, SeeLogs, path_in};
 ghost use Rattle.gix_ref_lines.specs.AskedEdits.{asked, asked_edit, all_but_logs, but_log, outcome_of, outcomes_of};
@@ -168,14 +168,13 @@ pub fn decide_logs<F: Files>(
     edits: &mut [Edit],
 ) -> Result<(), Error>
     ensures but_logs { all_but_logs edits.new ≡ all_but_logs edits.old }
-    ensures logs { F.honest → OnOk result (outcomes_of edits.new
-        ≡ log_outcomes (rules_of settings.now write_reflog committer.entry)
-        (view_of (F.means files.old).tree) (asked edits.old)) }
+    ensures logs { F.honest → OnOk result (outcomes_of edits.new ≡ log_outcomes (rules_of
+        settings.now write_reflog committer.entry) (contents F.means files.old) (asked edits.old)) }
     ensures there { F.honest → OnOk result (SeeLogs (F.means files.old).tree edits.new) }
     ensures passed { F.honest → OnOk result (AllHaveNoCause (rules_of settings.now write_reflog
-        committer.entry) (view_of (F.means files.old).tree) (asked edits.old)) }
+        committer.entry) (contents F.means files.old) (asked edits.old)) }
     ensures refused { F.honest → IfErr result (IsRefusal (rules_of settings.now write_reflog
-        committer.entry) (view_of (F.means files.old).tree) (asked edits.old)) }
+        committer.entry) (contents F.means files.old) (asked edits.old)) }
     ensures reads { OnlyReads F.honest F.means F.faults files.old files.new }
     ensures counted { IfErr result (IsCountedCause (F.faults files.old) (F.faults files.new)) }
 {

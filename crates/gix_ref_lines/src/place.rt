@@ -4,7 +4,7 @@ ghost use Rattle.std.specs.List.{list_any};
 ghost use Rattle.gix_ref_files.specs.ReadOnly.{OnlyReads};
 ghost use Rattle.gix_ref_files.specs.Files.{count_with};
 ghost use Rattle.gix_ref_files.specs.Tree.{fronts, is_blocked, node_at};
-ghost use Rattle.gix_ref_theory.specs.OnRealTrees.{view_of};
+ghost use Rattle.gix_ref_theory.specs.OnRealTrees.{contents};
 ghost use Rattle.gix_ref_lines.specs.LineCauses.{IsCountedCause};
 ghost use Rattle.gix_ref_lines.specs.internal.LineSteps.{IsFaultAt};
 ghost use Rattle.gix_ref_lines.specs.internal.SeenLogs.{due_paths, IsBounded};
@@ -56,8 +56,8 @@ pub fn place_at<F: Files>(
     requires { IsBounded due.now }
     ensures node { F.honest →
         IfOk result (λ place. place.node ≡ node_at (F.means files.old).tree path.now) }
-    ensures log { F.honest → IfOk result (λ place. place.is_log ≡ (is_some
-        (view_of (F.means files.old).tree path.now) || is_in (due_paths due.now) path.now)) }
+    ensures log { F.honest → IfOk result (λ place. place.is_log
+        ≡ (is_some (contents F.means files.old path.now) || is_in (due_paths due.now) path.now)) }
     ensures blocked { F.honest → IfOk result (λ place. place.is_blocked ≡ (is_blocked (F.means
         files.old).tree path.now || list_any (is_in (due_paths due.now)) (fronts path.now))) }
     ensures failed { IfErr result (IsFaultAt path.now) }

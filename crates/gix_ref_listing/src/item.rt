@@ -2,7 +2,7 @@
 ghost use Rattle.std.specs.Prelude.{◌≡◌, ◌≤◌, ◌+◌, List, IfSome, IfNone};
 ghost use Rattle.std.specs.Option.{option_len};
 ghost use Rattle.gix_ref_name.specs.Names.{full_bytes};
-ghost use Rattle.gix_ref_theory.specs.OnRealTrees.{view_of};
+ghost use Rattle.gix_ref_theory.specs.OnRealTrees.{contents};
 ghost use Rattle.gix_ref_lookup.specs.Lookups.{meaning_in};
 ghost use Rattle.gix_ref_lookup.specs.Looks.{OnlyLooks};
 ghost use Rattle.gix_ref_listing.specs.OwnRecords.{own_of};
@@ -47,7 +47,7 @@ fn file_item<F: Files>(
     name: FullName,
     path: Vec<u8>,
 ) -> Result<Reference, Error>
-    ensures item { IsFoundItem F.honest settings.entry (view_of (F.means files.old).tree)
+    ensures item { IsFoundItem F.honest settings.entry (contents F.means files.old)
         (F.faults files.old) (F.faults files.new) (File name path) result }
     ensures looks { OnlyLooks F.honest F.means F.faults files.old files.new }
 {
@@ -80,7 +80,7 @@ fn item<F: Files>(
     settings: Settings<'_>,
     taken: Taken<'_>,
 ) -> Result<Reference, Error>
-    ensures item { IsTakenItem F.honest settings.entry (view_of (F.means files.old).tree)
+    ensures item { IsTakenItem F.honest settings.entry (contents F.means files.old)
         (F.faults files.old) (F.faults files.new) taken.entry result }
     ensures looks { OnlyLooks F.honest F.means F.faults files.old files.new }
 {

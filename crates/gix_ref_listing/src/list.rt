@@ -1,7 +1,7 @@
 //! The listing of a prefix.
 ghost use Rattle.std.specs.Prelude.{◌≡◌, ◌++◌, List, IfOk, IfErr};
 ghost use Rattle.gix_ref_base.specs.PackedRecords.{Record};
-ghost use Rattle.gix_ref_theory.specs.OnRealTrees.{view_of};
+ghost use Rattle.gix_ref_theory.specs.OnRealTrees.{contents};
 ghost use Rattle.gix_ref_lookup.specs.StoreLayout.{namespace_text};
 ghost use Rattle.gix_ref_lookup.specs.Looks.{OnlyLooks};
 ghost use Rattle.gix_ref_listing.specs.PlainSettings.{plain};
@@ -50,8 +50,8 @@ pub fn list<'p, F: Files>(
     packed: Option<&'p Buffer>,
 ) -> Result<Merge<'p>, Error>
     ensures lists { F.honest → (records : List Record) →
-        AreHeldOf (key_in settings.entry prefix.now) packed.entry records → IfOk result
-        (ListsAll (plain settings.entry) (view_of (F.means files.old).tree) records prefix.now
+        AreHeldOf (key_in settings.entry prefix.now) packed.entry records →
+        IfOk result (ListsAll (plain settings.entry) (contents F.means files.old) records prefix.now
         (F.faults files.old) (F.faults files.new)) }
     ensures looks { OnlyLooks F.honest F.means F.faults files.old files.new }
     ensures memory { IfErr result (λ error. error ≡ Memory) }

@@ -5,7 +5,7 @@ ghost use Rattle.gix_ref_name.specs.Names.{full_ref_bytes};
 ghost use Rattle.gix_ref_base.specs.Targets.{target_value};
 ghost use Rattle.gix_ref_base.specs.Targets.TargetValue.{symbolic_name};
 ghost use Rattle.gix_ref_files.specs.Files.{HasRisen};
-ghost use Rattle.gix_ref_theory.specs.OnRealTrees.{view_of};
+ghost use Rattle.gix_ref_theory.specs.OnRealTrees.{contents};
 ghost use Rattle.gix_ref_listing.specs.PlainSettings.{plain};
 ghost use Rattle.gix_ref_listing.specs.PristineStores.{Says, IsReading, IsReadableFile, IsUnreadableFile, ReadsAt, ReadsNone, HasOtherHead, HasLoose, HasNoLoose, HasReferences, HasNoReferences, IsFoundFile, IsPristine, IsInUse, has_packed_refs, head_path};
 ghost use Rattle.gix_ref_listing.specs.Walks.{IsFile};
@@ -43,8 +43,8 @@ fn reading_at<F: Files>(
     name: FullNameRef<'_>,
     path: Vec<u8>,
 ) -> Result<Reading, AllocError>
-    ensures reads { F.honest → IfOk result
-        (IsReading (plain settings.entry) (view_of (F.means files.old).tree) path.items) }
+    ensures reads { F.honest →
+        IfOk result (IsReading (plain settings.entry) (contents F.means files.old) path.items) }
     ensures fault { IfOk result (λ reading. reading ≡ Fault →
         HasRisen (F.faults files.old) (F.faults files.new)) }
     ensures looks { OnlyLooks F.honest F.means F.faults files.old files.new }
@@ -80,10 +80,10 @@ fn head_points_to<F: Files>(
     name: FullNameRef<'_>,
 ) -> Result<Option<bool>, AllocError>
     ensures says { IfOk result (Says (F.honest → ReadsAt (plain settings.entry)
-        (view_of (F.means files.old).tree) (head_path (plain settings.entry))
+        (contents F.means files.old) (head_path (plain settings.entry))
         (symbolic_name (full_ref_bytes name.entry))) (F.honest → HasOtherHead (plain settings.entry)
-        (view_of (F.means files.old).tree) (full_ref_bytes name.entry))
-        ((F.honest → ReadsNone (plain settings.entry) (view_of (F.means files.old).tree)
+        (contents F.means files.old) (full_ref_bytes name.entry))
+        ((F.honest → ReadsNone (plain settings.entry) (contents F.means files.old)
         (head_path (plain settings.entry))) ⊎ HasRisen (F.faults files.old) (F.faults files.new))) }
     ensures looks { OnlyLooks F.honest F.means F.faults files.old files.new }
 {
@@ -125,10 +125,10 @@ fn is_readable<F: Files>(
     found: Found,
     other: bool,
 ) -> Result<Option<bool>, AllocError>
-    ensures says { IfOk result (Says ((other ≡ true) ⊎ (F.honest → IsReadableFile
-        (plain settings.entry) (view_of (F.means files.old).tree) found)) ((other ≡ false)
-        × (F.honest → IsUnreadableFile (plain settings.entry) (view_of (F.means files.old).tree)
-        found)) (IsFoundFile found → HasRisen (F.faults files.old) (F.faults files.new))) }
+    ensures says { IfOk result (Says ((other ≡ true) ⊎ (F.honest →
+        IsReadableFile (plain settings.entry) (contents F.means files.old) found)) ((other ≡ false)
+        × (F.honest → IsUnreadableFile (plain settings.entry) (contents F.means files.old) found))
+        (IsFoundFile found → HasRisen (F.faults files.old) (F.faults files.new))) }
     ensures looks { OnlyLooks F.honest F.means F.faults files.old files.new }
 {
     match found {
@@ -153,9 +153,8 @@ fn any_readable<F: Files>(
     mut found: FoundByKey,
 ) -> Result<Option<bool>, AllocError>
     ensures says { IfOk result (Says (F.honest → Among (λ e. IsReadableFile (plain settings.entry)
-        (view_of (F.means files.old).tree) e.1) found.entries)
-        (F.honest → All (λ e. IsUnreadableFile (plain settings.entry)
-        (view_of (F.means files.old).tree) e.1) found.entries)
+        (contents F.means files.old) e.1) found.entries) (F.honest → All (λ e. IsUnreadableFile
+        (plain settings.entry) (contents F.means files.old) e.1) found.entries)
         (All IsFile found.entries → HasRisen (F.faults files.old) (F.faults files.new))) }
     ensures looks { OnlyLooks F.honest F.means F.faults files.old files.new }
 {
@@ -176,9 +175,9 @@ fn has_loose<F: Files>(
     settings: Settings<'_>,
     prefix: &[u8],
 ) -> Result<Option<bool>, AllocError>
-    ensures says { IfOk result (Says (F.honest →
-        HasLoose (plain settings.entry) (view_of (F.means files.old).tree) prefix.now)
-        (F.honest → HasNoLoose (plain settings.entry) (view_of (F.means files.old).tree) prefix.now)
+    ensures says { IfOk result
+        (Says (F.honest → HasLoose (plain settings.entry) (contents F.means files.old) prefix.now)
+        (F.honest → HasNoLoose (plain settings.entry) (contents F.means files.old) prefix.now)
         (HasRisen (F.faults files.old) (F.faults files.new))) }
     ensures looks { OnlyLooks F.honest F.means F.faults files.old files.new }
 {
@@ -219,7 +218,7 @@ pub fn is_pristine<F: Files>(
     ensures says { IfOk result (Says (F.honest → IsPristine (plain settings.entry)
         (F.means files.old).tree prefix.now (full_ref_bytes name.entry)) (F.honest → IsInUse
         (plain settings.entry) (F.means files.old).tree prefix.now (full_ref_bytes name.entry))
-        ((F.honest → ReadsNone (plain settings.entry) (view_of (F.means files.old).tree)
+        ((F.honest → ReadsNone (plain settings.entry) (contents F.means files.old)
         (head_path (plain settings.entry))) ⊎ HasRisen (F.faults files.old) (F.faults files.new))) }
     ensures looks { OnlyLooks F.honest F.means F.faults files.old files.new }
 {

@@ -4,7 +4,7 @@ ghost use Rattle.std.specs.Prelude.{◌≡◌, ◌⊎◌, ℕ, List, IfOk, IfErr
 ghost use Rattle.std.specs.List.{All};
 ghost use Rattle.gix_ref_files.specs.Files.{HasRisen};
 ghost use Rattle.gix_ref_files.specs.declared.files.FileError.TheVariants.{Memory as no_memory};
-ghost use Rattle.gix_ref_theory.specs.OnRealTrees.{view_of};
+ghost use Rattle.gix_ref_theory.specs.OnRealTrees.{contents};
 ghost use Rattle.gix_ref_listing.specs.PlainSettings.{plain};
 ghost use Rattle.gix_ref_listing.specs.PseudoListings.{is_head_file, is_kept, IsPseudoListed, IsPseudoFound, ListsPseudo};
 ghost use Rattle.gix_ref_listing.specs.Walks.{Holds, IsFile};
@@ -55,11 +55,11 @@ fn walk_pseudo<F: Files>(
     settings: Settings<'_>,
 ) -> Result<FoundByKey, FileError>
     ensures finds { F.honest → IfOk result (λ found. (name : List ℕ) → IsPseudoListed settings.entry
-        (view_of (F.means files.old).tree) name → Among (Holds name) found.entries) }
+        (contents F.means files.old) name → Among (Holds name) found.entries) }
     ensures files { IfOk result (λ found. All IsFile found.entries
         ⊎ HasRisen (F.faults files.old) (F.faults files.new)) }
-    ensures there { F.honest → IfOk result (λ found. All
-        (IsPseudoFound settings.entry (view_of (F.means files.old).tree)) found.entries) }
+    ensures there { F.honest → IfOk result
+        (λ found. All (IsPseudoFound settings.entry (contents F.means files.old)) found.entries) }
     ensures looks { OnlyLooks F.honest F.means F.faults files.old files.new }
     ensures memory { IfErr result (λ error. error ≡ no_memory) }
 {
@@ -86,7 +86,7 @@ pub fn list_pseudo<'p, F: Files>(
     settings: Settings<'_>,
 ) -> Result<Merge<'p>, Error>
     ensures lists { F.honest → IfOk result (ListsPseudo (plain settings.entry)
-        (view_of (F.means files.old).tree) (F.faults files.old) (F.faults files.new)) }
+        (contents F.means files.old) (F.faults files.old) (F.faults files.new)) }
     ensures looks { OnlyLooks F.honest F.means F.faults files.old files.new }
     ensures memory { IfErr result (λ error. error ≡ Memory) }
 {

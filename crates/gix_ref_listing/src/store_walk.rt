@@ -4,7 +4,7 @@ ghost use Rattle.std.specs.List.{All};
 ghost use Rattle.gix_ref_base.specs.Layout.{below};
 ghost use Rattle.gix_ref_files.specs.Files.{HasRisen};
 ghost use Rattle.gix_ref_files.specs.declared.files.FileError.TheVariants.{Memory};
-ghost use Rattle.gix_ref_theory.specs.OnRealTrees.{view_of};
+ghost use Rattle.gix_ref_theory.specs.OnRealTrees.{contents};
 ghost use Rattle.gix_ref_lookup.specs.StoreLayout.{namespace_text};
 ghost use Rattle.gix_ref_listing.specs.Walks.{Holds, IsFile, IsFolderPath, IsRootPath, StaysFound};
 ghost use Rattle.gix_ref_listing.specs.LooseListings.{IsFront, IsLooseListed, IsFoundIn, LooseIn};
@@ -62,14 +62,14 @@ fn walk_in<F: Files>(
     requires front { IsFront settings (below folder.now (namespace_text settings.namespace.now)) }
     ensures stays { OnOk result (StaysFound found.old.entries found.new.entries) }
     ensures finds { F.honest → OnOk result ((name : List ℕ) →
-        LooseIn settings.entry (view_of (F.means files.old).tree) prefix.now
+        LooseIn settings.entry (contents F.means files.old) prefix.now
         (below folder.now (namespace_text settings.entry.namespace.now)) name →
         Among (Holds name) found.new.entries) }
     ensures files { OnOk result (All IsFile found.old.entries → All IsFile found.new.entries
         ⊎ HasRisen (F.faults files.old) (F.faults files.new)) }
-    ensures there { F.honest → OnOk result (All (IsFoundIn settings.entry (view_of
-        (F.means files.old).tree) prefix.now) found.old.entries → All (IsFoundIn settings.entry
-        (view_of (F.means files.old).tree) prefix.now) found.new.entries) }
+    ensures there { F.honest → OnOk result
+        (All (IsFoundIn settings.entry (contents F.means files.old) prefix.now) found.old.entries →
+        All (IsFoundIn settings.entry (contents F.means files.old) prefix.now) found.new.entries) }
     ensures looks { OnlyLooks F.honest F.means F.faults files.old files.new }
     ensures memory { IfErr result (λ error. error ≡ Memory) }
 {
@@ -95,11 +95,11 @@ pub fn walk_store<F: Files>(
     prefix: &[u8],
 ) -> Result<FoundByKey, FileError>
     ensures finds { F.honest → IfOk result (λ found. (name : List ℕ) → IsLooseListed settings.entry
-        (view_of (F.means files.old).tree) prefix.now name → Among (Holds name) found.entries) }
+        (contents F.means files.old) prefix.now name → Among (Holds name) found.entries) }
     ensures files { IfOk result (λ found. All IsFile found.entries
         ⊎ HasRisen (F.faults files.old) (F.faults files.new)) }
     ensures there { F.honest → IfOk result (λ found. All
-        (IsFoundIn settings.entry (view_of (F.means files.old).tree) prefix.now) found.entries) }
+        (IsFoundIn settings.entry (contents F.means files.old) prefix.now) found.entries) }
     ensures looks { OnlyLooks F.honest F.means F.faults files.old files.new }
     ensures memory { IfErr result (λ error. error ≡ Memory) }
 {

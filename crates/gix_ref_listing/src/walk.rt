@@ -7,7 +7,7 @@ ghost use Rattle.gix_ref_grammar.specs.NameGrammar.{IsPartialName};
 ghost use Rattle.gix_ref_name.specs.Names.{full_bytes, full_ref_bytes};
 ghost use Rattle.gix_ref_files.specs.Files.{HasRisen};
 ghost use Rattle.gix_ref_files.specs.declared.files.FileError.TheVariants.{Memory};
-ghost use Rattle.gix_ref_theory.specs.OnRealTrees.{view_of};
+ghost use Rattle.gix_ref_theory.specs.OnRealTrees.{contents};
 ghost use Rattle.gix_ref_theory.specs.Views.{View};
 ghost use Rattle.gix_ref_lookup.specs.Lookups.{name_asked, Among};
 ghost use Rattle.gix_ref_lookup.specs.Looks.{OnlyLooks};
@@ -292,16 +292,16 @@ impl Root<'_> {
         ensures stays_below { OnOk result ((name : List ℕ) → IsBelow next.old.items name →
             IsBelow next.new.items name) }
         ensures reaches { F.honest → IfOk result
-            (λ _. IsFolderPath folder.now → Reaches self.entry (view_of (F.means files.old).tree)
+            (λ _. IsFolderPath folder.now → Reaches self.entry (contents F.means files.old)
             (λ name. BeginsWith name folder.now) found.new.entries next.new.items) }
         ensures paths { OnOk result (All (λ f. IsInnerPath f.items) next.old.items →
             All (λ f. IsInnerPath f.items) next.new.items) }
         ensures files { OnOk result (All IsFile found.old.entries → All IsFile found.new.entries
             ⊎ HasRisen (F.faults files.old) (F.faults files.new)) }
         ensures there { F.honest → IfOk result
-            (λ _. IsFolderPath folder.now → (others : List FoundEntry) → All
-            (IsThereOr others self.entry (view_of (F.means files.old).tree)) found.old.entries → All
-            (IsThereOr others self.entry (view_of (F.means files.old).tree)) found.new.entries) }
+            (λ _. IsFolderPath folder.now → (others : List FoundEntry) →
+            All (IsThereOr others self.entry (contents F.means files.old)) found.old.entries →
+            All (IsThereOr others self.entry (contents F.means files.old)) found.new.entries) }
         ensures looks { OnlyLooks F.honest F.means F.faults files.old files.new }
         ensures memory { IfErr result (λ error. error ≡ Memory) }
     {
@@ -334,13 +334,13 @@ impl Root<'_> {
         requires paths { All (λ f. IsFolderPath f.items) folders.now }
         ensures stays { OnOk result (StaysFound found.old.entries found.new.entries) }
         ensures reaches { F.honest → IfOk result (λ next. Reaches self.entry
-            (view_of (F.means files.old).tree) (IsBelow folders.now) found.new.entries next.items) }
+            (contents F.means files.old) (IsBelow folders.now) found.new.entries next.items) }
         ensures paths { IfOk result (λ next. All (λ f. IsInnerPath f.items) next.items) }
         ensures files { OnOk result (All IsFile found.old.entries → All IsFile found.new.entries
             ⊎ HasRisen (F.faults files.old) (F.faults files.new)) }
-        ensures there { F.honest → OnOk result ((others : List FoundEntry) → All
-            (IsThereOr others self.entry (view_of (F.means files.old).tree)) found.old.entries → All
-            (IsThereOr others self.entry (view_of (F.means files.old).tree)) found.new.entries) }
+        ensures there { F.honest → OnOk result ((others : List FoundEntry) →
+            All (IsThereOr others self.entry (contents F.means files.old)) found.old.entries →
+            All (IsThereOr others self.entry (contents F.means files.old)) found.new.entries) }
         ensures looks { OnlyLooks F.honest F.means F.faults files.old files.new }
         ensures memory { IfErr result (λ error. error ≡ Memory) }
     {
@@ -363,12 +363,12 @@ impl Root<'_> {
         requires { IsRootPath self.path.now }
         ensures stays { OnOk result (StaysFound found.old.entries found.new.entries) }
         ensures finds { F.honest → OnOk result ((name : List ℕ) → IsLooseName self.entry
-            (view_of (F.means files.old).tree) name → Among (Holds name) found.new.entries) }
+            (contents F.means files.old) name → Among (Holds name) found.new.entries) }
         ensures files { OnOk result (All IsFile found.old.entries → All IsFile found.new.entries
             ⊎ HasRisen (F.faults files.old) (F.faults files.new)) }
-        ensures there { F.honest → OnOk result ((others : List FoundEntry) → All
-            (IsThereOr others self.entry (view_of (F.means files.old).tree)) found.old.entries → All
-            (IsThereOr others self.entry (view_of (F.means files.old).tree)) found.new.entries) }
+        ensures there { F.honest → OnOk result ((others : List FoundEntry) →
+            All (IsThereOr others self.entry (contents F.means files.old)) found.old.entries →
+            All (IsThereOr others self.entry (contents F.means files.old)) found.new.entries) }
         ensures looks { OnlyLooks F.honest F.means F.faults files.old files.new }
         ensures memory { IfErr result (λ error. error ≡ Memory) }
     {

@@ -36,7 +36,8 @@ pub struct Transaction {
 /// Removes a lock: its path, where it could not be removed.
 fn remove<F: Files>(files: &mut F, lock: LockFile) -> Option<Vec<u8>>
     ensures leaves { F.honest → AtEveryStop F.means files.old files.new (OnlyLockGoes lock) }
-    ensures passes { F.honest → OnEveryDisk F.means files.old files.new (λ before. RemovingFileOn before (lock_of lock)) }
+    ensures passes { F.honest → OnEveryDisk F.means files.old files.new
+        (λ D. RemovingFileOn D (lock_of lock)) }
     ensures named { MatchOption result (F.honest →
         is_file ((F.means files.new).tree (lock_of lock)) ≡ false)
         (λ path. (path.items ≡ lock_of lock) × HasRisen (F.faults files.old) (F.faults files.new)) }
@@ -52,7 +53,8 @@ fn remove<F: Files>(files: &mut F, lock: LockFile) -> Option<Vec<u8>>
 fn release<F: Files>(files: &mut F, lock: LockFile, error: commit::Error) -> Failed
     ensures error { result.error ≡ error }
     ensures leaves { F.honest → AtEveryStop F.means files.old files.new (OnlyLockGoes lock) }
-    ensures passes { F.honest → OnEveryDisk F.means files.old files.new (λ before. RemovingFileOn before (lock_of lock)) }
+    ensures passes { F.honest → OnEveryDisk F.means files.old files.new
+        (λ D. RemovingFileOn D (lock_of lock)) }
     ensures named { MatchOption result.lock_left
         (F.honest → is_file ((F.means files.new).tree (lock_of lock)) ≡ false)
         (λ path. (path.items ≡ lock_of lock) × HasRisen (F.faults files.old) (F.faults files.new)) }
@@ -145,7 +147,9 @@ impl Transaction {
             (CommitsRewrite (transaction_kind self) (records_of self) (removed_keys self)
             (transaction_place self) (F.means files.old).tree (F.means files.new).tree) }
         ensures read { OnOk result (IsReadBuffer (transaction_kind self) (records_of self)) }
-        ensures leaves { F.honest → IsLockEmpty (transaction_place self) (F.means files.old).tree → AtEveryStop F.means files.old files.new (IsBeforeOrRewritten (transaction_kind self) (records_of self) (removed_keys self) (transaction_place self)) }
+        ensures leaves { F.honest → IsLockEmpty (transaction_place self) (F.means files.old).tree →
+            AtEveryStop F.means files.old files.new (IsBeforeOrRewritten (transaction_kind self)
+            (records_of self) (removed_keys self) (transaction_place self)) }
         ensures lost { F.honest → IsReadyOn (transaction_place self) (disk_of (F.means files.old)) →
             Loses (F.means files.old) (F.means files.new)
             (IsLostOf (transaction_kind self) (records_of self) (removed_keys self)
@@ -188,7 +192,8 @@ impl Transaction {
     /// Gives the transaction up, and removes the lock: the path of the lock, where it could not be removed. As the drop of gix-ref's
     /// `packed::Transaction`.
     pub fn rollback<F: Files>(self, files: &mut F) -> Option<Vec<u8>>
-        ensures leaves { F.honest → AtEveryStop F.means files.old files.new (OnlyLockGoes (transaction_place self)) }
+        ensures leaves { F.honest → AtEveryStop F.means files.old files.new
+            (OnlyLockGoes (transaction_place self)) }
         ensures lost { F.honest → Loses (F.means files.old) (F.means files.new)
             (OnlyLockIsLost (transaction_place self) (disk_of (F.means files.old))) }
         ensures named { MatchOption result (F.honest →

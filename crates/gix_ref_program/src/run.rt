@@ -306,7 +306,8 @@ fn make_update<F: Files>(
 fn show<F: Files>(alloc: Global, store: &mut Store<F>, name: &[u8]) -> Outcome
     ensures outcome { ShowOutcome F.honest F.means F.faults F.Reader.ReadAt store.old store.new
         name.now result }
-    ensures leaves { F.honest → AtEveryStop F.means (files_of store.old) (files_of store.new) Unchanged }
+    ensures leaves { F.honest → AtEveryStop F.means (files_of store.old)
+        (files_of store.new) Unchanged }
 {
     let name = match PartialNameRef::try_from(name) {
         Ok(name) => name,
@@ -328,7 +329,8 @@ fn print_log<F: Files, W: Write>(
 ) -> io::Result<u8>
     ensures prints { Prints (LogRan F.honest F.means store.old store.new name.now)
         (W.contents out.old) (W.contents out.new) result }
-    ensures leaves { F.honest → AtEveryStop F.means (files_of store.old) (files_of store.new) Unchanged }
+    ensures leaves { F.honest → AtEveryStop F.means (files_of store.old)
+        (files_of store.new) Unchanged }
 {
     let name = match FullNameRef::try_from(name) {
         Ok(name) => name,

@@ -16,10 +16,12 @@ pub fn write_text<F: Files>(files: &mut F, lock: &LockFile, text: &[u8]) -> Resu
     ensures filled { F.honest → (F.means files.old).tree (lock_of lock.now) ≡ Some (File []) →
         OnOk result ((F.means files.new).tree
         ≡ put (F.means files.old).tree (lock_of lock.now) (Some (File text.now))) }
-    ensures leaves { F.honest → (F.means files.old).tree (lock_of lock.now) ≡ Some (File []) → AtEveryStop F.means files.old files.new (λ before. FillsLock before (lock_of lock.now)) }
+    ensures leaves { F.honest → (F.means files.old).tree (lock_of lock.now) ≡ Some (File []) →
+        AtEveryStop F.means files.old files.new (λ T. FillsLock T (lock_of lock.now)) }
     ensures whole { F.honest → IsWholeAt (disk_of (F.means files.old)) (lock_of lock.now) [] →
         OnOk result (IsWholeAt (disk_of (F.means files.new)) (lock_of lock.now) text.now) }
-    ensures passes { F.honest → OnEveryDisk F.means files.old files.new (λ before. FillingOn before (lock_of lock.now)) }
+    ensures passes { F.honest → OnEveryDisk F.means files.old files.new
+        (λ D. FillingOn D (lock_of lock.now)) }
     ensures no_fewer { F.faults files.old ≤ F.faults files.new }
     ensures counted { IfErr result (λ error. HasRisen (F.faults files.old) (F.faults files.new)) }
     ensures memory { IfErr result (λ error. error ≡ FileError.Memory → ⊥) }

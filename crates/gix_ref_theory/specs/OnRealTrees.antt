@@ -1,6 +1,7 @@
 -- Real trees, with folders and locks in them: which steps on them carry out the writes of a plan.
 use Rattle.std.specs.Prelude.{◌≡◌, ℕ, List, [], ◌∷◌, ◌++◌, Some, None, ◌⊎◌, false}
 pub use Rattle.gix_ref_files.specs.Tree.{file_of}
+use Rattle.gix_ref_files.specs.Files.{Meaning}
 use Rattle.gix_ref_files.specs.Tree.{Tree, Path}
 use Rattle.gix_ref_files.specs.Steps.{Step, Begins, IsAfter, IsLeftBy as IsLeftBySteps, EndsAt}
 use Rattle.gix_ref_files.specs.Steps.Step.{Create, Append as AppendStep, Line as LineStep, Rename, RemoveFile, MakeFolders, RemoveFolder, End}
@@ -16,6 +17,10 @@ use Rattle.gix_ref_theory.specs.Between.{IsPrepared, IsBetween, NoDeletionFirst,
 -- the files of a tree
 abbrev pub view_of : Tree → View
 view_of T path = file_of (T path)
+
+-- what these files hold
+abbrev pub contents : {F : Type 0} (means : F → Meaning) → F → View
+contents means files = view_of (means files).tree
 
 -- what a step makes of the files: steps on folders change none
 abbrev pub after_step : Step → View → View

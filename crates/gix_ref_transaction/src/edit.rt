@@ -4,13 +4,13 @@ ghost use Rattle.std.specs.Option.{option_map};
 ghost use Rattle.gix_ref_base.specs.Targets.{target_value};
 ghost use Rattle.gix_ref_base.specs.Targets.TargetValue.{object_id};
 ghost use Rattle.gix_ref_files.specs.ReadOnly.{OnlyReads};
-ghost use Rattle.gix_ref_files.specs.Files.{disk_of, Leaves, AtEveryStop, Passes, OnEveryDisk, count_after};
+ghost use Rattle.gix_ref_files.specs.Files.{disk_of, Leaves, AtEveryStop, Passes, OnEveryDisk, count_after, DiskBecomes};
 ghost use Rattle.gix_ref_files.specs.Lock.{lock_of, MakesLock, Readying, Acquiring, after_locking, LockingOn};
 ghost use Rattle.gix_ref_files.specs.Settled.{IsWholeAt};
 ghost use Rattle.gix_ref_files.specs.Tree.{Tree, Path, has_folders, is_blocked, put};
 ghost use Rattle.gix_ref_files.specs.Tree.Content.{File};
 ghost use Rattle.gix_ref_lookup.specs.StoreLayout.{namespace_text};
-ghost use Rattle.gix_ref_theory.specs.OnRealTrees.{view_of};
+ghost use Rattle.gix_ref_theory.specs.OnRealTrees.{contents};
 ghost use Rattle.gix_ref_edits.specs.RefEdits.{name_of, new_of, is_of_reference};
 ghost use Rattle.gix_ref_transaction.specs.CommitRenames.{is_file_seen, is_no_folder_seen};
 ghost use Rattle.gix_ref_transaction.specs.PackedCauses.{deletes_reference};
@@ -161,11 +161,11 @@ fn was_at<F: Files>(
 ) -> Result<Was, Error>
     ensures target { F.honest →
         IfOk result (λ was. value_of was.target ≡ found_by (setting_of settings.now)
-        (decoded (setting_of settings.now) (view_of (F.means files.old).tree place.now)) packed) }
+        (decoded (setting_of settings.now) (contents F.means files.old place.now)) packed) }
     ensures file { F.honest →
-        IfOk result (λ was. was.has_file ≡ is_some (view_of (F.means files.old).tree place.now)) }
+        IfOk result (λ was. was.has_file ≡ is_some (contents F.means files.old place.now)) }
     ensures damaged { F.honest → IfOk result (λ was. was.damaged
-        ≡ is_damaged (setting_of settings.now) (view_of (F.means files.old).tree place.now)) }
+        ≡ is_damaged (setting_of settings.now) (contents F.means files.old place.now)) }
     ensures outside { IfErr result IsIoOrMemory }
     ensures reads { OnlyReads F.honest F.means F.faults files.old files.new }
     ensures counted { IfErr result (IsCounted (F.faults files.old) (F.faults files.new)) }
@@ -266,10 +266,12 @@ fn take_lock<F: Files>(files: &mut F, lock: &LockFile, is_ready: bool) -> Result
         IfOk result (MakesLock (F.means files.old).tree lock.now (F.means files.new).tree) }
     ensures failed { F.honest →
         OnErr result (Readying (F.means files.old).tree lock.now (F.means files.new).tree) }
-    ensures leaves { F.honest → AtEveryStop F.means files.old files.new (λ before. Acquiring before lock.now) }
-    ensures disk { F.honest → IfOk result (λ create. disk_of (F.means files.new)
-        ≡ after_locking (disk_of (F.means files.old)) lock.now create) }
-    ensures passes { F.honest → OnEveryDisk F.means files.old files.new (λ before. LockingOn before lock.now) }
+    ensures leaves { F.honest → AtEveryStop F.means files.old files.new
+        (λ T. Acquiring T lock.now) }
+    ensures disk { F.honest → IfOk result
+        (λ create. DiskBecomes F.means files.old files.new (λ D. after_locking D lock.now create)) }
+    ensures passes { F.honest → OnEveryDisk F.means files.old files.new
+        (λ D. LockingOn D lock.now) }
     ensures count { F.faults files.new ≡ count_after result (F.faults files.old) }
     ensures memory { IsErrOf result FileError.Memory → ⊥ }
 {
@@ -410,7 +412,7 @@ impl Edit {
         ensures refused { IfErr result
             (IsNotAccepted F.honest F.means F.faults (setting_of settings.now) self.old
             (IsMismatch settings.now.kind self.old.update (found (setting_of settings.now)
-            (view_of (F.means files.old).tree) (name_of self.old.update))) files.old files.new) }
+            (contents F.means files.old) (name_of self.old.update))) files.old files.new) }
         ensures fills { OnlyFills F.honest F.means F.faults
             (lock_of self.old.lock) files.old files.new }
     {

@@ -96,8 +96,10 @@ impl Remains {
 /// Removes one lock; false where it could not.
 fn remove_lock<F: Files>(files: &mut F, lock: &[u8]) -> bool
     ensures gone { F.honest → IsTrue result → is_file ((F.means files.new).tree lock.now) ≡ false }
-    ensures leaves { F.honest → AtEveryStop F.means files.old files.new (RemovesLocks (lock.now ∷ [])) }
-    ensures passes { F.honest → OnEveryDisk F.means files.old files.new (λ before. RemovingFileOn before lock.now) }
+    ensures leaves { F.honest → AtEveryStop F.means files.old files.new
+        (RemovesLocks (lock.now ∷ [])) }
+    ensures passes { F.honest → OnEveryDisk F.means files.old files.new
+        (λ D. RemovingFileOn D lock.now) }
     ensures no_fewer { F.faults files.old ≤ F.faults files.new }
     ensures counted { OnFalse result (HasRisen (F.faults files.old) (F.faults files.new)) }
 {
@@ -132,8 +134,10 @@ fn release<F: Files>(files: &mut F, done: usize, at: usize, edit: &Edit) -> bool
         files.new ≡ files.old }
     ensures gone { F.honest → not (nat_lt at done && is_write edit.now.effect) ≡ true →
         IsTrue result → is_file ((F.means files.new).tree (lock_of edit.now.lock)) ≡ false }
-    ensures leaves { F.honest → AtEveryStop F.means files.old files.new (RemovesLocks (lock_of edit.now.lock ∷ [])) }
-    ensures passes { F.honest → OnEveryDisk F.means files.old files.new (λ before. RemovingFileOn before (lock_of edit.now.lock)) }
+    ensures leaves { F.honest → AtEveryStop F.means files.old files.new
+        (RemovesLocks (lock_of edit.now.lock ∷ [])) }
+    ensures passes { F.honest → OnEveryDisk F.means files.old files.new
+        (λ D. RemovingFileOn D (lock_of edit.now.lock)) }
     ensures no_fewer { F.faults files.old ≤ F.faults files.new }
     ensures counted { OnFalse result (HasRisen (F.faults files.old) (F.faults files.new)) }
 {

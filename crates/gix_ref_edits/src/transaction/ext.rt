@@ -68,9 +68,8 @@ pub trait RefEditsExt<T: EditEntry> {
         ensures split { OnOk result
             (HasSplits F.step M.step T.edit_of T.with_edit (find.old, make_entry.old)
             (entries self.old) (entries self.new) (find.new, make_entry.new)) }
-        ensures fault { IfErr result (IsSplitFault F.step find.old find.new
-            (HasTooManySplits F.step find.old (edits_of T.edit_of (entries self.old)) find.new)
-            (λ _. ⊥)) };
+        ensures fault { IfErr result (IsSplitFault F.step find.old find.new (HasTooManySplits F.step
+            find.old (edits_of T.edit_of (entries self.old)) find.new) (λ _. ⊥)) };
 
     /// Splits the edits that follow symbolic references, and then refuses a name that more than one edit has. As
     /// gix-ref's `RefEditsExt::pre_process`.

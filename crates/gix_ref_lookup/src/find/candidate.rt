@@ -8,7 +8,7 @@ ghost use Rattle.gix_ref_base.specs.Targets.{target_value};
 ghost use Rattle.gix_ref_base.specs.Targets.TargetValue.{object_id};
 ghost use Rattle.gix_ref_files.specs.Files.{Leaves, AtEveryStop, HasRisen};
 ghost use Rattle.gix_ref_files.specs.Calls.{Unchanged};
-ghost use Rattle.gix_ref_theory.specs.OnRealTrees.{view_of};
+ghost use Rattle.gix_ref_theory.specs.OnRealTrees.{contents};
 ghost use Rattle.gix_ref_lookup.specs.StoreLayout.{namespace_text};
 ghost use Rattle.gix_ref_records.specs.Positions.{CannotRead};
 ghost use Rattle.gix_ref_packed.specs.Buffers.{IsRefusedFile};
@@ -39,10 +39,10 @@ pub fn read_at<F: Files>(
     path: Vec<u8>,
 ) -> Result<Option<Target>, Error>
     ensures found { F.honest → IfOk result
-        (IsLooseTarget (meaning_in settings.entry) (view_of (F.means files.old).tree path.items)) }
+        (IsLooseTarget (meaning_in settings.entry) (contents F.means files.old path.items)) }
     ensures allowed { OnOk result ((meaning_in settings.entry).is_prohibited path.items ≡ false) }
     ensures failed { IfErr result (IsNotReadAt F.honest settings.entry.kind
-        (meaning_in settings.entry) (view_of (F.means files.old).tree) (F.faults files.old)
+        (meaning_in settings.entry) (contents F.means files.old) (F.faults files.old)
         (F.faults files.new) (full_ref_bytes name.entry) path.items) }
     ensures looks { OnlyLooks F.honest F.means F.faults files.old files.new }
     ensures no_fault { OnOk result (F.faults files.new ≡ F.faults files.old) }
@@ -78,12 +78,12 @@ fn read_loose<F: Files>(
     settings: Settings<'_>,
     name: FullNameRef<'_>,
 ) -> Result<Option<Target>, Error>
-    ensures found { F.honest → IfOk result (IsLooseTarget (meaning_in settings.entry) (view_of
-        (F.means files.old).tree ((meaning_in settings.entry).place (full_ref_bytes name.entry)))) }
+    ensures found { F.honest → IfOk result (IsLooseTarget (meaning_in settings.entry) (contents
+        F.means files.old ((meaning_in settings.entry).place (full_ref_bytes name.entry)))) }
     ensures allowed { OnOk result ((meaning_in settings.entry).is_prohibited
         ((meaning_in settings.entry).place (full_ref_bytes name.entry)) ≡ false) }
     ensures failed { IfErr result (IsNotRead F.honest settings.entry.kind
-        (meaning_in settings.entry) (view_of (F.means files.old).tree) (F.faults files.old)
+        (meaning_in settings.entry) (contents F.means files.old) (F.faults files.old)
         (F.faults files.new) (full_ref_bytes name.entry)) }
     ensures no_fault { OnOk result (F.faults files.new ≡ F.faults files.old) }
     ensures leaves { F.honest → AtEveryStop F.means files.old files.new Unchanged }
@@ -251,13 +251,13 @@ pub fn find_candidate<F: Files>(
 ) -> Result<Option<Reference>, Error>
     ensures found { F.honest → (rs : List Record) → AreAsked settings.entry.kind
         (packed_refs_in settings.entry (F.means files.old)) records.old rs →
-        IfOk result (IsCandidate (meaning_in settings.entry) (view_of (F.means files.old).tree) rs
+        IfOk result (IsCandidate (meaning_in settings.entry) (contents F.means files.old) rs
         (full_ref_bytes name.entry)) }
     ensures sound { F.honest → (rs : List Record) → AreAsked settings.entry.kind
         (packed_refs_in settings.entry (F.means files.old)) records.old rs → IfErr result IsSound }
     ensures hit { F.honest → AreHonest records.old →
-        IfOk result (λ r. IfSome r (IsHit settings.entry
-        (view_of (F.means files.old).tree) records.old (full_ref_bytes name.entry))) }
+        IfOk result (λ r. IfSome r (IsHit settings.entry (contents F.means files.old) records.old
+        (full_ref_bytes name.entry))) }
     ensures failed { IfErr result (CandidateFails F.honest settings.entry (F.means files.old).tree
         records.old (F.faults files.old) (F.faults files.new) (full_ref_bytes name.entry)) }
     ensures asked { F.honest → (rs : List Record) → AreAsked settings.entry.kind

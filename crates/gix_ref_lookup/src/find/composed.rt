@@ -5,7 +5,7 @@ ghost use Rattle.gix_ref_name.specs.Names.{full_bytes, partial_bytes, partial_re
 ghost use Rattle.gix_ref_base.specs.PackedRecords.{Record};
 ghost use Rattle.gix_ref_files.specs.Files.{Leaves, AtEveryStop};
 ghost use Rattle.gix_ref_files.specs.Calls.{Unchanged};
-ghost use Rattle.gix_ref_theory.specs.OnRealTrees.{view_of};
+ghost use Rattle.gix_ref_theory.specs.OnRealTrees.{contents};
 ghost use Rattle.gix_ref_lookup.specs.Lookups.{meaning_in, packed_refs_in, AreAsked, AreHonest, ReturnsHit, IsSound, IsHitOf, IsGivenOf, FailsAmong, lookup_of, asked_names, name_asked, AreStillAsked};
 
 use crate::find::Error;
@@ -74,12 +74,11 @@ pub fn find_reference<F: Files>(
     ensures found { F.honest → (rs : List Record) → AreAsked settings.entry.kind
         (packed_refs_in settings.entry (F.means files.old)) records.old rs →
         IfOk result (ReturnsHit (lookup_of composes (meaning_in settings.entry)
-        (view_of (F.means files.old).tree) rs (partial_ref_bytes name.entry))) }
+        (contents F.means files.old) rs (partial_ref_bytes name.entry))) }
     ensures sound { F.honest → (rs : List Record) → AreAsked settings.entry.kind
         (packed_refs_in settings.entry (F.means files.old)) records.old rs → IfErr result IsSound }
-    ensures hit { F.honest → AreHonest records.old →
-        IfOk result (λ r. IfSome r (IsHitOf composes settings.entry
-        (view_of (F.means files.old).tree) records.old (partial_ref_bytes name.entry))) }
+    ensures hit { F.honest → AreHonest records.old → IfOk result (λ r. IfSome r (IsHitOf composes
+        settings.entry (contents F.means files.old) records.old (partial_ref_bytes name.entry))) }
     ensures failed { IfErr result (λ error. (error ≡ Error.Memory)
         ⊎ FailsAmong F.honest settings.entry (F.means files.old).tree records.old
         (F.faults files.old) (F.faults files.new)

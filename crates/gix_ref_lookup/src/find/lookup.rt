@@ -6,7 +6,7 @@ ghost use Rattle.gix_ref_base.specs.PackedRecords.{Record};
 ghost use Rattle.gix_ref_files.specs.Files.{Leaves, AtEveryStop};
 ghost use Rattle.gix_ref_files.specs.Calls.{Unchanged};
 ghost use Rattle.gix_ref_theory.specs.Lookups.{first_hit, hit_or_head, lookup};
-ghost use Rattle.gix_ref_theory.specs.OnRealTrees.{view_of};
+ghost use Rattle.gix_ref_theory.specs.OnRealTrees.{contents};
 ghost use Rattle.gix_ref_lookup.specs.Lookups.{meaning_in, packed_refs_in, AreAsked, AreHonest, ReturnsHit, IsSound, IsHit, Among, FailsAmong, asked_names, AreStillAsked};
 
 use crate::find::Error;
@@ -30,11 +30,11 @@ fn find_first<F: Files>(
     ensures found { F.honest → (rs : List Record) → AreAsked settings.entry.kind
         (packed_refs_in settings.entry (F.means files.old)) records.old rs →
         IfOk result (ReturnsHit (first_hit (meaning_in settings.entry)
-        (view_of (F.means files.old).tree) rs (candidates (partial_ref_bytes name.entry)))) }
+        (contents F.means files.old) rs (candidates (partial_ref_bytes name.entry)))) }
     ensures sound { F.honest → (rs : List Record) → AreAsked settings.entry.kind
         (packed_refs_in settings.entry (F.means files.old)) records.old rs → IfErr result IsSound }
     ensures hit { F.honest → AreHonest records.old → IfOk result (λ r. IfSome r
-        (λ r. Among (λ n. IsHit settings.entry (view_of (F.means files.old).tree) records.old n r)
+        (λ r. Among (λ n. IsHit settings.entry (contents F.means files.old) records.old n r)
         (candidates (partial_ref_bytes name.entry)))) }
     ensures failed { IfErr result
         (FailsAmong F.honest settings.entry (F.means files.old).tree records.old
@@ -66,14 +66,14 @@ fn find_head<F: Files>(
     name: PartialNameRef<'_>,
 ) -> Result<Option<Reference>, Error>
     ensures found { F.honest → IfOk result (ReturnsHit (hit_or_head (meaning_in settings.entry)
-        (view_of (F.means files.old).tree) None (remote_head (partial_ref_bytes name.entry)))) }
+        (contents F.means files.old) None (remote_head (partial_ref_bytes name.entry)))) }
     ensures sound { F.honest → IfErr result IsSound }
     ensures failed { IfErr result (λ error. (error ≡ Error.Memory)
         ⊎ FailsAmong {G = F.Reader.ReadAt} F.honest settings.entry
         (F.means files.old).tree Records.None (F.faults files.old) (F.faults files.new)
         (option_to_list (remote_head (partial_ref_bytes name.entry))) error) }
-    ensures hit { F.honest → IfOk result (λ r. IfSome r (λ r. Among
-        (λ n. IsHit {G = F.Reader.ReadAt} settings.entry (view_of (F.means files.old).tree)
+    ensures hit { F.honest → IfOk result (λ r. IfSome r
+        (λ r. Among (λ n. IsHit {G = F.Reader.ReadAt} settings.entry (contents F.means files.old)
         Records.None n r) (option_to_list (remote_head (partial_ref_bytes name.entry))))) }
     ensures no_fault { OnOk result (F.faults files.new ≡ F.faults files.old) }
     ensures leaves { F.honest → AtEveryStop F.means files.old files.new Unchanged }
@@ -97,13 +97,13 @@ pub fn find_asked<F: Files>(
     records: &mut Records<'_, F::Reader>,
 ) -> Result<Option<Reference>, Error>
     ensures found { F.honest → (rs : List Record) → AreAsked settings.entry.kind
-        (packed_refs_in settings.entry (F.means files.old)) records.old rs → IfOk result
-        (ReturnsHit (lookup (meaning_in settings.entry) (view_of (F.means files.old).tree) rs
+        (packed_refs_in settings.entry (F.means files.old)) records.old rs →
+        IfOk result (ReturnsHit (lookup (meaning_in settings.entry) (contents F.means files.old) rs
         (candidates (partial_ref_bytes name.entry)) (remote_head (partial_ref_bytes name.entry)))) }
     ensures sound { F.honest → (rs : List Record) → AreAsked settings.entry.kind
         (packed_refs_in settings.entry (F.means files.old)) records.old rs → IfErr result IsSound }
     ensures hit { F.honest → AreHonest records.old → IfOk result (λ r. IfSome r
-        (λ r. Among (λ n. IsHit settings.entry (view_of (F.means files.old).tree) records.old n r)
+        (λ r. Among (λ n. IsHit settings.entry (contents F.means files.old) records.old n r)
         (asked_names (partial_ref_bytes name.entry)))) }
     ensures failed { IfErr result (λ error. (error ≡ Error.Memory) ⊎ FailsAmong F.honest
         settings.entry (F.means files.old).tree records.old (F.faults files.old)

@@ -3,7 +3,7 @@ ghost use Rattle.std.specs.Prelude.{◌≡◌, IfOk, IfErr, Some};
 ghost use Rattle.gix_ref_files.specs.Files.{disk_of, Leaves, AtEveryStop, Passes, OnEveryDisk, count_after};
 ghost use Rattle.gix_ref_files.specs.Calls.{Unchanged};
 ghost use Rattle.gix_ref_files.specs.DiskCalls.{Untouched};
-ghost use Rattle.gix_ref_theory.specs.OnRealTrees.{view_of};
+ghost use Rattle.gix_ref_theory.specs.OnRealTrees.{contents};
 ghost use Rattle.gix_ref_lookup.specs.LooseFiles.{IsDecoded};
 
 use crate::loose::{Error, decode};
@@ -43,7 +43,7 @@ pub fn loose_at<F: Files>(
     kind: Kind,
 ) -> Result<Loose, FileError>
     ensures decoded { F.honest →
-        IfOk result (IsDecoded kind (view_of (F.means files.old).tree place.now)) }
+        IfOk result (IsDecoded kind (contents F.means files.old place.now)) }
     ensures leaves { F.honest → AtEveryStop F.means files.old files.new Unchanged }
     ensures passes { F.honest → OnEveryDisk F.means files.old files.new Untouched }
     ensures count { F.faults files.new ≡ count_after result (F.faults files.old) }

@@ -4,7 +4,7 @@ ghost use Rattle.std.specs.Prelude.{◌≡◌, ◌≤◌, ◌⊎◌, OnOk, IfOk,
 ghost use Rattle.gix_ref_files.specs.Calls.{Renaming, Unchanged};
 ghost use Rattle.gix_ref_files.specs.Disk.{folder_of, folder_synced};
 ghost use Rattle.gix_ref_files.specs.DiskCalls.{RemovingFileOn, RenamingOn, SyncingOn};
-ghost use Rattle.gix_ref_files.specs.Files.{Leaves, AtEveryStop, Passes, OnEveryDisk, disk_of};
+ghost use Rattle.gix_ref_files.specs.Files.{Leaves, AtEveryStop, Passes, OnEveryDisk, disk_of, DiskBecomes};
 ghost use Rattle.gix_ref_files.specs.Lock.{lock_of};
 ghost use Rattle.gix_ref_files.specs.Tree.{is_file, is_folder, moved};
 ghost use Rattle.gix_ref_packed_transaction.specs.PackedLosses.{IsReadyOn, SettlesPackedRefs};
@@ -46,7 +46,8 @@ fn unlock<F: Files>(files: &mut F, lock: &LockFile) -> Result<(), Error>
     ensures done { F.honest →
         OnOk result (IsUnlocked lock.now (F.means files.old).tree (F.means files.new).tree) }
     ensures leaves { F.honest → AtEveryStop F.means files.old files.new (OnlyLockGoes lock.now) }
-    ensures passes { F.honest → OnEveryDisk F.means files.old files.new (λ before. RemovingFileOn before (lock_of lock.now)) }
+    ensures passes { F.honest → OnEveryDisk F.means files.old files.new
+        (λ D. RemovingFileOn D (lock_of lock.now)) }
     ensures why { IfErr result (IsWhyNotPut F.honest lock.now (F.faults files.old)
         (F.faults files.new) (F.means files.new).tree) }
     ensures no_fewer { F.faults files.old ≤ F.faults files.new }
@@ -60,10 +61,11 @@ fn unlock<F: Files>(files: &mut F, lock: &LockFile) -> Result<(), Error>
 /// Syncs the folder of the file.
 fn settle<F: Files>(files: &mut F, lock: &LockFile) -> Result<(), Error>
     ensures leaves { F.honest → AtEveryStop F.means files.old files.new Unchanged }
-    ensures passes { F.honest → OnEveryDisk F.means files.old files.new (λ before. SyncingOn (is_folder ((F.means files.old).tree (folder_of lock.now))) before (folder_synced before (folder_of lock.now))) }
+    ensures passes { F.honest → OnEveryDisk F.means files.old files.new (λ D. SyncingOn (is_folder
+        ((F.means files.old).tree (folder_of lock.now))) D (folder_synced D (folder_of lock.now))) }
     ensures synced { F.honest → is_folder ((F.means files.old).tree (folder_of lock.now)) ≡ true →
-        OnOk result (disk_of (F.means files.new)
-        ≡ folder_synced (disk_of (F.means files.old)) (folder_of lock.now)) }
+        OnOk result
+        (DiskBecomes F.means files.old files.new (λ D. folder_synced D (folder_of lock.now))) }
     ensures why { IfErr result (IsWhyNotPut F.honest lock.now (F.faults files.old)
         (F.faults files.new) (F.means files.new).tree) }
     ensures no_fewer { F.faults files.old ≤ F.faults files.new }
@@ -78,8 +80,10 @@ fn settle<F: Files>(files: &mut F, lock: &LockFile) -> Result<(), Error>
 fn remove_both<F: Files>(files: &mut F, lock: &LockFile) -> Result<(), Error>
     ensures done { F.honest → OnOk result
         (IsRewritten Rewrite.Removed lock.now (F.means files.old).tree (F.means files.new).tree) }
-    ensures leaves { F.honest → AtEveryStop F.means files.old files.new (IsOldOrRewritten Rewrite.Removed lock.now) }
-    ensures passes { F.honest → IsReadyOn lock.now (disk_of (F.means files.old)) → OnEveryDisk F.means files.old files.new (KeepsSettled Rewrite.Removed lock.now) }
+    ensures leaves { F.honest → AtEveryStop F.means files.old files.new
+        (IsOldOrRewritten Rewrite.Removed lock.now) }
+    ensures passes { F.honest → IsReadyOn lock.now (disk_of (F.means files.old)) →
+        OnEveryDisk F.means files.old files.new (KeepsSettled Rewrite.Removed lock.now) }
     ensures settled { F.honest → IsReadyOn lock.now (disk_of (F.means files.old)) → OnOk result
         (SettlesPackedRefs lock.now (disk_of (F.means files.old)) (disk_of (F.means files.new))) }
     ensures why { IfErr result (IsWhyNotPut F.honest lock.now (F.faults files.old)
@@ -97,10 +101,12 @@ fn remove_both<F: Files>(files: &mut F, lock: &LockFile) -> Result<(), Error>
 fn move_lock<F: Files>(files: &mut F, lock: &LockFile) -> Result<(), Error>
     ensures moved { F.honest → OnOk result ((F.means files.new).tree
         ≡ moved (F.means files.old).tree (lock_of lock.now) lock.now) }
-    ensures leaves { F.honest → AtEveryStop F.means files.old files.new (λ before. Renaming before (lock_of lock.now) lock.now) }
+    ensures leaves { F.honest → AtEveryStop F.means files.old files.new
+        (λ T. Renaming T (lock_of lock.now) lock.now) }
     ensures moved_on { F.honest → OnOk result
         (IsMoved lock.now (disk_of (F.means files.old)) (disk_of (F.means files.new))) }
-    ensures passes { F.honest → OnEveryDisk F.means files.old files.new (λ before. RenamingOn before (lock_of lock.now) lock.now) }
+    ensures passes { F.honest → OnEveryDisk F.means files.old files.new
+        (λ D. RenamingOn D (lock_of lock.now) lock.now) }
     ensures why { IfErr result (IsWhyNotPut F.honest lock.now (F.faults files.old)
         (F.faults files.new) (F.means files.new).tree) }
     ensures no_fewer { F.faults files.old ≤ F.faults files.new }
@@ -124,8 +130,10 @@ fn put_text<F: Files>(
     ensures done { F.honest → IsLockEmpty lock.now (F.means files.old).tree →
         OnOk result (IsRewritten (Rewrite.Text text.now) lock.now (F.means files.old).tree
         (F.means files.new).tree) }
-    ensures leaves { F.honest → IsLockEmpty lock.now (F.means files.old).tree → AtEveryStop F.means files.old files.new (IsOldOrRewritten (Rewrite.Text text.now) lock.now) }
-    ensures passes { F.honest → IsReadyOn lock.now (disk_of (F.means files.old)) → OnEveryDisk F.means files.old files.new (KeepsSettled (Rewrite.Text text.now) lock.now) }
+    ensures leaves { F.honest → IsLockEmpty lock.now (F.means files.old).tree → AtEveryStop F.means
+        files.old files.new (IsOldOrRewritten (Rewrite.Text text.now) lock.now) }
+    ensures passes { F.honest → IsReadyOn lock.now (disk_of (F.means files.old)) →
+        OnEveryDisk F.means files.old files.new (KeepsSettled (Rewrite.Text text.now) lock.now) }
     ensures settled { F.honest → IsReadyOn lock.now (disk_of (F.means files.old)) → OnOk result
         (SettlesPackedRefs lock.now (disk_of (F.means files.old)) (disk_of (F.means files.new))) }
     ensures why { IfErr result (IsWhyNotPut F.honest lock.now (F.faults files.old)
@@ -151,8 +159,10 @@ pub(crate) fn put_rewrite<F: Files>(
 ) -> Result<(), Error>
     ensures done { F.honest → IsLockEmpty lock.now (F.means files.old).tree → OnOk result
         (IsRewritten rewrite.now lock.now (F.means files.old).tree (F.means files.new).tree) }
-    ensures leaves { F.honest → IsLockEmpty lock.now (F.means files.old).tree → AtEveryStop F.means files.old files.new (IsOldOrRewritten rewrite.now lock.now) }
-    ensures passes { F.honest → IsReadyOn lock.now (disk_of (F.means files.old)) → OnEveryDisk F.means files.old files.new (KeepsSettled rewrite.now lock.now) }
+    ensures leaves { F.honest → IsLockEmpty lock.now (F.means files.old).tree →
+        AtEveryStop F.means files.old files.new (IsOldOrRewritten rewrite.now lock.now) }
+    ensures passes { F.honest → IsReadyOn lock.now (disk_of (F.means files.old)) →
+        OnEveryDisk F.means files.old files.new (KeepsSettled rewrite.now lock.now) }
     ensures settled { F.honest → IsReadyOn lock.now (disk_of (F.means files.old)) → OnOk result
         (SettlesPackedRefs lock.now (disk_of (F.means files.old)) (disk_of (F.means files.new))) }
     ensures why { IfErr result (IsWhyNotPut F.honest lock.now (F.faults files.old)

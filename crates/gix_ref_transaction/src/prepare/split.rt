@@ -3,7 +3,7 @@ ghost use Rattle.std.specs.Prelude.{◌≡◌, ◌<◌, ◌+◌, ◌^◌, ◌⊎
 ghost use Rattle.std.specs.Option.{option_map};
 ghost use Rattle.gix_ref_name.specs.Names.{full_bytes, full_ref_bytes};
 ghost use Rattle.gix_ref_base.specs.Targets.{target_name, target_value};
-ghost use Rattle.gix_ref_theory.specs.OnRealTrees.{view_of};
+ghost use Rattle.gix_ref_theory.specs.OnRealTrees.{contents};
 ghost use Rattle.gix_ref_lookup.specs.StoreLayout.{namespace_text};
 ghost use Rattle.gix_ref_edits.specs.EditValues.{edit_value};
 ghost use Rattle.gix_ref_edits.specs.RefEdits.{name_of};
@@ -68,7 +68,7 @@ fn referent_of<F: Files>(
     name: FullNameRef<'_>,
 ) -> Result<Option<FullName>, Error>
     ensures led { F.honest → IfOk result (λ name'. option_map full_bytes name' ≡ name_led_to
-        (setting_of settings.now) (view_of (F.means files.old).tree) (full_ref_bytes name.entry)) }
+        (setting_of settings.now) (contents F.means files.old) (full_ref_bytes name.entry)) }
     ensures outside { IfErr result IsIoOrMemory }
     ensures reads { OnlyReads F.honest F.means F.faults files.old files.new }
     ensures counted { IfErr result (IsCounted (F.faults files.old) (F.faults files.new)) }
@@ -85,9 +85,8 @@ fn follow<F: Files>(
     settings: &Settings<'_>,
     edit: &RefEdit,
 ) -> Result<Option<FullName>, Error>
-    ensures led { F.honest → IfOk result (λ name. option_map full_bytes name
-        ≡ referent (name_led_to (setting_of settings.now) (view_of (F.means files.old).tree))
-        (name_of edit.now) edit.now.deref) }
+    ensures led { F.honest → IfOk result (λ name. option_map full_bytes name ≡ referent (name_led_to
+        (setting_of settings.now) (contents F.means files.old)) (name_of edit.now) edit.now.deref) }
     ensures can_follow { OnOk result (CanFollow (setting_of settings.now) (edit_value edit.now)) }
     ensures refused { IfErr result (λ error. IsIoOrMemory error ⊎ (edit.now.deref ≡ true)
         × IsMisnamed (setting_of settings.now) (name_of edit.now) error) }
@@ -110,7 +109,7 @@ fn follow_all<F: Files>(
 ) -> Result<Vec<Option<FullName>>, Error>
     ensures len { IfOk result (λ names. vec_len names ≡ length edits.now) }
     ensures led { F.honest → IfOk result (λ names. led_to names.items ≡ led_by (name_led_to
-        (setting_of settings.now) (view_of (F.means files.old).tree)) (values_of edits.now)) }
+        (setting_of settings.now) (contents F.means files.old)) (values_of edits.now)) }
     ensures can_follow { OnOk result
         (All (CanFollow (setting_of settings.now)) (values_of edits.now)) }
     ensures refused { IfErr result (λ error. IsIoOrMemory error
