@@ -1,8 +1,8 @@
 //! What a reference points to: an object, or another reference.
-ghost use Rattle.std.specs.Prelude.{◌≡◌, ◌↔◌, IsTrue, IfOk, IfSome, IfNone, IfErr, Some, None, MatchResult, MatchOption, IsSome};
+ghost use Rattle.std.specs.Prelude.{◌≡◌, ◌↔◌, IsTrue, IfOk, Some, None, MatchResult, MatchOption};
 ghost use Rattle.gix_ref_name.specs.Names.{full_ref_bytes, full_bytes};
 ghost use Rattle.gix_ref_name.specs.Namespaces.{namespace_bytes};
-ghost use Rattle.gix_ref_base.specs.Targets.{TargetValue, target_value, target_ref_value, target_kind, target_id, target_name, stripped_target, IsNullTarget, target_text};
+ghost use Rattle.gix_ref_base.specs.Targets.{target_value, target_ref_value, target_kind, target_id, stripped_target, IsNullTarget, target_text};
 ghost use Rattle.gix_ref_base.specs.Targets.TargetValue.{object_id, symbolic_name};
 
 use gix_ref_hash::hash::ObjectId;

@@ -1,6 +1,6 @@
 //! Empty folders above the files that a commit removed, which are removed once its locks are gone.
 ghost use Rattle.std.specs.Prelude.{◌≡◌, ◌≤◌, ◌<◌, ◌∷◌, ◌++◌, [], IfOk, OnOk, get_or, length};
-ghost use Rattle.gix_ref_files.specs.Files.{disk_of, Leaves, AtEveryStop, Passes, OnEveryDisk};
+ghost use Rattle.gix_ref_files.specs.Files.{AtEveryStop, OnEveryDisk};
 ghost use Rattle.gix_ref_transaction.specs.OwnLocks.{paths_of};
 ghost use Rattle.gix_ref_commit.specs.Cleared.{FoldersGo, LosesNoMore, OnlyFolders, all_removed, first_component, kept_of, removed_by};
 

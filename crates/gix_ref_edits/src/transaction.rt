@@ -1,6 +1,6 @@
 //! Edits of references (`git update-ref`): what a transaction is to change, and what it expects.
-ghost use Rattle.std.specs.Prelude.{◌≡◌, IfSome, IfOk, MatchOption, Some, None, false, []};
-ghost use Rattle.gix_ref_base.specs.Targets.{target_value, target_ref_value};
+ghost use Rattle.std.specs.Prelude.{◌≡◌, MatchOption, Some, None, false, []};
+ghost use Rattle.gix_ref_base.specs.Targets.{target_ref_value};
 ghost use Rattle.gix_ref_edits.specs.RefEdits.{new_of, expected_of, previous_of};
 
 use gix_ref_base::target::{Target, TargetRef};

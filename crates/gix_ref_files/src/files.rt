@@ -8,7 +8,7 @@
 //! else does. All that a contract says of the tree, of stops and of losses of power it says of honest files. What it says of the count of faults, of
 //! want of memory and of buffers holds of all files. Whether a type's files are honest is said by the type: files
 //! in memory are, and no program can know it of a disk.
-ghost use Rattle.std.specs.Prelude.{◌≡◌, ℕ, IfOk, OnOk, OnErr, IsTrue, IsErrOf, length};
+ghost use Rattle.std.specs.Prelude.{◌≡◌, ℕ, IfOk, OnOk, OnErr, IsErrOf, length};
 
 use std::alloc::Global;
 use std::io::ErrorKind;
@@ -120,7 +120,7 @@ pub trait Files {
     ghost use Rattle.gix_ref_files.specs.Tree.{Tree, IsShaped, node_at, bytes_of, is_file, is_folder};
     ghost use Rattle.gix_ref_files.specs.Disk.{Disk, file_synced, folder_synced};
     ghost use Rattle.gix_ref_files.specs.DiskCalls.{Untouched, after_create, CreatingOn, after_folders, MakingFoldersOn, after_append, AppendingOn, after_rename, RenamingOn, after_removal, RemovingFileOn, RemovingFolderOn, Syncs, SyncingOn};
-    ghost use Rattle.gix_ref_files.specs.Files.{Meaning, disk_of, left_since, Leaves, AtEveryStop, Adds, Passes, OnEveryDisk, AddsDisks, count_after, DiskBecomes};
+    ghost use Rattle.gix_ref_files.specs.Files.{Meaning, disk_of, left_since, AtEveryStop, Adds, OnEveryDisk, AddsDisks, count_after, DiskBecomes};
     ghost use Rattle.gix_ref_files.specs.Calls.{Unchanged, emptied, Opens, Creates, Creating, MakesFolders, MakingFolders, Appends, Appending, Renames, Renaming, RemovesFile, RemovingFile, RemovesFolder, RemovingFolder, Lists};
 
     /// A file of these, open for reading.

@@ -1,11 +1,10 @@
 //! Locks: a text is written to a file beside its place and then renamed to the place, so that the place holds the old
 //! text or the whole new one at every moment.
-ghost use Rattle.std.specs.Prelude.{◌≡◌, ◌≤◌, IfOk, IfErr, OnOk, OnErr, IsErrOf, length};
-ghost use Rattle.gix_ref_files.specs.Tree.{fronts};
-ghost use Rattle.gix_ref_files.specs.Files.{Leaves, AtEveryStop, Adds, Passes, OnEveryDisk, count_after, DiskBecomes};
+ghost use Rattle.std.specs.Prelude.{◌≡◌, IfOk, IfErr, OnOk, OnErr, IsErrOf};
+ghost use Rattle.gix_ref_files.specs.Files.{AtEveryStop, Adds, OnEveryDisk, count_after, DiskBecomes};
 ghost use Rattle.gix_ref_files.specs.DiskCalls.{after_create, CreatingOn, after_synced_append, WritingOn, RenamingOn, after_removal, RemovingFileOn};
 ghost use Rattle.gix_ref_files.specs.Calls.{Creates, Creating, Appends, Appending, Renaming, RemovesFile, RemovingFile};
-ghost use Rattle.gix_ref_files.specs.Lock.{lock_of, Readies, Readying, after_readying, ReadyingOn, MakesLock, after_locking, LockingOn, Acquires, Acquiring, after_acquire, Commits, after_commit, count_unspent, folders_up_to};
+ghost use Rattle.gix_ref_files.specs.Lock.{lock_of, Readies, Readying, after_readying, ReadyingOn, MakesLock, after_locking, LockingOn, Acquires, Acquiring, after_acquire, Commits, after_commit, count_unspent};
 
 use crate::files::{Create, FileError, Files, Rename};
 use crate::paths::folder_end;

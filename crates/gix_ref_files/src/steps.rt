@@ -2,11 +2,11 @@
 //! result.
 ghost use Rattle.std.specs.Prelude.{◌≡◌, ◌<◌, ◌≤◌, ◌-◌, IsTrue, OnOk, OnErr, IfOk, IfErr, IsErrOf, MatchResult, [], ◌∷◌, length, true, false};
 ghost use Rattle.gix_ref_files.specs.Tree.{is_folder, is_file, has_folders};
-ghost use Rattle.gix_ref_files.specs.Files.{Leaves, AtEveryStop, Passes, OnEveryDisk, disk_of, count_after, DiskBecomes};
+ghost use Rattle.gix_ref_files.specs.Files.{AtEveryStop, OnEveryDisk, disk_of, count_after, DiskBecomes};
 ghost use Rattle.gix_ref_files.specs.Calls.{Unchanged};
 ghost use Rattle.gix_ref_files.specs.Settled.{synced, synced_by, folders_up, climb, from_one};
 ghost use Rattle.gix_ref_files.specs.Settled.Sync.{OfFile, OfFolder};
-ghost use Rattle.gix_ref_files.specs.Steps.{Does, Begins, EndsBy, IsAfter, IsLeftBy, IsRefused, EndsAt, step_of, steps_of, cause_once_done, count_ended, HasMemory, MayBeSynced};
+ghost use Rattle.gix_ref_files.specs.Steps.{Does, Begins, EndsBy, IsAfter, IsLeftBy, EndsAt, step_of, steps_of, cause_once_done, count_ended, HasMemory, MayBeSynced};
 ghost use Rattle.gix_ref_files.specs.Steps.Step.{Line};
 ghost use Rattle.gix_ref_files.specs.DiskSteps.{DoesOn, BeginsOn, With, IsReachedBy, IsSyncedAfter, IsEndedAt, IsSomeSynced, Settling, path_syncs, syncs_of, synced_steps, needs, CanSync, CanSettle};
 ghost use Rattle.gix_ref_files.specs.declared.steps.Cause.TheVariants.{File};

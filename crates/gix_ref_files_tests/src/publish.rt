@@ -1,6 +1,5 @@
 //! A client, from public contracts alone: two files published one after the other. At every stop each reads old or
 //! new, and the second new only if the first is.
-ghost use Rattle.std.specs.Prelude.{◌≡◌};
 ghost use Rattle.gix_ref_files.specs.Files.{StopsLeave};
 ghost use Rattle.gix_ref_files_tests.specs.Publish.{ArePublishedInOrder, ArePathsApart};
 

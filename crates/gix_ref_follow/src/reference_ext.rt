@@ -142,7 +142,7 @@ pub trait ReferenceExt: Sealed {
 }
 
 impl ReferenceExt for Reference {
-    ghost use Rattle.std.specs.Prelude.{◌≡◌, [], List, Option, Some, None, Ok, Err, IfOk, IfErr, IfSome, OnOk, OnErr, MatchResult, true, false, is_some};
+    ghost use Rattle.std.specs.Prelude.{◌≡◌, [], List, Option, Some, None, Ok, IfOk, IfErr, IfSome, OnOk, true, false, is_some};
     ghost use Rattle.gix_ref_name.specs.Names.{full_bytes, full_ref_bytes};
     ghost use Rattle.gix_ref_base.specs.PackedRecords.{Record};
     ghost use Rattle.gix_ref_base.specs.Targets.{target_value};

@@ -1,6 +1,6 @@
 -- Sets of paths.
 use Rattle.std.proofs.Common.{◌≡◌, ℕ, List, [], ◌∷◌, map, Bool, true, false, not, refl, sym, subst, ◌∙◌, ap}
-use Rattle.std.specs.Prelude.{if◌then◌else◌, ◌||◌, bytes_eq, Vec}
+use Rattle.std.specs.Prelude.{◌||◌, bytes_eq, Vec}
 use Rattle.std.specs.List.{list_any}
 use Rattle.std.specs.Prelude.{MatchBool}
 use Rattle.std.specs.List.Sorted.{IsPermutation}

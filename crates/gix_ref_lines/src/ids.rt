@@ -1,7 +1,7 @@
 //! The ids of a log line: what was there, and what is there now.
 ghost use Rattle.std.specs.Prelude.{◌≡◌};
 ghost use Rattle.gix_ref_edits.specs.RefEdits.{expected_of, matched};
-ghost use Rattle.gix_ref_lines.specs.DueLines.{between, expected_id, ids_from, ids_of, ids_of_symbolic, ids_to, object_id_in, previous_id};
+ghost use Rattle.gix_ref_lines.specs.DueLines.{between, expected_id, ids_from, ids_of, ids_of_symbolic, previous_id};
 
 use gix_ref_base::target::Target;
 use gix_ref_edits::transaction::{Change, PreviousValue};

@@ -1,5 +1,4 @@
 //! What a walk found.
-ghost use Rattle.std.specs.Prelude.{◌≡◌};
 
 use gix_ref_files::files::FileError;
 use gix_ref_name::name::FullName;

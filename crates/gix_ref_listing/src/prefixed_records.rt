@@ -1,7 +1,7 @@
 //! The records of a prefix, read from `packed-refs`.
 ghost use Rattle.std.specs.Prelude.{◌≡◌, ℕ, List, IfOk, IfErr, OnOk, is_some};
 ghost use Rattle.gix_ref_base.specs.PackedRecords.{Record};
-ghost use Rattle.gix_ref_files.specs.Files.{Leaves, AtEveryStop};
+ghost use Rattle.gix_ref_files.specs.Files.{AtEveryStop};
 ghost use Rattle.gix_ref_files.specs.Calls.{Unchanged};
 ghost use Rattle.gix_ref_files.specs.Tree.{is_file};
 ghost use Rattle.gix_ref_hash.specs.declared.hash.Kind.{Kind};

@@ -18,7 +18,6 @@ use Rattle.std.proofs.lemmas.Bool.{ltb-false}
 use Rattle.gix_ref_packed.proofs.WellFormedLemmas.{opened_file_holds}
 use Rattle.gix_ref_lookup.specs.Lookups.{ArePackedRecords, IsSearched, OfSearched, IsHitOfKey, IsRecordIn, IsNotPacked, IsFaultOrMemory, of_opening, as_found}
 use Rattle.gix_ref_lookup.specs.declared.find.records.Records.{Records as Asked}
-use Rattle.gix_ref_lookup.specs.declared.find.records.Records.TheVariants as sources
 use Rattle.gix_ref_records.specs.declared.raw.Reference.{Reference}
 use Rattle.gix_ref_records.specs.OpenedText.{Fronts, PackedText}
 use Rattle.gix_ref_records.specs.declared.packed.decode.options.Header.{Header}

@@ -1,5 +1,5 @@
 //! The folders of a store: the git folder, and the common folder of all worktrees (`git worktree`).
-ghost use Rattle.std.specs.Prelude.{◌≡◌, ◌↔◌, ◌⊎◌, ◌∷◌, ◌++◌, ℕ, List, IsTrue, IfSome, IfNone, IfOk, IfErr, MatchOption, IsTrue, true, false, codes};
+ghost use Rattle.std.specs.Prelude.{◌≡◌, ◌↔◌, ◌++◌, ℕ, List, IsTrue, MatchOption, IsTrue, true, false, codes};
 ghost use Rattle.std.specs.Prelude.{◌==◌, not};
 ghost use Rattle.std.specs.List.{list_all};
 ghost use Rattle.gix_ref_hash.specs.Bytes.{NoByte, components, without_front};

@@ -2,7 +2,6 @@
 use Rattle.std.proofs.Common.{ℕ, suc, ◌≡◌, ◌+◌, ◌-◌, ◌<◌, ◌≤◌, Option, Result, Some, None, Ok, Err, refl, sym, ◌∙◌, ap, subst, arith}
 use Rattle.gix_ref_hash.specs.declared.hash.ObjectId.{ObjectId}
 use Rattle.gix_ref_object.specs.declared.object.Kind.TheVariants.{Commit, Tree, Blob, Tag}
-use Rattle.gix_ref_object.specs.declared.object.FindError.TheVariants as finding
 use Rattle.gix_ref_object.specs.declared.peel.PeelError.{PeelError}
 use Rattle.gix_ref_object.specs.declared.peel.PeelError.TheVariants as peeling
 use Rattle.gix_ref_object.specs.Objects.{Stored}

@@ -5,7 +5,7 @@ ghost use Rattle.std.specs.Cmp.Lexicographic.{slice_cmp};
 ghost use Rattle.std.specs.List.Sorted.{IsPermutation, IsSorted};
 ghost use Rattle.std.specs.Ordering.{nat_cmp};
 ghost use Rattle.gix_ref_files.specs.DiskCalls.{RemovingFileOn};
-ghost use Rattle.gix_ref_files.specs.Files.{Leaves, AtEveryStop, Loses, Passes, OnEveryDisk, HasRisen, disk_of};
+ghost use Rattle.gix_ref_files.specs.Files.{AtEveryStop, Loses, OnEveryDisk, HasRisen, disk_of};
 ghost use Rattle.gix_ref_files.specs.Lock.{lock_of};
 ghost use Rattle.gix_ref_files.specs.Tree.{is_file};
 ghost use Rattle.gix_ref_packed_transaction.specs.PackedTransactions.{OnlyLockGoes};

@@ -17,7 +17,7 @@ ghost use Rattle.gix_ref_files.specs.Files.{Leaves, AtEveryStop};
 ghost use Rattle.gix_ref_packed.specs.OpenFiles.{HasReadFault};
 ghost use Rattle.gix_ref_program.specs.Runs.{IsExpected, IsLogChange, IsEditOf, IsDeletionEdit, IsAskedFor, NoNamespace, IsNoName, NoEdit, UpdateRan, IsUpdateStop, IsBadFolder, IsAt, namespace_of, write_reflog_of, IsOpened, EditOutcome, ShowOutcome, Prints, CommandRan, LogRan, ListRan, ListRanAmong, prefix_asked, IsStop, IsUnopened, LineRan, IsStopIn, RunsWrong, RunsLine};
 ghost use Rattle.gix_ref_program.specs.Updates.{IsStopOf};
-ghost use Rattle.gix_ref_program.specs.Words.{Asked, Symbolic, texts, line_asked, command_asked};
+ghost use Rattle.gix_ref_program.specs.Words.{Asked, Symbolic, texts, line_asked};
 
 use crate::list;
 use crate::log::print_items;

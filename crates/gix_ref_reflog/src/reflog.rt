@@ -1,9 +1,9 @@
 //! The reflog of a name: one call of files for each of these.
-ghost use Rattle.std.specs.Prelude.{◌≡◌, ℕ, List, true, false, IfOk, IfErr, OnOk};
+ghost use Rattle.std.specs.Prelude.{◌≡◌, true, false, IfOk, IfErr, OnOk};
 ghost use Rattle.gix_ref_name.specs.Names.{full_ref_bytes};
-ghost use Rattle.gix_ref_files.specs.Files.{Leaves, AtEveryStop};
+ghost use Rattle.gix_ref_files.specs.Files.{AtEveryStop};
 ghost use Rattle.gix_ref_files.specs.Calls.{Unchanged, Opens};
-ghost use Rattle.gix_ref_files.specs.Tree.{is_file, bytes_of};
+ghost use Rattle.gix_ref_files.specs.Tree.{is_file};
 ghost use Rattle.gix_ref_reflog.specs.Reflogs.{log_path, is_prohibited, log_content, count_log, IsNoPath, IsNoLog, HoldsLog};
 
 use crate::error::Error;

@@ -1,7 +1,6 @@
 //! The new text of `packed-refs`.
-ghost use Rattle.std.specs.Prelude.{◌≡◌, ◌≤◌, ◌++◌, ◌==◌, List, length, vec_len, IfOk, IfErr, MatchResult};
-ghost use Rattle.std.specs.List.{flat_map};
-ghost use Rattle.gix_ref_base.specs.PackedRecords.{Record, record_text};
+ghost use Rattle.std.specs.Prelude.{◌≡◌, ◌≤◌, ◌==◌, List, IfOk, IfErr, MatchResult};
+ghost use Rattle.gix_ref_base.specs.PackedRecords.{Record};
 ghost use Rattle.gix_ref_records.specs.RecordGrammar.{Records, Ascending};
 ghost use Rattle.gix_ref_rewrite.specs.declared.error.Error.TheVariants.{Memory};
 ghost use Rattle.gix_ref_rewrite.specs.RecordEdits.{KeysAscend};

@@ -1,7 +1,7 @@
 -- Locks that are released, where none was named before.
 use Rattle.gix_ref_transaction.proofs.Faults.{risen_by_paths}
 use Rattle.gix_ref_files.specs.Files.{HasRisenBy}
-use Rattle.std.proofs.Common.{◌≡◌, ◌<◌, inl, inr, ⊎_elim, ℕ, List, [], true, false, sym, subst, length, arith, Vec, Global, vec_len}
+use Rattle.std.proofs.Common.{◌≡◌, ◌<◌, inl, inr, ℕ, List, true, false, sym, subst, length, arith, Vec, Global, vec_len}
 use Rattle.gix_ref_files.specs.Tree.{Tree, Path, is_file}
 use Rattle.gix_ref_transaction.specs.OwnLocks.{is_in, paths_of}
 use Rattle.gix_ref_transaction.specs.CommitRenames.{lock_at, stays_at}

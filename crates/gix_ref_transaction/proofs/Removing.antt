@@ -76,9 +76,6 @@ removes_then locks lock S T U within first second q =
 pub no_file_then : (lock : Path) (T U : Tree) (q : Path) → RemovesLocks (lock ∷ []) T U → is_file (T q) ≡ false → is_file (U q) ≡ false
 no_file_then lock T U q removes no_file = ⊎_elim (λ same. ap is_file same ∙ no_file) (λ gone. ap is_file gone.1) (removes q)
 
--- one lock of those that are left to do is done: it is gone, or it is named
-module _ (all : List Path) (rest : List Own) (path : Own) (T U : Tree) (removes : RemovesLocks ((lock_of path.lock) ∷ []) T U) where
-
 pub leaves_then : (locks : List Path) (lock : Path) (first mid now : Meaning) → is_in locks lock ≡ true → Leaves first mid (RemovesLocks locks first.tree) → Leaves mid now (RemovesLocks (lock ∷ []) mid.tree) → Leaves first now (RemovesLocks locks first.tree)
 leaves_then locks lock first mid now within run next = joins run (weaken next (λ T removes. removes_then locks lock first.tree mid.tree T within run.tree removes))
 

@@ -4,7 +4,7 @@ ghost use Rattle.std.specs.Option.{option_map};
 ghost use Rattle.gix_ref_base.specs.Targets.{target_value};
 ghost use Rattle.gix_ref_base.specs.Targets.TargetValue.{object_id};
 ghost use Rattle.gix_ref_files.specs.ReadOnly.{OnlyReads};
-ghost use Rattle.gix_ref_files.specs.Files.{disk_of, Leaves, AtEveryStop, Passes, OnEveryDisk, count_after, DiskBecomes};
+ghost use Rattle.gix_ref_files.specs.Files.{disk_of, AtEveryStop, OnEveryDisk, count_after, DiskBecomes};
 ghost use Rattle.gix_ref_files.specs.Lock.{lock_of, MakesLock, Readying, Acquiring, after_locking, LockingOn};
 ghost use Rattle.gix_ref_files.specs.Settled.{IsWholeAt};
 ghost use Rattle.gix_ref_files.specs.Tree.{Tree, Path, has_folders, is_blocked, put};

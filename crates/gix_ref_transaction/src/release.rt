@@ -4,7 +4,7 @@ ghost use Rattle.std.specs.Vec.{vec_capacity};
 ghost use Rattle.std.specs.Bool.{OnFalse};
 ghost use Rattle.gix_ref_files.specs.Lock.{lock_of};
 ghost use Rattle.gix_ref_files.specs.Tree.{Path, is_file};
-ghost use Rattle.gix_ref_files.specs.Files.{disk_of, Leaves, AtEveryStop, Passes, OnEveryDisk, HasRisen};
+ghost use Rattle.gix_ref_files.specs.Files.{AtEveryStop, OnEveryDisk, HasRisen};
 ghost use Rattle.gix_ref_files.specs.DiskCalls.{RemovingFileOn};
 ghost use Rattle.gix_ref_transaction.specs.OwnLocks.{paths_of, RemovesLocks, is_in};
 ghost use Rattle.gix_ref_transaction.specs.CommitRenames.{lock_at, path_in, stays_at};

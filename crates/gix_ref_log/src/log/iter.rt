@@ -1,7 +1,7 @@
 //! The lines of a reflog, oldest first or newest first.
 ghost use Rattle.std.specs.Iterator.{Yields};
 ghost use Rattle.std.specs.Iterator.Runs.{EachRunFrom};
-ghost use Rattle.std.specs.Prelude.{◌≡◌, ℕ, length, IfOk, IsErr, ◌↔◌, true, List, Result};
+ghost use Rattle.std.specs.Prelude.{◌≡◌, length, IfOk, IsErr, ◌↔◌, true, List, Result};
 ghost use Rattle.gix_ref_log.specs.LogCuts.{log_lines};
 ghost use Rattle.gix_ref_log.specs.LogForward.{ForwardStep};
 ghost use Rattle.gix_ref_log.specs.LogItems.{IsRun, IsForwardRun, EndsAtError, items_from, faults_after};

@@ -6,7 +6,7 @@ ghost use Rattle.gix_ref_name.specs.Namespaces.{stripped};
 ghost use Rattle.gix_ref_base.specs.PackedRecords.{Record};
 ghost use Rattle.gix_ref_base.specs.Targets.{target_value};
 ghost use Rattle.gix_ref_base.specs.Targets.TargetValue.{object_id};
-ghost use Rattle.gix_ref_files.specs.Files.{Leaves, AtEveryStop, HasRisen};
+ghost use Rattle.gix_ref_files.specs.Files.{AtEveryStop, HasRisen};
 ghost use Rattle.gix_ref_files.specs.Calls.{Unchanged};
 ghost use Rattle.gix_ref_theory.specs.OnRealTrees.{contents};
 ghost use Rattle.gix_ref_lookup.specs.StoreLayout.{namespace_text};

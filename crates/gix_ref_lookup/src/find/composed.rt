@@ -3,7 +3,7 @@ ghost use Rattle.std.specs.Prelude.{◌≡◌, ◌≢◌, ◌⊎◌, List, IfOk,
 ghost use Rattle.gix_ref_name.specs.ComposedNames.{decomposed};
 ghost use Rattle.gix_ref_name.specs.Names.{full_bytes, partial_bytes, partial_ref_bytes};
 ghost use Rattle.gix_ref_base.specs.PackedRecords.{Record};
-ghost use Rattle.gix_ref_files.specs.Files.{Leaves, AtEveryStop};
+ghost use Rattle.gix_ref_files.specs.Files.{AtEveryStop};
 ghost use Rattle.gix_ref_files.specs.Calls.{Unchanged};
 ghost use Rattle.gix_ref_theory.specs.OnRealTrees.{contents};
 ghost use Rattle.gix_ref_lookup.specs.Lookups.{meaning_in, packed_refs_in, AreAsked, AreHonest, ReturnsHit, IsSound, IsHitOf, IsGivenOf, FailsAmong, lookup_of, asked_names, name_asked, AreStillAsked};

@@ -1,6 +1,6 @@
 //! The loose file at a place, decoded.
 ghost use Rattle.std.specs.Prelude.{◌≡◌, IfOk, IfErr, Some};
-ghost use Rattle.gix_ref_files.specs.Files.{disk_of, Leaves, AtEveryStop, Passes, OnEveryDisk, count_after};
+ghost use Rattle.gix_ref_files.specs.Files.{AtEveryStop, OnEveryDisk, count_after};
 ghost use Rattle.gix_ref_files.specs.Calls.{Unchanged};
 ghost use Rattle.gix_ref_files.specs.DiskCalls.{Untouched};
 ghost use Rattle.gix_ref_theory.specs.OnRealTrees.{contents};

@@ -1,6 +1,6 @@
 //! Which file call fails or stops: a plan, and a count of the calls.
-ghost use Rattle.std.specs.Prelude.{◌≡◌, IfOk, IfErr, Ok, Err};
-ghost use Rattle.gix_ref_files.specs.Files.{one_more, count_after};
+ghost use Rattle.std.specs.Prelude.{◌≡◌};
+ghost use Rattle.gix_ref_files.specs.Files.{one_more};
 ghost use Rattle.gix_ref_memory.specs.Turns.{turn_of};
 ghost use Rattle.gix_ref_files.specs.declared.files.FileError.TheVariants.{Device};
 

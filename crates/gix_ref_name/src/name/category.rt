@@ -154,7 +154,7 @@ impl<'a> Category<'a> {
     ghost use Rattle.gix_ref_grammar.specs.declared.name.error.Error.TheVariants.{Memory};
     ghost use Rattle.gix_ref_grammar.specs.NameGrammar.{IsFullName, full_error};
     ghost use Rattle.gix_ref_name.specs.Names.{full_bytes};
-    ghost use Rattle.gix_ref_name.specs.Categories.{prefix_of, word_of, front_of, text_of, is_private, code_of};
+    ghost use Rattle.gix_ref_name.specs.Categories.{prefix_of, word_of, front_of, text_of, is_private};
 
     /// The text in front of the names of the category, as far as it is the same for all of them; empty for a pseudo
     /// name. As gix-ref's `Category::prefix`.

@@ -28,7 +28,7 @@ pub struct Buffer {
 impl Buffer {
     ghost use Rattle.std.specs.Prelude.{◌≡◌, ◌≤◌, ◌<◌, IfOk, IfErr, IsErrOf, MatchOption, true, false, vec_len, drop};
     ghost use Rattle.gix_ref_files.specs.Tree.{is_file, bytes_of};
-    ghost use Rattle.gix_ref_files.specs.Files.{disk_of, Leaves, AtEveryStop, Passes, OnEveryDisk};
+    ghost use Rattle.gix_ref_files.specs.Files.{AtEveryStop, OnEveryDisk};
     ghost use Rattle.gix_ref_files.specs.Calls.{Unchanged};
     ghost use Rattle.gix_ref_files.specs.DiskCalls.{Untouched};
     ghost use Rattle.gix_ref_records.specs.OpenedText.{Keeps};

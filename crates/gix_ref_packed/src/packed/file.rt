@@ -77,7 +77,7 @@ impl<R: ReadAt + Drop> PackedFile<R> {
     ghost use Rattle.std.specs.Prelude.{◌≡◌, IfOk, IfErr, MatchOption, true, false};
     ghost use Rattle.gix_ref_name.specs.Names.{full_ref_bytes};
     ghost use Rattle.gix_ref_files.specs.Tree.{is_file, bytes_of};
-    ghost use Rattle.gix_ref_files.specs.Files.{disk_of, Leaves, AtEveryStop, Passes, OnEveryDisk};
+    ghost use Rattle.gix_ref_files.specs.Files.{AtEveryStop, OnEveryDisk};
     ghost use Rattle.gix_ref_files.specs.Calls.{Unchanged};
     ghost use Rattle.gix_ref_files.specs.DiskCalls.{Untouched};
     ghost use Rattle.gix_ref_packed.specs.Buffers.{IsRefusedFile};

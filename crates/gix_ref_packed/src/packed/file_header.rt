@@ -1,5 +1,5 @@
 //! The header of a `packed-refs` that stays in its file.
-ghost use Rattle.std.specs.Prelude.{◌≡◌, ℕ, List, length, take, true, false, IfOk, IfErr, MatchOption};
+ghost use Rattle.std.specs.Prelude.{◌≡◌, ℕ, List, length, take, true, IfOk, IfErr, MatchOption};
 ghost use Rattle.gix_ref_records.specs.Shown.{IfHere, IsHere};
 ghost use Rattle.gix_ref_records.specs.OpenedText.{NoHeader};
 ghost use Rattle.gix_ref_records.specs.HeaderEnds.{HeadsAt};

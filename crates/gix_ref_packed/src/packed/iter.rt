@@ -113,12 +113,12 @@ impl<'a> Iterator for Iter<'a> {
 }
 
 impl Buffer {
-    ghost use Rattle.std.specs.Prelude.{◌≡◌, ◌+◌, ℕ, List, None, Some, true, take, drop};
+    ghost use Rattle.std.specs.Prelude.{◌≡◌, ◌+◌, ℕ, List, None, Some, true};
     ghost use Rattle.std.specs.Iterator.Runs.{EachRunFrom};
     ghost use Rattle.gix_ref_base.specs.PackedRecords.{Record};
     ghost use Rattle.gix_ref_records.specs.RecordGrammar.{Records, Rising};
     ghost use Rattle.gix_ref_records.specs.Prefixes.{records_prefixed, IsListStart};
-    ghost use Rattle.gix_ref_packed.specs.Buffers.{buffer_text, buffer_kind, buffer_line};
+    ghost use Rattle.gix_ref_packed.specs.Buffers.{buffer_text, buffer_kind};
     ghost use Rattle.gix_ref_packed.specs.Items.{ItemStep, AreItems, AreRecords, unread_buffer, unread_from};
     ghost use Rattle.gix_ref_packed.specs.YetToGive.{IsYet};
 

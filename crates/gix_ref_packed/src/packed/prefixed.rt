@@ -49,7 +49,7 @@ fn is_records(text: &[u8], kind: Kind) -> bool
 }
 
 impl<R: ReadAt + Drop> SortedFile<R> {
-    ghost use Rattle.std.specs.Prelude.{◌≡◌, ◌≤◌, ◌-◌, ℕ, List, length, take, drop, IfOk, IfErr};
+    ghost use Rattle.std.specs.Prelude.{◌≡◌, ◌≤◌, ◌-◌, List, length, take, drop, IfOk, IfErr};
     ghost use Rattle.gix_ref_packed.specs.FilePrefixes.{Encloses, HoldsPrefix};
     ghost use Rattle.gix_ref_packed.specs.FileSearches.{IsNoChange, count_read};
 

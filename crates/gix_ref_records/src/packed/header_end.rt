@@ -1,5 +1,5 @@
 //! Where the records of a text begin.
-ghost use Rattle.std.specs.Prelude.{◌≡◌, ◌≤◌, ◌<◌, length, drop, MatchOption};
+ghost use Rattle.std.specs.Prelude.{◌≡◌, ◌<◌, MatchOption};
 ghost use Rattle.gix_ref_records.specs.OpenedText.{NoHeader, line_behind, says_sorted as sorted_by};
 ghost use Rattle.gix_ref_records.specs.HeaderEnds.{HeadsAt};
 

@@ -1,5 +1,5 @@
 //! Lines that end in LF or CRLF, and where they begin.
-ghost use Rattle.std.specs.Prelude.{◌≡◌, ◌≢◌, ◌++◌, ◌<◌, ◌≤◌, ℕ, List, MatchOption, length};
+ghost use Rattle.std.specs.Prelude.{◌<◌, ◌≤◌, ℕ, List, MatchOption, length};
 ghost use Rattle.gix_ref_records.specs.RecordGrammar.{Newline, Line};
 ghost use Rattle.gix_ref_records.specs.Positions.{LineOf, SameLine};
 

@@ -55,12 +55,12 @@ fn are_clean_paths(git_dir: &Vec<u8>, common_dir: &Option<Vec<u8>>) -> bool
 }
 
 impl<F> Store<F> {
-    ghost use Rattle.std.specs.Prelude.{◌≡◌, IfOk, IfErr, MatchResult, MatchOption, Some, None};
+    ghost use Rattle.std.specs.Prelude.{◌≡◌, IfOk, MatchResult, Some, None};
     ghost use Rattle.gix_ref_base.specs.Layout.{packed_refs};
     ghost use Rattle.gix_ref_name.specs.Names.{full_ref_bytes};
     ghost use Rattle.std.specs.Option.{option_map};
     ghost use Rattle.gix_ref_store.specs.Options.{default_options};
-    ghost use Rattle.gix_ref_store.specs.Store.{files_of, folders, given_common, kind_of, meaning_of, IsMade, AreDirs, HasNoStore};
+    ghost use Rattle.gix_ref_store.specs.Store.{files_of, folders, given_common, meaning_of, IsMade, AreDirs, HasNoStore};
 
     /// The store in a git folder that is the common folder too, with the default options. The folder is bytes with
     /// slashes; `object_hash` is the kind of all ids. `PathNotClean` hands the files back. As gix-ref's

@@ -1,5 +1,5 @@
 //! What each edit has to meet by itself.
-ghost use Rattle.std.specs.Prelude.{◌≡◌, ◌↔◌, ◌⊎◌, [], IsTrue, MatchBool, OnOk, IfOk, IfErr, Option, Some, None};
+ghost use Rattle.std.specs.Prelude.{◌≡◌, ◌↔◌, ◌⊎◌, [], IsTrue, MatchBool, OnOk, IfOk, IfErr, Option, Some};
 ghost use Rattle.std.specs.Option.{option_map};
 ghost use Rattle.gix_ref_hash.specs.Ids.{id_kind, IsWhole};
 ghost use Rattle.gix_ref_name.specs.Names.{full_ref_bytes};
@@ -8,7 +8,7 @@ ghost use Rattle.gix_ref_transaction.specs.Causes.{IsValidEdit, IsInvalidEdit, I
 ghost use Rattle.gix_ref_transaction.specs.PrepareSteps.{setting_of};
 ghost use Rattle.gix_ref_edits.specs.DoubledNames.{NoneDoubled};
 ghost use Rattle.gix_ref_base.specs.Locations.{is_safe};
-ghost use Rattle.gix_ref_edits.specs.RefEdits.{name_of, new_of};
+ghost use Rattle.gix_ref_edits.specs.RefEdits.{new_of};
 
 use crate::prepare::Error;
 use gix_ref_base::layout::location_of;

@@ -1,4 +1,4 @@
-use Rattle.std.proofs.Common.{◌≡◌, ap, refl, sym, ◌∙◌, Result, Ok, Err, Option, rules}
+use Rattle.std.proofs.Common.{◌≡◌, ap, refl, sym, ◌∙◌, Result, Ok, Err, rules}
 use Rattle.std.specs.Result.{OnOk}
 use Rattle.gix_ref_edits.proofs.Finders.{outcome_relates, lookups_answer}
 use Rattle.gix_ref_edits_tests.proofs.over_tables.split_over.Goals as goal

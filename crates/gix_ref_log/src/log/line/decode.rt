@@ -1,5 +1,5 @@
 //! Reading a line of a reflog.
-ghost use Rattle.std.specs.Prelude.{◌≡◌, List, ℕ, MatchOption};
+ghost use Rattle.std.specs.Prelude.{List, ℕ, MatchOption};
 ghost use Rattle.gix_ref_hash.specs.Bytes.{NoByte};
 ghost use Rattle.gix_ref_log.specs.LogIds.{IdFront, IsIdPlace};
 ghost use Rattle.gix_ref_log.specs.LogLines.{IsLine, NoLine, line_ref_parts};

@@ -1,5 +1,5 @@
 //! What an iterator over packed references asks of lines and names.
-ghost use Rattle.std.specs.Prelude.{◌≡◌, ◌<◌, ◌≤◌, length, ℕ, List};
+ghost use Rattle.std.specs.Prelude.{◌≡◌, ◌<◌, ◌≤◌, length};
 ghost use Rattle.std.specs.Option.{option_map};
 ghost use Rattle.gix_ref_packed.specs.Items.{CutsAtFeed, FirstLine, has_prefix, line_feeds, line_without_cr};
 
