@@ -15,6 +15,7 @@ use Rattle.gix_ref_transaction.specs.PrepareSteps.{HoldTexts, effect_on, effect_
 use Rattle.gix_ref_edits.specs.RefEdits.{name_of}
 use Rattle.gix_ref_edits.specs.declared.transaction.RefEdit.{RefEdit}
 use Rattle.gix_ref_transaction.specs.declared.edit.Edit.{Edit as Own}
+use Rattle.gix_ref_transaction.proofs.EditsApart.{heads}
 use Rattle.gix_ref_commit.specs.LogEffects.{IsLogOf, AreLogsOf, edit_with, line_in, lines_in, with_lines}
 
 -- A transaction as `prepare` gives it, from the tree `before` it to the tree T, and its logs.
