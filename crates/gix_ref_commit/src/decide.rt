@@ -23,7 +23,7 @@ use gix_ref_transaction::edit::Edit;
 use std::alloc::Global;
 
 /// What becomes of `packed-refs`.
-#[derive(Debug, Drop)]
+#[derive(Drop)]
 pub struct NewPacked {
     /// What becomes of it. A new text is in its lock already.
     pub rewrite: Rewrite,

@@ -21,7 +21,7 @@ use gix_ref_transaction::edit::Edit;
 use std::alloc::{AllocError, Global};
 
 /// The folders that are removed before a step, each behind those in it.
-#[derive(Debug, Drop)]
+#[derive(Drop)]
 pub struct InWay {
     pub folders: Vec<Vec<u8>>,
 }

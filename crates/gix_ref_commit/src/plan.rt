@@ -13,7 +13,7 @@ use gix_ref_transaction::edit::{Edit, Effect, LogEffect};
 use std::alloc::{AllocError, Global};
 
 /// What a step of a commit is about.
-#[derive(Clone, Copy, Debug, PartialEq, Eq)]
+#[derive(Clone, Copy, PartialEq, Eq)]
 pub enum About {
     /// The folders that lead to the log of the edit at this place of the list, from 0.
     Folders { edit: usize },

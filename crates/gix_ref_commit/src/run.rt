@@ -14,7 +14,7 @@ use gix_ref_transaction::edit::Edit;
 use std::alloc::Global;
 
 /// Why the plan of a commit was not run to its end.
-#[derive(Clone, Copy, Debug, PartialEq, Eq)]
+#[derive(Clone, Copy, PartialEq, Eq)]
 pub enum Unfinished {
     /// There was no memory for the plan. Nothing was done.
     Memory,

@@ -2,6 +2,8 @@
 #![tactic(auto)]
 
 #[cfg(test)]
+mod finders;
+#[cfg(test)]
 mod follow;
 #[cfg(test)]
 mod made;

@@ -8,7 +8,7 @@ use gix_ref_edits::transaction::{Change, PreviousValue};
 use gix_ref_hash::hash::ObjectId;
 
 /// The ids of a log line.
-#[derive(Clone, Copy, Debug, PartialEq, Eq)]
+#[derive(Clone, Copy, PartialEq, Eq)]
 pub struct LineIds {
     /// The object that was there, or the null id.
     pub previous: ObjectId,

@@ -8,7 +8,7 @@ use gix_ref_transaction::edit::Edit;
 use std::alloc::{AllocError, Global};
 
 /// The leaf of an edit.
-#[derive(Clone, Copy, Debug, PartialEq, Eq)]
+#[derive(Clone, Copy, PartialEq, Eq)]
 pub enum Leaf {
     /// The edit itself: none was split from it.
     Itself,

@@ -18,7 +18,7 @@ use gix_ref_files::paths::folder;
 use std::alloc::Global;
 
 /// What there is at the path of a log.
-#[derive(Clone, Copy, Debug, PartialEq, Eq)]
+#[derive(Clone, Copy, PartialEq, Eq)]
 pub struct Place {
     /// What is there.
     pub node: Node,

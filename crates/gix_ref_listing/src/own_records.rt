@@ -19,7 +19,7 @@ use gix_ref_packed::packed::Reference;
 use gix_ref_packed::packed::iter::{Error, Iter};
 
 /// A record that a listing gives.
-#[derive(Clone, Copy, Debug)]
+#[derive(Clone, Copy)]
 pub struct OwnRecord<'p> {
     /// The name: that of the record less the namespace.
     pub name: FullNameRef<'p>,

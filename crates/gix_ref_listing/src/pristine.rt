@@ -25,7 +25,7 @@ use gix_ref_name::name::FullNameRef;
 use std::alloc::{AllocError, Global};
 
 /// What the file at a path is read as.
-#[derive(Debug, Drop)]
+#[derive(Drop)]
 enum Reading {
     /// This target, less the namespace.
     Is(Target),

@@ -22,7 +22,7 @@ use gix_ref_name::name::{FullName, FullNameRef, PartialNameRef};
 use std::alloc::{AllocError, Global};
 
 /// Where a walk looks for names.
-#[derive(Clone, Copy, Debug)]
+#[derive(Clone, Copy)]
 pub struct Root<'a> {
     /// What comes before each name in its path: a folder of the store, a slash, and the namespace.
     pub path: &'a [u8],

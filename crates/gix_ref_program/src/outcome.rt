@@ -12,7 +12,7 @@ use std::io;
 use std::io::Write;
 
 /// The outcome of a line.
-#[derive(Debug, Drop)]
+#[derive(Drop)]
 pub enum Outcome {
     /// The words are no line.
     WrongWords,

@@ -28,7 +28,7 @@ pub enum UpdateError {
 }
 
 /// What became of an update.
-#[derive(Debug, Drop)]
+#[derive(Drop)]
 pub struct UpdateReport {
     /// Why it was not made; none where it was.
     pub error: Option<UpdateError>,

@@ -11,7 +11,7 @@ use gix_ref_hash::hash::{Kind, ObjectId};
 use gix_ref_log::actor::SignatureRef;
 
 /// What a line asks for.
-#[derive(Clone, Copy, Debug)]
+#[derive(Clone, Copy)]
 pub enum Command<'w> {
     /// `update [--deref] NAME ID [OLD]`
     Update {
@@ -46,7 +46,7 @@ pub enum Command<'w> {
 }
 
 /// The words of a line.
-#[derive(Clone, Copy, Debug)]
+#[derive(Clone, Copy)]
 pub struct Line<'w> {
     /// The git folder, which is the common folder too.
     pub dir: &'w [u8],

@@ -2,7 +2,7 @@
 use crate::ahead::Ahead;
 
 /// What is left after an edit, and whether it altered the records.
-#[derive(Clone, Copy, Debug)]
+#[derive(Clone, Copy)]
 pub struct Applied<'a> {
     /// The records that are left.
     pub ahead: Ahead<'a>,

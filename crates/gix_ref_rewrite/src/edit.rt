@@ -2,7 +2,7 @@
 use gix_ref_hash::hash::ObjectId;
 
 /// The ids of a record that is put into `packed-refs`. As the record of an update in gix-ref's `packed::Transaction`.
-#[derive(Clone, Copy, Debug, PartialEq, Eq)]
+#[derive(Clone, Copy, PartialEq, Eq)]
 pub struct NewRecord {
     /// The object.
     pub target: ObjectId,
@@ -11,7 +11,7 @@ pub struct NewRecord {
 }
 
 /// An edit of the record of a key. As `Edit` of gix-ref's `packed::Transaction`.
-#[derive(Clone, Copy, Debug)]
+#[derive(Clone, Copy)]
 pub struct RecordEdit<'a> {
     /// The full name that the record has in `packed-refs`.
     pub key: &'a [u8],

@@ -1,7 +1,7 @@
 //! The result of a rewrite of `packed-refs`.
 
 /// What becomes of `packed-refs` by edits of its records.
-#[derive(Debug, Drop)]
+#[derive(Drop)]
 pub enum Rewrite {
     /// No edit puts a record or finds one: the file stays as it is.
     Unchanged,

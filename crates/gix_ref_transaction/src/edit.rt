@@ -33,7 +33,7 @@ use gix_ref_name::namespace::Namespace;
 use std::alloc::{AllocError, Global};
 
 /// What becomes of the loose file of a reference.
-#[derive(Clone, Copy, Debug, PartialEq, Eq)]
+#[derive(Clone, Copy, PartialEq, Eq)]
 pub enum Effect {
     /// It is written: the lock holds its new text, and is renamed to it.
     Write,
@@ -58,7 +58,7 @@ impl Effect {
 }
 
 /// What becomes of the log of a reference.
-#[derive(Debug, Drop)]
+#[derive(Drop)]
 pub enum LogEffect {
     /// It stays as it is.
     Keep,
@@ -69,7 +69,7 @@ pub enum LogEffect {
 }
 
 /// An edit of a transaction.
-#[derive(Debug, Drop)]
+#[derive(Drop)]
 pub struct Edit {
     /// What is asked for. Once it is prepared, it expects what was found.
     pub update: RefEdit,
@@ -102,7 +102,7 @@ pub fn deletes_reference(change: &Change) -> bool
 }
 
 /// What there is of a reference before its edit.
-#[derive(Debug, Drop)]
+#[derive(Drop)]
 struct Was {
     /// Its target: that of its loose file, or else the object of its record.
     target: Option<Target>,

@@ -20,7 +20,7 @@ use std::alloc::{AllocError, Global};
 
 /// What is left of a transaction once its locks are released. It is reserved before the first lock, so that the end of a transaction
 /// takes no memory.
-#[derive(Debug, Drop)]
+#[derive(Drop)]
 pub struct Remains {
     /// Its edits, in their order.
     pub edits: Vec<RefEdit>,

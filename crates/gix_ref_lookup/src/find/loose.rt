@@ -13,7 +13,7 @@ use gix_ref_hash::hash::Kind;
 use std::alloc::Global;
 
 /// What the loose file at a place is decoded to.
-#[derive(Debug, Drop)]
+#[derive(Drop)]
 pub enum Loose {
     /// There is no file.
     Absent,

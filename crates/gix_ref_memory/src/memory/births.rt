@@ -7,7 +7,7 @@ use std::alloc::{AllocError, Global};
 
 /// The first unsynced change of an entry or of the end of a file: its place among the changes, and for a rename whether it is
 /// that of the new path. These are numbered in this order.
-#[derive(Clone, Copy, Debug, PartialEq, Eq)]
+#[derive(Clone, Copy, PartialEq, Eq)]
 pub struct Birth {
     at: usize,
     second: bool,
@@ -104,7 +104,7 @@ fn end_birth<'a>(changes: &'a [Change], path: &'a [u8]) -> Option<Birth> {
 
 /// The births of one path: of its entry, of the end of its file, and of the end of the file that was there when its folder was
 /// last synced.
-#[derive(Clone, Copy, Debug)]
+#[derive(Clone, Copy)]
 pub struct Births {
     /// Of the entry, if it is unsynced.
     pub entry: Option<Birth>,

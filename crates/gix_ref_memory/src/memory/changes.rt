@@ -5,14 +5,14 @@ ghost use Rattle.gix_ref_files.specs.Disk.{DiskItem, nothing};
 ghost use Rattle.gix_ref_memory.specs.Changes.{found_content, found_item, content_after, content_of, item_after, place_of, after_changes, items};
 
 /// What a change puts at a path.
-#[derive(Debug, Drop)]
+#[derive(Drop)]
 pub enum Stored {
     Bytes(Vec<u8>),
     Folder,
 }
 
 /// A change of the disk.
-#[derive(Debug, Drop)]
+#[derive(Drop)]
 pub enum Change {
     /// This is at a path from now on, or nothing is; and it counts as synced, or not.
     Put {
@@ -44,14 +44,14 @@ pub enum Change {
 }
 
 /// What is at a path.
-#[derive(Clone, Copy, Debug)]
+#[derive(Clone, Copy)]
 pub enum Present<'a> {
     FileOf(&'a [u8]),
     FolderOf,
 }
 
 /// What is at a path, and how many bytes of it are synced.
-#[derive(Clone, Copy, Debug)]
+#[derive(Clone, Copy)]
 pub struct Known<'a> {
     pub content: Option<Present<'a>>,
     pub synced: usize,

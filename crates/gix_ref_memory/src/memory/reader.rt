@@ -9,7 +9,7 @@ use std::io::ErrorKind;
 
 /// A file of `Memory` that is open for reading. It goes by the plan that the files had when it was opened, and counts
 /// its calls on from theirs.
-#[derive(Debug, Drop)]
+#[derive(Drop)]
 pub struct MemoryReader {
     pub(super) bytes: Vec<u8>,
     pub(super) turns: Turns,

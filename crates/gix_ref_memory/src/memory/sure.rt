@@ -8,7 +8,7 @@ use super::changes::{Change, Known, known_after};
 use gix_ref_files::paths;
 
 /// What is known of an entry: what it is now, what it was when its folder was last synced, and whether it is unsynced.
-#[derive(Clone, Copy, Debug)]
+#[derive(Clone, Copy)]
 pub struct Sure<'a> {
     pub now: Known<'a>,
     pub last: Known<'a>,

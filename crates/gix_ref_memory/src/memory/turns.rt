@@ -8,7 +8,7 @@ use gix_ref_files::files::FileError;
 use std::io::ErrorKind;
 
 /// What is to happen to the calls, which are numbered from 1.
-#[derive(Clone, Copy, Debug, PartialEq, Eq)]
+#[derive(Clone, Copy, PartialEq, Eq)]
 pub enum Plan {
     /// No call fails.
     Runs,
@@ -19,7 +19,7 @@ pub enum Plan {
 }
 
 /// What a call is to do.
-#[derive(Clone, Copy, Debug, PartialEq, Eq)]
+#[derive(Clone, Copy, PartialEq, Eq)]
 pub enum Turn {
     /// All of it.
     Go,
@@ -30,7 +30,7 @@ pub enum Turn {
 }
 
 /// The plan, how many calls there were, and how many of them failed.
-#[derive(Clone, Copy, Debug)]
+#[derive(Clone, Copy)]
 pub struct Turns {
     pub plan: Plan,
     pub calls: u64,

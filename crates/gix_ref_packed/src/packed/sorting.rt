@@ -19,7 +19,7 @@ use std::alloc::{AllocError, Global};
 use std::cmp::Ordering;
 
 /// A record, with the bytes of its lines.
-#[derive(Clone, Copy, Debug)]
+#[derive(Clone, Copy)]
 pub struct Entry<'a> {
     /// What the lines say.
     pub reference: Reference<'a>,

@@ -6,7 +6,7 @@ ghost use Rattle.gix_ref_records.specs.HeaderEnds.{HeadsAt};
 use crate::packed::decode::{Header, take_header};
 
 /// What the header of a text says, and where the records begin.
-#[derive(Clone, Copy, Debug)]
+#[derive(Clone, Copy)]
 pub struct HeaderEnd {
     /// The header; none where the text does not begin with `#`.
     pub header: Option<Header>,

@@ -19,7 +19,7 @@ use memchr::{memchr2, memrchr};
 use std::cmp::Ordering;
 
 /// What a window shows of a text.
-#[derive(Clone, Copy, Debug)]
+#[derive(Clone, Copy)]
 pub enum InWindow<T> {
     /// It ends, or begins, too early.
     NeedMore,
@@ -28,7 +28,7 @@ pub enum InWindow<T> {
 }
 
 /// The ids of a record that was found.
-#[derive(Clone, Copy, Debug, PartialEq, Eq)]
+#[derive(Clone, Copy, PartialEq, Eq)]
 pub struct Found {
     /// The id.
     pub target: ObjectId,

@@ -25,21 +25,21 @@ use gix_ref_lookup::settings::Settings;
 use std::alloc::{AllocError, Global};
 
 /// Why no lock is held, and the locks that could not be removed again.
-#[derive(Debug, Drop)]
+#[derive(Drop)]
 pub struct LockFailure {
     pub error: Error,
     pub locks_left: Vec<Vec<u8>>,
 }
 
 /// Edits whose locks are held, and room for what remains of them.
-#[derive(Debug, Drop)]
+#[derive(Drop)]
 pub struct HeldEdits {
     pub edits: Vec<Edit>,
     pub remains: Remains,
 }
 
 /// All locks of a transaction, held.
-#[derive(Debug, Drop)]
+#[derive(Drop)]
 pub struct HeldLocks {
     /// The lock of `packed-refs`, where it is held.
     pub packed: Option<LockFile>,

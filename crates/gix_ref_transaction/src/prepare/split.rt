@@ -29,7 +29,7 @@ use gix_ref_name::namespace::Namespace;
 use std::alloc::{AllocError, Global};
 
 /// Edits of a split list.
-#[derive(Debug, Drop)]
+#[derive(Drop)]
 pub struct SplitEdits {
     pub edits: Vec<RefEdit>,
     /// For each of them the place in the whole list of the edit that it was split from, from 0.

@@ -6,7 +6,7 @@ use super::error::ReverseError;
 use crate::log::line::Line;
 
 /// Where the iterator is.
-#[derive(Clone, Copy, PartialEq, Eq, Debug)]
+#[derive(Clone, Copy, PartialEq, Eq)]
 pub enum Stage {
     /// Nothing was read.
     Unread,

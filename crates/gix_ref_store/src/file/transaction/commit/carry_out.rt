@@ -19,7 +19,7 @@ use gix_ref_transaction::release::{Remains, release_all};
 use std::alloc::Global;
 
 /// A commit that ended early.
-#[derive(Debug, Drop)]
+#[derive(Drop)]
 pub(crate) struct EndedEarly {
     /// Why it ended.
     pub error: Error,

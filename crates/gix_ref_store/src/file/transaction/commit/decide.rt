@@ -24,7 +24,7 @@ use gix_ref_transaction::edit::Edit;
 use std::alloc::Global;
 
 /// What a commit decides before its first write.
-#[derive(Debug, Drop)]
+#[derive(Drop)]
 pub(crate) struct Decisions {
     /// What becomes of `packed-refs`. A new text is in its lock already.
     pub rewrite: Rewrite,
