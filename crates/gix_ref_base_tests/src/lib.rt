@@ -2,11 +2,7 @@
 #![tactic(auto)]
 
 #[cfg(test)]
-mod categories;
-#[cfg(test)]
 mod ids;
-#[cfg(test)]
-mod layouts;
 #[cfg(test)]
 mod lookups;
 #[cfg(test)]

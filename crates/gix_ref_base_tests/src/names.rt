@@ -1,112 +1,10 @@
 //! Names: the grammar, with the results of `git check-ref-format`, and what names are made of.
 use crate::made::{bytes, copy, full, full_name, partial, partial_name, shown};
-use gix_ref_name::name::{Error, FullName, FullNameRef, PartialName, PartialNameRef};
+use gix_ref_name::name::{Error, FullName, FullNameRef, PartialName};
 use std::alloc::{AllocError, Global};
 use std::collections::HashSet;
 use std::test::Fail;
 use std::time::{Duration, Instant};
-
-/// Valid partial names, each with the error as a full name.
-const VALID: [(&str, Option<Error>, &str); 10] = [
-    ("HEAD", None, "a pseudo name"),
-    ("FETCH_HEAD", None, "a pseudo name with an underscore"),
-    ("refs/heads/-x", None, "a dash before a component"),
-    ("refs/heads/@", None, "an @ alone in a component"),
-    ("refs/a./b", None, "a dot at the end of a folder"),
-    ("refs/heads/a.lock.b", None, "`.lock` inside of a component"),
-    ("refs/heads/a.lockx", None, "letters after `.lock`"),
-    (
-        "main",
-        Some(Error::SomeLowercase),
-        "one component in lower case",
-    ),
-    (
-        "FETCH-HEAD",
-        Some(Error::SomeLowercase),
-        "one component with a dash",
-    ),
-    (
-        "-x",
-        Some(Error::SomeLowercase),
-        "a dash before one component",
-    ),
-];
-
-#[test]
-fn valid_names(rt: HostRuntime) {
-    for (text, error, what) in VALID {
-        assert_eq!(rt; PartialNameRef::try_from(text).err(), None, "{what}");
-        assert_eq!(rt; FullNameRef::try_from(text).err(), error, "{what}");
-    }
-}
-
-/// Texts that are no names, each with the first rule that it breaks.
-const INVALID: [(&str, Error, &str); 20] = [
-    ("", Error::Empty, "nothing"),
-    ("a b", Error::InvalidByte { byte: b' ' }, "a space"),
-    ("a*b", Error::Asterisk, "an asterisk"),
-    (
-        "a^b:c",
-        Error::InvalidByte { byte: b'^' },
-        "the first of two bytes",
-    ),
-    (
-        "/a:b",
-        Error::InvalidByte { byte: b':' },
-        "a byte comes before a slash in front",
-    ),
-    ("/a", Error::StartsWithSlash, "a slash in front"),
-    ("/", Error::StartsWithSlash, "a slash alone"),
-    ("a/", Error::EndsWithSlash, "a slash at the end"),
-    (
-        "refs//.a",
-        Error::RepeatedSlash,
-        "two slashes come before a dot",
-    ),
-    (
-        "refs/.a",
-        Error::StartsWithDot,
-        "a component that begins with a dot",
-    ),
-    ("refs/..", Error::StartsWithDot, "a component of two dots"),
-    ("refs/a.", Error::EndsWithDot, "a dot at the end"),
-    (
-        "a...",
-        Error::EndsWithDot,
-        "a dot at the end comes before two dots",
-    ),
-    ("a..b", Error::RepeatedDot, "two dots"),
-    (
-        "a..b.lock",
-        Error::RepeatedDot,
-        "two dots come before `.lock`",
-    ),
-    (
-        "refs/heads/x.lock",
-        Error::LockFileSuffix,
-        "`.lock` at the end",
-    ),
-    (
-        "refs/x.lock/y",
-        Error::LockFileSuffix,
-        "`.lock` at the end of a folder",
-    ),
-    (
-        "x.lock/@{y",
-        Error::LockFileSuffix,
-        "`.lock` comes before `@{`",
-    ),
-    ("refs/@{x", Error::ReflogPortion, "`@{`"),
-    ("@", Error::SingleAt, "an @ alone"),
-];
-
-#[test]
-fn rules_in_their_order(rt: HostRuntime) {
-    for (text, error, what) in INVALID {
-        assert_eq!(rt; PartialNameRef::try_from(text).err(), Some(error), "{what}");
-        assert_eq!(rt; FullNameRef::try_from(text).err(), Some(error), "{what}");
-    }
-}
 
 /// `refs/`, so many times `a/`, and an `a`.
 fn long_name(alloc: Global, count: usize) -> Result<Vec<u8>, AllocError> {
@@ -154,21 +52,6 @@ fn owned_partial_names(rt: HostRuntime) {
     assert!(rt; copy(&rt, &name) == name, "a copy");
     let again = PartialName::try_from(shown(&rt, alloc, &name));
     assert!(rt; again == Ok(name), "made from its text");
-}
-
-/// A component, and the error of `heads` joined with it, if there is one.
-const JOINED: [(&[u8], Option<Error>, &str); 3] = [
-    (b"main", None, "a name"),
-    (b".git", Some(Error::StartsWithDot), "a dot in front"),
-    (b"", Some(Error::EndsWithSlash), "nothing"),
-];
-
-#[test]
-fn joined_names(rt: HostRuntime) {
-    for (component, error, what) in JOINED {
-        let joined = partial_name(&rt, rt.alloc(), "heads").join(rt.alloc(), component);
-        assert_eq!(rt; joined.err(), error, "{what}");
-    }
 }
 
 #[test]

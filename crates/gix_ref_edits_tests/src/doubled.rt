@@ -1,6 +1,6 @@
 //! Names that more than one edit has, and the whole of what a list is put through.
 use crate::made::{Fault, find, update};
-use gix_ref_edits::transaction::{EditError, RefEdit, RefEditsExt, SplitError};
+use gix_ref_edits::transaction::{EditError, RefEdit, SplitError};
 use gix_ref_name::name::PartialNameRef;
 use std::alloc::Global;
 use std::process::Abort;
@@ -13,7 +13,7 @@ struct Row {
     doubled: Option<&'static str>,
 }
 
-const ROWS: [Row; 7] = [
+const ROWS: &[Row] = &[
     Row {
         meaning: "an empty list",
         names: &[],

@@ -11,3 +11,5 @@ mod over_tables;
 mod random;
 #[cfg(test)]
 mod splits;
+#[cfg(test)]
+mod values;

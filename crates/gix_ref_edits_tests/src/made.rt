@@ -3,7 +3,7 @@ use gix_ref_base::target::Target;
 use gix_ref_edits::transaction::{Change, EditEntry, LogChange, PreviousValue, RefEdit, RefLog};
 use gix_ref_hash::hash::ObjectId;
 use gix_ref_name::name::{FullName, FullNameRef, PartialNameRef};
-use std::alloc::{AllocError, Global};
+use std::alloc::Global;
 use std::process::Abort;
 
 /// The object whose id is forty times this digit.

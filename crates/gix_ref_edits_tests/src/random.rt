@@ -1,13 +1,13 @@
 //! 2,000 random lists of edits over random references, against a slow list that is made level by level.
 use crate::made::{full_name, update};
 use gix_ref_base::target::Target;
-use gix_ref_edits::transaction::{RefEdit, RefEditsExt, SplitError};
+use gix_ref_edits::transaction::{RefEdit, SplitError};
 use gix_ref_name::name::PartialNameRef;
 use std::alloc::Global;
 use std::process::Abort;
 
 /// The names of the references, ascending.
-const NAMES: [&str; 6] = [
+const NAMES: &[&str] = &[
     "refs/r/a", "refs/r/b", "refs/r/c", "refs/r/d", "refs/r/e", "refs/r/f",
 ];
 

@@ -1,12 +1,12 @@
 //! Splits of edits that follow symbolic references.
 use crate::made::{Entry, Fault, Table, deletion, find, object, update};
-use gix_ref_edits::transaction::{Change, PreviousValue, RefEdit, RefEditsExt, RefLog, SplitError};
+use gix_ref_edits::transaction::{Change, PreviousValue, RefEdit, RefLog, SplitError};
 use gix_ref_name::name::PartialNameRef;
 use std::alloc::Global;
 use std::process::Abort;
 
 /// The references of the rows: chains of four and of five, `HEAD`, and a cycle.
-const TABLE: [(&str, &str); 12] = [
+const TABLE: &[(&str, &str)] = &[
     ("HEAD", "refs/heads/main"),
     ("refs/x/a", "refs/x/b"),
     ("refs/x/b", "refs/x/c"),
@@ -40,7 +40,7 @@ struct Row {
     wanted: Wanted,
 }
 
-const ROWS: [Row; 10] = [
+const ROWS: &[Row] = &[
     Row {
         meaning: "an empty list",
         given: &[],

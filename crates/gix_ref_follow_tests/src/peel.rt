@@ -3,7 +3,7 @@ use crate::made::{found, is_at, numbered, store};
 use crate::objects::{Changing, Last, Tags};
 use gix_ref_base::target::Target;
 use gix_ref_follow::ReferenceExt;
-use gix_ref_follow::peel::{to_id, to_object};
+use gix_ref_follow::peel::to_id;
 use gix_ref_hash::hash::ObjectId;
 use gix_ref_object::object::Never;
 use std::cell::Cell;
@@ -125,49 +125,6 @@ fn at_once(rt: HostRuntime) {
         Answer::NotFound(0x1111),
         "HEAD"
     );
-}
-
-/// Each call of files failing in turn: an error and never another answer.
-#[test]
-fn faults(rt: HostRuntime) {
-    let alloc = rt.alloc();
-    let records =
-        "# pack-refs with: peeled fully-peeled sorted \n0000000000000000000000000000000000000000 refs/heads/p\n";
-    let texts = [
-        ("/r/HEAD", "ref: refs/heads/a\n"),
-        ("/r/refs/heads/a", "ref: refs/heads/p\n"),
-        ("/r/packed-refs", records),
-    ];
-    let objects = Tags {
-        alloc,
-        count: 1,
-        last: Last::Commit,
-    };
-    let mut refused = 0u32;
-    for call in 1..9u64 {
-        let mut plain = store(&rt, alloc, &texts);
-        let mut head = found(&rt, alloc, &mut plain, "HEAD");
-        let mut files = plain.into_files();
-        files.fail_at(call);
-        let folder = b"/r".to_vec(alloc).expect(&rt, "memory");
-        let Ok(mut store) = gix_ref_store::file::Store::at(
-            files,
-            folder,
-            gix_ref_hash::hash::Kind::Sha1,
-        ) else {
-            panic!(rt; "a clean folder");
-        };
-        match head.peel_to_id(alloc, &mut store, &objects) {
-            Ok(id) => assert_eq!(rt; number_of(&id), 1, "the object behind the tag"),
-            Err(to_id::Error::FollowToObject(to_object::Error::Follow(_))) => {
-                if refused < 9 {
-                    refused += 1;
-                }
-            }
-            Err(_) => panic!(rt; "call {call} fails by another error"),
-        }
-    }
-    assert!(rt; refused >= 3, "two loose files and packed-refs are read");
 }
 
 /// A finder that reports something else at each call: each call returns, and a refused one leaves the branch as it is.

@@ -2,7 +2,6 @@
 use crate::made::{found, store};
 use gix_ref_follow::{LooseReferenceExt, ReferenceExt};
 use gix_ref_memory::memory::Memory;
-use gix_ref_name::name::FullNameRef;
 use gix_ref_store::file::{Store, loose};
 use gix_ref_store::raw::Reference;
 use std::alloc::Global;
@@ -76,36 +75,5 @@ fn logs(rt: HostRuntime) {
             want,
             "{name}"
         );
-    }
-}
-
-#[test]
-fn what_is_a_log(rt: HostRuntime) {
-    let alloc = rt.alloc();
-    let rows = [
-        ("a file", "/r/logs/refs/heads/b", true),
-        ("the log of another", "/r/logs/refs/heads/a", false),
-        ("a folder", "/r/logs/refs/heads/b/c", false),
-        ("a file in its path", "/r/logs/refs/heads", false),
-    ];
-    let name = FullNameRef::try_from("refs/heads/b").expect(&rt, "a full name");
-    for (meaning, path, want) in rows {
-        let mut store = store(&rt, alloc, &[(path, LINE)]);
-        let exists = store.reflog_exists(alloc, name);
-        assert_eq!(rt; exists.unwrap_or(!want), want, "{meaning}");
-        let mut whole = Vec::new(alloc);
-        let forward = store.reflog_iter(alloc, name, &mut whole);
-        let is_as_wanted = match forward {
-            Ok(lines) => lines.is_some() == want,
-            Err(_) => false,
-        };
-        assert!(rt; is_as_wanted, "{meaning}, read forward");
-        let mut window = [0; 4096];
-        let backward = store.reflog_iter_rev(alloc, name, &mut window);
-        let is_as_wanted = match backward {
-            Ok(lines) => lines.is_some() == want,
-            Err(_) => false,
-        };
-        assert!(rt; is_as_wanted, "{meaning}, read backward");
     }
 }

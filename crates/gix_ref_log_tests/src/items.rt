@@ -68,7 +68,7 @@ fn read(rt: &impl Abort, alloc: Global, log: &[u8], room: usize, tally: &Tally) 
 }
 
 /// Logs without a line of a reflog, each with a buffer's length and the items from the end.
-const FAULTS: [(&[u8], usize, &[Seen], &str); 12] = [
+const FAULTS: &[(&[u8], usize, &[Seen], &str)] = &[
     (
         b"a\nbb\n",
         3,
@@ -105,7 +105,7 @@ const FAULTS: [(&[u8], usize, &[Seen], &str); 12] = [
 
 #[test]
 fn lines_that_are_none(rt: HostRuntime) {
-    for (log, room, want, what) in FAULTS {
+    for &(log, room, want, what) in FAULTS {
         let items = read(&rt, rt.alloc(), log, room, &Tally::new(0));
         assert!(rt; items.as_slice() == want, "{what}");
     }
@@ -144,7 +144,7 @@ fn faults_take_no_memory(rt: HostRuntime) {
 }
 
 /// How many lines X a log has, a buffer's length, and the items from the end.
-const FITS: [(usize, usize, &[Seen], &str); 6] = [
+const FITS: &[(usize, usize, &[Seen], &str)] = &[
     (1, 112, &[Line], "one line without its LF"),
     (1, 111, &[TooSmall], "a byte too few"),
     (2, 113, &[Line, Line], "a line with the LF before it"),
@@ -156,7 +156,7 @@ const FITS: [(usize, usize, &[Seen], &str); 6] = [
 #[test]
 fn lines_that_fit_and_lines_that_do_not(rt: HostRuntime) {
     let x = line_x(&rt, rt.alloc());
-    for (count, room, want, what) in FITS {
+    for &(count, room, want, what) in FITS {
         let mut log = Vec::new(rt.alloc());
         for _ in 0..count {
             log.extend_from_slice(&x).expect(&rt, "memory");

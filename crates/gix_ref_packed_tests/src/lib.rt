@@ -19,5 +19,3 @@ mod prefixes;
 mod probes;
 #[cfg(test)]
 mod raw;
-#[cfg(test)]
-mod rows;

@@ -8,12 +8,4 @@ mod errors;
 #[cfg(test)]
 mod listings;
 #[cfg(test)]
-mod logs;
-#[cfg(test)]
 mod ran;
-#[cfg(test)]
-mod rows;
-#[cfg(test)]
-mod signed;
-#[cfg(test)]
-mod stops;

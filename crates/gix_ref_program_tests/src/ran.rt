@@ -1,22 +1,14 @@
 //! Runs of the program in tests.
 use gix_ref_files::files::Files;
-use gix_ref_memory::memory::Memory;
 use gix_ref_program::run::run;
 use gix_ref_store::file::transaction::PackedRefs;
 use std::alloc::Global;
 use std::io;
 use std::process::Abort;
 
-/// Ids of one digit, in words: forty digits, or sixty-four.
-pub const I0: &str = "0000000000000000000000000000000000000000";
-
 pub const I1: &str = "1111111111111111111111111111111111111111";
 
 pub const I2: &str = "2222222222222222222222222222222222222222";
-
-pub const L0: &str = "0000000000000000000000000000000000000000000000000000000000000000";
-
-pub const L1: &str = "1111111111111111111111111111111111111111111111111111111111111111";
 
 /// Loose texts of two of them.
 pub const ONE: &str = "1111111111111111111111111111111111111111\n";
@@ -25,8 +17,6 @@ pub const TWO: &str = "2222222222222222222222222222222222222222\n";
 
 /// The path of a branch, and its lock.
 pub const A: &str = "/r/refs/heads/a";
-
-pub const LOCK: &str = "/r/refs/heads/a.lock";
 
 /// A writer that takes so many bytes, and then fails.
 #[derive(Drop)]
@@ -72,14 +62,4 @@ pub fn run_words<F: Files>(rt: &impl Abort, alloc: Global, files: F, words: &[&s
         output,
         status: ran.status.expect(rt, "a writer that does not fail"),
     }
-}
-
-/// Memory with one file, or none where the path is empty.
-pub fn with_file(rt: &impl Abort, alloc: Global, path: &str, text: &str) -> Memory {
-    let mut memory = Memory::new(alloc);
-    if !path.is_empty() {
-        let put = memory.put(path.as_bytes(), text.as_bytes());
-        assert!(rt; put.expect(rt, "memory"), "{path}");
-    }
-    memory
 }

@@ -41,7 +41,7 @@ const T: &[u8] = b"1111111111111111111111111111111111111111 refs/tags/t\n";
 const U: &[u8] = b"AAAAAAAAAAAAAAAAAAAAAAAAAAAAAAAAAAAAAAAA refs/tags/u\n\
 ^3333333333333333333333333333333333333333\n";
 
-const ROWS: [Row; 11] = [
+const ROWS: &[Row] = &[
     Row {
         meaning: "the first record goes, and the second stays as it was written",
         records: TAGS,

@@ -4,23 +4,13 @@
 #[cfg(test)]
 mod buffers;
 #[cfg(test)]
-mod composed;
-#[cfg(test)]
-mod find;
-#[cfg(test)]
 mod folders;
 #[cfg(test)]
 mod listings;
 #[cfg(test)]
-mod lookups;
-#[cfg(test)]
 mod loose;
 #[cfg(test)]
 mod platforms;
-#[cfg(test)]
-mod pristine;
-#[cfg(test)]
-mod pseudo;
 #[cfg(test)]
 mod slow;
 #[cfg(test)]

@@ -8,12 +8,6 @@ use gix_ref_test_values::values::full_name;
 use std::alloc::{AllocError, Global};
 use std::process::Abort;
 
-/// Forty digits `1`.
-const ONES: &[u8] = b"1111111111111111111111111111111111111111";
-
-/// Sixty-four digits `2`.
-const TWOS: &[u8] = b"2222222222222222222222222222222222222222222222222222222222222222";
-
 /// What a text is decoded to.
 #[derive(Clone, Copy, Debug, PartialEq, Eq)]
 enum Answer {
@@ -47,95 +41,6 @@ fn decoded(rt: &impl Abort, alloc: Global, text: &[u8], kind: Kind) -> Answer {
         Err(Error::Parse { .. }) => Answer::Parse,
         Err(Error::RefnameValidation { source, .. }) => Answer::Rule(source),
         Err(Error::Memory) => Answer::Memory,
-    }
-}
-
-#[test]
-fn texts_and_targets(rt: HostRuntime) {
-    let upper = b"AAAAAAAAAAAAAAAAAAAAAAAAAAAAAAAAAAAAAAAA";
-    let rows: [(&str, &[u8], Kind, Answer); 19] = [
-        (
-            "as git writes it",
-            b"ref: refs/heads/a\n",
-            Kind::Sha1,
-            Answer::Branch,
-        ),
-        (
-            "spaces, NUL, junk",
-            b"ref:   refs/heads/a\0junk",
-            Kind::Sha1,
-            Answer::Branch,
-        ),
-        (
-            "CR and LF",
-            b"ref: refs/heads/a\r\n",
-            Kind::Sha1,
-            Answer::Branch,
-        ),
-        (
-            "no line end",
-            b"ref: refs/heads/a",
-            Kind::Sha1,
-            Answer::Branch,
-        ),
-        (
-            "the first line only",
-            b"ref: HEAD\nrefs/heads/a",
-            Kind::Sha1,
-            Answer::OtherName,
-        ),
-        (
-            "a partial name",
-            b"ref: main",
-            Kind::Sha1,
-            Answer::Rule(name::Error::SomeLowercase),
-        ),
-        (
-            "no name",
-            b"ref: \n",
-            Kind::Sha1,
-            Answer::Rule(name::Error::Empty),
-        ),
-        (
-            "a blank after the name",
-            b"ref: refs/heads/a \n",
-            Kind::Sha1,
-            Answer::Rule(name::Error::InvalidByte { byte: b' ' }),
-        ),
-        ("no space", b"ref:refs/heads/a\n", Kind::Sha1, Answer::Parse),
-        ("an id", ONES, Kind::Sha1, Answer::Object(Kind::Sha1)),
-        ("upper case", upper, Kind::Sha1, Answer::Object(Kind::Sha1)),
-        (
-            "an id and junk",
-            b"1111111111111111111111111111111111111111g",
-            Kind::Sha1,
-            Answer::Object(Kind::Sha1),
-        ),
-        (
-            "41 digits",
-            b"11111111111111111111111111111111111111111",
-            Kind::Sha1,
-            Answer::Parse,
-        ),
-        (
-            "39 digits",
-            b"111111111111111111111111111111111111111\n",
-            Kind::Sha1,
-            Answer::Parse,
-        ),
-        ("an empty file", b"", Kind::Sha1, Answer::Parse),
-        (
-            "64 digits",
-            TWOS,
-            Kind::Sha256,
-            Answer::Object(Kind::Sha256),
-        ),
-        ("64 digits for SHA-1", TWOS, Kind::Sha1, Answer::Parse),
-        ("40 digits for SHA-256", ONES, Kind::Sha256, Answer::Parse),
-        ("63 digits", &TWOS[1..], Kind::Sha256, Answer::Parse),
-    ];
-    for (meaning, text, kind, want) in rows {
-        assert_eq!(rt; decoded(&rt, rt.alloc(), text, kind), want, "{meaning}");
     }
 }
 

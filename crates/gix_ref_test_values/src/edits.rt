@@ -120,18 +120,3 @@ pub fn prepared(alloc: Global, mut store: Store<Memory>, edits: Vec<RefEdit>) ->
     };
     (answer, store.into_files())
 }
-
-/// No choice, all, and each single one of the first seven.
-pub fn pick_at(row: u64) -> u64 {
-    match row {
-        0 => 0,
-        1 => u64::MAX,
-        2 => 1,
-        3 => 2,
-        4 => 4,
-        5 => 8,
-        6 => 16,
-        7 => 32,
-        _ => 64,
-    }
-}

@@ -23,6 +23,4 @@ mod random;
 #[cfg(test)]
 mod reading;
 #[cfg(test)]
-mod stops;
-#[cfg(test)]
 mod stores;

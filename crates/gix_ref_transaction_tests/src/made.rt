@@ -53,19 +53,6 @@ pub struct Edit {
     pub found: Option<To>,
 }
 
-/// The update of most tests.
-pub const UPDATE: Edit = Edit {
-    name: "refs/heads/a",
-    new: Some(To::Object('2')),
-    expect: Expect::Any,
-    is_of_log: false,
-    is_forced: false,
-    message: "m",
-    deref: false,
-    parent: None,
-    found: None,
-};
-
 /// Who commits.
 #[derive(Clone, Copy, Debug, PartialEq, Eq)]
 pub enum Who {

@@ -186,7 +186,7 @@ fn publish(alloc: Global, memory: &mut Memory, path: &[u8], text: &[u8]) -> Publ
 }
 
 /// Where a text is to be published, and what becomes of it.
-const PUBLISHED: [(&[u8], Published, &str); 4] = [
+const PUBLISHED: &[(&[u8], Published, &str)] = &[
     (b"/r/refs/a", Published::Moved, "nothing is there"),
     (b"/r/refs", Published::FolderStands, "a folder is there"),
     (b"/r/refs/a/b", Published::Blocked, "a file is in the path"),
@@ -198,7 +198,7 @@ fn a_lock_is_renamed_to_its_place(rt: HostRuntime) -> Result<(), Fail> {
     let alloc = rt.alloc();
     let mut memory = Memory::new(alloc);
     memory.put(b"/r/refs/b.lock", b"")?;
-    for (path, want, what) in PUBLISHED {
+    for &(path, want, what) in PUBLISHED {
         assert_eq!(rt; publish(alloc, &mut memory, path, b"1"), want, "{what}");
     }
     assert_eq!(rt; memory.get(b"/r/refs/a"), Some(b"1".as_slice()), "its text");
@@ -351,14 +351,14 @@ fn place(alloc: Global, path: &[u8], lock: &[u8]) -> Result<Place, Fail>
 #[test]
 fn two_files_are_published_in_order(rt: HostRuntime) -> Result<(), Fail> {
     let alloc = rt.alloc();
-    let rows: [(u64, usize, bool, bool); 5] = [
+    let rows: &[(u64, usize, bool, bool)] = &[
         (1, 0, false, false),
         (1, 1, true, false),
         (2, 0, true, false),
         (2, 1, true, true),
         (3, 0, true, true),
     ];
-    for (k, n, first, second) in rows {
+    for &(k, n, first, second) in rows {
         let mut memory = Memory::new(alloc);
         memory.put(b"a.lock", b"1")?;
         memory.put(b"b.lock", b"2")?;

@@ -101,7 +101,7 @@ fn each_call_is_lost_or_kept(rt: HostRuntime) -> Result<(), Fail> {
         Call::SyncFolder(b"d"),
         Call::RemoveFolder(b"d"),
     ];
-    let rows: [(&str, &[Call<'_>], u64, &[u8], Option<&[u8]>); 25] = [
+    let rows: &[(&str, &[Call<'_>], u64, &[u8], Option<&[u8]>)] = &[
         ("an unsynced end", &grown, 0, b"f", Some(b"a??")),
         ("the end kept", &grown, 1, b"f", Some(b"abc")),
         ("a file that was made", &made, 0, b"f", None),
@@ -140,7 +140,7 @@ fn each_call_is_lost_or_kept(rt: HostRuntime) -> Result<(), Fail> {
         ("with what was synced in it", &no_folder, 0, b"d/f", None),
         ("the removal kept", &no_folder, 1, b"d", None),
     ];
-    for (meaning, calls, pick, path, left) in rows {
+    for &(meaning, calls, pick, path, left) in rows {
         let mut memory = after_loss(alloc, calls, pick)?;
         assert!(rt; is_seen(&mut memory, path, left), "{meaning}, by {pick}");
         if pick == 7 {
@@ -200,7 +200,7 @@ fn each_sync_settles_what_it_names(rt: HostRuntime) -> Result<(), Fail> {
         Call::Append(b"f", b"a"),
         Call::Put(b"f", b"b"),
     ];
-    let rows: [(&str, &[Call<'_>], u64, &[u8], Option<&[u8]>); 12] = [
+    let rows: &[(&str, &[Call<'_>], u64, &[u8], Option<&[u8]>)] = &[
         ("bytes up to the sync", &file, 0, b"r/f", Some(b"ab?")),
         ("and those after it", &file, 1, b"r/f", Some(b"abc")),
         ("entries of the folder", &entry, 0, b"r/p", Some(b"new")),
@@ -238,7 +238,7 @@ fn each_sync_settles_what_it_names(rt: HostRuntime) -> Result<(), Fail> {
         ),
         ("what is put is synced", &put, 0, b"f", Some(b"b")),
     ];
-    for (meaning, calls, pick, path, left) in rows {
+    for &(meaning, calls, pick, path, left) in rows {
         let mut memory = after_loss(alloc, calls, pick)?;
         assert!(rt; is_seen(&mut memory, path, left), "{meaning}, by {pick}");
     }
@@ -256,7 +256,7 @@ fn numbers_follow_the_first_unsynced_changes(rt: HostRuntime) -> Result<(), Fail
         Call::Remove(b"a"),
         Call::Create(b"a"),
     ];
-    let rows: [(&[Call<'_>], u64, bool, bool); 8] = [
+    let rows: &[(&[Call<'_>], u64, bool, bool)] = &[
         (&two, 0, false, false),
         (&two, 1, true, false),
         (&two, 2, false, true),
@@ -266,7 +266,7 @@ fn numbers_follow_the_first_unsynced_changes(rt: HostRuntime) -> Result<(), Fail
         (&again, 1, true, false),
         (&again, 2, false, true),
     ];
-    for (calls, pick, a, b) in rows {
+    for &(calls, pick, a, b) in rows {
         let memory = after_loss(alloc, calls, pick)?;
         assert_eq!(rt; memory.get(b"a").is_some(), a, "a by {pick} of {calls:?}");
         assert_eq!(rt; memory.get(b"b").is_some(), b, "b by {pick} of {calls:?}");

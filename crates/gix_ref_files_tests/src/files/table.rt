@@ -15,7 +15,7 @@ type Row<T> = (&'static [u8], T, &'static str);
 
 const NO_FOLDER: FileError = FileError::Device(ErrorKind::NotFound);
 
-const KINDS: [Row<Node>; 4] = [
+const KINDS: &[Row<Node>] = &[
     (b"t/file", Node::File, "a file"),
     (b"t/full", Node::Folder, "a folder"),
     (b"t/none", Node::Nothing, "nothing"),
@@ -29,7 +29,7 @@ fn see_kinds<F: Files>(rt: &impl Abort, files: &mut F, rows: &[Row<Node>]) {
 }
 
 /// The length of what is read at a path.
-const READ: [Row<usize>; 4] = [
+const READ: &[Row<usize>] = &[
     (b"t/file", 3, "a file's bytes"),
     (b"t/full", 0, "a folder"),
     (b"t/none", 0, "nothing"),
@@ -38,7 +38,7 @@ const READ: [Row<usize>; 4] = [
 
 fn read_bytes<F: Files>(rt: &impl Abort, alloc: Global, files: &mut F) {
     let mut buf = b"old".to_vec(alloc).expect(rt, "memory");
-    for (path, len, what) in READ {
+    for &(path, len, what) in READ {
         assert!(rt; files.read(alloc, path, &mut buf).is_ok(), "{what}");
         assert!(rt; buf.as_slice() == &b"abc"[..len.min(3)], "{what}");
     }
@@ -65,7 +65,7 @@ fn open_no_file<F: Files>(rt: &impl Abort, alloc: Global, files: &mut F) {
 }
 
 /// The number of entries, if there is a folder.
-const LISTED: [Row<Option<usize>>; 6] = [
+const LISTED: &[Row<Option<usize>>] = &[
     (b"t", Some(3), "a folder of three"),
     (b"t/full", Some(1), "a folder of one"),
     (b"t/empty", Some(0), "an empty folder"),
@@ -75,7 +75,7 @@ const LISTED: [Row<Option<usize>>; 6] = [
 ];
 
 fn list_folders<F: Files>(rt: &impl Abort, alloc: Global, files: &mut F) {
-    for (path, want, what) in LISTED {
+    for &(path, want, what) in LISTED {
         let listed = files.list(alloc, path).expect(rt, "an answer");
         assert_eq!(rt; listed.map(|entries| entries.len()), want, "{what}");
     }
@@ -90,7 +90,7 @@ fn list_names<F: Files>(rt: &impl Abort, alloc: Global, files: &mut F) {
     }
 }
 
-const CREATED: [Row<Result<Create, FileError>>; 5] = [
+const CREATED: &[Row<Result<Create, FileError>>] = &[
     (b"t/file", Ok(Create::Standing), "a file"),
     (b"t/full", Ok(Create::Standing), "a folder"),
     (b"t/file/below", Ok(Create::Blocked), "below a file"),
@@ -99,12 +99,12 @@ const CREATED: [Row<Result<Create, FileError>>; 5] = [
 ];
 
 fn make_files<F: Files>(rt: &impl Abort, files: &mut F) {
-    for (path, want, what) in CREATED {
+    for &(path, want, what) in CREATED {
         assert_eq!(rt; files.create_new(path), want, "{what}");
     }
 }
 
-const FOLDERS: [Row<bool>; 4] = [
+const FOLDERS: &[Row<bool>] = &[
     (b"t/full", true, "a folder"),
     (b"t/file", false, "a file"),
     (b"t/file/below", false, "a file in the path"),
@@ -112,12 +112,12 @@ const FOLDERS: [Row<bool>; 4] = [
 ];
 
 fn make_folders<F: Files>(rt: &impl Abort, files: &mut F) {
-    for (path, want, what) in FOLDERS {
+    for &(path, want, what) in FOLDERS {
         assert_eq!(rt; files.make_folders(path), Ok(want), "{what}");
     }
 }
 
-const APPENDED: [Row<bool>; 4] = [
+const APPENDED: &[Row<bool>] = &[
     (b"t/full", false, "a folder"),
     (b"t/none", false, "nothing"),
     (b"t/file/below", false, "below a file"),
@@ -125,13 +125,13 @@ const APPENDED: [Row<bool>; 4] = [
 ];
 
 fn append_bytes<F: Files>(rt: &impl Abort, files: &mut F) {
-    for (path, want, what) in APPENDED {
+    for &(path, want, what) in APPENDED {
         assert_eq!(rt; files.append(path, b"de"), Ok(want), "{what}");
     }
 }
 
 /// From where, to where, and the result; `None` for a fault of the device. They leave `abcde` at `t/new`.
-const RENAMED: [(&[u8], &[u8], Option<Rename>, &str); 7] = [
+const RENAMED: &[(&[u8], &[u8], Option<Rename>, &str)] = &[
     (
         b"t/file",
         b"t/full",
@@ -152,12 +152,12 @@ const RENAMED: [(&[u8], &[u8], Option<Rename>, &str); 7] = [
 ];
 
 fn rename_files<F: Files>(rt: &impl Abort, files: &mut F) {
-    for (from, to, want, what) in RENAMED {
+    for &(from, to, want, what) in RENAMED {
         assert_eq!(rt; files.rename(from, to).ok(), want, "{what}");
     }
 }
 
-const REMOVED: [Row<bool>; 4] = [
+const REMOVED: &[Row<bool>] = &[
     (b"t/full", false, "a folder"),
     (b"t/none", false, "nothing"),
     (b"t/new/below", false, "below a file"),
@@ -165,12 +165,12 @@ const REMOVED: [Row<bool>; 4] = [
 ];
 
 fn remove_files<F: Files>(rt: &impl Abort, files: &mut F) {
-    for (path, want, what) in REMOVED {
+    for &(path, want, what) in REMOVED {
         assert_eq!(rt; files.remove_file(path), Ok(want), "{what}");
     }
 }
 
-const REMOVED_FOLDERS: [Row<bool>; 4] = [
+const REMOVED_FOLDERS: &[Row<bool>] = &[
     (b"t/new", false, "a file"),
     (b"t/none", false, "nothing"),
     (b"t/a", false, "a folder that is not empty"),
@@ -178,13 +178,13 @@ const REMOVED_FOLDERS: [Row<bool>; 4] = [
 ];
 
 fn remove_folders<F: Files>(rt: &impl Abort, files: &mut F) {
-    for (path, want, what) in REMOVED_FOLDERS {
+    for &(path, want, what) in REMOVED_FOLDERS {
         assert_eq!(rt; files.remove_folder(path), Ok(want), "{what}");
     }
 }
 
 /// What is left after all calls.
-const LEFT: [Row<Node>; 5] = [
+const LEFT: &[Row<Node>] = &[
     (b"t/file", Node::Nothing, "it was moved"),
     (b"t/new", Node::File, "to here"),
     (b"t/empty", Node::Folder, "it stays"),

@@ -1,5 +1,0 @@
-//! Tests of what a store reads after a transaction.
-#![tactic(auto)]
-
-#[cfg(test)]
-mod reads;
