@@ -11,10 +11,7 @@ fn values_of_changes(rt: HostRuntime) {
         expected: PreviousValue::MustExistAndMatch(object(&rt, '1')),
         new: object(&rt, '2'),
     };
-    let (one, two) = (
-        object(&rt, '1'),
-        object(&rt, '2'),
-    );
+    let (one, two) = (object(&rt, '1'), object(&rt, '2'));
     assert!(rt; update.new_value() == Some(two.to_ref()));
     assert!(rt; update.previous_value() == Some(one.to_ref()));
     let delete = Change::Delete {

@@ -48,7 +48,7 @@ fn answer_of(peeled: &Result<ObjectId, to_id::Error>, name: &str) -> Answer {
 #[test]
 fn tags(rt: HostRuntime) {
     let alloc = rt.alloc();
-    let rows: [(&str, u16, Last, Answer); 9] = [
+    let rows: &[(&str, u16, Last, Answer)] = &[
         ("a commit", 0, Last::Commit, Answer::Object(0)),
         ("one tag", 1, Last::Commit, Answer::Object(1)),
         ("1,000 tags", 1000, Last::Commit, Answer::Object(1000)),
@@ -63,7 +63,7 @@ fn tags(rt: HostRuntime) {
         ("/r/HEAD", "ref: refs/heads/a\n"),
         ("/r/refs/heads/a", FIRST),
     ];
-    for (meaning, count, last, want) in rows {
+    for &(meaning, count, last, want) in rows {
         let objects = Tags { alloc, count, last };
         let mut store = store(&rt, alloc, &texts);
         let mut head = found(&rt, alloc, &mut store, "HEAD");

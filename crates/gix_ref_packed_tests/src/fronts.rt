@@ -121,7 +121,7 @@ fn every_byte_replaced(rt: HostRuntime) {
 #[test]
 fn damaged_texts(rt: HostRuntime) {
     let alloc = rt.alloc();
-    let rows: [(&[u8], &str, &str); 4] = [
+    let rows: &[(&[u8], &str, &str)] = &[
         (
             b"xyz\n",
             "refs/heads/a",
@@ -143,7 +143,7 @@ fn damaged_texts(rt: HostRuntime) {
             "the peeled line of the record is too short",
         ),
     ];
-    for (text, name, meaning) in rows {
+    for &(text, name, meaning) in rows {
         let whole = sorted(&rt, alloc, text);
         let packed = buffer(&rt, alloc, whole.as_slice());
         let name = full(&rt, name);

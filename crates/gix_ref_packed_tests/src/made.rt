@@ -19,7 +19,7 @@ pub const CRLF: &[u8] = b"1111111111111111111111111111111111111111 refs/heads/ma
 4444444444444444444444444444444444444444 refs/tags/v2\r\n";
 
 /// The names in them.
-pub const NAMES: [&str; 3] = ["refs/heads/main", "refs/tags/v1", "refs/tags/v2"];
+pub const NAMES: &[&str] = &["refs/heads/main", "refs/tags/v1", "refs/tags/v2"];
 
 /// The header that says sorted.
 pub const SORTED: &[u8] = b"# pack-refs with: peeled fully-peeled sorted \n";

@@ -74,7 +74,7 @@ fn lists(items: Iter<'_>, names: &[&str]) -> bool {
 #[test]
 fn names_are_found_as_git_finds_them(rt: HostRuntime) {
     let alloc = rt.alloc();
-    let rows: [(&[u8], &str, Option<&[u8]>, &str); 10] = [
+    let rows: &[(&[u8], &str, Option<&[u8]>, &str)] = &[
         (TWO_DESCEND, "refs/tags/a", Some(ONES), "the second of two"),
         (TWO_DESCEND, "refs/tags/b", None, "the first of two"),
         (THREE_DESCEND, "refs/tags/a", None, "the last of three"),
@@ -111,7 +111,7 @@ fn names_are_found_as_git_finds_them(rt: HostRuntime) {
             "a name that is nowhere",
         ),
     ];
-    for (records, name, want, meaning) in rows {
+    for &(records, name, want, meaning) in rows {
         let text = sorted(&rt, alloc, records);
         let want = match want {
             Some(digits) => Some(id(&rt, digits)),
@@ -126,7 +126,7 @@ fn names_are_found_as_git_finds_them(rt: HostRuntime) {
 #[test]
 fn records_stay_as_they_are(rt: HostRuntime) {
     let alloc = rt.alloc();
-    let rows: [(&[u8], &[&str], &str); 4] = [
+    let rows: &[(&[u8], &[&str], &str)] = &[
         (
             TWO_DESCEND,
             &["refs/tags/b", "refs/tags/a"],
@@ -144,7 +144,7 @@ fn records_stay_as_they_are(rt: HostRuntime) {
             "one name twice, among others",
         ),
     ];
-    for (records, names, meaning) in rows {
+    for &(records, names, meaning) in rows {
         let text = sorted(&rt, alloc, records);
         let packed = buffer(&rt, alloc, text.as_slice());
         assert!(rt; packed.as_bytes() == records, "{meaning}: the text");

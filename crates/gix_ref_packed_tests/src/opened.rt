@@ -46,7 +46,7 @@ fn both(
 #[test]
 fn from_files(rt: HostRuntime) {
     let alloc = rt.alloc();
-    let rows: [(&[u8], &[u8], Result<Option<bool>, Error>, &str); 6] = [
+    let rows: &[(&[u8], &[u8], Result<Option<bool>, Error>, &str)] = &[
         (
             ONE,
             b"r/packed-refs",
@@ -69,7 +69,7 @@ fn from_files(rt: HostRuntime) {
             "no header after a number sign",
         ),
     ];
-    for (text, path, want, meaning) in rows {
+    for &(text, path, want, meaning) in rows {
         for found in both(&rt, alloc, text, path, 100) {
             assert!(rt; found == want, "{meaning}");
         }

@@ -66,7 +66,7 @@ fn counted(rt: &impl Abort, alloc: Global, packed: &Buffer, prefix: &[u8]) -> (u
 #[test]
 fn records_of_a_prefix(rt: HostRuntime) {
     let alloc = rt.alloc();
-    let rows: [(&[u8], &[u8], u64, u64, &str); 9] = [
+    let rows: &[(&[u8], &[u8], u64, u64, &str)] = &[
         (TAGS, b"refs/tags/", 2, 0, "those between others"),
         (TAGS, b"refs/tags/v1", 1, 0, "one with a peeled line"),
         (TAGS, b"refs/heads/b00", 10, 0, "the first"),
@@ -89,7 +89,7 @@ fn records_of_a_prefix(rt: HostRuntime) {
         ),
         (BAD_TAGS, b"refs/x/", 100, 0, "and is not seen elsewhere"),
     ];
-    for (tags, prefix, items, faults, meaning) in rows {
+    for &(tags, prefix, items, faults, meaning) in rows {
         let text = among_others(&rt, alloc, tags);
         let mut memory = stored(&rt, alloc, text.as_slice());
         let packed = read(&rt, alloc, &mut memory, prefix).expect(&rt, "it is read");

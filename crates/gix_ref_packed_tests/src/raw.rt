@@ -47,7 +47,7 @@ fn of_records(rt: HostRuntime) {
 fn in_a_namespace(rt: HostRuntime) {
     let alloc = rt.alloc();
     let foo = expand(alloc, partial(&rt, "foo")).expect(&rt, "memory");
-    let rows: [(&str, Option<&[u8]>, &str); 3] = [
+    let rows: &[(&str, Option<&[u8]>, &str)] = &[
         (
             "refs/namespaces/foo/refs/heads/a",
             Some(b"refs/heads/a"),
@@ -56,7 +56,7 @@ fn in_a_namespace(rt: HostRuntime) {
         ("refs/namespaces/foo/@", None, "the rest is no valid name"),
         ("refs/heads/a", None, "a name outside"),
     ];
-    for (name, want, meaning) in rows {
+    for &(name, want, meaning) in rows {
         let mut value = symbolic(&rt, alloc, name, "refs/namespaces/foo/refs/heads/b");
         assert!(rt; value.kind() == Kind::Symbolic, "{meaning}");
         match (value.name_without_namespace(&foo), want) {

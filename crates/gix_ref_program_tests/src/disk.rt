@@ -2,8 +2,7 @@
 use crate::listings::{FILES, WHOLE, memory_of};
 use crate::ran::{I1, I2, ONE, run_words};
 use gix_ref_files::disk::Disk;
-use gix_ref_files::files::Files;
-use gix_ref_files::files::{Create, Node};
+use gix_ref_files::files::{Create, Files, Node};
 use gix_ref_program::run::run;
 use gix_ref_store::file::transaction::PackedRefs;
 use std::os::unix::fs::symlink;
@@ -27,7 +26,7 @@ impl io::Write for Closed {
 #[test]
 fn updates_shows_and_refuses(rt: HostRuntime) -> Result<(), Fail> {
     let alloc = rt.alloc();
-    let rows: [(&[&str], &str); 7] = [
+    let rows: &[(&[&str], &str)] = &[
         (&["v/git", "show", "refs/heads/a"], "refused: NotFound\n"),
         (&["v/git", "update", "refs/heads/a", I1], ""),
         (
@@ -51,7 +50,7 @@ fn updates_shows_and_refuses(rt: HostRuntime) -> Result<(), Fail> {
             "refused: UnsafeName\n",
         ),
     ];
-    for (words, output) in rows {
+    for &(words, output) in rows {
         let ran = run_words(&rt, alloc, Disk::new(rt.clone()?), words);
         assert!(rt; ran.output.as_slice() == output.as_bytes(), "{output}");
     }
@@ -79,7 +78,7 @@ fn lists_the_same_as_in_memory(rt: HostRuntime) -> Result<(), Fail> {
         fs::write(&rt, path, text.as_bytes())?;
     }
     fs::create_dir_all(&rt, "r/refs/heads/empty/er")?;
-    let lines: [&[&str]; 3] = [
+    let lines: &[&[&str]] = &[
         &["r", "list"],
         &["r", "list", "refs/heads/a"],
         &["r", "--namespace", "n", "list"],

@@ -122,13 +122,13 @@ fn is_some(opened: Result<Option<Buffer>, open::Error>) -> Result<bool, open::Er
 fn buffers(rt: HostRuntime) {
     let alloc = rt.alloc();
     let fault = open::Error::Io(FileError::Device(ErrorKind::Other));
-    let rows: [(&str, &[u8], u64, Result<bool, open::Error>); 4] = [
+    let rows: &[(&str, &[u8], u64, Result<bool, open::Error>)] = &[
         ("no file", b"", 100, Ok(false)),
         ("a file", PACKED, 100, Ok(true)),
         ("no header", NO_HEADER, 100, Err(open::Error::HeaderParsing)),
         ("a fault", PACKED, 1, Err(fault)),
     ];
-    for (meaning, packed, fails, want) in rows {
+    for &(meaning, packed, fails, want) in rows {
         let mut store = store_with(&rt, alloc, packed, fails);
         let opened = is_some(store.open_packed_buffer(alloc));
         assert_eq!(rt; opened, want, "{meaning}");

@@ -38,7 +38,7 @@ fn answer_in(rt: &impl Abort, alloc: Global, git_dir: &str, common_dir: Option<&
 
 #[test]
 fn clean_folders_that_do_not_meet(rt: HostRuntime) {
-    let rows: [(&str, &str, Option<&str>, Answer); 22] = [
+    let rows: &[(&str, &str, Option<&str>, Answer)] = &[
         ("an absolute path", "/r", None, Answer::Made),
         ("a relative path", "r", None, Answer::Made),
         ("two components", "r/s", None, Answer::Made),
@@ -82,7 +82,7 @@ fn clean_folders_that_do_not_meet(rt: HostRuntime) {
             Answer::PathNotClean,
         ),
     ];
-    for (meaning, git_dir, common_dir, want) in rows {
+    for &(meaning, git_dir, common_dir, want) in rows {
         assert_eq!(rt;
             answer_in(&rt, rt.alloc(), git_dir, common_dir),
             want,

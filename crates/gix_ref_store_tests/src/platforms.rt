@@ -53,12 +53,12 @@ fn all_prefixed_and_pseudo(rt: HostRuntime) {
 #[test]
 fn not_opened(rt: HostRuntime) {
     let alloc = rt.alloc();
-    let rows: [(&str, &[File], u64); 3] = [
+    let rows: &[(&str, &[File], u64)] = &[
         ("no packed-refs", &[], 0),
         ("a header that is none", &[("/r/packed-refs", b"# x\n")], 0),
         ("a fault", MIXED, 1),
     ];
-    for (meaning, listed, call) in rows {
+    for &(meaning, listed, call) in rows {
         let mut files = files_of(&rt, alloc, listed);
         if call > 0 {
             files.fail_at(call);

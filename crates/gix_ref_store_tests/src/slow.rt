@@ -8,7 +8,7 @@ use std::alloc::Global;
 use std::process::Abort;
 
 /// The names of loose files and of records, in the order of their bytes.
-const NAMES: [&str; 14] = [
+const NAMES: &[&str] = &[
     "A",
     "HEAD",
     "refs/A",
@@ -26,7 +26,7 @@ const NAMES: [&str; 14] = [
 ];
 
 /// The names that are looked up.
-const ASKED: [&str; 20] = [
+const ASKED: &[&str] = &[
     "A",
     "HEAD",
     "a",

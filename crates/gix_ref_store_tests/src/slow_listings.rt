@@ -9,7 +9,7 @@ use std::alloc::Global;
 use std::process::Abort;
 
 /// The names of loose files and of records, in the order of their bytes.
-const NAMES: [&str; 17] = [
+const NAMES: &[&str] = &[
     "HEAD",
     "ORIG_HEAD",
     "refs/bisect/x",
@@ -30,7 +30,7 @@ const NAMES: [&str; 17] = [
 ];
 
 /// The prefixes whose listings are compared, beside the whole listing.
-const PREFIXES: [&str; 4] = ["refs/heads/", "refs/heads/a", "refs/t", "refs/bisect/x"];
+const PREFIXES: &[&str] = &["refs/heads/", "refs/heads/a", "refs/t", "refs/bisect/x"];
 
 /// Whether a name is that of no reference.
 fn is_invalid(name: &str) -> bool {

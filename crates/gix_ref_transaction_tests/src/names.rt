@@ -4,7 +4,7 @@ use std::alloc::Global;
 use std::process::Abort;
 
 /// The references of most edits and files.
-pub const NAMES: [&str; 8] = [
+pub const NAMES: &[&str] = &[
     "HEAD",
     "refs/heads/a",
     "refs/heads/a/b",
@@ -16,7 +16,7 @@ pub const NAMES: [&str; 8] = [
 ];
 
 /// Other names, some of which are names of the same references.
-pub const OTHERS: [&str; 6] = [
+pub const OTHERS: &[&str] = &[
     "main-worktree/HEAD",
     "main-worktree/refs/heads/b",
     "refs/remotes/o/m",
@@ -26,10 +26,10 @@ pub const OTHERS: [&str; 6] = [
 ];
 
 /// Names that edits may not have, the second where names of devices are prohibited.
-pub const ODD: [&str; 2] = ["logs/HEAD", "refs/heads/aux"];
+pub const ODD: &[&str] = &["logs/HEAD", "refs/heads/aux"];
 
 /// All of these, in the order of their bytes.
-pub const KNOWN: [&str; 16] = [
+pub const KNOWN: &[&str] = &[
     "HEAD",
     "logs/HEAD",
     "main-worktree/HEAD",

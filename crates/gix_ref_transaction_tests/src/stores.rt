@@ -12,7 +12,7 @@ use std::process::Abort;
 pub const HEADER: &str = "# pack-refs with: peeled fully-peeled sorted \n";
 
 /// The names of records, in the order of their bytes.
-const RECORDED: [&str; 6] = [
+const RECORDED: &[&str] = &[
     "refs/heads/a",
     "refs/heads/a/b",
     "refs/heads/b",
