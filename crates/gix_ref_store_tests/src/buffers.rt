@@ -37,39 +37,6 @@ fn store_with(rt: &impl Abort, alloc: Global, packed: &[u8], fails: u64) -> Stor
 }
 
 #[test]
-fn among_loose_files(rt: HostRuntime) {
-    let alloc = rt.alloc();
-    let mut store = store_with(&rt, alloc, PACKED, 100);
-    for (name, is_there) in [
-        ("l", true),
-        ("refs/heads/l", true),
-        ("p", false),
-        ("refs/heads/p", false),
-    ] {
-        match store.find_loose(alloc, partial(name).expect(&rt, "a partial name")) {
-            Ok(reference) => {
-                assert!(rt;
-                    is_there && reference.name.eq_bytes(b"refs/heads/l"),
-                    "{name}"
-                );
-                assert!(rt;
-                    reference.target == object(Id::One).expect(&rt, "an id"),
-                    "{name}"
-                );
-            }
-            Err(existing::Error::NotFound { name: asked }) => {
-                assert!(rt; !is_there && asked.eq_bytes(name.as_bytes()), "{name}");
-            }
-            Err(_) => panic!(rt; "{name}: no call fails"),
-        }
-    }
-    match store.try_find_loose(alloc, partial("p").expect(&rt, "a partial name")) {
-        Ok(found) => assert!(rt; found.is_none(), "a record is no loose file"),
-        Err(_) => panic!(rt; "no call fails"),
-    }
-}
-
-#[test]
 fn among_the_records_of_a_buffer(rt: HostRuntime) {
     let alloc = rt.alloc();
     let text = OTHER.to_vec(alloc).expect(&rt, "memory");

@@ -10,8 +10,6 @@ mod listings;
 #[cfg(test)]
 mod loose;
 #[cfg(test)]
-mod platforms;
-#[cfg(test)]
 mod slow;
 #[cfg(test)]
 mod slow_listings;
