@@ -21,7 +21,7 @@ use gix_ref_memory::memory::Memory;
 use gix_ref_name::name::{FullNameRef, PartialNameRef};
 use gix_ref_store::file::Store;
 use gix_ref_store::file::find::existing;
-use gix_ref_store::file::iter::{LooseThenPacked, loose_then_packed};
+use gix_ref_store::file::iter::{self, LooseThenPacked, loose_then_packed};
 use gix_ref_store::raw::Reference;
 use std::alloc::Global;
 
@@ -130,37 +130,34 @@ fn refused(alloc: Global, cause: &str) -> Result<Said> {
     line(alloc, format!(in alloc; "refused: {cause}")?.as_str())
 }
 
-/// A listing of loose files and records.
-fn listed(alloc: Global, store: &mut Store<Memory>, prefix: Option<&[u8]>) -> Result<Said> {
-    let mut platform = match store.iter(alloc) {
-        Ok(platform) => platform,
-        Err(error) => return refused(alloc, format!(in alloc; "{error}")?.as_str()),
-    };
-    let listing = match prefix {
-        Some(prefix) => platform.prefixed(alloc, prefix),
-        None => platform.all(alloc),
-    };
+/// What a listing gives, or why there is none.
+fn items_of(
+    alloc: Global,
+    listing: Result<LooseThenPacked<'_, Memory>, iter::Error>,
+) -> Result<Said> {
     match listing {
         Ok(listing) => items(alloc, listing),
         Err(error) => refused(alloc, format!(in alloc; "{error}")?.as_str()),
     }
 }
 
-/// A listing of loose files alone.
-fn listed_loose(
-    alloc: Global,
-    store: &mut Store<Memory>,
-    word: &str,
-    prefix: Option<&[u8]>,
-) -> Result<Said> {
-    let listing = match prefix {
-        Some(prefix) => store.loose_iter_prefixed(alloc, prefix),
-        None if word == "list-pseudo" => store.iter_pseudo(alloc),
-        None => store.loose_iter(alloc),
+/// A listing of loose files and records.
+fn listed(alloc: Global, store: &mut Store<Memory>, prefix: Option<&[u8]>) -> Result<Said> {
+    let mut platform = match store.iter(alloc) {
+        Ok(platform) => platform,
+        Err(error) => return refused(alloc, format!(in alloc; "{error}")?.as_str()),
     };
-    match listing {
-        Ok(listing) => items(alloc, listing),
-        Err(error) => refused(alloc, format!(in alloc; "{error}")?.as_str()),
+    match prefix {
+        Some(prefix) => items_of(alloc, platform.prefixed(alloc, prefix)),
+        None => items_of(alloc, platform.all(alloc)),
+    }
+}
+
+/// A listing of loose files alone.
+fn listed_loose(alloc: Global, store: &mut Store<Memory>, prefix: Option<&[u8]>) -> Result<Said> {
+    match prefix {
+        Some(prefix) => items_of(alloc, store.loose_iter_prefixed(alloc, prefix)),
+        None => items_of(alloc, store.loose_iter(alloc)),
     }
 }
 
@@ -305,7 +302,8 @@ fn read_by_partial(
     let prefix = has_text.then_some(text);
     match word {
         "list" => listed(alloc, store, prefix),
-        "list-loose" | "list-pseudo" => listed_loose(alloc, store, word, prefix),
+        "list-loose" => listed_loose(alloc, store, prefix),
+        "list-pseudo" => items_of(alloc, store.iter_pseudo(alloc)),
         "follow" | "peel" => followed(world, store, word, text),
         _ => {
             let name = match PartialNameRef::try_from(text) {

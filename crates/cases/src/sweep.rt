@@ -5,7 +5,8 @@
 //! - `each fault`: each call of files fails in turn; then power is lost too
 //! - `each read`: each call of files of a verb that reads fails in turn: it prints a fault or a refusal then, and nothing that it does not
 //!   print else
-//! - `each loss [BITS]`: power is lost after it is done. In all losses the kept changes are none, all, and each of the first BITS (7) alone
+//! - `each loss [BITS]`: power is lost after it is done. In losses the kept changes are none, all, and each of the first BITS (7) alone;
+//!   after stops within an append the first 7
 //! - `each allocation`: `bin/refuse-allocations` refuses each allocation of memory in turn
 //! - `readings NAME ..`, and rows `| TARGET ..`: what these references read then, `absent` where they do not exist: the first row before
 //!   the verb, and the others after each step of it, in their order
@@ -83,25 +84,30 @@ fn is_done(said: &Said) -> bool {
     }
 }
 
+/// The world that these lines make.
+fn world_of(alloc: Global, texts: &Texts, lines: &[String]) -> Result<World> {
+    let mut world = World::new(alloc, texts)?;
+    for line in lines {
+        let line = line.as_str();
+        match kind_of(split(line).0) {
+            LineKind::Before => world.set(texts, line)?,
+            LineKind::Verb => {
+                play(&mut world, texts, line)?;
+            }
+            _ => {}
+        }
+    }
+    Ok(world)
+}
+
 impl<'l> Sweep<'l> {
     /// The world before the verb.
     fn world_before(&self) -> Result<World> {
-        let mut world = World::new(self.alloc, self.texts)?;
         let lines = self
             .lines
             .get(..self.verb)
             .context("the lines before the verb")?;
-        for line in lines {
-            let line = line.as_str();
-            match kind_of(split(line).0) {
-                LineKind::Before => world.set(self.texts, line)?,
-                LineKind::Verb => {
-                    play(&mut world, self.texts, line)?;
-                }
-                _ => {}
-            }
-        }
-        Ok(world)
+        world_of(self.alloc, self.texts, lines)
     }
 
     /// Plays the verb with this plan.
@@ -211,9 +217,9 @@ impl<'l> Sweep<'l> {
         Ok(row)
     }
 
-    /// Each loss of power after this plan; of one that was done, only the last row shows.
-    fn losses(&self, plan: Plan, done: bool) -> Result<()> {
-        for at in 0..self.bits.saturating_add(2) {
+    /// Losses of power after this plan, with so many single changes kept; of one that was done, only the last row shows.
+    fn losses(&self, plan: Plan, bits: u64, done: bool) -> Result<()> {
+        for at in 0..bits.saturating_add(2) {
             let mut came = self.disturbed(plan)?;
             came.world
                 .files
@@ -230,15 +236,15 @@ impl<'l> Sweep<'l> {
         Ok(())
     }
 
-    /// One stop, and the losses after it; the number of the row.
-    fn stop(&self, call: u64, parts: usize) -> Result<usize> {
+    /// One stop, and losses of power after it; the number of the row.
+    fn stop(&self, call: u64, parts: usize, bits: u64) -> Result<usize> {
         let plan = Plan::Stops(call, parts);
         let mut came = self.disturbed(plan)?;
         let row = self.hold(&mut came.world, false)?;
         if is_done(&came.said) && row != self.last_row() {
             bail!("done, and not all is there")
         }
-        self.losses(plan, false)?;
+        self.losses(plan, bits, false)?;
         Ok(row)
     }
 
@@ -254,8 +260,10 @@ impl<'l> Sweep<'l> {
         let mut least = at_least;
         let has_parts = self.has_parts(call, all)?;
         for parts in 0..all.saturating_add(1) {
-            if has_parts || parts < 2 || parts == all {
-                let row = self.stop(call, parts)?;
+            let is_edge = parts < 2 || parts == all;
+            if has_parts || is_edge {
+                let bits = if is_edge { self.bits } else { 7 };
+                let row = self.stop(call, parts, bits)?;
                 if row < least {
                     bail!("call {call}, {parts} parts: row {row} after row {least}")
                 }
@@ -274,7 +282,7 @@ impl<'l> Sweep<'l> {
         let mut least = at_least;
         for parts in numbers.split(' ') {
             let parts = usize::try_from(number(parts)?).context("a number")?;
-            let row = self.stop(call, parts)?;
+            let row = self.stop(call, parts, self.bits)?;
             if row < least {
                 bail!("call {call}, {parts} parts: row {row} after row {least}")
             }
@@ -337,7 +345,7 @@ impl<'l> Sweep<'l> {
         if is_refused && !is_run && row != 0 {
             bail!("refused, and something is edited")
         }
-        self.losses(Plan::Fails(call), done)?;
+        self.losses(Plan::Fails(call), self.bits, done)?;
         self.outcome(&came.said)
     }
 
@@ -444,7 +452,7 @@ pub fn sweep_case(alloc: Global, texts: &Texts, lines: &[String], after: &Tree) 
         return sweep.reads(calls, &whole.said);
     }
     if loss.is_some() {
-        sweep.losses(Plan::Runs, true)?;
+        sweep.losses(Plan::Runs, sweep.bits, true)?;
     }
     if let Some(numbers) = stops {
         let mut least = 0usize;
@@ -461,14 +469,15 @@ pub fn sweep_case(alloc: Global, texts: &Texts, lines: &[String], after: &Tree) 
 }
 
 /// The files after the last verb, as the lines after it say.
-fn expected_after(sweep: &Sweep<'_>) -> Result<Tree> {
-    let mut tree = sweep.world_before()?.tree()?;
-    let lines = sweep
-        .lines
-        .get(sweep.verb..)
-        .context("the lines after the verb")?;
-    for line in lines {
-        change(sweep.alloc, sweep.texts, &mut tree, line.as_str())?;
+fn expected_after(
+    alloc: Global,
+    texts: &Texts,
+    lines: &[String],
+    verb: usize,
+    mut tree: Tree,
+) -> Result<Tree> {
+    for line in lines.get(verb..).context("the lines after the verb")? {
+        change(alloc, texts, &mut tree, line.as_str())?;
     }
     Ok(tree)
 }
@@ -492,19 +501,20 @@ pub fn hold_refused(alloc: Global, texts: &Texts, lines: &[String]) -> Result<Op
     if rest_of(lines, "each allocation").is_none() {
         return Ok(None);
     }
-    let empty = World::new(alloc, texts)?.tree()?;
-    let mut sweep = Sweep {
+    let verb = last_verb(lines).context("a verb")?;
+    let front = lines.get(..verb).context("the lines before the verb")?;
+    let before = world_of(alloc, texts, front)?.tree()?;
+    let same = world_of(alloc, texts, front)?.tree()?;
+    let after = expected_after(alloc, texts, lines, verb, same)?;
+    let sweep = Sweep {
         alloc,
         texts,
         lines,
-        verb: last_verb(lines).context("a verb")?,
-        before: World::new(alloc, texts)?.tree()?,
-        after: &empty,
+        verb,
+        before,
+        after: &after,
         bits: 0,
     };
-    sweep.before = sweep.world_before()?.tree()?;
-    let after = expected_after(&sweep)?;
-    sweep.after = &after;
     let mut came = sweep.disturbed(Plan::Runs)?;
     let tree = came.world.tree()?;
     sweep.hold_files(&tree, false)?;
