@@ -11,7 +11,7 @@ fn named(space: &str, rest: &str) -> Option<To> {
     let name = rest.trim();
     let name = name.strip_prefix(space).unwrap_or(name);
     for known in KNOWN {
-        if known == name {
+        if *known == name {
             return Some(To::Name(known));
         }
     }
