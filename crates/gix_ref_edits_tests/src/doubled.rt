@@ -1,7 +1,6 @@
 //! Names that more than one edit has, and the whole of what a list is put through.
 use crate::made::{Fault, find, update};
-use gix_ref_edits::transaction::RefEditsExt;
-use gix_ref_edits::transaction::{EditError, RefEdit, SplitError};
+use gix_ref_edits::transaction::{EditError, RefEdit, RefEditsExt, SplitError};
 use gix_ref_name::name::PartialNameRef;
 use std::alloc::Global;
 use std::process::Abort;

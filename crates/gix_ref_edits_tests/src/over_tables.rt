@@ -7,8 +7,7 @@ ghost use Rattle.gix_ref_edits.specs.SplitLists.{IsSplitList};
 
 use crate::made::{Fault, deletion};
 use gix_ref_base::target::Target;
-use gix_ref_edits::transaction::RefEditsExt;
-use gix_ref_edits::transaction::{RefEdit, SplitError};
+use gix_ref_edits::transaction::{RefEdit, RefEditsExt, SplitError};
 use gix_ref_name::name::PartialNameRef;
 use std::alloc::Global;
 

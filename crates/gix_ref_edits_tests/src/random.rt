@@ -1,8 +1,7 @@
 //! 2,000 random lists of edits over random references, against a slow list that is made level by level.
 use crate::made::{full_name, update};
 use gix_ref_base::target::Target;
-use gix_ref_edits::transaction::RefEditsExt;
-use gix_ref_edits::transaction::{RefEdit, SplitError};
+use gix_ref_edits::transaction::{RefEdit, RefEditsExt, SplitError};
 use gix_ref_name::name::PartialNameRef;
 use std::alloc::Global;
 use std::process::Abort;

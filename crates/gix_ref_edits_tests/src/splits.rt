@@ -1,7 +1,6 @@
 //! Splits of edits that follow symbolic references.
 use crate::made::{Entry, Fault, Table, deletion, find, object, update};
-use gix_ref_edits::transaction::RefEditsExt;
-use gix_ref_edits::transaction::{Change, PreviousValue, RefEdit, RefLog, SplitError};
+use gix_ref_edits::transaction::{Change, PreviousValue, RefEdit, RefEditsExt, RefLog, SplitError};
 use gix_ref_name::name::PartialNameRef;
 use std::alloc::Global;
 use std::process::Abort;

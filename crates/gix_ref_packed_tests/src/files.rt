@@ -1,7 +1,6 @@
 //! The search in a file that stays where it is, with reads that fail.
 use crate::made::{NAMES, TEXT, full, id, sorted, stored};
-use gix_ref_files::files::Files;
-use gix_ref_files::files::ReadAt;
+use gix_ref_files::files::{Files, ReadAt};
 use gix_ref_hash::hash::Kind;
 use gix_ref_name::name::FullNameRef;
 use gix_ref_packed::packed::Found;

@@ -2,7 +2,7 @@
 use crate::listings::{FILES, WHOLE, memory_of};
 use crate::ran::{I1, I2, ONE, run_words};
 use gix_ref_files::disk::Disk;
-use gix_ref_files::files::{Create, Node};
+use gix_ref_files::files::{Create, Files, Node};
 use gix_ref_program::run::run;
 use gix_ref_store::file::transaction::PackedRefs;
 use std::os::unix::fs::symlink;
