@@ -3,3 +3,5 @@
 
 #[cfg(test)]
 mod surface;
+#[cfg(test)]
+mod transactions;

@@ -1,0 +1,68 @@
+//! Transactions that no case can write: a value that no text has, and a transaction that is given up before it is prepared.
+use gix_ref::file::Store;
+use gix_ref::file::transaction::{PackedRefs, prepare};
+use gix_ref::files::Memory;
+use gix_ref::hash::Kind;
+use gix_ref::name::{FullName, FullNameRef, PartialNameRef};
+use gix_ref::namespace::expand;
+use gix_ref::object::Never;
+use gix_ref::target::Target;
+use gix_ref::transaction::{Change, LogChange, PreviousValue, RefEdit};
+use std::alloc::Global;
+use std::test::Fail;
+
+/// The store in `/r`, without files.
+fn store(alloc: Global) -> Result<Store<Memory>, Fail> {
+    let folder = b"/r".to_vec(alloc)?;
+    match Store::at(Memory::new(alloc), folder, Kind::Sha1) {
+        Ok(store) => Ok(store),
+        Err(_) => Err(Fail::from("a clean folder")),
+    }
+}
+
+/// A `FullName` that is only a partial one, since its namespace was stripped.
+fn merely_partial(alloc: Global) -> Result<FullName, Fail> {
+    let mut name = FullNameRef::try_from("refs/namespaces/foo/main")?.to_owned(alloc)?;
+    let namespace = expand(alloc, PartialNameRef::try_from("foo")?)?;
+    name.strip_namespace(&namespace);
+    Ok(name)
+}
+
+#[test]
+fn a_symbolic_target_is_a_full_name(rt: HostRuntime) -> Result<(), Fail> {
+    let alloc = rt.alloc();
+    let edit = RefEdit {
+        change: Change::Update {
+            log: LogChange::new_in(alloc),
+            expected: PreviousValue::Any,
+            new: Target::Symbolic(merely_partial(alloc)?),
+        },
+        name: FullNameRef::try_from("HEAD")?.to_owned(alloc)?,
+        deref: false,
+    };
+    let edits = vec![in alloc; edit]?;
+    let mut store = store(alloc)?;
+    match store.transaction().prepare(alloc, edits) {
+        Err(refused) => assert!(rt; matches!(refused.error, prepare::Error::TargetNotFull)),
+        Ok(prepared) => {
+            let _ = prepared.rollback();
+            panic!(rt; "the target is no full name");
+        }
+    }
+    assert_eq!(rt; store.into_files().calls(), 0, "no file is touched");
+    Ok(())
+}
+
+#[test]
+fn given_up_before(rt: HostRuntime) -> Result<(), Fail> {
+    let alloc = rt.alloc();
+    let mut store = store(alloc)?;
+    let back = store
+        .transaction()
+        .packed_refs(PackedRefs::<Never>::DeletionsOnly)
+        .rollback(alloc);
+    assert!(rt; back.edits.is_empty() && back.locks_left.is_empty());
+    assert!(rt; matches!(back.packed_refs, PackedRefs::DeletionsOnly));
+    assert_eq!(rt; store.into_files().calls(), 0, "no file is touched");
+    Ok(())
+}
