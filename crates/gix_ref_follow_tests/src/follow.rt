@@ -1,7 +1,6 @@
 //! Following references to an object.
 use crate::made::{found, is_at, store};
 use gix_ref_follow::ReferenceExt;
-use gix_ref_follow::peel::to_object::Error;
 use gix_ref_store::file::find::existing;
 
 /// One step, among loose files and records.
@@ -31,4 +30,7 @@ fn steps(rt: HostRuntime) {
     };
     let held = head.follow_packed(alloc, &mut store, buffer.as_ref());
     assert!(rt; matches!(&held, Some(Ok(_))), "the record of the buffer");
+    let mut head = head;
+    let id = head.follow_to_object_in_place_packed(alloc, &mut store, buffer.as_ref());
+    assert!(rt; id.is_ok() && is_at(&head, "refs/heads/p"), "in place");
 }
