@@ -10,7 +10,7 @@ use std::cmp::Ordering;
 use std::convert::Infallible;
 
 /// What a probe at a byte sees.
-#[derive(Clone, Copy)]
+#[derive(Clone, Copy, Debug)]
 pub struct Probe {
     /// Where the record that the byte is in begins.
     pub start: u64,
@@ -22,7 +22,7 @@ pub struct Probe {
 }
 
 /// How closely a probe looks at a record whose name is another one. Either costs as much as the rest of a probe.
-#[derive(Clone, Copy)]
+#[derive(Clone, Copy, Debug)]
 pub struct Look {
     /// It looks whether the record's line ends.
     pub sure: bool,
@@ -97,7 +97,7 @@ pub trait SearchableRecords {
 }
 
 /// A text that lies in memory as a whole. A probe at it never fails.
-#[derive(Clone, Copy)]
+#[derive(Clone, Copy, Debug)]
 pub struct InMemory<'a> {
     /// The records.
     pub bytes: &'a [u8],

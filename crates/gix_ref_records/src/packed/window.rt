@@ -28,7 +28,7 @@ pub enum InWindow<T> {
 }
 
 /// The ids of a record that was found.
-#[derive(Clone, Copy, PartialEq, Eq)]
+#[derive(Clone, Copy, Debug, PartialEq, Eq)]
 pub struct Found {
     /// The id.
     pub target: ObjectId,
